@@ -1,0 +1,49 @@
+// Texts.
+ghost use Rattle.std.specs.Prelude.{◌≡◌, List, ℕ, IfOk, string_bytes};
+
+use crate::Memory;
+use std::alloc::Global;
+use std::marker::Model;
+
+/// A text of UTF-8 that owns its bytes. Contracts see it as the list of its bytes.
+#[derive(Drop)]
+pub struct Txt {
+    text: String,
+}
+
+impl Model for Txt {
+    ghost Value = { List ℕ };
+
+    ghost view = { λ t. string_bytes t.text };
+}
+
+impl Txt {
+    /// A copy of `text`.
+    pub fn of(alloc: Global, text: &str) -> Result<Txt, Memory>
+        ensures { IfOk result (λ copy. copy ≡ text.now) }
+    {
+        let text = String::from_str(alloc, text)?;
+        Ok(Txt { text })
+    }
+
+    /// The text itself, without a copy.
+    pub fn as_str(&self) -> &str
+        ensures { result.now ≡ self.now }
+    {
+        self.text.as_str()
+    }
+}
+
+#[cfg(test)]
+mod tests {
+    use super::*;
+    use std::test::Fail;
+
+    #[test]
+    fn a_text_is_kept_byte_for_byte(rt: HostRuntime) -> Result<(), Fail> {
+        for text in ["", "a b", "Jürgen \u{1F600}\n"] {
+            assert_eq!(rt; Txt::of(rt.alloc(), text)?.as_str(), text);
+        }
+        Ok(())
+    }
+}
