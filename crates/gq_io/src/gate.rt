@@ -1,0 +1,74 @@
+// Gates, at which workers pass.
+ghost use Rattle.std.specs.Prelude.{◌≡◌, ◌<◌};
+
+use std::marker::Model;
+use std::sync::atomic::{AtomicU64, Ordering};
+
+/// What each worker of a block passes after it has drawn a chunk.
+///
+/// A gate sees workers at work, and changes nothing that they do. Tests hold workers up at one.
+pub trait Gate: Sync {
+    /// Worker `worker`, of at most 64, has drawn the chunk `chunk`.
+    fn pass(&self, worker: u32, chunk: u64)
+        requires { worker < 64 };
+}
+
+/// A gate at which nobody waits.
+#[derive(Clone, Copy, Debug)]
+pub struct OpenGate;
+
+impl Gate for OpenGate {
+    fn pass(&self, _worker: u32, _chunk: u64) {}
+}
+
+/// A gate at which each worker waits at its first pass, but not for ever, until another worker has come to it.
+///
+/// It is for tests that several workers run. Contracts see `turns`, and none speaks of what other threads did: that is
+/// tested alone.
+#[derive(Debug, Drop)]
+pub struct HoldGate {
+    turns: u64,
+    came: AtomicU64,
+    met: AtomicU64,
+}
+
+impl Model for HoldGate {
+    ghost use Rattle.std.specs.Prelude.{ℕ};
+
+    ghost Value = { ℕ };
+
+    ghost view = { λ g. g.turns };
+}
+
+impl HoldGate {
+    /// A gate at which the first pass of a worker looks up to `turns` times for another one.
+    pub fn new(turns: u64) -> Self
+        ensures { result ≡ turns }
+    {
+        HoldGate {
+            turns,
+            came: AtomicU64::new(0),
+            met: AtomicU64::new(0),
+        }
+    }
+
+    /// Whether the first passes of at least two workers saw that another worker had come.
+    pub fn met(&self) -> bool {
+        self.met.load(Ordering::SeqCst).count_ones() >= 2
+    }
+}
+
+impl Gate for HoldGate {
+    fn pass(&self, worker: u32, _chunk: u64) {
+        let own = 1u64 << worker;
+        if self.came.fetch_or(own, Ordering::SeqCst) & own != 0 {
+            return;
+        }
+        for _ in 0..self.turns {
+            if self.came.load(Ordering::SeqCst) & !own != 0 {
+                self.met.fetch_or(own, Ordering::SeqCst);
+                return;
+            }
+        }
+    }
+}

@@ -1,0 +1,14 @@
+// How a block's work is cut.
+
+/// How the work of a block is cut among workers. It changes speed, and never an answer.
+#[derive(Clone, Copy, Debug, PartialEq, Eq)]
+pub struct Shape {
+    /// How many workers run a block: 1 to 64.
+    pub workers: u32,
+
+    /// How many candidates a worker takes at a time: 1 to 1,048,576.
+    pub chunk: u64,
+
+    /// Into how many parts, each with a turn of its own, accumulators are cut: 1 to 256.
+    pub stripes: u32,
+}
