@@ -1,0 +1,45 @@
+-- Cut: how a script is cut into gaps and tokens, from the left, each the longest prefix of what remains that spells one.
+-- Here whole prefixes are looked at, the longer ones too. The code goes byte by byte.
+use Rattle.std.specs.Prelude.{◌≡◌, ℕ, ◌+◌, ◌-◌, ◌<◌, ◌≤◌, List, [], ◌∷◌, length, take, drop, Option, Some, None, IsSome}
+use Rattle.gq_token.specs.declared.token.Token.{Token}
+use Rattle.gq_token.specs.Spelling.{Item, Gap, TokenOf, spelled, Fits}
+
+-- the text is the longest prefix of the bytes that spells an item
+pub record IsLongest (bytes text : List ℕ) : Type 0 where
+  pub prefix : take (length text) bytes ≡ text
+  pub is_item : IsSome (spelled text)
+  pub longest : (n : ℕ) → length text < n → n ≤ length bytes → spelled (take n bytes) ≡ None
+
+-- the next item of the bytes, whose number fits, if it is one
+abbrev pub IsNext : List ℕ → List ℕ → Type 0
+IsNext bytes text = IsLongest bytes text × ((item : Item) → spelled text ≡ Some item → Fits item)
+
+-- these items are cut from the bytes, one after another, and the rest remains
+abbrev pub Cuts : List ℕ → List (List ℕ) → List ℕ → Type 0
+Cuts bytes [] rest = bytes ≡ rest
+Cuts bytes (text ∷ texts) rest = IsNext bytes text × Cuts (drop (length text) bytes) texts rest
+
+-- a token in front of others, where the text that stands between these places is one
+abbrev pub placed : Option Item → ℕ → ℕ → List Token → List Token
+placed (Some (TokenOf shape)) from to tokens = record { shape = shape; from = from; to = to } ∷ tokens
+placed (Some Gap) from to tokens = tokens
+placed None from to tokens = tokens
+
+-- the tokens among these items, of which the first begins at this place
+abbrev pub tokens_of : ℕ → List (List ℕ) → List Token
+tokens_of at [] = []
+tokens_of at (text ∷ texts) = placed (spelled text) at (at + length text) (tokens_of (at + length text) texts)
+
+-- the bytes are cut whole, and these are the tokens of the cut
+abbrev pub HasTokens : List ℕ → List Token → Type 0
+HasTokens bytes tokens = (texts : List (List ℕ)) × Cuts bytes texts [] × (tokens ≡ tokens_of 0 texts)
+
+-- the bytes of a token
+abbrev pub text_of : List ℕ → Token → List ℕ
+text_of bytes token = take (token.to - token.from) (drop token.from bytes)
+
+-- the token stands within the bytes and is spelled there
+pub record IsSpelledIn (bytes : List ℕ) (token : Token) : Type 0 where
+  pub ordered : token.from < token.to
+  pub within : token.to ≤ length bytes
+  pub spells : spelled (text_of bytes token) ≡ Some (TokenOf token.shape)

@@ -1,0 +1,5 @@
+pub mod Bytes
+pub mod Class
+pub mod Cut
+pub mod Faults
+pub mod Spelling
