@@ -1,5 +1,5 @@
 -- Outcome: what a run prints and answers, and how a call keeps to it.
-use Rattle.std.specs.Prelude.{◌≡◌, ◌⊎◌, ℕ, ◌≤◌, List, [], ◌∷◌, length, take, Option}
+use Rattle.std.specs.Prelude.{◌≡◌, ◌≢◌, ◌⊎◌, ℕ, ◌≤◌, List, [], ◌∷◌, length, take, Option}
 use Rattle.std.specs.List.{concat}
 use Rattle.gq_io.specs.Sink.{Appends, AppendsPrefix}
 use Rattle.gq_json.specs.Json.{error_text}
@@ -45,3 +45,9 @@ pub record KeepsTo (outcome : Outcome) (status : Status) (old new : Option (List
   pub read_fault : status ≡ ReadFault → files_failed × AppendsLines old new outcome.lines
   pub write_fault : status ≡ WriteFault → sink_failed × AppendsPrefix old new (concat outcome.lines)
   pub memory : status ≡ Memory → AppendsPrefix old new (concat outcome.lines)
+
+-- The answer is one of a call that reads no file and has its words: it may only fail to write.
+pub record OnlyWrites (status : Status) (sink_failed : Type 0) : Type 0 where
+  pub no_usage : status ≢ Usage
+  pub no_read_fault : status ≢ ReadFault
+  pub write_fault : status ≡ WriteFault → sink_failed

@@ -3,7 +3,7 @@ ghost use Rattle.std.specs.Prelude.{◌≡◌, ◌↔◌, ◌⊎◌, ◌++◌, �
 ghost use Rattle.gq_io.specs.Counts.{Rose};
 ghost use Rattle.gq_io.specs.Listing.{Listing};
 ghost use Rattle.gq_main.specs.Form.{Query};
-ghost use Rattle.gq_main.specs.Outcome.{Outcome, refused_with, KeepsTo, IsFinal, Ends};
+ghost use Rattle.gq_main.specs.Outcome.{Outcome, refused_with, KeepsTo, OnlyWrites, IsFinal, Ends};
 ghost use Rattle.gq_main.specs.Meaning.{Answer, AnswerMeans, IsCounted, Means, ScriptMeans, script_word, query_line, run_of};
 
 use crate::read::read_script;
@@ -69,9 +69,7 @@ pub fn run<R: Threads + Wait + Sync, F: Files, K: Sink, G: Gate>(
 fn run_script<K: Sink>(alloc: Global, bytes: &[u8], out: &mut K) -> Status
     ensures keeps { (outcome : Outcome) → ScriptMeans bytes.now outcome → KeepsTo outcome result (K.written out.old) (K.written out.new) ⊥ (Rose (K.faults out.old) (K.faults out.new)) }
     ensures is_meant { IsFinal result → (outcome : Outcome) × ScriptMeans bytes.now outcome }
-    ensures no_usage { result ≡ Status.Usage → ⊥ }
-    ensures no_read_fault { result ≡ Status.ReadFault → ⊥ }
-    ensures write_fault { result ≡ Status.WriteFault → Rose (K.faults out.old) (K.faults out.new) }
+    ensures only_writes { OnlyWrites result (Rose (K.faults out.old) (K.faults out.new)) }
 {
     let tokens = match tokens(alloc, bytes) {
         Ok(tokens) => tokens,
@@ -91,9 +89,7 @@ fn run_script<K: Sink>(alloc: Global, bytes: &[u8], out: &mut K) -> Status
 
 fn run_queries<K: Sink>(alloc: Global, queries: &[QueryTree], out: &mut K) -> Status
     ensures keeps { KeepsTo (run_of queries.now) result (K.written out.old) (K.written out.new) ⊥ (Rose (K.faults out.old) (K.faults out.new)) }
-    ensures no_usage { result ≡ Status.Usage → ⊥ }
-    ensures no_read_fault { result ≡ Status.ReadFault → ⊥ }
-    ensures write_fault { result ≡ Status.WriteFault → Rose (K.faults out.old) (K.faults out.new) }
+    ensures only_writes { OnlyWrites result (Rose (K.faults out.old) (K.faults out.new)) }
 {
     for query in queries {
         let line = match print_query(alloc, query) {
@@ -121,9 +117,7 @@ fn print_query(alloc: Global, query: &QueryTree) -> Result<Vec<u8>, Memory>
 
 fn refuse_file<K: Sink>(alloc: Global, what: &str, name: &str, out: &mut K) -> Status
     ensures keeps { KeepsTo (refused_with (what.now ++ name.now)) result (K.written out.old) (K.written out.new) ⊥ (Rose (K.faults out.old) (K.faults out.new)) }
-    ensures no_usage { result ≡ Status.Usage → ⊥ }
-    ensures no_read_fault { result ≡ Status.ReadFault → ⊥ }
-    ensures write_fault { result ≡ Status.WriteFault → Rose (K.faults out.old) (K.faults out.new) }
+    ensures only_writes { OnlyWrites result (Rose (K.faults out.old) (K.faults out.new)) }
 {
     match format!(in alloc; "{what}{name}") {
         Ok(message) => refuse(alloc, message.as_str(), out),
@@ -133,9 +127,7 @@ fn refuse_file<K: Sink>(alloc: Global, what: &str, name: &str, out: &mut K) -> S
 
 fn refuse<K: Sink>(alloc: Global, message: &str, out: &mut K) -> Status
     ensures keeps { KeepsTo (refused_with message.now) result (K.written out.old) (K.written out.new) ⊥ (Rose (K.faults out.old) (K.faults out.new)) }
-    ensures no_usage { result ≡ Status.Usage → ⊥ }
-    ensures no_read_fault { result ≡ Status.ReadFault → ⊥ }
-    ensures write_fault { result ≡ Status.WriteFault → Rose (K.faults out.old) (K.faults out.new) }
+    ensures only_writes { OnlyWrites result (Rose (K.faults out.old) (K.faults out.new)) }
 {
     let line = match error_line(alloc, message) {
         Ok(line) => line,
