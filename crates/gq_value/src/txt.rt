@@ -26,6 +26,13 @@ impl Txt {
         Ok(Txt { text })
     }
 
+    /// The text of a string, without a copy.
+    pub fn from_string(text: String) -> Txt
+        ensures { result ≡ string_bytes text }
+    {
+        Txt { text }
+    }
+
     /// The text itself, without a copy.
     pub fn as_str(&self) -> &str
         ensures { result.now ≡ self.now }
@@ -43,6 +50,8 @@ mod tests {
     fn a_text_is_kept_byte_for_byte(rt: HostRuntime) -> Result<(), Fail> {
         for text in ["", "a b", "Jürgen \u{1F600}\n"] {
             assert_eq!(rt; Txt::of(rt.alloc(), text)?.as_str(), text);
+            let string = String::from_str(rt.alloc(), text)?;
+            assert_eq!(rt; Txt::from_string(string).as_str(), text);
         }
         Ok(())
     }
