@@ -8,7 +8,7 @@
 use Rattle.std.specs.Prelude.{◌≡◌, ◌≢◌, ℕ, List, [], ◌∷◌, map, codes, AllPairs}
 use Rattle.gq_token.specs.declared.token.Shape.TheVariants.{Word, Number, Symbol}
 use Rattle.gq_token.specs.declared.token.Token.{Token}
-use Rattle.gq_token.specs.Cut.{HasTokens, text_of}
+use Rattle.gq_token.specs.Cut.{text_of}
 use Rattle.gq_main.specs.Reserved.{IsSameWord, IsReserved}
 
 -- a number that is printed under a name
@@ -84,7 +84,3 @@ module _ (bytes : List ℕ) where
   abbrev pub Script : List Token → List Query → Type 0
   Script tokens [] = tokens ≡ []
   Script tokens (query ∷ queries) = (a : List Token) × OneQuery tokens query a × Script a queries
-
--- the bytes are a script of these queries
-abbrev pub IsScript : List ℕ → List Query → Type 0
-IsScript bytes queries = (tokens : List Token) × HasTokens bytes tokens × Script bytes tokens queries

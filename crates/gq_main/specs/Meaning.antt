@@ -1,7 +1,7 @@
 -- Meaning: what a command line means over files.
 --
--- Only one part is a relation: that these bytes are a script of these queries. What lies behind it is a function from
--- a list of queries to lines and a status.
+-- Only one part is a relation: which tokens, or which fault, the bytes of a script have, and that the tokens are a script of
+-- these queries. What lies behind it is a function from a list of queries to lines and a status.
 use Rattle.std.specs.Prelude.{◌≡◌, ◌⊎◌, ℕ, ◌<◌, List, [], ◌∷◌, ◌++◌, length, map, Option, Some, None, codes, if◌then◌else◌, nat_lt, ◌==◌, slice_index}
 use Rattle.gq_io.specs.Counts.{Rose}
 use Rattle.gq_io.specs.Listing.{Listing, named}
@@ -9,7 +9,13 @@ use Rattle.gq_io.specs.Files.{most_bytes}
 use Rattle.gq_json.specs.declared.out.Out.{Out}
 use Rattle.gq_json.specs.declared.out.Out.TheVariants.{UInt}
 use Rattle.gq_json.specs.Json.{line_text}
-use Rattle.gq_main.specs.Form.{Item, Query, IsScript}
+use Rattle.gq_token.specs.declared.token.Token.{Token}
+use Rattle.gq_token.specs.declared.fault.LexFault.{LexFault}
+use Rattle.gq_token.specs.Cut.{HasTokens}
+use Rattle.gq_token.specs.Faults.{HasFault, place_of}
+use Rattle.gq_token.specs.Nesting.{IsTooDeepAt, IsShallow}
+use Rattle.gq_main.specs.Form.{Item, Query, Script}
+use Rattle.gq_main.specs.Messages.{message_at, name_of}
 use Rattle.gq_main.specs.Outcome.{Outcome, done, line_then, refused_with, usage}
 
 -- ---- statements
@@ -29,11 +35,23 @@ run_of (query ∷ queries) = line_then (query_line query) (run_of queries)
 
 -- ---- scripts and files
 
+-- what the tokens of a script mean
+abbrev pub QueriesMean : List ℕ → List Token → Outcome → Type 0
+QueriesMean bytes tokens outcome =
+    ((queries : List Query) × Script bytes tokens queries × (outcome ≡ run_of queries))
+    ⊎ (((queries : List Query) → Script bytes tokens queries → ⊥) × (outcome ≡ refused_with (codes "unsupported script")))
+
+-- the same, unless they nest too deep
+abbrev pub TokensMean : List ℕ → List Token → Outcome → Type 0
+TokensMean bytes tokens outcome =
+    ((at : ℕ) × IsTooDeepAt bytes tokens at × (outcome ≡ refused_with (message_at bytes (codes "nested too deep") at)))
+    ⊎ (IsShallow bytes tokens × QueriesMean bytes tokens outcome)
+
 -- what the bytes of a script mean
 abbrev pub ScriptMeans : List ℕ → Outcome → Type 0
 ScriptMeans bytes outcome =
-    ((queries : List Query) × IsScript bytes queries × (outcome ≡ run_of queries))
-    ⊎ (((queries : List Query) → IsScript bytes queries → ⊥) × (outcome ≡ refused_with (codes "unsupported script")))
+    ((fault : LexFault) × HasFault bytes fault × (outcome ≡ refused_with (message_at bytes (name_of fault) (place_of fault))))
+    ⊎ ((tokens : List Token) × HasTokens bytes tokens × TokensMean bytes tokens outcome)
 
 -- what files answer to the name of the script
 pub data Answer : Type 0 where

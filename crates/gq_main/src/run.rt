@@ -1,10 +1,13 @@
 // The top call.
-ghost use Rattle.std.specs.Prelude.{◌≡◌, ◌↔◌, ◌⊎◌, ◌++◌, ◌∷◌, [], List, ℕ, Some, None, map, codes, string_bytes, IfOk};
+ghost use Rattle.std.specs.Prelude.{◌≡◌, ◌↔◌, ◌⊎◌, ◌++◌, ◌∷◌, [], List, ℕ, Some, None, map, codes, string_bytes, length, ◌≤◌, All, IfOk};
 ghost use Rattle.gq_io.specs.Counts.{Rose};
 ghost use Rattle.gq_io.specs.Listing.{Listing};
 ghost use Rattle.gq_main.specs.Form.{Query};
+ghost use Rattle.gq_token.specs.Cut.{IsSpelledIn};
+ghost use Rattle.gq_token.specs.Faults.{place_of};
+ghost use Rattle.gq_main.specs.Messages.{message_at, name_of};
 ghost use Rattle.gq_main.specs.Outcome.{Outcome, refused_with, KeepsTo, OnlyWrites, IsFinal, Ends};
-ghost use Rattle.gq_main.specs.Meaning.{Answer, AnswerMeans, IsCounted, Means, ScriptMeans, script_word, query_line, run_of};
+ghost use Rattle.gq_main.specs.Meaning.{Answer, AnswerMeans, IsCounted, Means, QueriesMean, ScriptMeans, script_word, query_line, run_of};
 
 use crate::read::read_script;
 use crate::status::Status;
@@ -12,7 +15,7 @@ use crate::tree::{ItemTree, QueryTree};
 use crate::words::named_script;
 use gq_io::{FileFault, Files, Gate, Sink, SinkFault, write_all};
 use gq_json::{Members, Out, Printed, error_line, json_line};
-use gq_token::{LexFault, tokens};
+use gq_token::{LexFault, Token, line_of, tokens, too_deep};
 use gq_value::{Memory, Txt};
 use std::alloc::Global;
 use std::sync::Wait;
@@ -77,10 +80,22 @@ fn run_script<K: Sink>(alloc: Global, bytes: &[u8], out: &mut K) -> Status
             if fault == LexFault::Memory {
                 return Status::Memory;
             }
-            return refuse(alloc, "unsupported script", out);
+            return refuse_fault(alloc, bytes, fault, out);
         }
     };
-    match read_script(alloc, bytes, &tokens) {
+    match too_deep(bytes, &tokens) {
+        Some(at) => refuse_at(alloc, bytes, "nested too deep", at, out),
+        None => run_tokens(alloc, bytes, &tokens, out),
+    }
+}
+
+fn run_tokens<K: Sink>(alloc: Global, bytes: &[u8], tokens: &[Token], out: &mut K) -> Status
+    requires { All (IsSpelledIn bytes.now) tokens.now }
+    ensures keeps { (outcome : Outcome) → QueriesMean bytes.now tokens.now outcome → KeepsTo outcome result (K.written out.old) (K.written out.new) ⊥ (Rose (K.faults out.old) (K.faults out.new)) }
+    ensures is_meant { IsFinal result → (outcome : Outcome) × QueriesMean bytes.now tokens.now outcome }
+    ensures only_writes { OnlyWrites result (Rose (K.faults out.old) (K.faults out.new)) }
+{
+    match read_script(alloc, bytes, tokens) {
         Ok(Some(queries)) => run_queries(alloc, &queries, out),
         Ok(None) => refuse(alloc, "unsupported script", out),
         Err(Memory) => Status::Memory,
@@ -113,6 +128,35 @@ fn print_query(alloc: Global, query: &QueryTree) -> Result<Vec<u8>, Memory>
         members.push((Txt::of(alloc, item.name())?, Out::UInt(item.number())))?;
     }
     json_line(alloc, &[Printed { members }])
+}
+
+// Refuses a script that can't be cut.
+fn refuse_fault<K: Sink>(alloc: Global, bytes: &[u8], fault: LexFault, out: &mut K) -> Status
+    requires within { place_of fault ≤ length bytes.now }
+    ensures keeps { KeepsTo (refused_with (message_at bytes.now (name_of fault) (place_of fault))) result (K.written out.old) (K.written out.new) ⊥ (Rose (K.faults out.old) (K.faults out.new)) }
+    ensures only_writes { OnlyWrites result (Rose (K.faults out.old) (K.faults out.new)) }
+{
+    match fault {
+        LexFault::NotUtf8 { at } => refuse_at(alloc, bytes, "not UTF-8", at, out),
+        LexFault::BadToken { at } => refuse_at(alloc, bytes, "bad token", at, out),
+        LexFault::OpenComment { at } => refuse_at(alloc, bytes, "open comment", at, out),
+        LexFault::OpenText { at } => refuse_at(alloc, bytes, "open text", at, out),
+        LexFault::TooBig { at } => refuse_at(alloc, bytes, "number too big", at, out),
+        LexFault::Memory => Status::Memory,
+    }
+}
+
+// Refuses a script for something at one of its bytes, whose line is named.
+fn refuse_at<K: Sink>(alloc: Global, bytes: &[u8], what: &str, at: usize, out: &mut K) -> Status
+    requires { at ≤ length bytes.now }
+    ensures keeps { KeepsTo (refused_with (message_at bytes.now what.now at)) result (K.written out.old) (K.written out.new) ⊥ (Rose (K.faults out.old) (K.faults out.new)) }
+    ensures only_writes { OnlyWrites result (Rose (K.faults out.old) (K.faults out.new)) }
+{
+    let line = line_of(bytes, at);
+    match format!(in alloc; "line {line}: {what} at byte {at}") {
+        Ok(message) => refuse(alloc, message.as_str(), out),
+        Err(_) => Status::Memory,
+    }
 }
 
 fn refuse_file<K: Sink>(alloc: Global, what: &str, name: &str, out: &mut K) -> Status

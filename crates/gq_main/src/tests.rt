@@ -5,6 +5,7 @@ ghost use Rattle.std.specs.Prelude.{◌<◌};
 use crate::run::run;
 use crate::status::Status;
 use gq_io::{Files, HoldGate, MemoryFiles, MemorySink, OpenGate, Sink, SureFiles, SureSink};
+use gq_json::error_line;
 use std::sync::Wait;
 use std::test::Fail;
 use std::thread::Threads;
@@ -91,19 +92,71 @@ fn other_scripts_are_refused_before_anything_is_printed(rt: HostRuntime) -> Resu
         b"INTERPRET QUERY () { PRINT 7 AS Select; }".as_slice(),
         b"INTERPRET QUERY () { PRINT 7 AS heapaccum; }".as_slice(),
         b"INTERPRET QUERY () { PRINT 7 AS _; }".as_slice(),
-        b"INTERPRET QUERY () { PRINT 18446744073709551616 AS n; }".as_slice(),
+        b"INTERPRET QUERY () { PRINT \"7\" AS n; }".as_slice(),
         b"INTERPRET QUERY () { PRINT -7 AS n; }".as_slice(),
         b"INTERPRETQUERY () { PRINT 7 AS n; }".as_slice(),
         b"INTERPRET QUERY () { PRINT7 AS n; }".as_slice(),
         b"INTERPRET QUERY () { PRINT 7 AS n; };".as_slice(),
         b"INTERPRET QUERY () { PRINT 7 AS n; } PRINT".as_slice(),
-        b"INTERPRET QUERY () { PRINT 7 AS n; } \xff".as_slice(),
     ];
     for script in scripts {
         let (status, out) = outcome_of(&rt, script, 100)?;
         assert_eq!(rt; status, Status::Refused);
         assert_eq!(rt; out.bytes(), UNSUPPORTED_LINE);
     }
+    Ok(())
+}
+
+#[test]
+fn comments_are_gaps(rt: HostRuntime) -> Result<(), Fail> {
+    let script = b"/* a */INTERPRET//b\nQUERY () { # c } \"\n PRINT 7/**/AS n; }#";
+    let (status, out) = outcome_of(&rt, script, 100)?;
+    assert_eq!(rt; status, Status::Done);
+    assert_eq!(rt; out.bytes(), SEVEN_LINE);
+    Ok(())
+}
+
+// Whether a script is refused by this message.
+fn is_refused<R: Threads + Wait + Sync + AllocGlobal>(
+    rt: &R,
+    script: &[u8],
+    message: &str,
+) -> Result<bool, Fail> {
+    let (status, out) = outcome_of(rt, script, 100)?;
+    let line = error_line(rt.alloc(), message)?;
+    Ok(status == Status::Refused && out.bytes() == line.as_slice())
+}
+
+#[test]
+fn what_cannot_be_cut_is_named_by_its_line_and_byte(rt: HostRuntime) -> Result<(), Fail> {
+    let refusals = [
+        (b"/* abc".as_slice(), "line 1: open comment at byte 0"),
+        (b"\n\n/*/".as_slice(), "line 3: open comment at byte 2"),
+        (b"\"abc".as_slice(), "line 1: open text at byte 0"),
+        (b"A\xff".as_slice(), "line 1: not UTF-8 at byte 1"),
+        (b"a ! b".as_slice(), "line 1: bad token at byte 2"),
+        (b"a\r\n\"b\\x\"".as_slice(), "line 2: bad token at byte 5"),
+        (
+            b"INTERPRET QUERY () { PRINT 18446744073709551616 AS x; }".as_slice(),
+            "line 1: number too big at byte 27",
+        ),
+    ];
+    for (script, message) in refusals {
+        assert!(rt; is_refused(&rt, script, message)?, "{message}");
+    }
+    Ok(())
+}
+
+#[test]
+fn a_script_nests_to_64_levels(rt: HostRuntime) -> Result<(), Fail> {
+    let alloc = rt.alloc();
+    let mut script = Vec::new(alloc);
+    for _ in 0..64 {
+        script.push(b'(')?;
+    }
+    assert!(rt; is_refused(&rt, &script, "unsupported script")?);
+    script.push(b'(')?;
+    assert!(rt; is_refused(&rt, &script, "line 1: nested too deep at byte 64")?);
     Ok(())
 }
 

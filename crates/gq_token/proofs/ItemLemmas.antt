@@ -1,76 +1,87 @@
--- ItemLemmas: one step of the cut, and what stops it.
-use Rattle.std.proofs.Common.{◌≡◌, ℕ, ◌-◌, ◌^◌, ◌<◌, ◌≤◌, List, [], ◌++◌, length, take, drop, Some, refl, ap, sym, subst, ◌∙◌, arith}
-use Rattle.gq_token.specs.declared.token.Shape.{Shape}
-use Rattle.gq_token.specs.declared.token.Shape.TheVariants.{Number}
-use Rattle.gq_token.specs.declared.token.Token.{Token}
-use Rattle.gq_token.specs.declared.fault.LexFault.{LexFault}
-use Rattle.gq_token.specs.declared.fault.LexFault.TheVariants.{BadToken, TooBig, Memory}
-use Rattle.gq_token.specs.declared.class.Class.{Class}
-use Rattle.gq_token.specs.declared.class.Class.TheVariants as class
-use Rattle.gq_token.specs.Bytes.{number_of}
-use Rattle.gq_token.specs.Spelling.{Item, TokenOf, spelled, Fits}
-use Rattle.gq_token.specs.Cut.{IsNext, placed, HasTokens, IsSpelledIn}
-use Rattle.gq_token.specs.Faults.{BeginsNoItem, BeginsTooBig, HasFaultAt}
-use Rattle.gq_token.specs.Class.{item_of, IsFaultOf}
-use Rattle.gq_token.proofs.CutLemmas.{CutBefore, cut_more}
-use Rattle.gq_token.proofs.FaultLemmas.{no_tokens_with_bad_token, no_tokens_with_too_big}
-use Rattle.gq_token.proofs.RunLemmas.{IsRun, begins_no_item, length-text, text_spelled, text_longest}
+-- ItemLemmas: the next item, from what its prefixes spell.
+use Rattle.std.proofs.Common.{◌≡◌, ℕ, zero, suc, ◌+◌, ◌-◌, ◌<◌, ◌≤◌, Bool, true, false, List, [], ◌∷◌, ◌++◌, length, take, get_or, Some, None, IsSome, refl, ap, sym, subst, ◌∙◌, arith, length-take, length-append}
+use Rattle.std.specs.Prelude.{if◌then◌else◌, nat_eq, codes}
+use Rattle.std.specs.List.{list_all, starts_with}
+use Rattle.std.proofs.lemmas.List.{get_or-take}
+use Rattle.std.proofs.lemmas.List.Folds.{list_all_at}
+use Rattle.gq_token.specs.Spelling.{Item, Gap, spelled, Fits}
+use Rattle.gq_token.specs.Cut.{IsLongest}
+use Rattle.gq_token.specs.Class.{IsRun}
+use Rattle.gq_token.specs.Items.{IsItem}
 
--- all before this place is cut, and what begins there is at fault
-fault_at :
-    (Fault : List ℕ → Type 0) {bytes : List ℕ} {at : ℕ} {found : List Token} → CutBefore bytes at found → at < length bytes → Fault (drop at bytes) → (place : ℕ) → place ≡ at
-    → HasFaultAt Fault bytes place
-fault_at Fault {bytes} had below fault place same =
-    subst (HasFaultAt Fault bytes) (sym same) record { below = below; texts = had.texts; cuts = had.cuts; fault = fault }
+-- no longer prefix than of this size spells an item
+abbrev pub NoLonger : List ℕ → ℕ → Type 0
+NoLonger rest size = (m : ℕ) → size < m → m ≤ length rest → spelled (take m rest) ≡ None
 
--- a run
-module _ {bytes : List ℕ} {at to : ℕ} {k : Class} (run : IsRun bytes at to k) where
-  abbrev text : List ℕ
-  text = take (to - at) (drop at bytes)
+-- a prefix that spells an item, and is the longest, is what it says
+pub longest_from : (rest : List ℕ) (size : ℕ) (item : Item) → size ≤ length rest → spelled (take size rest) ≡ Some item → NoLonger rest size
+    → IsLongest rest (take size rest)
+longest_from rest size item within spells longest =
+    let same : length (take size rest) ≡ size = omega (arith, length-take size rest) in
+    record {
+      prefix = ap (λ n. take n rest) same;
+      is_item = subst IsSome (sym spells) refl;
+      longest = λ m more below. longest m (omega (arith, same, more)) below;
+    }
 
-  -- the item of the class is spelled there
-  spells : {item : Item} → item_of k text ≡ Some item → spelled text ≡ Some item
-  spells is = text_spelled run ∙ is
+-- so it is the next item
+pub item_from :
+    (rest : List ℕ) (size : ℕ) (item : Item) → 0 < size → size ≤ length rest → spelled (take size rest) ≡ Some item → NoLonger rest size
+    → Fits item → (starts_with nat_eq rest (codes "/*") ≡ true → item ≡ Gap) → IsItem rest size item
+item_from rest size item some within spells longest fits comment = record {
+  some = some;
+  within = within;
+  spells = spells;
+  is_next = record {
+    is_longest = longest_from rest size item within spells longest;
+    fits = fitting;
+    comment = λ opens. spells ∙ ap Some (comment opens);
+  };
+}
+  where
+    fitting : (other : Item) → spelled (take size rest) ≡ Some other → Fits other
+    fitting other says = let same : item ≡ other = cc (sym spells ∙ says) in subst Fits same fits
 
-  -- a token is spelled there
-  pub token_spelled : (shape : Shape) → item_of k text ≡ Some (TokenOf shape) → IsSpelledIn bytes (record { shape = shape; from = at; to = to })
-  token_spelled shape is = record { ordered = omega (arith, run.after); within = run.within; spells = spells is }
+-- so many bytes as stand before others, and some of those
+take_behind : (n : ℕ) (pre tail : List ℕ) (m : ℕ) → n ≡ length pre + m → take n (pre ++ tail) ≡ pre ++ take m tail
+take_behind n [] tail m is = ap (λ k. take k tail) {x = n} {y = m} (omega arith)
+take_behind zero (c ∷ pre) tail m is = absurd (omega arith)
+take_behind (suc n) (c ∷ pre) tail m is = ap (λ l. c ∷ l) (take_behind n pre tail m (omega arith))
 
-  -- an item there is the next
-  item_next : (item : Item) → item_of k text ≡ Some item → Fits item → IsNext (drop at bytes) text
-  item_next item is fits = (text_longest run (rw is refl), fitting)
-    where
-      fitting : (other : Item) → spelled text ≡ Some other → Fits other
-      fitting other says = let same : item ≡ other = cc (sym (spells is) ∙ says) in subst Fits same fits
+-- behind some first bytes a run, with which each prefix that has enough bytes of it spells an item or not
+module _ (pre tail : List ℕ) (low size total : ℕ) (goes : ℕ → Bool) (item : List ℕ → Item) where
+  -- what the prefixes spell
+  abbrev pub SpelledByRun : Type 0
+  SpelledByRun = (m : ℕ) → low ≤ m → spelled (pre ++ take m tail) ≡ (if list_all goes (take m tail) then Some (item (pre ++ take m tail)) else None)
 
-  -- a number there that doesn't fit
-  begins_too_big : k ≡ class.Number → 2 ^ 64 ≤ number_of text → BeginsTooBig (drop at bytes)
-  begins_too_big number big =
-      let is : item_of k text ≡ Some (TokenOf (Number (number_of text))) = rw number refl in
-      record { text = text; number = number_of text; is_longest = text_longest run (rw is refl); is_number = spells is; too_big = big }
+  module _ (run : IsRun goes tail size) (by_run : SpelledByRun) (enough : low ≤ size) (is : total ≡ length pre + size) where
+    -- the run spells the item
+    pub run_spelled : spelled (take total (pre ++ tail)) ≡ Some (item (pre ++ take size tail))
+    run_spelled = ap spelled (take_behind total pre tail size is) ∙ by_run size enough ∙ rw run.inside refl
 
-  -- all before it is cut
-  module _ {found : List Token} (had : CutBefore bytes at found) where
-    -- an item there is cut too
-    pub cut_step : (longer : List Token) (item : Item) → item_of k text ≡ Some item → Fits item → longer ≡ found ++ placed (Some item) at to [] → CutBefore bytes to longer
-    cut_step longer item is fits wrote =
-        let tokens : longer ≡ found ++ placed (spelled text) at to [] = wrote ∙ ap (λ o. found ++ placed o at to []) (sym (spells is)) in
-        cut_more bytes at to found longer text had (item_next item is fits) (length-text run) tokens
+    -- with more bytes nothing
+    longer_spelled : (m : ℕ) → size < m → m ≤ length tail → spelled (pre ++ take m tail) ≡ None
+    longer_spelled m more below =
+        let here : get_or (take m tail) size 0 ≡ get_or tail size 0 = get_or-take m tail size 0 more in
+        let stops : list_all goes (take m tail) ≡ false =
+        list_all_at goes (take m tail) size 0 (omega (arith, length-take m tail)) (ap goes here ∙ run.behind (omega arith)) in
+        by_run m (omega arith) ∙ rw stops refl
 
-    -- a fault there is as it says
-    pub bad_token : (fault : LexFault) → IsFaultOf k text at fault → (place : ℕ) → fault ≡ BadToken place → HasFaultAt BeginsNoItem bytes place
-    bad_token (BadToken other) is place same = let here : place ≡ other = cc in fault_at BeginsNoItem had run.below (begins_no_item run is.1) place (here ∙ is.0)
-    bad_token (TooBig other) is place same = cc
-    bad_token Memory is place same = cc
+    pub run_longest : NoLonger (pre ++ tail) total
+    run_longest m more below =
+        let same : m ≡ length pre + (m - length pre) = omega arith in
+        ap spelled (take_behind m pre tail (m - length pre) same) ∙ longer_spelled (m - length pre) (omega arith) (omega (arith, length-append pre tail))
 
-    -- the same of a number that doesn't fit
-    pub too_big : (fault : LexFault) → IsFaultOf k text at fault → (place : ℕ) → fault ≡ TooBig place → HasFaultAt BeginsTooBig bytes place
-    too_big (BadToken other) is place same = cc
-    too_big (TooBig other) is place same = let here : place ≡ other = cc in fault_at BeginsTooBig had run.below (begins_too_big is.1 is.2) place (here ∙ is.0)
-    too_big Memory is place same = cc
+    -- the run ends within the bytes
+    pub run_within : total ≤ length (pre ++ tail)
+    run_within = omega (arith, run.within, length-append pre tail)
 
-    -- so with a fault there the bytes have no tokens
-    pub no_tokens : (fault : LexFault) → IsFaultOf k text at fault → (tokens : List Token) → HasTokens bytes tokens → ⊥
-    no_tokens (BadToken place) is = no_tokens_with_bad_token (bad_token (BadToken place) is place refl)
-    no_tokens (TooBig place) is = no_tokens_with_too_big (too_big (TooBig place) is place refl)
-    no_tokens Memory is = absurd is
+    -- so it is the next item
+    pub run_item : 0 < total → Fits (item (pre ++ take size tail)) → (starts_with nat_eq (pre ++ tail) (codes "/*") ≡ true → item (pre ++ take size tail) ≡ Gap)
+        → IsItem (pre ++ tail) total (item (pre ++ take size tail))
+    run_item some fits comment = item_from (pre ++ tail) total (item (pre ++ take size tail)) some run_within run_spelled run_longest fits comment
+
+-- a run of bytes whose first one goes on is no empty one
+pub run_some : (goes : ℕ → Bool) (c : ℕ) (cs : List ℕ) (size : ℕ) → IsRun goes (c ∷ cs) size → goes c ≡ true → 1 ≤ size
+run_some goes c cs zero run go = let stop : goes c ≡ false = run.behind (omega arith) in cc
+run_some goes c cs (suc n) run go = omega arith

@@ -1,5 +1,7 @@
 -- Bytes: which of them begin and continue the items of a script.
-use Rattle.std.specs.Prelude.{ℕ, ◌+◌, ◌-◌, ◌*◌, Bool, ◌||◌, ◌&&◌, ◌==◌, nat_le, List, fold}
+use Rattle.std.specs.Prelude.{ℕ, ◌+◌, ◌-◌, ◌*◌, Bool, ◌||◌, ◌&&◌, ◌==◌, nat_le, List, [], ◌∷◌, fold, codes}
+use Rattle.std.specs.List.{list_any}
+use Rattle.std.specs.Str.{bytes_eq}
 
 -- a blank, a tab, CR or LF
 abbrev pub is_blank : ℕ → Bool
@@ -17,9 +19,17 @@ is_word_start c = (nat_le 65 c && nat_le c 90) || (nat_le 97 c && nat_le c 122) 
 abbrev pub is_word_byte : ℕ → Bool
 is_word_byte c = is_word_start c || is_digit c
 
--- one of `(` `)` `,` `;` `{` `}`
-abbrev pub is_symbol : ℕ → Bool
-is_symbol c = c == 40 || c == 41 || c == 44 || c == 59 || c == 123 || c == 125
+-- the symbols
+unfoldable pub symbols : List (List ℕ)
+symbols =
+    codes "->" ∷ codes "==" ∷ codes "!=" ∷ codes "<>" ∷ codes "<=" ∷ codes ">=" ∷ codes "+="
+    ∷ codes "=" ∷ codes "<" ∷ codes ">" ∷ codes "+" ∷ codes "-" ∷ codes "*" ∷ codes "/" ∷ codes "%"
+    ∷ codes "(" ∷ codes ")" ∷ codes "{" ∷ codes "}" ∷ codes "[" ∷ codes "]"
+    ∷ codes "," ∷ codes ";" ∷ codes ":" ∷ codes "." ∷ codes "|" ∷ codes "'" ∷ codes "$" ∷ []
+
+-- a whole text is a symbol
+abbrev pub is_symbol : List ℕ → Bool
+is_symbol text = list_any (bytes_eq text) symbols
 
 -- the number that decimal digits write
 abbrev pub number_of : List ℕ → ℕ

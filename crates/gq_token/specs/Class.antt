@@ -1,46 +1,54 @@
--- Class: what the first byte of an item tells of it, which the code goes by.
-use Rattle.std.specs.Prelude.{◌≡◌, ℕ, ◌^◌, ◌≤◌, Bool, false, List, Option, Some, None, if◌then◌else◌}
-use Rattle.gq_token.specs.declared.token.Shape.{Shape}
-use Rattle.gq_token.specs.declared.token.Shape.TheVariants.{Word, Number, Symbol}
-use Rattle.gq_token.specs.declared.fault.LexFault.{LexFault}
-use Rattle.gq_token.specs.declared.fault.LexFault.TheVariants.{BadToken, TooBig, Memory}
+-- Class: what the first two bytes of an item tell of it, which the code goes by. Where there is no second byte, it is 0.
+use Rattle.std.specs.Prelude.{◌≡◌, ℕ, ◌<◌, ◌≤◌, Bool, true, false, not, ◌==◌, ◌&&◌, ◌||◌, List, length, take, get_or, if◌then◌else◌}
+use Rattle.std.specs.List.{list_all}
 use Rattle.gq_token.specs.declared.class.Class.{Class}
 use Rattle.gq_token.specs.declared.class.Class.TheVariants as class
-use Rattle.gq_token.specs.Bytes.{is_blank, is_digit, is_word_start, is_word_byte, is_symbol, number_of}
-use Rattle.gq_token.specs.Spelling.{Item, Gap, TokenOf}
+use Rattle.gq_token.specs.declared.class.Run.{Run}
+use Rattle.gq_token.specs.declared.class.Run.TheVariants as run
+use Rattle.gq_token.specs.Bytes.{is_blank, is_digit, is_word_start, is_word_byte}
 
--- what a byte begins
-abbrev pub class_of : ℕ → Class
-class_of c =
-    if is_blank c then class.Gap
+-- what a `/` before this byte begins
+abbrev pub slash_class : ℕ → Class
+slash_class d = if d == 47 then class.LineComment else (if d == 42 then class.BlockComment else class.Other)
+
+-- what these bytes begin
+abbrev pub class_of : ℕ → ℕ → Class
+class_of c d =
+    if is_blank c then class.Blank
+    else (if c == 35 then class.LineComment
+    else (if c == 47 then slash_class d
     else (if is_word_start c then class.Word
+    else (if c == 64 then class.Sign
     else (if is_digit c then class.Number
-    else (if is_symbol c then class.Symbol
-    else class.Other)))
+    else (if c == 34 then class.Text
+    else class.Other))))))
 
--- whether a byte goes on with it
-abbrev pub goes_on : Class → ℕ → Bool
-goes_on class.Gap c = is_blank c
-goes_on class.Word c = is_word_byte c
-goes_on class.Number c = is_digit c
-goes_on class.Symbol c = false
-goes_on class.Other c = false
+-- two bytes are a symbol
+abbrev pub is_pair : ℕ → ℕ → Bool
+is_pair c d =
+    (c == 45 && d == 62) || (c == 61 && d == 61) || (c == 33 && d == 61) || (c == 60 && d == 62)
+    || (c == 60 && d == 61) || (c == 62 && d == 61) || (c == 43 && d == 61)
 
--- the item that a text of a class is
-abbrev pub item_of : Class → List ℕ → Option Item
-item_of class.Gap text = Some Gap
-item_of class.Word text = Some (TokenOf Word)
-item_of class.Number text = Some (TokenOf (Number (number_of text)))
-item_of class.Symbol text = Some (TokenOf Symbol)
-item_of class.Other text = None
+-- one byte is a symbol
+abbrev pub is_single : ℕ → Bool
+is_single c =
+    c == 61 || c == 60 || c == 62 || c == 43 || c == 45 || c == 42 || c == 47 || c == 37
+    || c == 40 || c == 41 || c == 123 || c == 125 || c == 91 || c == 93
+    || c == 44 || c == 59 || c == 58 || c == 46 || c == 124 || c == 39 || c == 36
 
--- a gap, or the token of a shape
-abbrev pub item_with : Option Shape → Item
-item_with None = Gap
-item_with (Some shape) = TokenOf shape
+-- how many of two bytes are the longest symbol, or 0 where none is
+abbrev pub symbol_size : ℕ → ℕ → ℕ
+symbol_size c d = if is_pair c d then 2 else (if is_single c then 1 else 0)
 
--- the fault of a text of a class that begins at this place
-abbrev pub IsFaultOf : Class → List ℕ → ℕ → LexFault → Type 0
-IsFaultOf k text at (BadToken place) = (place ≡ at) × (k ≡ class.Other)
-IsFaultOf k text at (TooBig place) = (place ≡ at) × (k ≡ class.Number) × (2 ^ 64 ≤ number_of text)
-IsFaultOf k text at Memory = ⊥
+-- whether a byte goes on with a run of bytes of one kind
+abbrev pub goes_on : Run → ℕ → Bool
+goes_on run.Blank c = is_blank c
+goes_on run.Line c = not (c == 10)
+goes_on run.Word c = is_word_byte c
+goes_on run.Digit c = is_digit c
+
+-- so many bytes go on with a run, and the byte behind them, if there is one, doesn't
+pub record IsRun (goes : ℕ → Bool) (bytes : List ℕ) (size : ℕ) : Type 0 where
+  pub within : size ≤ length bytes
+  pub inside : list_all goes (take size bytes) ≡ true
+  pub behind : size < length bytes → goes (get_or bytes size 0) ≡ false

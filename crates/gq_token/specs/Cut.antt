@@ -1,6 +1,8 @@
 -- Cut: how a script is cut into gaps and tokens, from the left, each the longest prefix of what remains that spells one.
 -- Here whole prefixes are looked at, the longer ones too. The code goes byte by byte.
-use Rattle.std.specs.Prelude.{◌≡◌, ℕ, ◌+◌, ◌-◌, ◌<◌, ◌≤◌, List, [], ◌∷◌, length, take, drop, Option, Some, None, IsSome}
+use Rattle.std.specs.Prelude.{◌≡◌, ℕ, ◌+◌, ◌-◌, ◌<◌, ◌≤◌, true, List, [], ◌∷◌, length, take, drop, Option, Some, None, IsSome, codes, nat_eq}
+use Rattle.std.specs.List.{starts_with}
+use Rattle.std.specs.Str.{IsUtf8}
 use Rattle.gq_token.specs.declared.token.Token.{Token}
 use Rattle.gq_token.specs.Spelling.{Item, Gap, TokenOf, spelled, Fits}
 
@@ -10,9 +12,11 @@ pub record IsLongest (bytes text : List ℕ) : Type 0 where
   pub is_item : IsSome (spelled text)
   pub longest : (n : ℕ) → length text < n → n ≤ length bytes → spelled (take n bytes) ≡ None
 
--- the next item of the bytes, whose number fits, if it is one
-abbrev pub IsNext : List ℕ → List ℕ → Type 0
-IsNext bytes text = IsLongest bytes text × ((item : Item) → spelled text ≡ Some item → Fits item)
+-- the next item of the bytes: a number fits, and where `/*` stands it is a gap, and not the symbol `/`
+pub record IsNext (bytes text : List ℕ) : Type 0 where
+  pub is_longest : IsLongest bytes text
+  pub fits : (item : Item) → spelled text ≡ Some item → Fits item
+  pub comment : starts_with nat_eq bytes (codes "/*") ≡ true → spelled text ≡ Some Gap
 
 -- these items are cut from the bytes, one after another, and the rest remains
 abbrev pub Cuts : List ℕ → List (List ℕ) → List ℕ → Type 0
@@ -30,9 +34,12 @@ abbrev pub tokens_of : ℕ → List (List ℕ) → List Token
 tokens_of at [] = []
 tokens_of at (text ∷ texts) = placed (spelled text) at (at + length text) (tokens_of (at + length text) texts)
 
--- the bytes are cut whole, and these are the tokens of the cut
-abbrev pub HasTokens : List ℕ → List Token → Type 0
-HasTokens bytes tokens = (texts : List (List ℕ)) × Cuts bytes texts [] × (tokens ≡ tokens_of 0 texts)
+-- the bytes are UTF-8 and cut whole, and these are the tokens of the cut
+pub record HasTokens (bytes : List ℕ) (tokens : List Token) : Type 0 where
+  pub utf8 : IsUtf8 bytes
+  pub texts : List (List ℕ)
+  pub cuts : Cuts bytes texts []
+  pub are_tokens : tokens ≡ tokens_of 0 texts
 
 -- the bytes of a token
 abbrev pub text_of : List ℕ → Token → List ℕ

@@ -2,4 +2,8 @@ pub mod Bytes
 pub mod Class
 pub mod Cut
 pub mod Faults
+pub mod Items
+pub mod Lines
+pub mod Nesting
 pub mod Spelling
+pub mod Texts

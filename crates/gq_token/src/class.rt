@@ -1,36 +1,80 @@
 // What a byte begins, and which bytes go on with it.
-ghost use Rattle.std.specs.Prelude.{◌≡◌};
-ghost use Rattle.gq_token.specs.Class.{class_of, goes_on};
+ghost use Rattle.std.specs.Prelude.{◌≡◌, slice_index};
+ghost use Rattle.gq_token.specs.Bytes.{is_word_start};
+ghost use Rattle.gq_token.specs.Class.{class_of, goes_on, IsRun};
 
-/// What the first byte of an item tells of it.
-#[derive(Clone, Copy, Debug, PartialEq, Eq)]
+// What an item is, by its first two bytes.
+#[derive(Clone, Copy)]
 pub enum Class {
-    Gap,
+    Blank,
+    LineComment,
+    BlockComment,
     Word,
+    Sign,
     Number,
-    Symbol,
+    Text,
     Other,
 }
 
-pub fn class_of(byte: u8) -> Class
-    ensures { result ≡ class_of byte }
+// A kind of bytes that stand in a row.
+#[derive(Clone, Copy)]
+pub enum Run {
+    Blank,
+    Line,
+    Word,
+    Digit,
+}
+
+pub fn class_of(first: u8, second: u8) -> Class
+    ensures { result ≡ class_of first second }
 {
-    match byte {
-        b' ' | b'\t' | b'\r' | b'\n' => Class::Gap,
+    match first {
+        b' ' | b'\t' | b'\r' | b'\n' => Class::Blank,
+        b'#' => Class::LineComment,
+        b'/' => match second {
+            b'/' => Class::LineComment,
+            b'*' => Class::BlockComment,
+            _ => Class::Other,
+        },
         b'A'..=b'Z' | b'a'..=b'z' | b'_' => Class::Word,
+        b'@' => Class::Sign,
         b'0'..=b'9' => Class::Number,
-        b'(' | b')' | b',' | b';' | b'{' | b'}' => Class::Symbol,
+        b'"' => Class::Text,
         _ => Class::Other,
     }
 }
 
-pub fn goes_on(class: Class, byte: u8) -> bool
-    ensures { result ≡ goes_on class byte }
+pub fn goes_on(run: Run, byte: u8) -> bool
+    ensures { result ≡ goes_on run byte }
 {
-    match class {
-        Class::Gap => matches!(byte, b' ' | b'\t' | b'\r' | b'\n'),
-        Class::Word => matches!(byte, b'A'..=b'Z' | b'a'..=b'z' | b'_' | b'0'..=b'9'),
-        Class::Number => byte.is_ascii_digit(),
-        Class::Symbol | Class::Other => false,
+    match run {
+        Run::Blank => matches!(byte, b' ' | b'\t' | b'\r' | b'\n'),
+        Run::Line => byte != b'\n',
+        Run::Word => matches!(byte, b'A'..=b'Z' | b'a'..=b'z' | b'_' | b'0'..=b'9'),
+        Run::Digit => byte.is_ascii_digit(),
     }
+}
+
+pub fn begins_word(byte: u8) -> bool
+    ensures { result ≡ is_word_start byte }
+{
+    matches!(byte, b'A'..=b'Z' | b'a'..=b'z' | b'_')
+}
+
+// How many of the first bytes go on with a run.
+pub fn run_size(bytes: &[u8], run: Run) -> usize
+    ensures { IsRun (goes_on run) bytes.now result }
+{
+    let mut size = 0;
+    while size < bytes.len() && goes_on(run, bytes[size]) {
+        size += 1;
+    }
+    size
+}
+
+// The byte at a place, or 0 where there is none.
+pub fn byte_at(bytes: &[u8], at: usize) -> u8
+    ensures { result ≡ slice_index bytes.now at }
+{
+    if at < bytes.len() { bytes[at] } else { 0 }
 }

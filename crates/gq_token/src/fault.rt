@@ -8,9 +8,21 @@ use thiserror::Error;
 /// Why a script can't be cut into tokens. Places are counted in bytes from 0.
 #[derive(Clone, Copy, Debug, PartialEq, Eq, Error)]
 pub enum LexFault {
-    /// The byte at `at` begins neither a gap nor a token.
+    /// The script isn't UTF-8; its first `at` bytes are the longest prefix that is.
+    #[error("not UTF-8 at byte {at}")]
+    NotUtf8 { at: usize },
+
+    /// The byte at `at` begins neither a gap nor a token, or is the backslash of an escape that a text doesn't have.
     #[error("bad token at byte {at}")]
     BadToken { at: usize },
+
+    /// The comment that begins with `/*` at `at` has no `*/`.
+    #[error("open comment at byte {at}")]
+    OpenComment { at: usize },
+
+    /// The text that begins with `"` at `at` isn't closed.
+    #[error("open text at byte {at}")]
+    OpenText { at: usize },
 
     /// The number that begins at `at` is above 18446744073709551615.
     #[error("number too big at byte {at}")]

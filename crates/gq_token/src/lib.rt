@@ -2,17 +2,31 @@
 //!
 //! A script is cut from the left into gaps and tokens, each the longest prefix of what remains that is spelled as one.
 //! `specs/Spelling.antt` says what a whole text spells, `specs/Cut.antt` what the cut of a script is, and
-//! `specs/Faults.antt` where and why a text can't be cut: read them in this order. The code, in `cut.rt`, goes through
-//! the bytes once.
+//! `specs/Faults.antt` where and why a text can't be cut: read them in this order. `specs/Lines.antt` and
+//! `specs/Nesting.antt` say on which line a place stands and how deep the tokens nest. `specs/Class.antt` and
+//! `specs/Items.antt` are only for the code, which goes by the first two bytes of an item (`item.rt`) and has a file for
+//! each kind. All of it takes time linear in the bytes.
 #![tactic(auto)]
 
 mod class;
+mod comments;
 mod cut;
 mod fault;
+mod item;
 mod laws;
+mod lines;
+mod nesting;
+mod numbers;
+mod symbols;
+#[cfg(test)]
+mod tests;
+mod texts;
 mod token;
+mod words;
 
 pub use cut::tokens;
 pub use fault::LexFault;
-pub use laws::one_cut_or_fault;
+pub use laws::one_fault;
+pub use lines::line_of;
+pub use nesting::too_deep;
 pub use token::{Shape, Token};

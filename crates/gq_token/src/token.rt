@@ -3,21 +3,33 @@ ghost use Rattle.std.specs.Prelude.{◌≡◌, ◌≢◌, IfSome, IfNone};
 ghost use Rattle.gq_token.specs.declared.token.Shape.TheVariants.{Word};
 ghost use Rattle.gq_token.specs.Cut.{IsSpelledIn, text_of};
 
+use gq_value::Txt;
+
 /// What kind of token it is, with what it tells beside its bytes.
-#[derive(Debug, PartialEq, Eq, Drop)]
+#[derive(Drop)]
 pub enum Shape {
     /// An ASCII letter or `_`, and the ASCII letters, digits and `_` after it. Keywords and names are words.
     Word,
 
+    /// `@@` and a word directly after it.
+    Global,
+
+    /// `@` and a word directly after it.
+    Attached,
+
     /// The value of ASCII digits.
     Number(u64),
 
-    /// One of `(` `)` `,` `;` `{` `}`.
+    /// What a text in quotes says, each escape as the byte that it stands for.
+    Text(Txt),
+
+    /// One of `->` `==` `!=` `<>` `<=` `>=` `+=` `=` `<` `>` `+` `-` `*` `/` `%` `(` `)` `{` `}` `[` `]` `,` `;` `:` `.` `|`
+    /// `'` `$`.
     Symbol,
 }
 
 /// A token, and the places of its bytes in the script: from `from` to before `to`.
-#[derive(Debug, PartialEq, Eq, Drop)]
+#[derive(Drop)]
 pub struct Token {
     pub shape: Shape,
     pub from: usize,

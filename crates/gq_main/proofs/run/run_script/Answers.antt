@@ -1,46 +1,39 @@
-use Rattle.std.proofs.Common.{refl, sym, subst, codes, inl, inr, rules}
-use Rattle.gq_main.specs.Form.{Script}
+use Rattle.std.proofs.Common.{◌≡◌, List, refl, sym, subst, codes, inl, inr, rules, ap, ◌∙◌}
+use Rattle.gq_token.specs.declared.token.Token.{Token}
+use Rattle.gq_token.specs.Cut.{HasTokens}
+use Rattle.gq_token.specs.Faults.{place_of}
 use Rattle.gq_main.specs.Outcome.{refused_with}
-use Rattle.gq_main.specs.Meaning.{run_of}
-use Rattle.gq_main.proofs.MeaningLemmas.{keeps_script, keeps_run, keeps_unsupported, is_script, only_script, no_script, uncut}
+use Rattle.gq_main.specs.Meaning.{QueriesMean}
+use Rattle.gq_main.specs.Messages.{message_at, name_of}
+use Rattle.gq_main.proofs.MeaningLemmas.{keeps_fault, keeps_too_deep, script_of_tokens, tokens_of_script, queries_of_tokens}
 use Rattle.gq_main.proofs.run.run_script.Goals as goal
 
 pub returns-in-Err-clause-keeps : goal.returns-in-Err-clause-keeps
 returns-in-Err-clause-keeps g c =
-    keeps_unsupported c.args.bytes.now _ _ _ _ _ (uncut c.args.bytes.now (c.in-Err.ensures.no_cut (λ memory. absurd (search rules)))) c.refuse.ensures.keeps
+    keeps_fault c.args.bytes.now _ _ _ _ _ c.in-Err.fault (c.in-Err.ensures.only_fault (λ memory. absurd (search rules))) (c.in-Err.ensures.no_cut (λ memory. absurd (search rules))) c.refuse_fault.ensures.keeps
 
 pub returns-in-Err-clause-is_meant : goal.returns-in-Err-clause-is_meant
 returns-in-Err-clause-is_meant g c = λ final.
-    (refused_with (codes "unsupported script"), inr (uncut c.args.bytes.now (c.in-Err.ensures.no_cut (λ memory. absurd (search rules))), refl))
+    (refused_with (message_at c.args.bytes.now (name_of c.in-Err.fault) (place_of c.in-Err.fault)), inl (c.in-Err.fault, c.in-Err.ensures.fault (λ memory. absurd (search rules)), refl))
 
-pub returns-in-Ok-Some-clause-keeps : goal.returns-in-Ok-Some-clause-keeps
-returns-in-Ok-Some-clause-keeps g c =
+pub returns-in-Some-clause-keeps : goal.returns-in-Some-clause-keeps
+returns-in-Some-clause-keeps g c = λ outcome means.
     let bytes = c.args.bytes.now in
-    let found = c.in-Ok.tokens.items in
-    let read = rw c.in-Ok-Some.field-0-is at c.in-Ok-Some.ensures in
-    let queries = c.in-Ok-Some.queries.items in
-    let script = subst (λ tokens. Script bytes tokens queries) c.deref.ensures.value read.script in
-    let only = only_script bytes found c.in-Ok.ensures.cut c.in-Ok.ensures.only queries (λ others is. read.only others (subst (λ tokens. Script bytes tokens others) (sym c.deref.ensures.value) is)) in
-    keeps_script bytes _ _ _ _ _ queries only (is_script bytes found c.in-Ok.ensures.cut c.in-Ok.ensures.only queries script) (keeps_run bytes _ _ _ _ _ _ queries c.deref-in-Ok-Some.ensures.value c.run_queries.ensures.keeps)
+    let tokens = c.deref.result.now in
+    let only : (others : List Token) → HasTokens bytes others → others ≡ tokens = λ others has. c.in-Ok.ensures.only others has ∙ sym c.deref.ensures.value in
+    keeps_too_deep bytes _ _ _ _ _ tokens c.in-Some.at c.in-Some.ensures.only c.in-Some.ensures.not_shallow c.refuse_at.ensures.keeps outcome (tokens_of_script bytes tokens only c.in-Ok.ensures.no_fault outcome means)
 
-pub returns-in-Ok-Some-clause-is_meant : goal.returns-in-Ok-Some-clause-is_meant
-returns-in-Ok-Some-clause-is_meant g c = λ final.
+pub returns-in-Some-clause-is_meant : goal.returns-in-Some-clause-is_meant
+returns-in-Some-clause-is_meant g c = λ final.
     let bytes = c.args.bytes.now in
-    let found = c.in-Ok.tokens.items in
-    let read = rw c.in-Ok-Some.field-0-is at c.in-Ok-Some.ensures in
-    let queries = c.in-Ok-Some.queries.items in
-    let script = subst (λ tokens. Script bytes tokens queries) c.deref.ensures.value read.script in
-    (run_of queries, inl (queries, is_script bytes found c.in-Ok.ensures.cut c.in-Ok.ensures.only queries script, refl))
+    let tokens = c.deref.result.now in
+    let cut = subst (HasTokens bytes) (sym c.deref.ensures.value) c.in-Ok.ensures.cut in
+    (refused_with (message_at bytes (codes "nested too deep") c.in-Some.at), script_of_tokens bytes tokens cut _ (inl (c.in-Some.at, c.in-Some.ensures.some, refl)))
 
-pub returns-in-Ok-None-clause-keeps : goal.returns-in-Ok-None-clause-keeps
-returns-in-Ok-None-clause-keeps g c =
+pub returns-clause-keeps : goal.returns-clause-keeps
+returns-clause-keeps g c = λ outcome means.
     let bytes = c.args.bytes.now in
-    let read = rw c.in-Ok-None.field-0-is at c.in-Ok-None.ensures in
-    let none = no_script bytes c.in-Ok.tokens.items c.in-Ok.ensures.cut c.in-Ok.ensures.only (λ queries is. read.none queries (subst (λ tokens. Script bytes tokens queries) (sym c.deref.ensures.value) is)) in
-    keeps_unsupported bytes _ _ _ _ _ none c.refuse-in-Ok-None.ensures.keeps
-
-pub returns-in-Ok-None-clause-is_meant : goal.returns-in-Ok-None-clause-is_meant
-returns-in-Ok-None-clause-is_meant g c = λ final.
-    let bytes = c.args.bytes.now in
-    let read = rw c.in-Ok-None.field-0-is at c.in-Ok-None.ensures in
-    (refused_with (codes "unsupported script"), inr (no_script bytes c.in-Ok.tokens.items c.in-Ok.ensures.cut c.in-Ok.ensures.only (λ queries is. read.none queries (subst (λ tokens. Script bytes tokens queries) (sym c.deref.ensures.value) is)), refl))
+    let tokens = c.deref.result.now in
+    let only : (others : List Token) → HasTokens bytes others → others ≡ tokens = λ others has. c.in-Ok.ensures.only others has ∙ sym c.deref.ensures.value in
+    let mean = queries_of_tokens bytes tokens c.in-None.ensures.only outcome (tokens_of_script bytes tokens only c.in-Ok.ensures.no_fault outcome means) in
+    c.run_tokens.ensures.keeps outcome (subst (λ ts. QueriesMean bytes ts outcome) (c.deref.ensures.value ∙ sym c.deref-in-None.ensures.value) mean)

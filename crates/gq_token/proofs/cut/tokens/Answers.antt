@@ -1,55 +1,76 @@
--- Each answer is about the run that the iteration found, behind what is cut already.
-use Rattle.std.proofs.Common.{All, sym, subst, arith}
+-- Each answer is about the item that the iteration found, behind what is cut already.
+use Rattle.std.proofs.Common.{◌≡◌, All, ◌+◌, ◌++◌, [], ◌∷◌, ◌∙◌, ap, sym, subst, arith}
 use Rattle.std.proofs.lemmas.List.{append-nil}
 use Rattle.std.proofs.lemmas.List.Elements.{All-push}
+use Rattle.gq_token.specs.declared.token.Token.{Token}
 use Rattle.gq_token.specs.Spelling.{Gap, TokenOf}
 use Rattle.gq_token.specs.Cut.{IsSpelledIn}
+use Rattle.gq_token.specs.Items.{IsItem}
 use Rattle.gq_token.proofs.CutLemmas.{tokens_unique, cut_whole}
-use Rattle.gq_token.proofs.RunLemmas.{IsRun}
-use Rattle.gq_token.proofs.ItemLemmas.{token_spelled, cut_step, bad_token, too_big, no_tokens}
-use Rattle.gq_token.proofs.cut.tokens.Goals.{After-shape}
+use Rattle.gq_token.proofs.LawLemmas.{one_fault_at_most, no_fault_beside}
+use Rattle.gq_token.proofs.PlaceLemmas.{place_within}
+use Rattle.gq_token.proofs.StepLemmas.{remains, remains_utf8, step_within, step_spelled, step_cut, step_fault, step_apart}
 use Rattle.gq_token.proofs.cut.tokens.Goals as goal
 
-pub returns-clause-only : goal.returns-clause-only
-returns-clause-only c = λ tokens has.
-    let is_whole = cut_whole c.args.bytes.now c.loop-at.at c.loop-at.found.items c.loop-at.invariant.before (omega arith) in
-    tokens_unique c.args.bytes.now tokens c.loop-at.found.items has is_whole
+pub next_item-requires-clause-utf8 : goal.next_item-requires-clause-utf8
+next_item-requires-clause-utf8 c = remains_utf8 c.args.bytes.now c.loop-at.at c.in_default.ensures.cases.1 c.loop-at-test.true
 
--- the run, as it is known where the shape of its text is asked for
-run_at : (c : After-shape) → IsRun c.args.bytes.now c.loop-at.at c.run_end-to.result c.class_of-class.result
-run_at c =
-    let e = c.run_end-to.ensures in
-    record { begins = sym c.class_of-class.ensures; below = omega arith; after = e.begin; within = e.end; inside = e.inside; behind = e.behind }
+pub returns-in-Err-next_item-clause-no_cut : goal.returns-in-Err-next_item-clause-no_cut
+returns-in-Err-next_item-clause-no_cut c =
+    step_apart c.args.bytes.now c.loop-at.at c.loop-at.found.items c.loop-at.invariant.before c.in-Err-next_item.fault c.in_default.ensures.cases.1
+    c.loop-at-test.true c.in-Err-next_item.ensures.fault
 
-pub returns-in-Err-clause-bad_token : goal.returns-in-Err-clause-bad_token
-returns-in-Err-clause-bad_token c = λ place is.
-    bad_token (run_at (goal.at.returns-in-Err-clause-bad_token c).After-shape) c.loop-at.invariant.before c.in-Err.fault c.in-Err.ensures.fault place (cc is)
-
-pub returns-in-Err-clause-too_big : goal.returns-in-Err-clause-too_big
-returns-in-Err-clause-too_big c = λ place is.
-    too_big (run_at (goal.at.returns-in-Err-clause-too_big c).After-shape) c.loop-at.invariant.before c.in-Err.fault c.in-Err.ensures.fault place (cc is)
-
-pub returns-in-Err-clause-no_cut : goal.returns-in-Err-clause-no_cut
-returns-in-Err-clause-no_cut c = λ _.
-    no_tokens (run_at (goal.at.returns-in-Err-clause-no_cut c).After-shape) c.loop-at.invariant.before c.in-Err.fault c.in-Err.ensures.fault
-
-pub loop-at-preserved-in_ok-push-in-Ok-Some : goal.loop-at-preserved-in_ok-push-in-Ok-Some
-loop-at-preserved-in_ok-push-in-Ok-Some c =
-    let run = run_at (goal.at.loop-at-preserved-in_ok-push-in-Ok-Some c).After-shape in
-    let pushed = c.in_ok-push-in-Ok-Some.ensures.items in
-    let is = rw c.in-Ok-Some.field-0-is at c.in-Ok-Some.ensures in
+pub loop-at-preserved-in_ok-push-in-Some : goal.loop-at-preserved-in_ok-push-in-Some
+loop-at-preserved-in_ok-push-in-Some c =
+    let bytes = c.args.bytes.now in
+    let found = c.loop-at.found.items in
+    let token : Token = record { shape = c.in-Some.shape; from = c.loop-at.at; to = c.loop-at.at + c.in-Ok.item.size } in
+    let item : IsItem (remains bytes c.loop-at.at) c.in-Ok.item.size (TokenOf c.in-Some.shape) = rw c.in-Some.is at c.in-Ok.ensures.item in
+    let pushed : c.push.new.self.items ≡ found ++ token ∷ [] =
+    c.in_ok-push-in-Some.ensures.items
+    ∙ ap (λ s. found ++ record { shape = s; from = c.loop-at.at; to = c.loop-at.at + c.in-Ok.item.size } ∷ []) c.in-Some.shape-is in
+    let spells : IsSpelledIn bytes token = step_spelled bytes c.loop-at.at c.in-Ok.item.size c.in-Some.shape c.loop-at.invariant.within item in
     record {
-      within = c.run_end-to.ensures.end;
-      before = cut_step run c.loop-at.invariant.before c.push.new.self.items (TokenOf c.in-Ok-Some.shape) is.item.0 is.item.1 pushed;
-      spelled = subst (All (IsSpelledIn c.args.bytes.now)) (sym pushed) (All-push (IsSpelledIn c.args.bytes.now) c.loop-at.found.items _ c.loop-at.invariant.spelled (token_spelled run c.in-Ok-Some.shape is.item.0));
+      within = step_within bytes c.loop-at.at c.in-Ok.item.size (TokenOf c.in-Some.shape) c.loop-at.invariant.within item;
+      before = step_cut bytes c.loop-at.at found c.loop-at.invariant.before c.in-Ok.item.size (TokenOf c.in-Some.shape) c.push.new.self.items item pushed;
+      spelled = subst (All (IsSpelledIn bytes)) (sym pushed) (All-push (IsSpelledIn bytes) found token c.loop-at.invariant.spelled spells);
     }
 
 pub loop-at-preserved : goal.loop-at-preserved
 loop-at-preserved c =
-    let run = run_at (goal.at.loop-at-preserved c).After-shape in
-    let is = rw c.in-Ok-None.field-0-is at c.in-Ok-None.ensures in
+    let bytes = c.args.bytes.now in
+    let item : IsItem (remains bytes c.loop-at.at) c.in-Ok.item.size Gap = rw c.in-None.is at c.in-Ok.ensures.item in
     record {
-      within = c.run_end-to.ensures.end;
-      before = cut_step run c.loop-at.invariant.before c.loop-at.found.items Gap is.item.0 is.item.1 (sym (append-nil c.loop-at.found.items));
+      within = step_within bytes c.loop-at.at c.in-Ok.item.size Gap c.loop-at.invariant.within item;
+      before =
+          step_cut bytes c.loop-at.at c.loop-at.found.items c.loop-at.invariant.before c.in-Ok.item.size Gap c.loop-at.found.items item (sym (append-nil c.loop-at.found.items));
       spelled = c.loop-at.invariant.spelled;
     }
+
+pub returns-clause-only : goal.returns-clause-only
+returns-clause-only c = λ tokens has.
+    let is_whole = cut_whole c.args.bytes.now c.loop-at.at c.loop-at.found.items c.in_default.ensures.cases.1 c.loop-at.invariant.before (omega arith) in
+    tokens_unique c.args.bytes.now tokens c.loop-at.found.items has is_whole
+
+pub returns-in-Err-next_item-clause-fault : goal.returns-in-Err-next_item-clause-fault
+returns-in-Err-next_item-clause-fault c =
+    step_fault c.args.bytes.now c.loop-at.at c.loop-at.found.items c.loop-at.invariant.before c.in-Err-next_item.fault c.in_default.ensures.cases.1
+    c.loop-at-test.true c.in-Err-next_item.ensures.fault
+
+pub returns-in-Err-next_item-clause-only_fault : goal.returns-in-Err-next_item-clause-only_fault
+returns-in-Err-next_item-clause-only_fault c = λ not_memory other has.
+    let fault =
+    step_fault c.args.bytes.now c.loop-at.at c.loop-at.found.items c.loop-at.invariant.before c.in-Err-next_item.fault c.in_default.ensures.cases.1
+    c.loop-at-test.true c.in-Err-next_item.ensures.fault not_memory in
+    one_fault_at_most c.args.bytes.now other c.in-Err-next_item.fault has fault
+
+pub returns-in-Err-next_item-clause-within : goal.returns-in-Err-next_item-clause-within
+returns-in-Err-next_item-clause-within c =
+    place_within c.args.bytes.now c.in-Err-next_item.fault
+    (step_fault c.args.bytes.now c.loop-at.at c.loop-at.found.items c.loop-at.invariant.before c.in-Err-next_item.fault c.in_default.ensures.cases.1
+    c.loop-at-test.true c.in-Err-next_item.ensures.fault)
+
+pub returns-clause-no_fault : goal.returns-clause-no_fault
+returns-clause-no_fault c = λ fault has.
+    let is_whole = cut_whole c.args.bytes.now c.loop-at.at c.loop-at.found.items c.in_default.ensures.cases.1 c.loop-at.invariant.before (omega arith) in
+    no_fault_beside c.args.bytes.now fault c.loop-at.found.items has is_whole

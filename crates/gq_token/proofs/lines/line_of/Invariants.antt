@@ -1,0 +1,7 @@
+use Rattle.std.proofs.Common.{◌≡◌, ◌+◌, ◌≤◌, take}
+use Rattle.std.specs.Prelude.{◌==◌}
+use Rattle.std.specs.List.{count_by}
+use Rattle.gq_token.proofs.lines.line_of.Given as goal
+
+abbrev pub invariant-loop-byte : goal.invariant-loop-byte
+invariant-loop-byte l = (l.line ≡ 1 + count_by (λ c. c == 10) (take l.byte-index l.byte-items)) × (l.line ≤ 1 + l.byte-index)

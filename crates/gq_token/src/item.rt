@@ -1,0 +1,49 @@
+// The next item of a script: its kind goes by its first two bytes.
+ghost use Rattle.std.specs.Prelude.{◌≡◌, ◌+◌, ◌<◌, ◌^◌, length, slice_index, IfOk, IfErr};
+ghost use Rattle.std.specs.Str.{IsUtf8};
+ghost use Rattle.gq_token.specs.Items.{IsItem, item_with, FaultHere};
+
+use crate::class::{Class, Run, byte_at, class_of, run_size};
+use crate::comments::block_comment;
+use crate::numbers::number;
+use crate::symbols::symbol;
+use crate::texts::text;
+use crate::words::sign_word;
+use crate::{LexFault, Shape};
+use std::alloc::Global;
+
+// An item: how many bytes it has, and its shape, where it is no gap.
+#[derive(Drop)]
+pub struct Item {
+    pub size: usize,
+    pub shape: Option<Shape>,
+}
+
+// The item that the bytes begin with. The first of them stands at the place `at` of the script.
+pub fn next_item(alloc: Global, rest: &[u8], at: usize) -> Result<Item, LexFault>
+    requires some { 0 < length rest.now }
+    requires place { at + length rest.now < 2 ^ 64 }
+    requires utf8 { slice_index rest.now 0 ≡ 34 → IsUtf8 rest.now }
+    ensures item { IfOk result (λ item. IsItem rest.now item.size (item_with item.shape)) }
+    ensures fault { IfErr result (λ fault. FaultHere rest.now at fault) }
+{
+    match class_of(rest[0], byte_at(rest, 1)) {
+        Class::Blank => Ok(Item {
+            size: run_size(rest, Run::Blank),
+            shape: None,
+        }),
+        Class::LineComment => Ok(Item {
+            size: run_size(rest, Run::Line),
+            shape: None,
+        }),
+        Class::BlockComment => block_comment(rest, at),
+        Class::Word => Ok(Item {
+            size: run_size(rest, Run::Word),
+            shape: Some(Shape::Word),
+        }),
+        Class::Sign => sign_word(rest, at),
+        Class::Number => number(rest, at),
+        Class::Text => text(alloc, rest, at),
+        Class::Other => symbol(rest, at),
+    }
+}

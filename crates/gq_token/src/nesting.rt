@@ -1,0 +1,141 @@
+// How deep a script nests.
+ghost use Rattle.std.specs.Prelude.{◌≡◌, ◌≤◌, All, IfSome, IfNone, ℕ, Some, None, length};
+ghost use Rattle.gq_token.specs.Cut.{IsSpelledIn};
+ghost use Rattle.gq_token.specs.Nesting.{depth_with, opens, shuts, is_mark, is_keyword, IsTooDeepAt, IsShallow};
+
+use crate::{Shape, Token};
+
+/// The place of the first token that raises the depth to 65, where one does.
+///
+/// A level begins at `(`, `[`, `{`, IF, WHILE and FOREACH, and ends at `)`, `]`, `}` and END. ELSE IF begins none.
+pub fn too_deep(bytes: &[u8], tokens: &[Token]) -> Option<usize>
+    requires { All (IsSpelledIn bytes.now) tokens.now }
+    ensures some { IfSome result (λ place. IsTooDeepAt bytes.now tokens.now place) }
+    ensures none { IfNone result (IsShallow bytes.now tokens.now) }
+
+    // There is one such place at most, it stands within the script, and then the script isn't shallow.
+    ensures only { (place : ℕ) → IsTooDeepAt bytes.now tokens.now place → result ≡ Some place }
+    ensures within { IfSome result (λ place. place ≤ length bytes.now) }
+    ensures not_shallow { IsShallow bytes.now tokens.now → result ≡ None }
+{
+    let mut depth = 0u64;
+    let mut behind_else = false;
+    for token in tokens {
+        depth = depth_with(bytes, behind_else, depth, token);
+        if depth > 64 {
+            return Some(token.from);
+        }
+        behind_else = is_keyword(bytes, "ELSE", token);
+    }
+    None
+}
+
+// The depth behind a token, from the depth before it.
+fn depth_with(bytes: &[u8], behind_else: bool, depth: u64, token: &Token) -> u64
+    requires spelled { IsSpelledIn bytes.now token.now }
+    requires shallow { depth ≤ 64 }
+    ensures { result ≡ depth_with bytes.now behind_else depth token.now }
+{
+    if opens(bytes, behind_else, token) {
+        depth + 1
+    } else if shuts(bytes, token) {
+        depth.saturating_sub(1)
+    } else {
+        depth
+    }
+}
+
+// A token that begins a level.
+fn opens(bytes: &[u8], behind_else: bool, token: &Token) -> bool
+    requires { IsSpelledIn bytes.now token.now }
+    ensures { result ≡ opens bytes.now behind_else token.now }
+{
+    let brackets = is_mark(bytes, b"(", token)
+        || is_mark(bytes, b"[", token)
+        || is_mark(bytes, b"{", token);
+    let is_if = is_keyword(bytes, "IF", token) && !behind_else;
+    brackets || is_if || is_keyword(bytes, "WHILE", token) || is_keyword(bytes, "FOREACH", token)
+}
+
+// A token that ends a level.
+fn shuts(bytes: &[u8], token: &Token) -> bool
+    requires { IsSpelledIn bytes.now token.now }
+    ensures { result ≡ shuts bytes.now token.now }
+{
+    let brackets = is_mark(bytes, b")", token)
+        || is_mark(bytes, b"]", token)
+        || is_mark(bytes, b"}", token);
+    brackets || is_keyword(bytes, "END", token)
+}
+
+// The token is this symbol.
+fn is_mark(bytes: &[u8], mark: &[u8], token: &Token) -> bool
+    requires { IsSpelledIn bytes.now token.now }
+    ensures { result ≡ is_mark bytes.now mark.now token.now }
+{
+    match token.shape {
+        Shape::Symbol => token.text(bytes) == mark,
+        _ => false,
+    }
+}
+
+// The token is this word, in whatever case.
+fn is_keyword(bytes: &[u8], word: &str, token: &Token) -> bool
+    requires { IsSpelledIn bytes.now token.now }
+    ensures { result ≡ is_keyword bytes.now word.now token.now }
+{
+    match token.word(bytes) {
+        Some(text) => text.eq_ignore_ascii_case(word),
+        None => false,
+    }
+}
+
+#[cfg(test)]
+mod tests {
+    use super::too_deep;
+    use crate::tokens;
+    use std::alloc::Global;
+    use std::test::Fail;
+
+    // The place where so many of these pieces and then these others are too deep.
+    fn place(
+        alloc: Global,
+        piece: &[u8],
+        count: usize,
+        other: &[u8],
+    ) -> Result<Option<usize>, Fail> {
+        let mut script = Vec::new(alloc);
+        for _ in 0..count {
+            script.extend_from_slice(piece)?;
+        }
+        for _ in 0..count {
+            script.extend_from_slice(other)?;
+        }
+        let found = tokens(alloc, script.as_slice())?;
+        Ok(too_deep(script.as_slice(), found.as_slice()))
+    }
+
+    #[test]
+    fn the_65th_open_parenthesis_is_too_deep(rt: HostRuntime) -> Result<(), Fail> {
+        assert_eq!(rt; place(rt.alloc(), b"(", 63, b")")?, None);
+        assert_eq!(rt; place(rt.alloc(), b"(", 64, b")")?, None);
+        assert_eq!(rt; place(rt.alloc(), b"[", 65, b"]")?, Some(64));
+        assert_eq!(rt; place(rt.alloc(), b"(", 1_000_000, b"")?, Some(64));
+        Ok(())
+    }
+
+    #[test]
+    fn if_is_a_level_unless_it_stands_behind_else(rt: HostRuntime) -> Result<(), Fail> {
+        assert_eq!(rt; place(rt.alloc(), b"IF ", 65, b"")?, Some(192));
+        assert_eq!(rt; place(rt.alloc(), b"else If ", 65, b"")?, None);
+        assert_eq!(rt;
+            place(rt.alloc(), b"while foreach ", 64, b" End")?,
+            Some(14 * 32)
+        );
+        assert_eq!(rt;
+            place(rt.alloc(), b"END { } ", 65, b"(")?,
+            Some(8 * 65 + 64)
+        );
+        Ok(())
+    }
+}

@@ -1,0 +1,59 @@
+// Symbols.
+ghost use Rattle.std.specs.Prelude.{◌≡◌, ◌<◌, length, slice_index, IfOk, IfErr};
+ghost use Rattle.gq_token.specs.Class.{class_of, symbol_size, is_pair, is_single};
+ghost use Rattle.gq_token.specs.declared.class.Class.TheVariants.{Other};
+ghost use Rattle.gq_token.specs.Items.{IsItem, item_with, FaultHere};
+
+use crate::class::byte_at;
+use crate::item::Item;
+use crate::{LexFault, Shape};
+
+// The symbol that the bytes begin with. The first of them stands at the place `at` of the script.
+pub fn symbol(rest: &[u8], at: usize) -> Result<Item, LexFault>
+    requires some { 0 < length rest.now }
+    requires other { class_of (slice_index rest.now 0) (slice_index rest.now 1) ≡ Other }
+    ensures item { IfOk result (λ item. IsItem rest.now item.size (item_with item.shape)) }
+    ensures fault { IfErr result (λ fault. FaultHere rest.now at fault) }
+{
+    match symbol_size(rest[0], byte_at(rest, 1)) {
+        0 => Err(LexFault::BadToken { at }),
+        size => Ok(Item {
+            size,
+            shape: Some(Shape::Symbol),
+        }),
+    }
+}
+
+// How many of two bytes are the longest symbol, or 0 where none is. A second byte 0 stands for none.
+fn symbol_size(first: u8, second: u8) -> usize
+    ensures { result ≡ symbol_size first second }
+{
+    if is_pair(first, second) {
+        2
+    } else if is_single(first) {
+        1
+    } else {
+        0
+    }
+}
+
+fn is_pair(first: u8, second: u8) -> bool
+    ensures { result ≡ is_pair first second }
+{
+    match second {
+        b'>' => matches!(first, b'-' | b'<'),
+        b'=' => matches!(first, b'=' | b'!' | b'<' | b'>' | b'+'),
+        _ => false,
+    }
+}
+
+fn is_single(byte: u8) -> bool
+    ensures { result ≡ is_single byte }
+{
+    match byte {
+        b'=' | b'<' | b'>' | b'+' | b'-' | b'*' | b'/' | b'%' => true,
+        b'(' | b')' | b'{' | b'}' | b'[' | b']' => true,
+        b',' | b';' | b':' | b'.' | b'|' | b'\'' | b'$' => true,
+        _ => false,
+    }
+}
