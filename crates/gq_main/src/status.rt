@@ -1,6 +1,6 @@
 // What a run answers.
-ghost use Rattle.std.specs.Prelude.{◌≡◌};
-ghost use Rattle.gq_main.specs.Codes.{code_of};
+ghost use Rattle.std.specs.Prelude.{◌≡◌, Some, None, IfSome, IfNone};
+ghost use Rattle.gq_main.specs.Codes.{code_of, message_of};
 
 /// What a run answers.
 #[derive(Clone, Copy, Debug, PartialEq, Eq)]
@@ -40,7 +40,10 @@ impl Status {
     }
 
     /// What is said on standard error, where the answer isn't on standard output.
-    pub fn message(self) -> Option<&'static str> {
+    pub fn message(self) -> Option<&'static str>
+        ensures said { IfSome result (λ text. message_of self ≡ Some text.now) }
+        ensures silent { IfNone result (message_of self ≡ None) }
+    {
         match self {
             Status::Done | Status::Refused => None,
             Status::Usage => Some("usage: gsql SCRIPT"),
