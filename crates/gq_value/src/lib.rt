@@ -1,10 +1,17 @@
-//! The plain values that all crates of `gsql` share.
+//! The plain values that all crates of `gsql` share: values, kinds of accumulators, and what a catalog and a store hold.
 //!
-//! So far these are a text, `Txt`, and want of memory, `Memory`, which any call that allocates may answer.
+//! Everything here is data: structs and enums over numbers, texts, lists and boxes. Read `value.rt` first.
 #![tactic(auto)]
 
-mod memory;
+mod catalog;
+mod kind;
+mod store;
 mod txt;
+mod value;
 
-pub use memory::Memory;
+pub use catalog::{Attribute, Attributes, EdgeType, GraphType, IdKind, IdShape, Names, Numbers, VertexType};
+pub use gq_list::Memory;
+pub use kind::{BaseType, Fields, GroupShape, HeapShape, Input, Inputs, Kind, Number, Slot};
+pub use store::{Candidate, EdgeRow, Pattern};
 pub use txt::Txt;
+pub use value::{EvalFault, Fraction, Row, Value, Wrong};

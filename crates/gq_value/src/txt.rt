@@ -6,7 +6,7 @@ use std::alloc::Global;
 use std::marker::Model;
 
 /// A text of UTF-8 that owns its bytes. Contracts see it as the list of its bytes.
-#[derive(Drop)]
+#[derive(Debug, Drop)]
 pub struct Txt {
     text: String,
 }

@@ -1,0 +1,129 @@
+// Lists.
+ghost use Rattle.std.specs.Prelude.{◌≡◌, [], ◌∷◌, ◌++◌, ◌<◌, length, slice_get, slice_set, take, IfOk, OnOk, OnErr};
+
+use crate::Memory;
+use std::alloc::Global;
+use std::marker::Model;
+
+/// A growing list. Contracts see it as the list of its items.
+#[derive(Debug, Drop)]
+pub struct List<T> {
+    items: Vec<T>,
+}
+
+impl<T> Model for List<T> {
+    ghost use Rattle.std.specs.Prelude.{List};
+    ghost use Rattle.std.specs.Coded.{coded_list};
+
+    ghost Value = { List T };
+
+    ghost coded = { coded_list T.code };
+
+    ghost view = { λ l. l.items.items };
+}
+
+impl<T> List<T> {
+    /// A list of no items, which takes no memory.
+    pub fn new(alloc: Global) -> List<T>
+        ensures { result ≡ [] }
+    {
+        List {
+            items: Vec::new(alloc),
+        }
+    }
+
+    /// The items of `items`, in order, without a copy.
+    pub fn from_vec(items: Vec<T>) -> List<T>
+        ensures { result ≡ items.items }
+    {
+        List { items }
+    }
+
+    /// The items, in order, to loop over.
+    pub fn as_slice(&self) -> &[T]
+        ensures { result.now ≡ self.now }
+    {
+        self.items.as_slice()
+    }
+
+    /// How many items there are.
+    pub fn len(&self) -> usize
+        ensures { result ≡ length self.now }
+    {
+        self.items.len()
+    }
+
+    /// The item at `at`, counted from 0; it costs what an index costs.
+    pub fn at(&self, at: usize) -> &T
+        requires { at < length self.now }
+        ensures { slice_get self.now at ≡ Some result.now }
+    {
+        &self.items[at]
+    }
+}
+
+impl<T: Drop> List<T> {
+    /// Puts `item` last. After want of memory the list is as it was, and the item is given up.
+    pub fn push(&mut self, item: T) -> Result<(), Memory>
+        ensures ok { OnOk result (self.new ≡ self.old ++ item ∷ []) }
+        ensures err { OnErr result (self.new ≡ self.old) }
+    {
+        self.items.push(item)?;
+        Ok(())
+    }
+
+    /// Puts `item` in the place of the one at `at`.
+    pub fn set(&mut self, at: usize, item: T)
+        requires { at < length self.old }
+        ensures { self.new ≡ slice_set self.old at item }
+    {
+        self.items[at] = item;
+    }
+
+    /// Keeps the first `len` items, or all where there are fewer.
+    pub fn truncate(&mut self, len: usize)
+        ensures { self.new ≡ take len self.old }
+    {
+        self.items.truncate(len);
+    }
+}
+
+impl<T: Copy> List<T> {
+    /// A copy of `items`.
+    pub fn from_slice(alloc: Global, items: &[T]) -> Result<List<T>, Memory>
+        ensures { IfOk result (λ l. l ≡ items.now) }
+    {
+        Ok(List {
+            items: Vec::from_slice(alloc, items)?,
+        })
+    }
+}
+
+#[cfg(test)]
+mod tests {
+    use super::*;
+    use crate::Boxed;
+    use std::test::Fail;
+
+    #[test]
+    fn a_list_keeps_its_items_in_order(rt: HostRuntime) -> Result<(), Fail> {
+        let mut list = List::new(rt.alloc());
+        for n in 0..100u64 {
+            list.push(n * n)?;
+        }
+        assert_eq!(rt; list.len(), 100);
+        assert_eq!(rt; *list.at(99), 9801);
+        list.set(0, 7);
+        list.truncate(2);
+        assert_eq!(rt; list.as_slice(), [7, 1].as_slice());
+        Ok(())
+    }
+
+    #[test]
+    fn a_box_gives_back_its_value(rt: HostRuntime) -> Result<(), Fail> {
+        let boxed = Boxed::new(rt.alloc(), 5u64)?;
+        assert_eq!(rt; *boxed.get(), 5);
+        assert_eq!(rt; boxed.into_inner(), 5);
+        Ok(())
+    }
+}

@@ -1,0 +1,55 @@
+// Values.
+use crate::{Memory, Txt};
+use gq_list::List;
+use thiserror::Error;
+
+/// A value of GSQL: of an attribute, a variable, an accumulator's input or an expression.
+///
+/// A DATETIME is an `Int`, its seconds since 1970-01-01 00:00:00. Copies of numbers take no memory.
+#[derive(Debug, Drop)]
+pub enum Value {
+    Int(i64),
+    UInt(u64),
+    Bool(bool),
+    Text(Txt),
+    /// A vertex, by its number in the store.
+    Vertex(u32),
+    /// A tuple, with one value a field, in order of declaration.
+    Tuple(Row),
+    Fraction(Fraction),
+}
+
+/// Values in order: the fields of a tuple, the attributes of a vertex or edge, the keys of an input.
+pub type Row = List<Value>;
+
+/// An average, as an exact fraction. Its count is from 1 to 2^63 - 1; an average without inputs is 0 over 1.
+#[derive(Clone, Copy, Debug)]
+pub struct Fraction {
+    pub sum: i64,
+    pub count: u64,
+}
+
+/// Why an operation has no value.
+#[derive(Clone, Copy, Debug, Error, PartialEq, Eq)]
+pub enum Wrong {
+    /// The exact result lies outside its type.
+    #[error("number out of range")]
+    Range,
+    #[error("division by zero")]
+    Zero,
+}
+
+/// What an operation on values answers where it gives no value.
+#[derive(Clone, Copy, Debug, Error, PartialEq, Eq)]
+pub enum EvalFault {
+    #[error("{0}")]
+    Wrong(Wrong),
+    #[error("out of memory")]
+    Memory,
+}
+
+impl From<Memory> for EvalFault {
+    fn from(_: Memory) -> Self {
+        EvalFault::Memory
+    }
+}
