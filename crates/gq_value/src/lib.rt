@@ -3,15 +3,28 @@
 //! Everything here is data: structs and enums over numbers, texts, lists and boxes. Read `value.rt` first.
 #![tactic(auto)]
 
+mod arithmetic;
 mod catalog;
 mod kind;
+mod order;
+mod order_laws;
+mod ordered;
+mod steps;
 mod store;
+#[cfg(test)]
+mod tests;
 mod txt;
 mod value;
 
-pub use catalog::{Attribute, Attributes, EdgeType, GraphType, IdKind, IdShape, Names, Numbers, VertexType};
+pub use arithmetic::{absolute, add, convert, div, mul, negate, rem, sub};
+pub use catalog::{
+    Attribute, Attributes, EdgeType, GraphType, IdKind, IdShape, Names, Numbers, VertexType,
+};
 pub use gq_list::Memory;
 pub use kind::{BaseType, Fields, GroupShape, HeapShape, Input, Inputs, Kind, Number, Slot};
+pub use order::{compare, same};
+pub use order_laws::{order_is_total, places_are_apart};
+pub use steps::Steps;
 pub use store::{Candidate, EdgeRow, Pattern};
 pub use txt::Txt;
-pub use value::{EvalFault, Fraction, Row, Value, Wrong};
+pub use value::{EvalFault, Fraction, Row, Value, Wrong, duplicate_row};

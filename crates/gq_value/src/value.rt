@@ -1,6 +1,9 @@
 // Values.
+ghost use Rattle.std.specs.Prelude.{◌≡◌, IfOk};
+
 use crate::{Memory, Txt};
 use gq_list::List;
+use std::alloc::Global;
 use thiserror::Error;
 
 /// A value of GSQL: of an attribute, a variable, an accumulator's input or an expression.
@@ -49,7 +52,44 @@ pub enum EvalFault {
 }
 
 impl From<Memory> for EvalFault {
+    ghost use Rattle.gq_value.specs.declared.value.EvalFault.TheVariants.{Memory};
+
+    ghost from_gives = { λ _ e. e ≡ Memory };
+
     fn from(_: Memory) -> Self {
         EvalFault::Memory
     }
 }
+
+impl Value {
+    /// An equal value with memory of its own. Takes memory for texts and tuples alone.
+    #[cycle(copies)]
+    pub fn duplicate(&self, alloc: Global) -> Result<Value, Memory>
+        ensures { IfOk result (λ copy. copy ≡ self.now) }
+    {
+        match self {
+            Value::Int(x) => Ok(Value::Int(*x)),
+            Value::UInt(x) => Ok(Value::UInt(*x)),
+            Value::Bool(x) => Ok(Value::Bool(*x)),
+            Value::Text(text) => Ok(Value::Text(Txt::of(alloc, text.as_str())?)),
+            Value::Vertex(x) => Ok(Value::Vertex(*x)),
+            Value::Tuple(row) => Ok(Value::Tuple(duplicate_row(alloc, row.as_slice())?)),
+            Value::Fraction(x) => Ok(Value::Fraction(*x)),
+        }
+    }
+}
+
+/// Equal values in the same order, with memory of their own.
+#[cycle(copies)]
+pub fn duplicate_row(alloc: Global, row: &[Value]) -> Result<Row, Memory>
+    ensures { IfOk result (λ copy. copy ≡ row.now) }
+{
+    let mut copy = List::from_vec(Vec::with_capacity(alloc, row.len())?);
+    for value in row {
+        copy.push(value.duplicate(alloc)?)?;
+    }
+    Ok(copy)
+}
+
+// Values are kept in the millions, in rows and in contents.
+const _: () = prove!(size_of::<Value>() <= 32);

@@ -1,0 +1,4 @@
+pub mod PairLemmas
+pub mod RowLemmas
+pub mod ArithmeticLemmas
+pub mod AccumLemmas

@@ -1,0 +1,12 @@
+pub mod Val
+pub mod Views
+pub mod ViewLaws
+pub mod Order
+pub mod FractionLaws
+pub mod SameLaws
+pub mod OrderLaws
+pub mod Arithmetic
+pub mod Answers
+pub mod Accums
+pub mod AccumViews
+pub mod Typed

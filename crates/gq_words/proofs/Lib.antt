@@ -1,0 +1,4 @@
+pub mod FoldLemmas
+pub mod LawLemmas
+pub mod ListLemmas
+pub mod RuleLemmas

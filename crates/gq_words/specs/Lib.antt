@@ -1,0 +1,4 @@
+pub mod Fold
+pub mod Rule
+pub mod Seats
+pub mod Shift

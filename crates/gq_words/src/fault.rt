@@ -1,0 +1,25 @@
+// Why words can't be closed.
+ghost use Rattle.std.specs.Prelude.{◌≡◌};
+ghost use Rattle.gq_words.specs.declared.fault.WordFault.TheVariants.{Memory};
+
+use gq_value::Memory;
+use thiserror::Error;
+
+/// Why words can't be closed. They are given up all the same, with the seat.
+#[derive(Clone, Copy, Debug, PartialEq, Eq, Error)]
+pub enum WordFault {
+    /// The seat stands for `joined` seats, of the `made` that there are: itself and those that were joined into it.
+    #[error("{joined} of {made} seats were joined")]
+    Apart { joined: u32, made: u32 },
+
+    #[error("out of memory")]
+    Memory,
+}
+
+impl From<Memory> for WordFault {
+    ghost from_gives = { λ _ e. e ≡ Memory };
+
+    fn from(_: Memory) -> Self {
+        WordFault::Memory
+    }
+}

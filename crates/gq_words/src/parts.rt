@@ -1,0 +1,44 @@
+// What a table is opened with, and what is read of it once it is closed.
+ghost use Rattle.std.specs.Prelude.{◌≡◌, ◌<◌, [], ◌∷◌, ◌++◌, map, take, IfOk};
+ghost use Rattle.std.specs.Slots.{slots_items, slots_len, IsFull};
+
+use crate::Op;
+use crate::view::Opening;
+use atomic_table::Closed;
+use gq_value::Memory;
+use std::alloc::Global;
+
+pub(crate) fn opening(alloc: Global, openings: &[(Op, u64)], seats: u32) -> Result<Opening, Memory>
+    ensures { IfOk result (λ o. (o.words.items ≡ openings.now) × (o.seats ≡ seats)) }
+{
+    let words = Vec::from_slice(alloc, openings)?;
+    Ok(Opening { words, seats })
+}
+
+// The openings, and behind them the one seat that is made.
+pub(crate) fn first_words(alloc: Global, openings: &[(Op, u64)]) -> Result<Vec<u64>, Memory>
+    ensures { IfOk result (λ v. v.items ≡ map (λ o. o.1) openings.now ++ 1 ∷ []) }
+{
+    let mut words = Vec::with_capacity(alloc, openings.len() + 1)?;
+    for opening in openings {
+        words.push(opening.1)?;
+    }
+    words.push(1)?;
+    Ok(words)
+}
+
+// The first words of a closed table.
+pub(crate) fn first_of(
+    alloc: Global,
+    closed: &Closed<(), Global>,
+    count: usize,
+) -> Result<Vec<u64>, Memory>
+    requires { IsFull closed.now.words × (count < slots_len closed.now.words) }
+    ensures { IfOk result (λ v. v.items ≡ take count (slots_items closed.now.words)) }
+{
+    let mut words = Vec::with_capacity(alloc, count)?;
+    for i in 0..count {
+        words.push(closed.word(i))?;
+    }
+    Ok(words)
+}
