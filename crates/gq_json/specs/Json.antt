@@ -1,9 +1,10 @@
 -- Json: the text of the lines that a run prints. It is compact: there are no blanks between its parts.
-use Rattle.std.specs.Prelude.{ℕ, ◌/◌, ◌%◌, ◌+◌, List, [], ◌∷◌, ◌++◌, map, codes, ◌==◌, nat_lt, if◌then◌else◌}
+-- Here the text of a value is put together from the texts of its parts. The code writes it into one buffer, from the front on.
+use Rattle.std.specs.Prelude.{ℕ, ◌/◌, ◌%◌, ◌+◌, List, [], ◌∷◌, ◌++◌, map, codes, ◌==◌, nat_lt, Bool, if◌then◌else◌}
 use Rattle.std.specs.List.{flat_map, join_with_byte}
 use Rattle.std.specs.Fmt.{decimal, signed_decimal}
-use Rattle.gq_json.specs.declared.out.Out.{Out}
-use Rattle.gq_json.specs.declared.out.Out.TheVariants.{Int, UInt, Text}
+use Rattle.gq_json.specs.declared.out.Out.{Out, Out-F, fold-Out}
+use Rattle.gq_json.specs.Average.{fraction_text}
 
 -- a hexadecimal digit, in lower case
 abbrev pub hex_digit : ℕ → ℕ
@@ -27,23 +28,55 @@ escaped b =
 abbrev pub quoted : List ℕ → List ℕ
 quoted text = 34 ∷ flat_map escaped text ++ 34 ∷ []
 
--- a printed value
-abbrev pub value_text : Out → List ℕ
-value_text (Int z) = signed_decimal z
-value_text (UInt n) = decimal n
-value_text (Text text) = quoted text
+-- texts with commas between them
+abbrev pub listed : List (List ℕ) → List ℕ
+listed texts = join_with_byte 44 texts
 
--- a name and its value
-abbrev pub member_text : List ℕ × Out → List ℕ
-member_text member = quoted member.0 ++ 58 ∷ value_text member.1
+-- what stands in front of the text at this place among others
+abbrev pub comma_before : ℕ → List ℕ
+comma_before place = if place == 0 then [] else 44 ∷ []
 
--- an object of these members, in order
-abbrev pub object_text : List (List ℕ × Out) → List ℕ
-object_text members = 123 ∷ join_with_byte 44 (map member_text members) ++ 125 ∷ []
+-- a truth value
+abbrev pub bool_text : Bool → List ℕ
+bool_text b = if b then codes "true" else codes "false"
+
+-- a list, of the texts of its values
+abbrev pub list_text : List (List ℕ) → List ℕ
+list_text values = 91 ∷ listed values ++ 93 ∷ []
+
+-- a member, of its name and the text of its value
+abbrev pub member_text : List ℕ × List ℕ → List ℕ
+member_text member = quoted member.0 ++ 58 ∷ member.1
+
+-- an object, of its names with the texts of their values, in order
+abbrev pub object_text : List (List ℕ × List ℕ) → List ℕ
+object_text members = 123 ∷ listed (map member_text members) ++ 125 ∷ []
+
+-- a printed value, of the texts of its parts
+abbrev pub text_of_parts : Out-F (List ℕ) → List ℕ
+text_of_parts (Out-F.Int z) = signed_decimal z
+text_of_parts (Out-F.UInt n) = decimal n
+text_of_parts (Out-F.Bool b) = bool_text b
+text_of_parts (Out-F.Text text) = quoted text
+text_of_parts (Out-F.Fraction fraction) = fraction_text fraction
+text_of_parts (Out-F.List values) = list_text values
+text_of_parts (Out-F.Object members) = object_text members
+
+-- a printed value, to any depth
+unfoldable pub out_text : Out → List ℕ
+out_text = fold-Out (List ℕ) text_of_parts
+
+-- a name with the text of its value
+abbrev pub with_text : List ℕ × Out → List ℕ × List ℕ
+with_text member = (member.0, out_text member.1)
+
+-- what one PRINT printed
+abbrev pub printed_text : List (List ℕ × Out) → List ℕ
+printed_text members = object_text (map with_text members)
 
 -- the line of a query that printed these objects
 unfoldable pub line_text : List (List (List ℕ × Out)) → List ℕ
-line_text objects = codes "{\"error\":false,\"message\":\"\",\"results\":[" ++ (join_with_byte 44 (map object_text objects) ++ codes "]}\n")
+line_text objects = codes "{\"error\":false,\"message\":\"\",\"results\":[" ++ (listed (map printed_text objects) ++ codes "]}\n")
 
 -- the line of a refusal
 unfoldable pub error_text : List ℕ → List ℕ

@@ -7,8 +7,13 @@
 //! Read `specs/Json.antt` first: it says what each part's text is.
 #![tactic(auto)]
 
+mod average;
 mod line;
 mod out;
+#[cfg(test)]
+mod tests;
+mod text;
+mod value;
 
 pub use line::{error_line, json_line};
-pub use out::{Members, Out, Printed};
+pub use out::{Members, Out, Outs, Printed};

@@ -1,61 +1,28 @@
 // What PRINT prints.
-ghost use Rattle.std.specs.Prelude.{◌≡◌, [], ◌∷◌, ◌++◌, OnOk, OnErr};
+use gq_list::List;
+use gq_value::{Fraction, Txt};
 
-use gq_value::{Memory, Txt};
-use std::alloc::Global;
-use std::marker::Model;
-
-/// A printed value.
-#[derive(Drop)]
+/// A printed value, to any depth.
+#[derive(Debug, Drop)]
 pub enum Out {
     Int(i64),
     UInt(u64),
+    Bool(bool),
     Text(Txt),
+    /// An average.
+    Fraction(Fraction),
+    List(Outs),
+    Object(Members),
 }
 
-/// The members of a printed object, in order. Contracts see them as the list of names with their values.
-#[derive(Drop)]
-pub struct Members {
-    items: Vec<(Txt, Out)>,
-}
+/// Printed values in order.
+pub type Outs = List<Out>;
 
-impl Model for Members {
-    ghost use Rattle.std.specs.Prelude.{List, ℕ};
-    ghost use Rattle.gq_json.specs.declared.out.Out.{Out};
-
-    ghost Value = { List (List ℕ × Out) };
-
-    ghost view = { λ m. m.items.items };
-}
-
-impl Members {
-    /// No members.
-    pub fn new(alloc: Global) -> Self
-        ensures { result ≡ [] }
-    {
-        let items = Vec::new(alloc);
-        Members { items }
-    }
-
-    /// Puts a member last.
-    pub fn push(&mut self, member: (Txt, Out)) -> Result<(), Memory>
-        ensures ok { OnOk result (self.new ≡ self.old ++ member ∷ []) }
-        ensures err { OnErr result (self.new ≡ self.old) }
-    {
-        self.items.push(member)?;
-        Ok(())
-    }
-
-    /// The members as a slice, to go over.
-    pub fn as_slice(&self) -> &[(Txt, Out)]
-        ensures { result.now ≡ self.now }
-    {
-        &self.items
-    }
-}
+/// The members of a printed object, in order: names with their values.
+pub type Members = List<(Txt, Out)>;
 
 /// What one PRINT printed: an object.
-#[derive(Drop)]
+#[derive(Debug, Drop)]
 pub struct Printed {
     pub members: Members,
 }

@@ -1,6 +1,6 @@
 use Rattle.std.proofs.Common.{codes, ◌∷◌, []}
 use Rattle.gq_json.specs.Json.{error_text, quoted}
-use Rattle.gq_json.proofs.Joined.{three_parts}
+use Rattle.gq_json.proofs.ListedLemmas.{three_parts}
 use Rattle.gq_json.proofs.line.error_line.Goals as goal
 
 pub returns : goal.returns
