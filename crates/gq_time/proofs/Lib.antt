@@ -1,0 +1,9 @@
+pub mod AddingLemmas
+pub mod BackLemmas
+pub mod CountLemmas
+pub mod DigitLemmas
+pub mod MomentLemmas
+pub mod OrderLemmas
+pub mod PlaceLemmas
+pub mod ReadingLemmas
+pub mod TimeLemmas

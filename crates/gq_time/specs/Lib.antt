@@ -1,0 +1,5 @@
+pub mod Adding
+pub mod Moments
+pub mod Places
+pub mod Reading
+pub mod Texts
