@@ -1,4 +1,6 @@
 pub mod PairLemmas
 pub mod RowLemmas
 pub mod ArithmeticLemmas
+pub mod AgreeLemmas
+pub mod CandidateExamples
 pub mod AccumLemmas

@@ -1,13 +1,13 @@
 -- PairLemmas: the order of two values whose variants are known.
-use Rattle.std.proofs.Common.{◌≡◌, ℕ, zero, suc, ◌*◌, ℤ, pos, negsuc, ◌*ℤ◌, ◌<◌, ◌<ℤ◌, max, Bool, true, false, List, nat_cmp, int_cmp, Ordering, Less, Equal, Greater, refl, sym, ap, ap₂, ◌∙◌, arith, FitsSigned, w64, to_z, of_z}
+use Rattle.std.proofs.Common.{◌≡◌, ℕ, ◌*◌, ℤ, pos, ◌*ℤ◌, ◌<◌, ◌<ℤ◌, max, Bool, true, false, nat_cmp, int_cmp, Ordering, Less, Equal, Greater, refl, sym, ap, ◌∙◌, arith, FitsSigned, w64, to_z, of_z}
 use Rattle.std.proofs.Math.IntN.{*ℤ-one, one}
 use Rattle.std.proofs.lemmas.Int.{ints, to_z-of_z}
-use Rattle.std.specs.Ordering.{ordering_then, ordering_reverse, MatchOrdering, bool_cmp}
+use Rattle.std.specs.Ordering.{ordering_then, ordering_reverse, MatchOrdering}
 use Rattle.std.specs.Cmp.{int_cmp_is}
 use Rattle.std.proofs.lemmas.Cmp.{ranked}
 use Rattle.gq_value.specs.declared.value.Value.TheVariants as value
 use Rattle.gq_value.specs.declared.value.Fraction as code
-use Rattle.gq_value.specs.Val.{Val, Int, UInt, Truth, Text, Vertex, Tuple, Fraction}
+use Rattle.gq_value.specs.Val.{Val, Int, UInt, Fraction}
 use Rattle.gq_value.specs.Order.{tie_cmp, plain, order}
 use Rattle.gq_value.specs.OrderLaws.{plain_total}
 use Rattle.gq_value.specs.FractionLaws.{scaled}

@@ -1,7 +1,7 @@
 -- RowLemmas: where a loop over two rows ends.
 use Rattle.std.proofs.Common.{◌≡◌, ℕ, zero, suc, ◌<◌, ◌≤◌, Bool, List, [], ◌∷◌, drop, length, Less, refl, sym, ◌∙◌, arith}
 use Rattle.gq_value.specs.declared.value.Value.{Value}
-use Rattle.gq_value.specs.Views.{val, vals}
+use Rattle.gq_value.specs.Views.{vals}
 use Rattle.gq_value.specs.Order.{order_rows, empty_cmp}
 
 empty_short : (b : List Value) (i : ℕ) → i < length b → empty_cmp (vals (drop i b)) ≡ Less

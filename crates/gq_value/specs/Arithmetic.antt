@@ -1,7 +1,7 @@
 -- Arithmetic: what the operations on whole numbers give. They are exact: the result is the true number as a value of its
 -- type, or the fault Range where its type can't hold that. A divisor of zero is the fault Zero, whatever is divided.
 -- The code computes in 64 or 128 bits; here numbers have no bounds until the result is judged.
-use Rattle.std.specs.Prelude.{ℕ, zero, ◌^◌, ◌-◌, ℤ, pos, negsuc, ◌+ℤ◌, ◌-ℤ◌, ◌*ℤ◌, neg_ℤ, unsigned_abs, int_le, ◌≤ℤ◌, int_div, int_rem, Bool, true, false, ◌&&◌, if◌then◌else◌, List, ◌++◌, Result, Ok, Err}
+use Rattle.std.specs.Prelude.{zero, ◌^◌, ◌-◌, ℤ, pos, negsuc, ◌+ℤ◌, ◌-ℤ◌, ◌*ℤ◌, neg_ℤ, unsigned_abs, int_le, ◌≤ℤ◌, int_div, int_rem, Bool, true, false, ◌&&◌, if◌then◌else◌, ◌++◌, Result, Ok, Err}
 use Rattle.gq_value.specs.declared.kind.Number.{Number}
 use Rattle.gq_value.specs.declared.kind.Number.TheVariants as number
 use Rattle.gq_value.specs.declared.value.Wrong.{Wrong}

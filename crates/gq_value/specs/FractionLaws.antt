@@ -1,5 +1,5 @@
 -- FractionLaws: the order of exact values is total, since to multiply both sides by a count changes nothing.
-use Rattle.std.proofs.Common.{◌≡◌, ℕ, zero, suc, ◌*◌, ℤ, pos, negsuc, ◌*ℤ◌, neg_ℤ, ◌<◌, ◌≤◌, max, ◌<ℤ◌, Ordering, Less, Equal, Greater, int_cmp, refl, sym, ap, ap₂, ◌∙◌, arith, subst}
+use Rattle.std.proofs.Common.{◌≡◌, ℕ, zero, suc, ◌*◌, ℤ, pos, negsuc, ◌*ℤ◌, neg_ℤ, ◌≤◌, max, ◌<ℤ◌, Ordering, Less, Equal, Greater, int_cmp, refl, sym, ap, ap₂, ◌∙◌, arith}
 use Rattle.std.proofs.Math.Nat.{mul_assoc, mul_comm, mul-le-mul_right}
 use Rattle.std.proofs.lemmas.Int.{ints}
 use Rattle.std.specs.Cmp.{IsTotalOrder, int_cmp_is, int_ranks}

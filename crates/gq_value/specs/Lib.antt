@@ -7,6 +7,7 @@ pub mod SameLaws
 pub mod OrderLaws
 pub mod Arithmetic
 pub mod Answers
+pub mod Candidates
 pub mod Accums
 pub mod AccumViews
 pub mod Typed

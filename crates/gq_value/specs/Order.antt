@@ -1,7 +1,7 @@
 -- Order: in which order values stand. Numbers and averages come first, by their exact value; then false and true; then
 -- texts by their bytes; then vertices by their number; then tuples, field by field.
 -- The code looks at the two variants and compares what they hold; here all values are compared part by part.
-use Rattle.std.specs.Prelude.{ℕ, ℤ, pos, ◌*ℤ◌, max, Bool, true, false}
+use Rattle.std.specs.Prelude.{◌≡◌, ℕ, ℤ, pos, ◌*ℤ◌, max, Bool, true, false}
 use Rattle.std.specs.declared.cmp.Ordering.{Ordering}
 use Rattle.std.specs.Ordering.{nat_cmp, int_cmp, ordering_then, on, then_cmp}
 use Rattle.std.specs.declared.cmp.Ordering.TheVariants.{Less, Equal, Greater}
@@ -52,3 +52,14 @@ compare = order false
 -- the same, but equal only at the same value: for the places of values in contents
 abbrev pub place : Val → Val → Ordering
 place = order true
+
+abbrev mutual
+  -- values of one type: numbers are all INT, all UINT or all averages of one count, and tuples are alike field by field
+  pub Alike : Val → Val → Type 0
+  Alike (Tuple row) b = AlikeRows row (fields b)
+  Alike a b = (tag a ≡ tag b) × (count a ≡ count b)
+
+  pub AlikeRows : Vals → Vals → Type 0
+  AlikeRows none bs = Unit {0}
+  AlikeRows (more a row) none = Unit {0}
+  AlikeRows (more a row) (more b bs) = Alike a b × AlikeRows row bs

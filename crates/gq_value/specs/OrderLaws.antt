@@ -1,14 +1,14 @@
 -- OrderLaws: the order of values is total, and the strict order makes only a value equal to itself.
 -- The recursion through tuples is taken a layer of tuples at a time; every layer is total, and so is their limit.
-use Rattle.std.proofs.Common.{◌≡◌, ℕ, zero, suc, ℤ, pos, ◌*ℤ◌, ◌<◌, ◌≤◌, max, Bool, true, false, List, [], ◌∷◌, nat_cmp, int_cmp, Ordering, Less, Equal, Greater, nat_abs, refl, sym, ap, ap₂, ◌∙◌, arith}
+use Rattle.std.proofs.Common.{◌≡◌, ℕ, zero, suc, ◌<◌, ◌≤◌, max, Bool, true, false, [], Ordering, Equal, refl, ap, ap₂, arith}
 use Rattle.std.specs.Ordering.{ordering_then, on, then_cmp}
 use Rattle.std.specs.Cmp.{IsTotalOrder}
 use Rattle.std.specs.Cmp.Lexicographic.{slice_cmp}
 use Rattle.std.specs.Cmp.Derive.Recursive.{limit_total}
-use Rattle.std.proofs.lemmas.Cmp.{then_total, on_total, lists_total, nat_list_cmp_total, nat_cmp_total, ranked}
-use Rattle.gq_value.specs.Val.{Val, Vals, Int, UInt, Truth, Text, Vertex, Tuple, Fraction, none, more, rank, above, count, index, bytes, fields, tag, list_of}
-use Rattle.gq_value.specs.Order.{exactly, ratio, tie_cmp, plain, empty_cmp, order_within, order_rows, order, place, compare}
-use Rattle.gq_value.specs.FractionLaws.{exactly_total, scaled, int_same}
+use Rattle.std.proofs.lemmas.Cmp.{then_total, on_total, lists_total, nat_list_cmp_total, nat_cmp_total}
+use Rattle.gq_value.specs.Val.{Val, Vals, Int, UInt, Truth, Text, Vertex, Tuple, Fraction, none, more, rank, count, index, bytes, fields, tag, list_of}
+use Rattle.gq_value.specs.Order.{ratio, tie_cmp, plain, empty_cmp, order_within, order_rows, order, place, compare}
+use Rattle.gq_value.specs.FractionLaws.{exactly_total}
 pub use Rattle.gq_value.specs.SameLaws.{then_equal, place_same}
 
 never : {K : Type 0} → IsTotalOrder {K = K} (λ x y. Equal)

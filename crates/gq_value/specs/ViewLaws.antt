@@ -1,5 +1,5 @@
 -- ViewLaws: what a value of each variant holds.
-use Rattle.std.proofs.Common.{◌≡◌, ℕ, ℤ, Bool, List, map, sym, ap, ◌∙◌}
+use Rattle.std.proofs.Common.{◌≡◌, ℕ, ℤ, Bool, List, sym, ap, ◌∙◌}
 use Rattle.gq_value.specs.declared.value.Value.{Value, Value-F, fold-roll-Value}
 use Rattle.gq_value.specs.declared.value.Value.TheVariants as value
 use Rattle.gq_value.specs.declared.value.Fraction as fraction

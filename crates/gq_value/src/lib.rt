@@ -23,7 +23,7 @@ pub use catalog::{
 pub use gq_list::Memory;
 pub use kind::{BaseType, Fields, GroupShape, HeapShape, Input, Inputs, Kind, Number, Slot};
 pub use order::{compare, same};
-pub use order_laws::{order_is_total, places_are_apart};
+pub use order_laws::{order_is_total, orders_agree, places_are_apart};
 pub use steps::Steps;
 pub use store::{Candidate, EdgeRow, Pattern};
 pub use txt::Txt;

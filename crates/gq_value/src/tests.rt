@@ -1,7 +1,10 @@
 // Worked values of the order, of arithmetic and of copies.
 #![tactic(auto, using(crate::specs::ViewLaws::view_laws))]
-use crate::{EvalFault, Fraction, Number, Row, Steps, Txt, Value, Wrong};
-use crate::{absolute, add, compare, convert, div, duplicate_row, mul, negate, rem, same, sub};
+
+use crate::{
+    EvalFault, Fraction, Number, Row, Steps, Txt, Value, Wrong, absolute, add, compare, convert,
+    div, duplicate_row, mul, negate, rem, same, sub,
+};
 use gq_list::List;
 use std::cmp::Ordering;
 use std::test::Fail;
@@ -107,7 +110,10 @@ fn the_widest_numbers_are_exact_or_out_of_range(rt: HostRuntime) -> Result<(), F
         (5, 6, Ok(11), Ok(-1), Ok(30)),
     ];
     for (a, b, sum, difference, product) in cases {
-        assert_eq!(rt; number(add(rt.alloc(), &Value::UInt(a), &Value::Int(b))), sum);
+        assert_eq!(rt;
+            number(add(rt.alloc(), &Value::UInt(a), &Value::Int(b))),
+            sum
+        );
         assert_eq!(rt; number(sub(&Value::UInt(a), &Value::Int(b))), difference);
         assert_eq!(rt; number(mul(&Value::UInt(a), &Value::Int(b))), product);
     }

@@ -1,4 +1,4 @@
-use Rattle.std.proofs.Common.{◌≤◌, length, arith, rules}
+use Rattle.std.proofs.Common.{rules}
 use Rattle.gq_value.proofs.PairLemmas.{to_fraction, from_fraction, from_uint, fraction_from_uint, two_fractions}
 use Rattle.gq_value.proofs.RowLemmas.{rows_end}
 use Rattle.gq_value.proofs.order.+order.Goals as goal
