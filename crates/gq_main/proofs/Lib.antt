@@ -3,3 +3,4 @@ pub mod MeaningLemmas
 pub mod NameLemmas
 pub mod OutcomeLemmas
 pub mod ReadLemmas
+mod KeywordLemmas

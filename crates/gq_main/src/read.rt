@@ -143,7 +143,7 @@ fn item_of<'a>(
 {
     match first.shape {
         Shape::Number(number) => {
-            if !is_keyword(bytes, second, b"AS") {
+            if !is_keyword(bytes, second, "AS") {
                 return None;
             }
             match read_name(bytes, third) {
@@ -175,8 +175,8 @@ fn skip_opening<'t>(bytes: &[u8], tokens: &'t [Token]) -> Option<&'t [Token]>
 {
     match tokens {
         [a, b, c, d, after @ ..]
-            if is_keyword(bytes, a, b"INTERPRET")
-                && is_keyword(bytes, b, b"QUERY")
+            if is_keyword(bytes, a, "INTERPRET")
+                && is_keyword(bytes, b, "QUERY")
                 && is_symbol(bytes, c, b'(')
                 && is_symbol(bytes, d, b')') => { Some(after) }
         _ => None,
@@ -191,7 +191,7 @@ fn skip_print<'t>(bytes: &[u8], tokens: &'t [Token]) -> Option<&'t [Token]>
     ensures none { IfNone result ((rest : List Token) → Print bytes.now tokens.now rest → ⊥) }
 {
     match tokens {
-        [a, b, after @ ..] if is_symbol(bytes, a, b'{') && is_keyword(bytes, b, b"PRINT") => Some(
+        [a, b, after @ ..] if is_symbol(bytes, a, b'{') && is_keyword(bytes, b, "PRINT") => Some(
             after,
         ),
         _ => None,
@@ -224,11 +224,11 @@ fn skip_end<'t>(bytes: &[u8], tokens: &'t [Token]) -> Option<&'t [Token]>
     }
 }
 
-fn is_keyword(bytes: &[u8], token: &Token, word: &[u8]) -> bool
+fn is_keyword(bytes: &[u8], token: &Token, word: &str) -> bool
     requires { IsSpelledIn bytes.now token.now }
     ensures { IsTrue result ↔ IsKeyword bytes.now token.now word.now }
 {
-    matches!(token.shape, Shape::Word) && token.text(bytes).eq_ignore_ascii_case(word)
+    token.is_keyword(bytes, word)
 }
 
 fn is_symbol(bytes: &[u8], token: &Token, symbol: u8) -> bool

@@ -5,7 +5,8 @@ use Rattle.std.proofs.lemmas.Bool.{cases_lt}
 use Rattle.std.proofs.lemmas.List.{take_more, take_all, take-take, drop_more}
 use Rattle.std.proofs.lemmas.List.Sums.{fold_more}
 use Rattle.gq_token.specs.declared.token.Token.{Token}
-use Rattle.gq_token.specs.Nesting.{opens, shuts, is_keyword, is_behind_else, depth_with, level_with, level_of, depth_of, IsTooDeepAt, IsShallow}
+use Rattle.gq_token.specs.Kinds.{is_keyword}
+use Rattle.gq_token.specs.Nesting.{opens, shuts, is_behind_else, depth_with, level_with, level_of, depth_of, IsTooDeepAt, IsShallow}
 
 -- the depth behind so many tokens, and whether the last of them is ELSE
 pub record IsNested (bytes : List ℕ) (tokens : List Token) (count depth : ℕ) (behind_else : Bool) : Type 0 where

@@ -3,6 +3,7 @@ pub mod Class
 pub mod Cut
 pub mod Faults
 pub mod Items
+pub mod Kinds
 pub mod Lines
 pub mod Nesting
 pub mod Spelling

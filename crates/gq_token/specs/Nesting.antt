@@ -1,34 +1,7 @@
 -- Nesting: how deep the blocks, brackets and parentheses of a script stand in each other.
 use Rattle.std.specs.Prelude.{◌≡◌, ℕ, ◌+◌, ◌-◌, ◌≤◌, Bool, false, not, ◌&&◌, ◌||◌, List, [], ◌∷◌, ◌++◌, length, take, fold, Option, Some, None, codes, if◌then◌else◌}
-use Rattle.std.specs.Str.{bytes_eq, str_eq_ignore_ascii_case}
 use Rattle.gq_token.specs.declared.token.Token.{Token}
-use Rattle.gq_token.specs.declared.token.Shape.{Shape}
-use Rattle.gq_token.specs.declared.token.Shape.TheVariants.{Word, Global, Attached, Number, Text, Symbol}
-use Rattle.gq_token.specs.Cut.{text_of}
-
--- the token is this word, in whatever case
-abbrev pub is_keyword : List ℕ → List ℕ → Token → Bool
-is_keyword bytes word token = of_shape token.shape
-  where
-    of_shape : Shape → Bool
-    of_shape Word = str_eq_ignore_ascii_case (text_of bytes token) word
-    of_shape Global = false
-    of_shape Attached = false
-    of_shape (Number n) = false
-    of_shape (Text said) = false
-    of_shape Symbol = false
-
--- the token is this symbol
-abbrev pub is_mark : List ℕ → List ℕ → Token → Bool
-is_mark bytes mark token = of_shape token.shape
-  where
-    of_shape : Shape → Bool
-    of_shape Word = false
-    of_shape Global = false
-    of_shape Attached = false
-    of_shape (Number n) = false
-    of_shape (Text said) = false
-    of_shape Symbol = bytes_eq (text_of bytes token) mark
+use Rattle.gq_token.specs.Kinds.{is_keyword, is_mark}
 
 -- there is a token before, and it is the word ELSE
 abbrev pub is_behind_else : List ℕ → Option Token → Bool

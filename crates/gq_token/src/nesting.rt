@@ -1,9 +1,9 @@
 // How deep a script nests.
 ghost use Rattle.std.specs.Prelude.{◌≡◌, ◌≤◌, All, IfSome, IfNone, ℕ, Some, None, length};
 ghost use Rattle.gq_token.specs.Cut.{IsSpelledIn};
-ghost use Rattle.gq_token.specs.Nesting.{depth_with, opens, shuts, is_mark, is_keyword, IsTooDeepAt, IsShallow};
+ghost use Rattle.gq_token.specs.Nesting.{depth_with, opens, shuts, IsTooDeepAt, IsShallow};
 
-use crate::{Shape, Token};
+use crate::Token;
 
 /// The place of the first token that raises the depth to 65, where one does.
 ///
@@ -25,7 +25,7 @@ pub fn too_deep(bytes: &[u8], tokens: &[Token]) -> Option<usize>
         if depth > 64 {
             return Some(token.from);
         }
-        behind_else = is_keyword(bytes, "ELSE", token);
+        behind_else = token.is_keyword(bytes, "ELSE");
     }
     None
 }
@@ -50,11 +50,11 @@ fn opens(bytes: &[u8], behind_else: bool, token: &Token) -> bool
     requires { IsSpelledIn bytes.now token.now }
     ensures { result ≡ opens bytes.now behind_else token.now }
 {
-    let brackets = is_mark(bytes, b"(", token)
-        || is_mark(bytes, b"[", token)
-        || is_mark(bytes, b"{", token);
-    let is_if = is_keyword(bytes, "IF", token) && !behind_else;
-    brackets || is_if || is_keyword(bytes, "WHILE", token) || is_keyword(bytes, "FOREACH", token)
+    let brackets = token.is_mark(bytes, "(")
+        || token.is_mark(bytes, "[")
+        || token.is_mark(bytes, "{");
+    let is_if = token.is_keyword(bytes, "IF") && !behind_else;
+    brackets || is_if || token.is_keyword(bytes, "WHILE") || token.is_keyword(bytes, "FOREACH")
 }
 
 // A token that ends a level.
@@ -62,32 +62,10 @@ fn shuts(bytes: &[u8], token: &Token) -> bool
     requires { IsSpelledIn bytes.now token.now }
     ensures { result ≡ shuts bytes.now token.now }
 {
-    let brackets = is_mark(bytes, b")", token)
-        || is_mark(bytes, b"]", token)
-        || is_mark(bytes, b"}", token);
-    brackets || is_keyword(bytes, "END", token)
-}
-
-// The token is this symbol.
-fn is_mark(bytes: &[u8], mark: &[u8], token: &Token) -> bool
-    requires { IsSpelledIn bytes.now token.now }
-    ensures { result ≡ is_mark bytes.now mark.now token.now }
-{
-    match token.shape {
-        Shape::Symbol => token.text(bytes) == mark,
-        _ => false,
-    }
-}
-
-// The token is this word, in whatever case.
-fn is_keyword(bytes: &[u8], word: &str, token: &Token) -> bool
-    requires { IsSpelledIn bytes.now token.now }
-    ensures { result ≡ is_keyword bytes.now word.now token.now }
-{
-    match token.word(bytes) {
-        Some(text) => text.eq_ignore_ascii_case(word),
-        None => false,
-    }
+    let brackets = token.is_mark(bytes, ")")
+        || token.is_mark(bytes, "]")
+        || token.is_mark(bytes, "}");
+    brackets || token.is_keyword(bytes, "END")
 }
 
 #[cfg(test)]

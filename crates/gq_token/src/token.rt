@@ -1,7 +1,9 @@
 // Tokens.
 ghost use Rattle.std.specs.Prelude.{◌≡◌, ◌≢◌, IfSome, IfNone};
-ghost use Rattle.gq_token.specs.declared.token.Shape.TheVariants.{Word};
+ghost use Rattle.std.specs.Str.{IsAscii};
+ghost use Rattle.gq_token.specs.declared.token.Shape.TheVariants.{Word, Global, Attached};
 ghost use Rattle.gq_token.specs.Cut.{IsSpelledIn, text_of};
+ghost use Rattle.gq_token.specs.Kinds.{is_keyword, is_mark};
 
 use gq_value::Txt;
 
@@ -52,11 +54,65 @@ impl Token {
         ensures none { IfNone result (self.now.shape ≢ Word) }
     {
         match self.shape {
-            Shape::Word => match str::from_utf8(self.text(bytes)) {
-                Ok(text) => Some(text),
-                Err(_) => unreachable!(),
-            },
+            Shape::Word => Some(ascii(self.text(bytes))),
             _ => None,
         }
+    }
+
+    /// The spelling of `@@` and a word, or None where the token is no such.
+    pub fn global<'a>(&self, bytes: &'a [u8]) -> Option<&'a str>
+        requires { IsSpelledIn bytes.now self.now }
+        ensures global { IfSome result (λ text. (self.now.shape ≡ Global) × (text.now ≡ text_of bytes.now self.now)) }
+        ensures none { IfNone result (self.now.shape ≢ Global) }
+    {
+        match self.shape {
+            Shape::Global => Some(ascii(self.text(bytes))),
+            _ => None,
+        }
+    }
+
+    /// The spelling of `@` and a word, or None where the token is no such.
+    pub fn attached<'a>(&self, bytes: &'a [u8]) -> Option<&'a str>
+        requires { IsSpelledIn bytes.now self.now }
+        ensures attached { IfSome result (λ text. (self.now.shape ≡ Attached) × (text.now ≡ text_of bytes.now self.now)) }
+        ensures none { IfNone result (self.now.shape ≢ Attached) }
+    {
+        match self.shape {
+            Shape::Attached => Some(ascii(self.text(bytes))),
+            _ => None,
+        }
+    }
+
+    /// Whether the token is this word, in letters of any case.
+    pub fn is_keyword(&self, bytes: &[u8], word: &str) -> bool
+        requires { IsSpelledIn bytes.now self.now }
+        ensures { result ≡ is_keyword bytes.now word.now self.now }
+    {
+        match self.word(bytes) {
+            Some(text) => text.eq_ignore_ascii_case(word),
+            None => false,
+        }
+    }
+
+    /// Whether the token is this symbol.
+    pub fn is_mark(&self, bytes: &[u8], mark: &str) -> bool
+        requires { IsSpelledIn bytes.now self.now }
+        ensures { result ≡ is_mark bytes.now mark.now self.now }
+    {
+        match self.shape {
+            Shape::Symbol => self.text(bytes) == mark.as_bytes(),
+            _ => false,
+        }
+    }
+}
+
+// Bytes of ASCII as a text, without a copy.
+fn ascii(bytes: &[u8]) -> &str
+    requires { IsAscii bytes.now }
+    ensures { result.now ≡ bytes.now }
+{
+    match str::from_utf8(bytes) {
+        Ok(text) => text,
+        Err(_) => unreachable!(),
     }
 }

@@ -11,3 +11,8 @@ pub mod Candidates
 pub mod Accums
 pub mod AccumViews
 pub mod Typed
+pub mod Vertices
+pub mod Edges
+pub mod Defaults
+pub mod Catalog
+pub mod SortLaws

@@ -25,6 +25,6 @@ pub use kind::{BaseType, Fields, GroupShape, HeapShape, Input, Inputs, Kind, Num
 pub use order::{compare, same};
 pub use order_laws::{order_is_total, orders_agree, places_are_apart};
 pub use steps::Steps;
-pub use store::{Candidate, EdgeRow, Pattern};
+pub use store::{Candidate, EdgeRow, Naming, Pattern, StoreFault, VertexRow};
 pub use txt::Txt;
 pub use value::{EvalFault, Fraction, Row, Value, Wrong, duplicate_row};

@@ -1,5 +1,30 @@
 // What a store holds, and what a block goes through.
-use crate::{Numbers, Row};
+use crate::{Memory, Numbers, Row, Txt};
+use thiserror::Error;
+
+/// Why a table refuses a row.
+#[derive(Clone, Copy, Debug, Error, PartialEq, Eq)]
+pub enum StoreFault {
+    /// The row's name is new, and the table holds as many rows as it may.
+    #[error("store full")]
+    Full,
+    #[error("out of memory")]
+    Memory,
+}
+
+impl From<Memory> for StoreFault {
+    fn from(_: Memory) -> Self {
+        StoreFault::Memory
+    }
+}
+
+/// A vertex: its type, its primary id as a text, and its attributes.
+#[derive(Debug, Drop)]
+pub struct VertexRow {
+    pub kind: u32,
+    pub id: Txt,
+    pub attributes: Row,
+}
 
 /// An edge: its type, its two ends by number of vertex, and its attributes.
 #[derive(Debug, Drop)]
@@ -8,6 +33,16 @@ pub struct EdgeRow {
     pub from: u32,
     pub to: u32,
     pub attributes: Row,
+}
+
+/// How the edges of a type are named.
+#[derive(Clone, Copy, Debug, PartialEq, Eq)]
+pub struct Naming {
+    /// The edge type.
+    pub kind: u32,
+    pub directed: bool,
+    /// How many of an edge's attributes, from the first one on, belong to its name.
+    pub key: u32,
 }
 
 /// The edge types that a hop may go along, and the vertex types that it may reach.

@@ -1,0 +1,4 @@
+pub mod SumSteps
+pub mod NumberSteps
+pub mod FreshSteps
+pub mod SealSteps

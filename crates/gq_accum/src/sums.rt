@@ -1,0 +1,68 @@
+// Sums and counts: how they grow, and what they are in the end.
+ghost use Rattle.std.specs.Prelude.{◌≡◌, ◌+◌, ◌^◌, ◌<◌, ◌+ℤ◌, pos, true, false, MatchOption};
+ghost use Rattle.gq_value.specs.declared.kind.Number.TheVariants as number;
+ghost use Rattle.gq_value.specs.Arithmetic.{is_within};
+ghost use Rattle.gq_value.specs.Accums.{AvgAccum};
+ghost use Rattle.gq_value.specs.Val as plain;
+ghost use Rattle.gq_content.specs.Fits.{fits};
+ghost use Rattle.gq_content.specs.Reads.{average};
+ghost use Rattle.gq_accum.specs.Scalars.{IsFar};
+
+use crate::scalar::Mean;
+use gq_value::Fraction;
+
+// The sum of two that have room.
+#[tactic(auto, using(crate::proofs::SumSteps::total_is))]
+pub(crate) fn total(a: i128, b: i128) -> i128
+    ensures { IsFar a → IsFar b → result ≡ a +ℤ b }
+{
+    a.wrapping_add(b)
+}
+
+// The count of two that have room.
+pub(crate) fn count(m: u128, n: u128) -> u128
+    ensures { m + n < 2 ^ 128 → result ≡ m + n }
+{
+    m.wrapping_add(n)
+}
+
+// The sum as an INT, where it is one.
+pub(crate) fn int_of(sum: i128) -> Option<i64>
+    ensures { MatchOption result (is_within number.Int sum ≡ false) (λ n. (is_within number.Int sum ≡ true) × (n ≡ sum)) }
+{
+    match i64::try_from(sum) {
+        Ok(n) => Some(n),
+        Err(_) => None,
+    }
+}
+
+// The sum as a UINT, where it is one.
+pub(crate) fn uint_of(sum: i128) -> Option<u64>
+    ensures { MatchOption result (is_within number.UInt sum ≡ false) (λ n. (is_within number.UInt sum ≡ true) × (pos n ≡ sum)) }
+{
+    match u64::try_from(sum) {
+        Ok(n) => Some(n),
+        Err(_) => None,
+    }
+}
+
+// The fraction of an average that fits.
+pub(crate) fn fraction_of(mean: Mean) -> Option<Fraction>
+    ensures { MatchOption result (fits AvgAccum (mean.sum, mean.count) ≡ false) (λ f. (fits AvgAccum (mean.sum, mean.count) ≡ true) × (plain.Fraction f.sum f.count ≡ average mean.sum mean.count)) }
+{
+    match i64::try_from(mean.sum) {
+        Ok(sum) => match u64::try_from(mean.count) {
+            Ok(count) => {
+                if count == 0 {
+                    Some(Fraction { sum: 0, count: 1 })
+                } else if count < 1 << 63 {
+                    Some(Fraction { sum, count })
+                } else {
+                    None
+                }
+            }
+            Err(_) => None,
+        },
+        Err(_) => None,
+    }
+}

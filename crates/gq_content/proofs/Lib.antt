@@ -1,0 +1,11 @@
+pub mod Shuffles
+pub mod GatherLaws
+pub mod TopLaws
+pub mod NumberLaws
+pub mod RowLaws
+pub mod KindLaws
+pub mod ProperLaws
+pub mod FedLaws
+pub mod TargetLaws
+pub mod Examples
+pub mod OneTypeLaws

@@ -1,0 +1,10 @@
+pub mod BatchLemmas
+pub mod DrawLemmas
+pub mod LeaveLemmas
+pub mod MoveLemmas
+pub mod OrderLemmas
+pub mod ReadingLemmas
+pub mod ShuffleLemmas
+pub mod StripeLemmas
+pub mod StepLemmas
+pub mod TotalLemmas

@@ -1,0 +1,7 @@
+use Rattle.std.proofs.Common.{◌≡◌, replicate}
+use Rattle.gq_core.specs.Machine.{fresh}
+use Rattle.gq_core.proofs.machine.Core.open.Given as goal
+
+-- as many fresh stripes as were counted
+abbrev pub invariant-loop-stripe : goal.invariant-loop-stripe
+invariant-loop-stripe l = l.stripes.items ≡ replicate l._stripe fresh

@@ -1,0 +1,4 @@
+pub mod Accounts
+pub mod Batches
+pub mod Contents
+pub mod Machine

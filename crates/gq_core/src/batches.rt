@@ -1,0 +1,81 @@
+// Batches.
+ghost use Rattle.std.specs.Prelude.{◌≡◌, ◌<◌, [], length, replicate, slice_get, Some, IfOk, OnOk, OnErr};
+ghost use Rattle.gq_core.specs.Batches.{Gains};
+
+use gq_list::Memory;
+use gq_value::Input;
+use std::alloc::Global;
+use std::marker::Model;
+
+/// The contributions of one chunk, cut by stripes: a list for each, at least one. Contracts see the lists.
+///
+/// One worker fills them chunk after chunk, so what is cleared keeps its memory.
+#[derive(Debug, Drop)]
+pub struct Batches {
+    lists: Vec<Vec<(u64, Input)>>,
+}
+
+impl Model for Batches {
+    ghost use Rattle.std.specs.Prelude.{ℕ, ◌<◌, List, length, map};
+    ghost use Rattle.std.specs.Coded.{codes};
+    ghost use Rattle.gq_value.specs.declared.kind.Input.{Input};
+    ghost use Rattle.gq_value.specs.contracts.kind.Input as input;
+
+    ghost Value = { List (List (ℕ × Input)) };
+
+    ghost coded = { Prim.hlevel (codes, input.the_row.coded) };
+
+    ghost view = { λ b. map (λ list. list.items) b.lists.items };
+
+    ghost invariant = { λ b. 0 < length b.lists.items };
+}
+
+impl Batches {
+    /// Lists without contributions, one for each stripe.
+    pub fn new(alloc: Global, stripes: u32) -> Result<Batches, Memory>
+        requires { 0 < stripes }
+        ensures { IfOk result (λ b. b ≡ replicate stripes []) }
+    {
+        let mut lists = Vec::with_capacity(alloc, stripes as usize)?;
+        for _stripe in 0..stripes {
+            lists.push(Vec::new(alloc))?;
+        }
+        Ok(Batches { lists })
+    }
+
+    /// How many stripes there are.
+    pub fn stripes(&self) -> usize
+        ensures stripes { result ≡ length self.now }
+        ensures some { 0 < result }
+    {
+        self.lists.len()
+    }
+
+    /// The contributions for a stripe, in the order in which they were added.
+    pub fn at(&self, stripe: usize) -> &[(u64, Input)]
+        requires { stripe < length self.now }
+        ensures { slice_get self.now stripe ≡ Some result.now }
+    {
+        self.lists[stripe].as_slice()
+    }
+
+    /// Adds one contribution to the list of its stripe. After want of memory the lists are as they were, and the input is
+    /// given up.
+    pub fn add(&mut self, target: u64, input: Input) -> Result<(), Memory>
+        ensures ok { OnOk result (Gains self.old self.new target input) }
+        ensures err { OnErr result (self.new ≡ self.old) }
+    {
+        let stripe = target % self.lists.len() as u64;
+        self.lists[stripe as usize].push((target, input))?;
+        Ok(())
+    }
+
+    /// Empties the list of each stripe, and keeps their memory.
+    pub fn clear(&mut self)
+        ensures { self.new ≡ replicate (length self.old) [] }
+    {
+        for list in self.lists.iter_mut() {
+            list.clear();
+        }
+    }
+}

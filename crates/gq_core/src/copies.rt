@@ -1,0 +1,111 @@
+// Copies of inputs, which own their texts and rows.
+ghost use Rattle.std.specs.Prelude.{◌≡◌, ◌<◌, ◌++◌, IfOk, OnOk, OnErr};
+ghost use Rattle.gq_core.specs.Batches.{batch_of};
+
+use crate::Contributions;
+use gq_list::{List, Memory};
+use gq_value::{Input, Inputs, Row, Txt, Value};
+use std::alloc::Global;
+
+#[cycle(values)]
+fn copy_of_value(alloc: Global, value: &Value) -> Result<Value, Memory>
+    ensures { IfOk result (λ copy. copy ≡ value.now) }
+{
+    match value {
+        Value::Int(x) => Ok(Value::Int(*x)),
+        Value::UInt(x) => Ok(Value::UInt(*x)),
+        Value::Bool(x) => Ok(Value::Bool(*x)),
+        Value::Text(text) => Ok(Value::Text(Txt::of(alloc, text.as_str())?)),
+        Value::Vertex(x) => Ok(Value::Vertex(*x)),
+        Value::Tuple(row) => Ok(Value::Tuple(copy_of_row(alloc, row.as_slice())?)),
+        Value::Fraction(x) => Ok(Value::Fraction(*x)),
+    }
+}
+
+#[cycle(values)]
+fn copy_of_row(alloc: Global, row: &[Value]) -> Result<Row, Memory>
+    ensures { IfOk result (λ copy. copy ≡ row.now) }
+{
+    let mut copy = List::new(alloc);
+    for value in row {
+        copy.push(copy_of_value(alloc, value)?)?;
+    }
+    Ok(copy)
+}
+
+#[cycle(inputs)]
+fn copy_of_input(alloc: Global, input: &Input) -> Result<Input, Memory>
+    ensures { IfOk result (λ copy. copy ≡ input.now) }
+{
+    match input {
+        Input::One(value) => Ok(Input::One(copy_of_value(alloc, value)?)),
+        Input::Keyed(keys, parts) => Ok(Input::Keyed(
+            copy_of_row(alloc, keys.as_slice())?,
+            copy_of_inputs(alloc, parts.as_slice())?,
+        )),
+    }
+}
+
+#[cycle(inputs)]
+fn copy_of_inputs(alloc: Global, inputs: &[Input]) -> Result<Inputs, Memory>
+    ensures { IfOk result (λ copy. copy ≡ inputs.now) }
+{
+    let mut copy = List::new(alloc);
+    for input in inputs {
+        copy.push(copy_of_input(alloc, input)?)?;
+    }
+    Ok(copy)
+}
+
+/// A copy of contributions, in order.
+pub fn copy_of_all(alloc: Global, inputs: &[(u64, Input)]) -> Result<Contributions, Memory>
+    ensures { IfOk result (λ copy. copy ≡ inputs.now) }
+{
+    let mut copy = List::new(alloc);
+    for (target, input) in inputs {
+        copy.push((*target, copy_of_input(alloc, input)?))?;
+    }
+    Ok(copy)
+}
+
+/// Puts a copy of what of `inputs` goes to a stripe behind `list`. After Memory part of it may be there.
+fn push_batch(
+    alloc: Global,
+    list: &mut Contributions,
+    inputs: &[(u64, Input)],
+    stripes: u32,
+    stripe: u32,
+) -> Result<(), Memory>
+    requires { 0 < stripes }
+    ensures ok { OnOk result (list.new ≡ list.old ++ batch_of stripes stripe inputs.now) }
+    ensures err { OnErr result ((part : _) × (list.new ≡ list.old ++ part)) }
+{
+    for (target, input) in inputs {
+        if *target % u64::from(stripes) == u64::from(stripe) {
+            list.push((*target, copy_of_input(alloc, input)?))?;
+        }
+    }
+    Ok(())
+}
+
+/// Puts a copy of what of `inputs` goes to a stripe behind `list`, which after Memory is as it was.
+pub fn add_batch(
+    alloc: Global,
+    list: &mut Contributions,
+    inputs: &[(u64, Input)],
+    stripes: u32,
+    stripe: u32,
+) -> Result<(), Memory>
+    requires { 0 < stripes }
+    ensures ok { OnOk result (list.new ≡ list.old ++ batch_of stripes stripe inputs.now) }
+    ensures err { OnErr result (list.new ≡ list.old) }
+{
+    let before = list.len();
+    match push_batch(alloc, list, inputs, stripes, stripe) {
+        Ok(()) => Ok(()),
+        Err(fault) => {
+            list.truncate(before);
+            Err(fault)
+        }
+    }
+}

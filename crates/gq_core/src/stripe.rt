@@ -1,0 +1,81 @@
+// Stripes.
+ghost use Rattle.std.specs.Prelude.{◌≡◌, ◌+◌, ◌^◌, ◌<◌, length, OnOk, OnErr};
+
+use crate::copies::add_batch;
+use crate::{Contributions, Job, Turn};
+use gq_list::{List, Memory};
+use std::alloc::Global;
+
+/// One stripe: its tickets, the chunks that were laid there, with their inputs, and who has it away.
+#[derive(Debug, Drop)]
+pub struct Stripe {
+    /// The number that the next ticket gets.
+    pub tickets: u64,
+
+    /// The ticket that is served.
+    pub serving: u64,
+
+    /// The chunks that were laid here, in order.
+    pub book: List<u64>,
+
+    /// The batches of these chunks, one behind the other.
+    pub inputs: Contributions,
+
+    /// The worker that has the stripe away.
+    pub away: Option<u32>,
+}
+
+impl Stripe {
+    ghost use Rattle.gq_core.specs.Machine.{fresh, laid};
+
+    /// A stripe where nothing was put yet, which takes no memory.
+    pub fn new(alloc: Global) -> Stripe
+        ensures { result ≡ fresh }
+    {
+        Stripe {
+            tickets: 0,
+            serving: 0,
+            book: List::new(alloc),
+            inputs: List::new(alloc),
+            away: None,
+        }
+    }
+
+    /// Gives the next ticket.
+    pub fn give_ticket(&mut self) -> u64
+        requires { self.old.tickets + 1 < 2 ^ 64 }
+        ensures ticket { result ≡ self.old.tickets }
+        ensures rises { self.new ≡ record self.old { tickets = self.old.tickets + 1 } }
+    {
+        let ticket = self.tickets;
+        self.tickets = ticket + 1;
+        ticket
+    }
+
+    /// Lays a chunk's batch behind what was there, and is at home again. After want of memory nothing has changed.
+    pub fn lay(&mut self, alloc: Global, job: &Job, turn: Turn) -> Result<(), Memory>
+        requires { turn.chunk < length job.now.chunks }
+        ensures ok { OnOk result (self.new ≡ laid job.now turn self.old) }
+        ensures err { OnErr result (self.new ≡ self.old) }
+    {
+        let before = self.book.len();
+        self.book.push(turn.chunk)?;
+        let chunk = job.chunks.at(turn.chunk as usize);
+        match add_batch(
+            alloc,
+            &mut self.inputs,
+            chunk.as_slice(),
+            job.stripes,
+            turn.stripe,
+        ) {
+            Ok(()) => {
+                self.away = None;
+                Ok(())
+            }
+            Err(fault) => {
+                self.book.truncate(before);
+                Err(fault)
+            }
+        }
+    }
+}

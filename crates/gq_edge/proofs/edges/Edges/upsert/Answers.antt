@@ -1,0 +1,30 @@
+use Rattle.std.proofs.Common.{◌≡◌, ◌∙◌, refl, ap, sym, subst, Some, List}
+use Rattle.gq_value.specs.declared.store.EdgeRow.{EdgeRow}
+use Rattle.gq_value.specs.Edges.{EdgeTable, Agrees, edge_with, naming_with, edge_number}
+use Rattle.gq_edge.specs.Named.{IsFindable}
+use Rattle.gq_edge.proofs.TableLemmas.{findable, found_row, replaced_is}
+use Rattle.gq_edge.proofs.edges.Edges.upsert.Goals as goal
+
+pub find-requires-clause-findable : goal.find-requires-clause-findable
+find-requires-clause-findable c =
+    let naming = naming_with c.args.kind c.args.directed c.args.key in let edge = edge_with c.args.kind c.args.from c.args.to c.args.attributes in
+    let agrees = subst (λ (t : EdgeTable). Agrees t.namings naming) (sym c.self.view_is) c.requires.agrees in
+    subst (λ (l : List EdgeRow). IsFindable naming edge l c.self.inside.hashes) (sym c.deref.ensures.value)
+    (findable naming edge c.self.inside.rows.items c.self.inside.namings.items c.self.inside.hashes c.self.invariant agrees refl)
+
+pub invariant_of-self : goal.invariant_of-self
+invariant_of-self c =
+    let naming = naming_with c.args.kind c.args.directed c.args.key in let edge = edge_with c.args.kind c.args.from c.args.to c.args.attributes in
+    let agrees = subst (λ (t : EdgeTable). Agrees t.namings naming) (sym c.self.view_is) c.requires.agrees in
+    let found : edge_number c.self.inside.rows.items naming edge ≡ Some c.in-Some.number =
+    ap (λ (l : List EdgeRow). edge_number l naming edge) (sym c.deref.ensures.value) ∙ sym c.find.ensures ∙ c.in-Some.is in
+    rw c.replace.ensures (found_row c.self.inside.rows.items c.self.inside.namings.items c.self.inside.hashes naming edge c.in-Some.number c.self.invariant agrees refl found).1
+
+pub returns-in-Some-clause-done : goal.returns-in-Some-clause-done
+returns-in-Some-clause-done c =
+    let naming = naming_with c.args.kind c.args.directed c.args.key in let edge = edge_with c.args.kind c.args.from c.args.to c.args.attributes in
+    let agrees = subst (λ (t : EdgeTable). Agrees t.namings naming) (sym c.self.view_is) c.requires.agrees in
+    let found : edge_number c.self.inside.rows.items naming edge ≡ Some c.in-Some.number =
+    ap (λ (l : List EdgeRow). edge_number l naming edge) (sym c.deref.ensures.value) ∙ sym c.find.ensures ∙ c.in-Some.is in
+    let row = found_row c.self.inside.rows.items c.self.inside.namings.items c.self.inside.hashes naming edge c.in-Some.number c.self.invariant agrees refl found in
+    replaced_is c.self.inside.rows.items c.self.inside.namings.items c.args.self.now c.replace.new.rows.items naming edge c.in-Some.number c.self.view_is found row.2 c.replace.ensures

@@ -1,0 +1,225 @@
+// The table of edges.
+ghost use Rattle.std.specs.Prelude.{◌≡◌, ◌<◌, ◌≤◌, ◌↔◌, ◌++◌, [], ◌∷◌, length, slice_set, take, is_some, vec_len, vec_capacity, Some, None, Err, IfOk, MatchResult};
+ghost use Rattle.std.specs.Option.{unwrap_or};
+ghost use Rattle.gq_value.specs.Edges.{Agrees, edge_with, naming_with, edge_number, upsert_edge, edge_at, noted, naming_of, most_edges};
+ghost use Rattle.gq_edge.specs.Named.{AreNamed};
+
+use crate::find::find;
+use crate::hash::edge_hash;
+use gq_hash::Hashes;
+use gq_value::{EdgeRow, Memory, Naming, Row, StoreFault, duplicate_row};
+use std::alloc::Global;
+use std::marker::Model;
+
+/// How many edges a store holds at most.
+pub const MOST_EDGES: usize = 16_777_216;
+
+/// The edges of a store. Contracts see their rows, and how the edges of each type that has rows are named.
+#[derive(Drop)]
+pub struct Edges {
+    rows: Vec<EdgeRow>,
+    namings: Vec<Naming>,
+    hashes: Hashes,
+}
+
+impl Model for Edges {
+    ghost use Rattle.std.specs.Coded.{codes};
+    ghost use Rattle.gq_value.specs.contracts.value.Value as value;
+    ghost use Rattle.gq_value.specs.Edges.{EdgeTable};
+    ghost use Rattle.gq_edge.specs.Named.{AreNamed};
+
+    ghost Value = { EdgeTable };
+
+    ghost coded = { Prim.hlevel (codes, value.the_row.coded) };
+
+    ghost view = { λ e. record { rows = e.rows.items; namings = e.namings.items } };
+
+    ghost invariant = { λ e. AreNamed e.rows.items e.namings.items e.hashes };
+}
+
+impl Edges {
+    /// No edges.
+    pub fn new(alloc: Global) -> Edges
+        ensures { result ≡ record { rows = []; namings = [] } }
+    {
+        Edges {
+            rows: Vec::new(alloc),
+            namings: Vec::new(alloc),
+            hashes: Hashes::new(alloc),
+        }
+    }
+
+    /// The number of edges.
+    pub fn len(&self) -> u32
+        ensures count { result ≡ length self.now.rows }
+        ensures few { length self.now.rows ≤ most_edges }
+    {
+        self.rows.len() as u32
+    }
+
+    /// An edge, by its number.
+    pub fn row(&self, edge: u32) -> &EdgeRow
+        requires { edge < length self.now.rows }
+        ensures { result.now ≡ edge_at self.now.rows edge }
+    {
+        &self.rows[edge as usize]
+    }
+
+    /// Gives the edge of that name the attributes, or puts it last. The first `key` attributes belong to the name, and the
+    /// ends have no order where the edge isn't directed. Unchanged after a refusal.
+    pub fn upsert(
+        &mut self,
+        kind: u32,
+        directed: bool,
+        from: u32,
+        to: u32,
+        key: u32,
+        attributes: Row,
+    ) -> Result<u32, StoreFault>
+        requires within { key ≤ length attributes }
+        requires agrees { Agrees self.old.namings (naming_with kind directed key) }
+        ensures done { let naming = naming_with kind directed key in let edge = edge_with kind from to attributes in
+            MatchResult result
+            (λ n. (n ≡ unwrap_or (edge_number self.old.rows naming edge) (length self.old.rows))
+            × (self.new ≡ upsert_edge self.old naming edge))
+            (λ _. self.new ≡ self.old) }
+        ensures full { let naming = naming_with kind directed key in let edge = edge_with kind from to attributes in
+            (result ≡ Err StoreFault.Full)
+            ↔ ((edge_number self.old.rows naming edge ≡ None) × (most_edges ≤ length self.old.rows)) }
+    {
+        let naming = Naming {
+            kind,
+            directed,
+            key,
+        };
+        let edge = EdgeRow {
+            kind,
+            from,
+            to,
+            attributes,
+        };
+        match find(&self.rows, &self.hashes, naming, &edge) {
+            Some(number) => {
+                replace(&mut self.rows, number, edge);
+                Ok(number)
+            }
+            None => {
+                if self.rows.len() >= MOST_EDGES {
+                    return Err(StoreFault::Full);
+                }
+                match add(
+                    &mut self.rows,
+                    &mut self.namings,
+                    &mut self.hashes,
+                    naming,
+                    edge,
+                ) {
+                    Ok(number) => Ok(number),
+                    Err(Memory) => Err(StoreFault::Memory),
+                }
+            }
+        }
+    }
+
+    /// An equal table with memory of its own.
+    pub fn duplicate(&self) -> Result<Edges, Memory>
+        ensures { IfOk result (λ copy. copy ≡ self.now) }
+    {
+        let alloc = *self.rows.allocator();
+        Ok(Edges {
+            rows: copied(alloc, &self.rows)?,
+            namings: Vec::from_slice(alloc, &self.namings)?,
+            hashes: self.hashes.duplicate()?,
+        })
+    }
+}
+
+fn copied(alloc: Global, rows: &[EdgeRow]) -> Result<Vec<EdgeRow>, Memory>
+    ensures { IfOk result (λ copy. copy.items ≡ rows.now) }
+{
+    let mut copy = Vec::with_capacity(alloc, rows.len())?;
+    for row in rows {
+        copy.push(EdgeRow {
+            kind: row.kind,
+            from: row.from,
+            to: row.to,
+            attributes: duplicate_row(alloc, row.attributes.as_slice())?,
+        })?;
+    }
+    Ok(copy)
+}
+
+/// Puts an edge of a new name last.
+fn add(
+    rows: &mut Vec<EdgeRow>,
+    namings: &mut Vec<Naming>,
+    hashes: &mut Hashes,
+    naming: Naming,
+    edge: EdgeRow,
+) -> Result<u32, Memory>
+    requires named { AreNamed rows.old.items namings.old.items hashes.old }
+    requires agrees { Agrees namings.old.items naming }
+    requires kind { edge.kind ≡ naming.kind }
+    requires within { naming.key ≤ length edge.attributes }
+    requires new { edge_number rows.old.items naming edge ≡ None }
+    requires room { vec_len rows.old < most_edges }
+    ensures named { AreNamed rows.new.items namings.new.items hashes.new }
+    ensures done { MatchResult result
+        (λ n. (n ≡ length rows.old.items) × (rows.new.items ≡ rows.old.items ++ edge ∷ []) × (namings.new.items ≡ noted namings.old.items naming))
+        (λ _. (rows.new.items ≡ rows.old.items) × (namings.new.items ≡ namings.old.items)) }
+{
+    let number = rows.len() as u32;
+    rows.reserve(1)?;
+    namings.reserve(1)?;
+    hashes.push(edge_hash(naming, &edge))?;
+    note(namings, naming);
+    put(rows, edge);
+    Ok(number)
+}
+
+/// Keeps how the edges of a type are named, where there is room for it.
+fn note(namings: &mut Vec<Naming>, naming: Naming)
+    requires { vec_len namings.old < vec_capacity namings.old }
+    ensures { namings.new.items ≡ noted namings.old.items naming }
+{
+    if !is_noted(namings, naming.kind) {
+        match namings.push(naming) {
+            Ok(()) => {}
+            Err(_) => unreachable!(),
+        }
+    }
+}
+
+fn is_noted(namings: &[Naming], kind: u32) -> bool
+    ensures { result ≡ is_some (naming_of namings.now kind) }
+{
+    for naming in namings {
+        if naming.kind == kind {
+            return true;
+        }
+    }
+    false
+}
+
+/// Puts an edge last where there is room for it.
+fn put(rows: &mut Vec<EdgeRow>, edge: EdgeRow)
+    requires { vec_len rows.old < vec_capacity rows.old }
+    ensures { rows.new.items ≡ rows.old.items ++ edge ∷ [] }
+{
+    match rows.push(edge) {
+        Ok(()) => {}
+        Err(_) => unreachable!(),
+    }
+}
+
+/// Gives an edge other attributes.
+fn replace(rows: &mut Vec<EdgeRow>, number: u32, edge: EdgeRow)
+    requires { number < vec_len rows.old }
+    ensures { rows.new.items ≡ slice_set rows.old.items number (record (edge_at rows.old.items number) { attributes = edge.attributes }) }
+{
+    let row = &mut rows[number as usize];
+    row.attributes = edge.attributes;
+}
+
+#[cfg(test)]
+mod tests;

@@ -1,0 +1,5 @@
+pub mod ChainLemmas
+pub mod ComparisonLemmas
+pub mod LevelLemmas
+pub mod Productions
+pub mod Growth

@@ -1,0 +1,11 @@
+pub mod Sets
+pub mod Claims
+pub mod TokenLemmas
+pub mod ThenLemmas
+pub mod MadeLemmas
+pub mod ManyLemmas
+pub mod SignLemmas
+pub mod LoopLemmas
+pub mod GrowthLemmas
+pub mod WholeLemmas
+mod PlaceLemmas

@@ -1,0 +1,11 @@
+use Rattle.gq_grammar.proofs.PlaceLemmas.{none_left, number_here, number_other}
+use Rattle.gq_grammar.proofs.source.Source.number.Goals as goal
+
+pub returns-then-at-self : goal.returns-then-at-self
+returns-then-at-self c = none_left c.self.inside.bytes.now c.self.inside.tokens.now c.args.self.now c.args.at c.self.view_is _ _ c.if-at-self.true
+
+pub returns-in-Number : goal.returns-in-Number
+returns-in-Number c = number_here c.self.inside.bytes.now c.self.inside.tokens.now c.args.self.now c.args.at c.self.view_is _ c.requires c.if-at-self.false c.in-Number.number c.in-Number.is
+
+pub returns-in_default : goal.returns-in_default
+returns-in_default c = number_other c.self.inside.bytes.now c.self.inside.tokens.now c.args.self.now c.args.at c.self.view_is _ c.requires c.if-at-self.false c.in_default.not-Number

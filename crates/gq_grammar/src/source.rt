@@ -1,0 +1,211 @@
+// Tokens with the bytes that they were cut from.
+ghost use Rattle.std.specs.Prelude.{◌≡◌, ◌≤◌, length, All};
+ghost use Rattle.std.specs.Option.{option_map};
+ghost use Rattle.gq_token.specs.Cut.{IsSpelledIn};
+ghost use Rattle.gq_grammar.specs.Lexemes as lexemes;
+ghost use Rattle.gq_grammar.specs.Lexemes.{lexemes_of, Sign, Keyword, Name, Number, Text, Global, Attached};
+ghost use Rattle.gq_grammar.specs.Parsers.{Found, token, one, stands};
+
+use crate::reserved::is_reserved;
+use gq_token::{Shape, Token};
+use gq_value::Txt;
+use std::marker::Model;
+
+/// The tokens of a script with its bytes, as readers see them: contracts see a list of lexemes. It only lends.
+#[derive(Drop)]
+pub struct Source<'a> {
+    bytes: &'a [u8],
+    tokens: &'a [Token],
+}
+
+impl<'a> Model for Source<'a> {
+    ghost use Rattle.std.specs.Prelude.{All};
+    ghost use Rattle.gq_token.specs.Cut.{IsSpelledIn};
+    ghost use Rattle.gq_grammar.specs.Lexemes.{Lexemes, lexemes_of};
+
+    ghost Value = { Lexemes };
+
+    ghost view = { λ s. lexemes_of s.bytes.now s.tokens.now };
+
+    ghost invariant = { λ s. All (IsSpelledIn s.bytes.now) s.tokens.now };
+}
+
+impl<'a> Source<'a> {
+    /// The tokens, which were cut from the script `bytes`.
+    pub fn new(bytes: &'a [u8], tokens: &'a [Token]) -> Source<'a>
+        requires { All (IsSpelledIn bytes.now) tokens.now }
+        ensures { result ≡ lexemes_of bytes.now tokens.now }
+    {
+        Source { bytes, tokens }
+    }
+
+    /// How many tokens there are.
+    pub fn len(&self) -> usize
+        ensures { result ≡ length self.now }
+    {
+        self.tokens.len()
+    }
+
+    /// The place after this symbol, where it stands at `at`.
+    pub fn sign(&self, at: usize, sign: &str) -> Option<usize>
+        requires { at ≤ length self.now }
+        ensures { Found (one (Sign sign.now)) self.now at (option_map (λ next. (tt, next)) result) }
+    {
+        if at == self.tokens.len() {
+            return None;
+        }
+        if self.tokens[at].is_mark(self.bytes, sign) {
+            Some(at + 1)
+        } else {
+            None
+        }
+    }
+
+    /// This value and the place after the symbol, where the symbol stands at `at`.
+    #[tactic(auto, unfolding(crate::specs::Parsers::stands))]
+    pub fn stands<T: Drop>(&self, at: usize, sign: &str, value: T) -> Option<(T, usize)>
+        requires { at ≤ length self.now }
+        ensures { Found (stands value (Sign sign.now)) self.now at result }
+    {
+        match self.sign(at, sign) {
+            None => None,
+            Some(next) => Some((value, next)),
+        }
+    }
+
+    /// The place after this word, where it stands at `at` in letters of any case.
+    pub fn keyword(&self, at: usize, word: &str) -> Option<usize>
+        requires { at ≤ length self.now }
+        ensures { Found (one (Keyword word.now)) self.now at (option_map (λ next. (tt, next)) result) }
+    {
+        if at == self.tokens.len() {
+            return None;
+        }
+        if self.tokens[at].is_keyword(self.bytes, word) {
+            Some(at + 1)
+        } else {
+            None
+        }
+    }
+
+    /// The name at `at`, and the place after it.
+    pub fn name(&self, at: usize) -> Option<(&'a str, usize)>
+        requires { at ≤ length self.now }
+        ensures { Found (token Name lexemes.spelling) self.now at (option_map (λ read. (read.0.now, read.1)) result) }
+    {
+        if at == self.tokens.len() {
+            return None;
+        }
+        match self.tokens[at].word(self.bytes) {
+            None => None,
+            Some(word) => {
+                if is_reserved(word) {
+                    None
+                } else {
+                    Some((word, at + 1))
+                }
+            }
+        }
+    }
+
+    /// The spelling of the `@@` and word at `at`, and the place after them.
+    pub fn global(&self, at: usize) -> Option<(&'a str, usize)>
+        requires { at ≤ length self.now }
+        ensures { Found (token Global lexemes.spelling) self.now at (option_map (λ read. (read.0.now, read.1)) result) }
+    {
+        if at == self.tokens.len() {
+            return None;
+        }
+        match self.tokens[at].global(self.bytes) {
+            None => None,
+            Some(name) => Some((name, at + 1)),
+        }
+    }
+
+    /// The spelling of the `@` and word at `at`, and the place after them.
+    pub fn attached(&self, at: usize) -> Option<(&'a str, usize)>
+        requires { at ≤ length self.now }
+        ensures { Found (token Attached lexemes.spelling) self.now at (option_map (λ read. (read.0.now, read.1)) result) }
+    {
+        if at == self.tokens.len() {
+            return None;
+        }
+        match self.tokens[at].attached(self.bytes) {
+            None => None,
+            Some(name) => Some((name, at + 1)),
+        }
+    }
+
+    /// The number at `at`, and the place after it.
+    pub fn number(&self, at: usize) -> Option<(u64, usize)>
+        requires { at ≤ length self.now }
+        ensures { Found (token Number lexemes.number) self.now at result }
+    {
+        if at == self.tokens.len() {
+            return None;
+        }
+        match self.tokens[at].shape {
+            Shape::Number(number) => Some((number, at + 1)),
+            _ => None,
+        }
+    }
+
+    /// What the text at `at` says, and the place after it.
+    pub fn text(&self, at: usize) -> Option<(&'a Txt, usize)>
+        requires { at ≤ length self.now }
+        ensures { Found (token Text lexemes.said) self.now at (option_map (λ read. (read.0.now, read.1)) result) }
+    {
+        if at == self.tokens.len() {
+            return None;
+        }
+        match &self.tokens[at].shape {
+            Shape::Text(said) => Some((said, at + 1)),
+            _ => None,
+        }
+    }
+}
+
+#[cfg(test)]
+mod tests {
+    use super::Source;
+    use gq_token::tokens;
+    use std::alloc::Global;
+    use std::test::Fail;
+
+    // Whether the text is a name.
+    fn is_name(alloc: Global, text: &[u8]) -> Result<bool, Fail> {
+        let tokens = tokens(alloc, text)?;
+        Ok(Source::new(text, tokens.as_slice()).name(0).is_some())
+    }
+
+    #[test]
+    fn a_reserved_word_is_no_name_in_any_case(rt: HostRuntime) -> Result<(), Fail> {
+        assert!(rt; is_name(rt.alloc(), b"Create")?);
+        assert!(rt; is_name(rt.alloc(), b"selected")?);
+        assert!(rt; !is_name(rt.alloc(), b"select")?);
+        assert!(rt; !is_name(rt.alloc(), b"sumaccum")?);
+        assert!(rt; !is_name(rt.alloc(), b"_")?);
+        assert!(rt; !is_name(rt.alloc(), b"@@a")?);
+        assert!(rt; !is_name(rt.alloc(), b"")?);
+        Ok(())
+    }
+
+    #[test]
+    fn each_token_is_found_as_what_it_is(rt: HostRuntime) -> Result<(), Fail> {
+        let text = b"<= @@a @b 7 \"x\\n\" Not";
+        let tokens = tokens(rt.alloc(), text)?;
+        let source = Source::new(text, tokens.as_slice());
+        if source.len() != 6 {
+            return Err("not six tokens".into());
+        }
+        assert_eq!(rt; source.sign(0, "<="), Some(1));
+        assert_eq!(rt; source.sign(0, "<"), None);
+        assert_eq!(rt; source.global(1).map(|(name, _)| name), Some("@@a"));
+        assert_eq!(rt; source.attached(2).map(|(name, _)| name), Some("@b"));
+        assert_eq!(rt; source.number(3), Some((7, 4)));
+        assert_eq!(rt; source.text(4).map(|(said, _)| said.as_str()), Some("x\n"));
+        assert_eq!(rt; source.keyword(5, "NOT"), Some(6));
+        assert_eq!(rt; source.keyword(6, "NOT"), None);
+        Ok(())
+    }
+}

@@ -1,0 +1,4 @@
+pub mod NameLemmas
+pub mod AttributeLemmas
+pub mod MemberLemmas
+pub mod JudgeLemmas

@@ -1,0 +1,87 @@
+// Refusals.
+ghost use Rattle.gq_schema.specs.Tells.{Tells};
+
+use gq_value::{Memory, Txt};
+use std::alloc::Global;
+use thiserror::Error;
+
+/// Why a declaration is refused.
+#[derive(Debug, Drop, Error)]
+pub enum SchemaFault {
+    /// A vertex or edge type has the name, or a reverse type's name is its forward type's own.
+    #[error("name taken")]
+    NameTaken(Txt),
+    /// No vertex type has the name of an end; or a graph's member is no type, or an edge type without both its ends.
+    #[error("no such type")]
+    NoSuchType(Txt),
+    /// An attribute has the name of an earlier one, or of an id that is an attribute too.
+    #[error("attribute twice")]
+    AttributeTwice(Txt),
+    #[error("graph exists")]
+    GraphExists(Txt),
+    /// With the new types there would be more than 256, reverse types counted.
+    #[error("too many types")]
+    TooMany,
+    #[error("out of memory")]
+    Memory,
+    /// The attribute's default is no value of its type.
+    #[error("bad default")]
+    BadDefault(Txt),
+}
+
+impl From<Memory> for SchemaFault {
+    ghost use Rattle.std.specs.Prelude.{◌≡◌};
+    ghost use Rattle.gq_schema.specs.declared.fault.SchemaFault.TheVariants.{Memory};
+
+    ghost from_gives = { λ _ e. e ≡ Memory };
+
+    fn from(_: Memory) -> Self {
+        SchemaFault::Memory
+    }
+}
+
+/// NameTaken, or Memory where the name can't be kept; likewise the others.
+pub(crate) fn name_taken(alloc: Global, name: &str) -> SchemaFault
+    ensures { Tells (SchemaFault.NameTaken name.now) result }
+{
+    match Txt::of(alloc, name) {
+        Ok(name) => SchemaFault::NameTaken(name),
+        Err(Memory) => SchemaFault::Memory,
+    }
+}
+
+pub(crate) fn no_such_type(alloc: Global, name: &str) -> SchemaFault
+    ensures { Tells (SchemaFault.NoSuchType name.now) result }
+{
+    match Txt::of(alloc, name) {
+        Ok(name) => SchemaFault::NoSuchType(name),
+        Err(Memory) => SchemaFault::Memory,
+    }
+}
+
+pub(crate) fn attribute_twice(alloc: Global, name: &str) -> SchemaFault
+    ensures { Tells (SchemaFault.AttributeTwice name.now) result }
+{
+    match Txt::of(alloc, name) {
+        Ok(name) => SchemaFault::AttributeTwice(name),
+        Err(Memory) => SchemaFault::Memory,
+    }
+}
+
+pub(crate) fn graph_exists(alloc: Global, name: &str) -> SchemaFault
+    ensures { Tells (SchemaFault.GraphExists name.now) result }
+{
+    match Txt::of(alloc, name) {
+        Ok(name) => SchemaFault::GraphExists(name),
+        Err(Memory) => SchemaFault::Memory,
+    }
+}
+
+pub(crate) fn bad_default(alloc: Global, name: &str) -> SchemaFault
+    ensures { Tells (SchemaFault.BadDefault name.now) result }
+{
+    match Txt::of(alloc, name) {
+        Ok(name) => SchemaFault::BadDefault(name),
+        Err(Memory) => SchemaFault::Memory,
+    }
+}

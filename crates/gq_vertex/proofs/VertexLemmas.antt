@@ -1,0 +1,182 @@
+-- Rows of vertices under their names.
+use Rattle.std.proofs.Common.{inl, inr, ℕ, ◌+◌, ◌<◌, ◌≤◌, ◌≡◌, ◌≢◌, ◌==◌, ◌&&◌, Bool, true, false, List, [], ◌∷◌, ◌++◌, length, get_or, set, take, map, Option, Some, None, refl, ap, sym, ◌∙◌, subst, arith, eq-eqb}
+use Rattle.std.specs.Str.{bytes_eq}
+use Rattle.std.proofs.lemmas.Bool.Decides.{nat_tests}
+use Rattle.std.proofs.lemmas.Slice.Eq.{bytes_eq-Decides}
+use Rattle.std.proofs.lemmas.List.{length-map, get_or-map, map_push, get_or_read, get_or_append_left, get_or_push, get_or-take, length-take-le, length_push, take-map, get_or-set_same, get_or-set_other, length-set}
+use Rattle.std.proofs.lemmas.List.Quantifiers.{position-Some}
+use Rattle.std.proofs.lemmas.Bool.{cases_lt}
+use Rattle.std.proofs.lemmas.Bool.Decides.{eqb_tells}
+use Rattle.std.proofs.Math.Seq.{map-set_same}
+use Rattle.std.specs.Option.{unwrap_or}
+use Rattle.gq_value.specs.declared.value.Value.{Value}
+use Rattle.gq_value.specs.declared.store.VertexRow.{VertexRow}
+use Rattle.gq_value.specs.Vertices.{is_vertex, vertex_number, vertex_put, upsert_vertex, no_vertex, vertex_at, VerticesApart, most_vertices}
+use Rattle.gq_hash.specs.Last.{IsLast}
+use Rattle.gq_hash.proofs.Seeks.{Seeks, Hits, seek_starts, seek_goes, seek_none, seek_found, nowhere}
+use Rattle.gq_vertex.specs.Named.{vertex_hash, row_hash, AreNamed}
+
+and_true : (a b : Bool) → a && b ≡ true → (a ≡ true) × (b ≡ true)
+and_true true b is = (refl, is)
+and_true false b is = absurd (cc)
+
+is_equal : (a b : ℕ) → (a == b) ≡ true → a ≡ b
+is_equal a b h = grind (arith, nat_tests)
+
+-- a row that is the vertex has its type and id
+pub named_so : (kind : ℕ) (id : List ℕ) (row : VertexRow) → is_vertex kind id row ≡ true → (row.kind ≡ kind) × (row.id ≡ id)
+named_so kind id row is =
+    let both = and_true (row.kind == kind) (bytes_eq id row.id) is in
+    (is_equal row.kind kind both.0, sym ((bytes_eq-Decides id row.id).0 both.1))
+
+-- a row of that type and id is the vertex
+pub is_named : (kind : ℕ) (id : List ℕ) (row : VertexRow) → row.kind ≡ kind → row.id ≡ id → is_vertex kind id row ≡ true
+is_named kind id row k i =
+    ap (λ b. b && bytes_eq id row.id) (eq-eqb row.kind kind k) ∙ (bytes_eq-Decides id row.id).1 (sym i)
+
+pub hits : (rows : List VertexRow) (hashes : List ℕ) (kind : ℕ) (id : List ℕ) → hashes ≡ map row_hash rows
+    → Hits (is_vertex kind id) no_vertex rows hashes (vertex_hash kind id)
+hits rows hashes kind id hashed k low is =
+    let so = named_so kind id (get_or rows k no_vertex) is in
+    ap (λ h. get_or h k 0) hashed ∙ get_or-map row_hash rows k no_vertex 0 low
+    ∙ ap (λ x. vertex_hash x (get_or rows k no_vertex).id) so.0 ∙ ap (vertex_hash kind) so.1
+
+-- two rows that are the vertex are one
+pub one_vertex : (rows : List VertexRow) (kind : ℕ) (id : List ℕ) → VerticesApart rows → (i j : ℕ) → i < j → j < length rows
+    → is_vertex kind id (get_or rows i no_vertex) ≡ true → is_vertex kind id (get_or rows j no_vertex) ≡ true → ⊥
+one_vertex rows kind id apart i j low there a b =
+    let first = named_so kind id (get_or rows i no_vertex) a in
+    let second = named_so kind id (get_or rows j no_vertex) b in
+    apart i j low there (first.0 ∙ sym second.0) (first.1 ∙ sym second.1)
+
+-- the row that a walk found
+pub found_there : (rows : List VertexRow) (hashes : List ℕ) (kind : ℕ) (id : List ℕ) (hash n : ℕ) (row : VertexRow) (t : Bool)
+    → VerticesApart rows → Seeks (is_vertex kind id) no_vertex rows hashes hash (Some n) → row ≡ get_or rows n row → t ≡ is_vertex kind id row → t ≡ true
+    → Some n ≡ vertex_number rows kind id
+found_there rows hashes kind id hash n row t apart here read test is =
+    sym (seek_found (is_vertex kind id) no_vertex n rows here.0
+    (ap (is_vertex kind id) (sym (get_or_read rows n row here.0 read no_vertex)) ∙ sym test ∙ is) (one_vertex rows kind id apart))
+
+-- the number of a vertex is that of a row
+pub number_low : (rows : List VertexRow) (kind n : ℕ) (id : List ℕ) → vertex_number rows kind id ≡ Some n
+    → (n < length rows) × ((vertex_at rows n).kind ≡ kind) × ((vertex_at rows n).id ≡ id)
+number_low rows kind n id is =
+    let at = position-Some (is_vertex kind id) rows n no_vertex is in
+    let so = named_so kind id (get_or rows n no_vertex) at.1 in (at.0, so.0, so.1)
+
+-- what stands of the walk for a vertex
+abbrev pub SeeksVertex : List VertexRow → List ℕ → ℕ → List ℕ → Option ℕ → Type 0
+SeeksVertex rows hashes kind id next = Seeks (is_vertex kind id) no_vertex rows hashes (vertex_hash kind id) next
+
+pub vertex_starts : (rows : List VertexRow) (hashes : List ℕ) (kind : ℕ) (id : List ℕ) (hash : ℕ) (next : Option ℕ) → AreNamed rows hashes
+    → hash ≡ vertex_hash kind id → IsLast hashes hash (length hashes) next → SeeksVertex rows hashes kind id next
+vertex_starts rows hashes kind id hash next named is last =
+    seek_starts (is_vertex kind id) no_vertex rows hashes (vertex_hash kind id) next (ap length named.hashed ∙ length-map rows row_hash)
+    (hits rows hashes kind id named.hashed) (subst (λ h. IsLast hashes h (length hashes) next) is last)
+
+pub vertex_goes : (rows : List VertexRow) (hashes : List ℕ) (kind n : ℕ) (id : List ℕ) (old next : Option ℕ) (row : VertexRow) (t : Bool) → AreNamed rows hashes
+    → SeeksVertex rows hashes kind id old → old ≡ Some n → row ≡ get_or rows n row → t ≡ is_vertex kind id row → t ≡ false
+    → IsLast hashes (get_or hashes n 0) n next → SeeksVertex rows hashes kind id next
+vertex_goes rows hashes kind n id old next row t named here at read test miss last =
+    let this = subst (SeeksVertex rows hashes kind id) at here in
+    seek_goes (is_vertex kind id) no_vertex rows hashes (vertex_hash kind id) n next (hits rows hashes kind id named.hashed) this
+    (ap (is_vertex kind id) (sym (get_or_read rows n row this.0 read no_vertex)) ∙ sym test ∙ miss) last
+
+pub vertex_found : (rows : List VertexRow) (hashes : List ℕ) (kind n : ℕ) (id : List ℕ) (old : Option ℕ) (row : VertexRow) (t : Bool) → AreNamed rows hashes
+    → SeeksVertex rows hashes kind id old → old ≡ Some n → row ≡ get_or rows n row → t ≡ is_vertex kind id row → t ≡ true
+    → Some n ≡ vertex_number rows kind id
+vertex_found rows hashes kind n id old row t named here at read test is =
+    found_there rows hashes kind id (vertex_hash kind id) n row t named.apart (subst (SeeksVertex rows hashes kind id) at here) read test is
+
+pub vertex_missing : (rows : List VertexRow) (hashes : List ℕ) (kind : ℕ) (id : List ℕ) (old : Option ℕ)
+    → SeeksVertex rows hashes kind id old → old ≡ None → None ≡ vertex_number rows kind id
+vertex_missing rows hashes kind id old here at =
+    sym (seek_none (is_vertex kind id) no_vertex rows (subst (SeeksVertex rows hashes kind id) at here))
+
+-- fewer rows
+pub named_cut : (n : ℕ) (rows : List VertexRow) (hashes : List ℕ) → n ≤ length rows → AreNamed rows hashes → AreNamed (take n rows) (take n hashes)
+named_cut n rows hashes low named =
+    let count : length (take n rows) ≡ n = length-take-le n rows low in
+    record {
+      hashed = ap (take n) named.hashed ∙ take-map row_hash n rows;
+      apart = λ i j before there kinds ids.
+          let under : j < n = omega (arith, count) in
+          named.apart i j before (omega (arith, count))
+          (ap (λ (r : VertexRow). r.kind) (sym (get_or-take n rows i no_vertex (omega arith))) ∙ kinds ∙ ap (λ (r : VertexRow). r.kind) (get_or-take n rows j no_vertex under))
+          (ap (λ (r : VertexRow). r.id) (sym (get_or-take n rows i no_vertex (omega arith))) ∙ ids ∙ ap (λ (r : VertexRow). r.id) (get_or-take n rows j no_vertex under));
+      few = omega (arith, count, named.few);
+    }
+
+-- no row is a vertex that has no number
+pub not_there : (rows : List VertexRow) (kind : ℕ) (id : List ℕ) (i : ℕ) → vertex_number rows kind id ≡ None → i < length rows
+    → (vertex_at rows i).kind ≡ kind → (vertex_at rows i).id ≢ id
+not_there rows kind id i none low k same =
+    nowhere (is_vertex kind id) no_vertex rows i none low (is_named kind id (vertex_at rows i) k same)
+
+-- one row more, of a new name
+pub named_added : (rows : List VertexRow) (hashes : List ℕ) (row : VertexRow) (hash : ℕ) → vertex_number rows row.kind row.id ≡ None → length rows < most_vertices
+    → hash ≡ row_hash row → AreNamed rows hashes → AreNamed (rows ++ row ∷ []) (hashes ++ hash ∷ [])
+named_added rows hashes row hash none room is named = record {
+  hashed = ap (λ h. h ++ hash ∷ []) named.hashed ∙ ap (λ h. map row_hash rows ++ h ∷ []) is ∙ sym (map_push row_hash rows row);
+  apart = λ i j before there kinds ids.
+      let last : get_or (rows ++ row ∷ []) (length rows) no_vertex ≡ row = get_or_push rows row no_vertex (length rows) refl in
+      let short : j < length rows + 1 = omega (arith, length_push rows row) in
+      let first : i < length rows = omega arith in
+      let front : get_or (rows ++ row ∷ []) i no_vertex ≡ get_or rows i no_vertex = get_or_append_left rows (row ∷ []) no_vertex i first in
+      elim (cases_lt j (length rows)) [
+        | inl low ↦
+            let back : get_or (rows ++ row ∷ []) j no_vertex ≡ get_or rows j no_vertex = get_or_append_left rows (row ∷ []) no_vertex j low in
+            named.apart i j before low
+            (ap (λ (r : VertexRow). r.kind) (sym front) ∙ kinds ∙ ap (λ (r : VertexRow). r.kind) back)
+            (ap (λ (r : VertexRow). r.id) (sym front) ∙ ids ∙ ap (λ (r : VertexRow). r.id) back)
+        | inr over ↦
+            let j_is : j ≡ length rows = omega arith in
+            let back : get_or (rows ++ row ∷ []) j no_vertex ≡ row = ap (λ n. get_or (rows ++ row ∷ []) n no_vertex) j_is ∙ last in
+            not_there rows row.kind row.id i none first
+            (ap (λ (r : VertexRow). r.kind) (sym front) ∙ kinds ∙ ap (λ (r : VertexRow). r.kind) back)
+            (ap (λ (r : VertexRow). r.id) (sym front) ∙ ids ∙ ap (λ (r : VertexRow). r.id) back)
+      ];
+  few = omega (arith, length_push rows row);
+}
+
+-- other attributes
+same_names : (rows : List VertexRow) (n : ℕ) (row : VertexRow) → n < length rows → row.kind ≡ (vertex_at rows n).kind → row.id ≡ (vertex_at rows n).id → (k : ℕ)
+    → ((vertex_at (set rows n row) k).kind ≡ (vertex_at rows k).kind) × ((vertex_at (set rows n row) k).id ≡ (vertex_at rows k).id)
+same_names rows n row low kind id k = elim (eqb_tells k n) [
+  | inl h ↦
+      let there : vertex_at (set rows n row) k ≡ row = ap (λ j. vertex_at (set rows n row) j) h.1 ∙ get_or-set_same rows n row no_vertex low in (
+        ap (λ (r : VertexRow). r.kind) there ∙ kind ∙ ap (λ j. (vertex_at rows j).kind) (sym h.1),
+        ap (λ (r : VertexRow). r.id) there ∙ id ∙ ap (λ j. (vertex_at rows j).id) (sym h.1),
+      )
+  | inr h ↦
+      let there : vertex_at (set rows n row) k ≡ vertex_at rows k = get_or-set_other rows n k row no_vertex h.1 in
+      (ap (λ (r : VertexRow). r.kind) there, ap (λ (r : VertexRow). r.id) there)
+]
+
+pub named_replaced : (rows : List VertexRow) (hashes : List ℕ) (n : ℕ) (row : VertexRow) → n < length rows → row.kind ≡ (vertex_at rows n).kind
+    → row.id ≡ (vertex_at rows n).id → AreNamed rows hashes → AreNamed (set rows n row) hashes
+named_replaced rows hashes n row low kind id named = record {
+  hashed = named.hashed ∙ sym (map-set_same row_hash rows n row no_vertex (ap (λ k. vertex_hash k row.id) kind ∙ ap (vertex_hash (vertex_at rows n).kind) id));
+  apart = λ i j before there kinds ids.
+      let a = same_names rows n row low kind id i in let b = same_names rows n row low kind id j in
+      named.apart i j before (omega (arith, length-set rows n row)) (sym a.0 ∙ kinds ∙ b.0) (sym a.1 ∙ ids ∙ b.1);
+  few = omega (arith, length-set rows n row, named.few);
+}
+
+-- an upsert of a known name
+pub replaced_is : (rows now after : List VertexRow) (kind n : ℕ) (id : List ℕ) (attributes : List Value) → rows ≡ now → vertex_number rows kind id ≡ Some n
+    → after ≡ set rows n (record (vertex_at rows n) { attributes = attributes })
+    → (n ≡ unwrap_or (vertex_number now kind id) (length now)) × (after ≡ upsert_vertex now (record { kind = kind; id = id; attributes = attributes }))
+replaced_is rows now after kind n id attributes view found written =
+    let so = number_low rows kind n id found in
+    let row : VertexRow = record { kind = kind; id = id; attributes = attributes } in
+    let same : record (vertex_at rows n) { attributes = attributes } ≡ row = row_same (vertex_at rows n).kind kind (vertex_at rows n).id id attributes so.1 so.2 in
+    let number : vertex_number now kind id ≡ Some n = ap (λ (l : List VertexRow). vertex_number l kind id) (sym view) ∙ found in (
+      sym (ap (λ (o : Option ℕ). unwrap_or o (length now)) number),
+      written ∙ ap (set rows n) same ∙ ap (λ (l : List VertexRow). set l n row) view ∙ sym (ap (vertex_put now row) number),
+    )
+  where
+    row_same : (k m : ℕ) (i j : List ℕ) (a : List Value) → k ≡ m → i ≡ j
+        → ◌≡◌ {A = VertexRow} (record { kind = k; id = i; attributes = a }) (record { kind = m; id = j; attributes = a })
+    row_same k m i j a p q = ap (λ (x : ℕ). (let r : VertexRow = record { kind = x; id = i; attributes = a } in r)) p
+        ∙ ap (λ (x : List ℕ). (let r : VertexRow = record { kind = m; id = x; attributes = a } in r)) q

@@ -1,0 +1,77 @@
+use super::Vertices;
+use gq_list::List;
+use gq_value::{Memory, Row, Value};
+use std::alloc::Global;
+use std::test::Fail;
+
+fn row(alloc: Global, n: i64) -> Result<Row, Memory> {
+    let mut row = List::new(alloc);
+    row.push(Value::Int(n))?;
+    Ok(row)
+}
+
+fn age(vertices: &Vertices, id: &str) -> Option<i64> {
+    let number = vertices.find(0, id)?;
+    match vertices.rows.get(number as usize)?.attributes.as_slice() {
+        [Value::Int(age)] => Some(*age),
+        _ => None,
+    }
+}
+
+#[test]
+fn vertices_are_numbered_in_order_of_first_naming_over_all_types(
+    rt: HostRuntime,
+) -> Result<(), Fail> {
+    let alloc = rt.alloc();
+    let mut vertices = Vertices::new(alloc);
+    for (number, kind, id) in [
+        (0, 0, "a"),
+        (1, 1, "a"),
+        (2, 0, "b"),
+        (0, 0, "a"),
+        (1, 1, "a"),
+        (3, 7, ""),
+    ] {
+        assert_eq!(rt; vertices.upsert(kind, id, row(alloc, 0)?)?, number);
+    }
+    assert_eq!(rt; vertices.len(), 4);
+    assert_eq!(rt; vertices.find(1, "a"), Some(1));
+    assert_eq!(rt; vertices.find(1, "b"), None);
+    Ok(())
+}
+
+#[test]
+fn a_known_vertex_has_its_attributes_replaced(rt: HostRuntime) -> Result<(), Fail> {
+    let alloc = rt.alloc();
+    let mut vertices = Vertices::new(alloc);
+    for (id, age) in [("a", 41), ("b", 17), ("d", 0), ("a", 42)] {
+        vertices.upsert(0, id, row(alloc, age)?)?;
+    }
+    assert_eq!(rt; age(&vertices, "a"), Some(42));
+    assert_eq!(rt; age(&vertices, "b"), Some(17));
+    assert_eq!(rt;
+        age(&vertices, "d"),
+        Some(0),
+        "d was created with the default age"
+    );
+    Ok(())
+}
+
+#[test]
+fn a_cut_frees_the_names_of_the_last_vertices(rt: HostRuntime) -> Result<(), Fail> {
+    let alloc = rt.alloc();
+    let mut vertices = Vertices::new(alloc);
+    for n in 0..40u32 {
+        let id = format!(in alloc; "v{n}")?;
+        vertices.upsert(0, id.as_str(), row(alloc, 0)?)?;
+    }
+    let copy = vertices.duplicate()?;
+    if vertices.len() >= 10 {
+        vertices.cut(10);
+    }
+    assert_eq!(rt; vertices.find(0, "v9"), Some(9));
+    assert_eq!(rt; vertices.find(0, "v10"), None);
+    assert_eq!(rt; vertices.upsert(0, "v30", row(alloc, 5)?)?, 10);
+    assert_eq!(rt; copy.find(0, "v30"), Some(30));
+    Ok(())
+}
