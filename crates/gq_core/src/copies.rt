@@ -4,43 +4,17 @@ ghost use Rattle.gq_core.specs.Batches.{batch_of};
 
 use crate::Contributions;
 use gq_list::{List, Memory};
-use gq_value::{Input, Inputs, Row, Txt, Value};
+use gq_value::{Input, Inputs, duplicate_row};
 use std::alloc::Global;
-
-#[cycle(values)]
-fn copy_of_value(alloc: Global, value: &Value) -> Result<Value, Memory>
-    ensures { IfOk result (λ copy. copy ≡ value.now) }
-{
-    match value {
-        Value::Int(x) => Ok(Value::Int(*x)),
-        Value::UInt(x) => Ok(Value::UInt(*x)),
-        Value::Bool(x) => Ok(Value::Bool(*x)),
-        Value::Text(text) => Ok(Value::Text(Txt::of(alloc, text.as_str())?)),
-        Value::Vertex(x) => Ok(Value::Vertex(*x)),
-        Value::Tuple(row) => Ok(Value::Tuple(copy_of_row(alloc, row.as_slice())?)),
-        Value::Fraction(x) => Ok(Value::Fraction(*x)),
-    }
-}
-
-#[cycle(values)]
-fn copy_of_row(alloc: Global, row: &[Value]) -> Result<Row, Memory>
-    ensures { IfOk result (λ copy. copy ≡ row.now) }
-{
-    let mut copy = List::new(alloc);
-    for value in row {
-        copy.push(copy_of_value(alloc, value)?)?;
-    }
-    Ok(copy)
-}
 
 #[cycle(inputs)]
 fn copy_of_input(alloc: Global, input: &Input) -> Result<Input, Memory>
     ensures { IfOk result (λ copy. copy ≡ input.now) }
 {
     match input {
-        Input::One(value) => Ok(Input::One(copy_of_value(alloc, value)?)),
+        Input::One(value) => Ok(Input::One(value.duplicate(alloc)?)),
         Input::Keyed(keys, parts) => Ok(Input::Keyed(
-            copy_of_row(alloc, keys.as_slice())?,
+            duplicate_row(alloc, keys.as_slice())?,
             copy_of_inputs(alloc, parts.as_slice())?,
         )),
     }

@@ -1,7 +1,6 @@
 -- Growth: the grammar without its count of levels. An expression derives exactly where its production does over expressions that derive.
-use Rattle.std.proofs.Common.{◌≡◌, ℕ, zero, suc}
+use Rattle.std.proofs.Common.{ℕ, zero, suc}
 use Rattle.gq_tree.specs.declared.expr.Node.{Node}
-use Rattle.gq_tree.specs.declared.expr.Node.TheVariants as node
 use Rattle.gq_tree.specs.Shapes.{named, part_of, post_of, neg_of, mul_of, sum_of, cmp_of, not_of, and_of, or_of}
 use Rattle.gq_tree.specs.Expressions as g
 use Rattle.gq_tree.specs.Expressions.{Nested, Derives}

@@ -1,5 +1,5 @@
 -- Productions: each production is read as the grammar says, so the reader finds the longest expression.
-use Rattle.std.proofs.Common.{◌≡◌, ℕ, zero, suc, ◌-◌, ◌≤◌, List, [], ◌∷◌, ◌++◌, length, Option, Some, None, true, false, refl, subst, arith}
+use Rattle.std.proofs.Common.{◌≡◌, ℕ, zero, suc, ◌-◌, ◌≤◌, List, [], ◌∷◌, ◌++◌, length, Some, None, true, false, refl, subst, arith}
 use Rattle.gq_tree.specs.declared.expr.Node.{Node}
 use Rattle.gq_tree.specs.declared.expr.Node.TheVariants as node
 use Rattle.gq_tree.specs.declared.expr.AddSign.TheVariants as add
@@ -14,7 +14,7 @@ use Rattle.gq_grammar.specs.Languages.{Language, ◌then◌}
 use Rattle.gq_grammar.specs.Parsers.{Parser, Found}
 use Rattle.gq_grammar.specs.Reading.{IsLongest, HasNone, HasOneTree}
 use Rattle.gq_grammar.proofs.Sets.{Starts}
-use Rattle.gq_grammar.proofs.Claims.{Reads, Takes, Spelled, widen}
+use Rattle.gq_grammar.proofs.Claims.{Reads, widen}
 use Rattle.gq_grammar.proofs.TokenLemmas.{token_reads}
 use Rattle.gq_grammar.proofs.ThenLemmas.{then_reads, tail_reads, lead_reads}
 use Rattle.gq_grammar.proofs.MadeLemmas.{made_reads, either_reads, maybe_takes}

@@ -93,7 +93,8 @@ fn what_begins_no_expression_has_none(rt: HostRuntime) -> Result<(), Fail> {
 
 #[test]
 fn a_word_of_commands_is_a_name(rt: HostRuntime) -> Result<(), Fail> {
-    assert!(rt; matches!(tree(rt.alloc(), b"Edge")?, Node::Name(name) if name.as_str() == "Edge"));
+    let read = tree(rt.alloc(), b"Edge")?;
+    assert!(rt; matches!(&read, Node::Name(name) if name.as_str() == "Edge"));
     Ok(())
 }
 

@@ -5,6 +5,7 @@ use std::test::Fail;
 fn rows_of_one_hash_are_found_from_the_last_on(rt: HostRuntime) -> Result<(), Fail> {
     let mut hashes = Hashes::new(rt.alloc());
     for row in 0..100u32 {
+        assert!(rt; hashes.len() < 1000);
         hashes.push(row % 3)?;
     }
     assert!(rt; hashes.len() == 100);
@@ -19,6 +20,7 @@ fn rows_of_one_hash_are_found_from_the_last_on(rt: HostRuntime) -> Result<(), Fa
 fn a_cut_forgets_the_last_rows_alone(rt: HostRuntime) -> Result<(), Fail> {
     let mut hashes = Hashes::new(rt.alloc());
     for row in 0..50u32 {
+        assert!(rt; hashes.len() < 1000);
         hashes.push(row % 8)?;
     }
     assert!(rt; hashes.len() == 50);
@@ -27,6 +29,7 @@ fn a_cut_forgets_the_last_rows_alone(rt: HostRuntime) -> Result<(), Fail> {
     assert_eq!(rt; hashes.len(), 11);
     assert_eq!(rt; hashes.last(2), Some(10));
     assert_eq!(rt; hashes.last(7), Some(7));
+    assert!(rt; hashes.len() == 11);
     hashes.push(7)?;
     assert_eq!(rt; hashes.last(7), Some(11));
     assert_eq!(rt; copy.last(7), Some(47));
