@@ -50,7 +50,8 @@ type_count schema = length schema.vertex_types + length schema.edge_types
 -- one vertex type more
 abbrev pub with_vertex_type : Schema → List ℕ → IdShape → List Attribute → Schema
 with_vertex_type schema name id attributes = record schema {
-    vertex_types = schema.vertex_types ++ record { name = name; id = id; attributes = map settled attributes } ∷ [] }
+  vertex_types = schema.vertex_types ++ record { name = name; id = id; attributes = map settled attributes } ∷ [];
+}
 
 -- the number of an end that is there
 abbrev pub end_of : Schema → List ℕ → ℕ
@@ -59,8 +60,16 @@ end_of schema name = unwrap_or (vertex_type_of schema name) 0
 -- an edge type, with the number of its forward or reverse type
 abbrev pub edge_type_with : List ℕ → Bool → ℕ → ℕ → Option ℕ → Option ℕ → ℕ → List Attribute → EdgeType
 edge_type_with name directed from to forward reverse key attributes =
-    record { name = name; directed = directed; from = from; to = to; forward = forward; reverse = reverse; discriminators = key;
-      attributes = map settled attributes }
+    record {
+      name = name;
+      directed = directed;
+      from = from;
+      to = to;
+      forward = forward;
+      reverse = reverse;
+      discriminators = key;
+      attributes = map settled attributes;
+    }
 
 -- the edge types of one declaration: the forward type, and directly after it the reverse type, with its ends exchanged
 abbrev pub edge_types_of : ℕ → List ℕ → Bool → ℕ → ℕ → Option (List ℕ) → ℕ → List Attribute → List EdgeType

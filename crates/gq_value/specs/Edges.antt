@@ -69,8 +69,9 @@ noted namings naming = if is_some (naming_of namings naming.kind) then namings e
 -- an upsert: the edge of that name has the attributes, and a new name goes last
 abbrev pub upsert_edge : EdgeTable → Naming → EdgeRow → EdgeTable
 upsert_edge table naming edge = record {
-    rows = edge_put table.rows edge (edge_number table.rows naming edge);
-    namings = noted table.namings naming }
+  rows = edge_put table.rows edge (edge_number table.rows naming edge);
+  namings = noted table.namings naming;
+}
 
 -- edges of the naming's type are named so, where there are any
 abbrev pub Agrees : List Naming → Naming → Type 0
