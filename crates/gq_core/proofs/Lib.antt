@@ -8,3 +8,4 @@ pub mod ShuffleLemmas
 pub mod StripeLemmas
 pub mod StepLemmas
 pub mod TotalLemmas
+pub mod ContentLemmas

@@ -1,7 +1,14 @@
 -- Contents: what a machine holds once its job is done: each chunk was put once at each stripe, and so a stripe holds the
 -- inputs to its targets, whatever the order of the events. The code has no part in it: this is a law of the machine.
-use Rattle.std.specs.Prelude.{◌≡◌, ℕ, zero, suc, ◌≤◌, ◌==◌, Bool, true, false, List, [], ◌∷◌, ◌++◌, length, map, filter, flat_map, slice_get, Some}
+use Rattle.std.specs.Prelude.{◌≡◌, ℕ, zero, suc, ◌≤◌, ◌%◌, ◌==◌, Bool, true, false, List, [], ◌∷◌, ◌++◌, length, map, filter, flat_map, slice_get, Some}
 use Rattle.std.specs.List.Sorted.{IsPermutation}
+use Rattle.gq_value.specs.declared.kind.Input.{Input}
+use Rattle.gq_value.specs.Accums.{Accum, Given}
+use Rattle.gq_value.specs.AccumViews.{given}
+use Rattle.gq_value.specs.Typed.{has_no_list}
+use Rattle.gq_content.specs.Holds.{Holds}
+use Rattle.gq_content.specs.After.{fresh, after, merged}
+use Rattle.gq_content.specs.Fits.{IsProper}
 use Rattle.gq_core.specs.declared.job.Job.{Job}
 use Rattle.gq_core.specs.declared.worker.Phase.{Phase}
 use Rattle.gq_core.specs.declared.worker.Phase.TheVariants.{Idle, Ended, Joined}
@@ -43,3 +50,13 @@ put_times m chunk stripe = total (λ v. put_of chunk stripe v.puts) m.workers
 pub record IsShuffled (job : Job) (m : Machine) (stripe : ℕ) : Type 0 where
   pub book : IsPermutation (numbers (length job.chunks)) (stripe_at m stripe).book
   pub inputs : IsPermutation (batch_of job.stripes stripe (all_of job.chunks)) (stripe_at m stripe).inputs
+
+-- what a target is fed, in order
+abbrev pub given_to : ℕ → List (ℕ × Input) → List Given
+given_to target inputs = map given (inputs_to target inputs)
+
+-- a target's opening, merged with the content of what its stripe has for it, is the content after all inputs to it in chunk
+-- order. It is of a kind with no ListAccum at any level, and its opening is what inputs can lead to
+abbrev pub HasAll : Job → Machine → ℕ → Type 0
+HasAll job m target = (k : Accum) (c : Holds k) → has_no_list k ≡ true → IsProper k c
+    → merged k c (after k (fresh k) (given_to target (stripe_at m (target % job.stripes)).inputs)) ≡ after k c (given_to target (all_of job.chunks))

@@ -6,7 +6,7 @@ ghost use Rattle.gq_core.specs.declared.worker.Worker.{Worker};
 ghost use Rattle.gq_core.specs.declared.event.Event.{Event};
 ghost use Rattle.gq_core.specs.Machine.{Machine, run, opening, stripe_at};
 ghost use Rattle.gq_core.specs.Accounts.{IsInOrder, times, ticket_of};
-ghost use Rattle.gq_core.specs.Contents.{IsFinished, IsShuffled, put_times, inputs_to, all_of};
+ghost use Rattle.gq_core.specs.Contents.{IsFinished, IsShuffled, HasAll, put_times, inputs_to, all_of};
 
 /// Does nothing. Its contract is a law of every job and every list of events: the accounts are kept, and once each chunk
 /// was drawn and no worker holds one, each chunk was put once at each stripe, and each target's inputs are in its stripe.
@@ -28,4 +28,10 @@ pub fn once_at_most()
     ensures held { (job : Job) (m : Machine) → IsInOrder job m → (w x : ℕ) (v u : Worker) → x ≢ w → slice_get m.workers w ≡ Some v → slice_get m.workers x ≡ Some u →
         (stripe number : ℕ) → stripe < job.stripes → ticket_of stripe number v.phase + ticket_of stripe number u.phase ≤ 1 }
     ensures laid { (job : Job) (m : Machine) → IsInOrder job m → (stripe chunk : ℕ) → stripe < job.stripes → times chunk (stripe_at m stripe).book ≤ 1 }
+{}
+
+/// Does nothing. Its contract is a law of every job and every list of events: once each chunk was drawn and no worker holds
+/// one, each target's content is what one worker would have given, whatever the order of the events.
+pub fn one_content()
+    ensures { (job : Job) (events : List Event) → let m = run job (opening job) events in IsFinished job m → (target : ℕ) → HasAll job m target }
 {}

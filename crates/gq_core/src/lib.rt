@@ -22,7 +22,7 @@ mod worker;
 pub use batches::Batches;
 pub use event::Event;
 pub use job::{Contributions, Job};
-pub use laws::{any_events, once_at_most};
+pub use laws::{any_events, once_at_most, one_content};
 pub use machine::{Core, step};
 pub use stripe::Stripe;
 pub use worker::{Phase, Turn, Worker};

@@ -79,30 +79,71 @@ fn a_reverse_type_stands_directly_behind_its_forward_type(rt: HostRuntime) -> Re
     Ok(())
 }
 
-#[test]
-fn each_refusal_names_what_it_is_about(rt: HostRuntime) -> Result<(), Fail> {
-    let alloc = rt.alloc();
+// Which refusal this is, by its variant, and what it names.
+fn refusal(answer: &Result<u32, SchemaFault>) -> (u8, &str) {
+    match answer {
+        Err(SchemaFault::NameTaken(name)) => (1, name.as_str()),
+        Err(SchemaFault::NoSuchType(name)) => (2, name.as_str()),
+        Err(SchemaFault::AttributeTwice(name)) => (3, name.as_str()),
+        Err(SchemaFault::GraphExists(name)) => (4, name.as_str()),
+        Err(SchemaFault::TooMany) => (5, ""),
+        Err(SchemaFault::BadDefault(name)) => (6, name.as_str()),
+        Err(SchemaFault::Memory) => (7, ""),
+        Ok(_) => (0, ""),
+    }
+}
+
+// Whether a vertex type with a shown id and this one attribute is refused so.
+fn refuses_vertex(
+    alloc: Global,
+    name: &str,
+    attributes: &Attributes,
+    wanted: (u8, &str),
+) -> Result<bool, SchemaFault>
+    requires { All (λ a. is_plain a ≡ true) attributes.now }
+{
     let mut catalog = social(alloc)?;
-    let shown = id(alloc, true)?;
-    assert!(rt;
-        matches!(&catalog.add_vertex_type("lives", &shown, &weight(alloc, "id", None)?), Err(SchemaFault::NameTaken(name)) if name.as_str() == "lives")
-    );
-    assert!(rt;
-        matches!(&catalog.add_vertex_type("x", &shown, &weight(alloc, "id", None)?), Err(SchemaFault::AttributeTwice(name)) if name.as_str() == "id")
-    );
-    assert!(rt;
-        matches!(&catalog.add_vertex_type("x", &shown, &weight(alloc, "w", Some(Value::Int(-1)))?), Err(SchemaFault::BadDefault(name)) if name.as_str() == "w")
-    );
-    assert!(rt;
-        matches!(&catalog.add_edge_type("x", true, "town", "knows", Some("x"), &none(alloc), &none(alloc)), Err(SchemaFault::NameTaken(name)) if name.as_str() == "x")
-    );
-    assert!(rt;
-        matches!(&catalog.add_edge_type("x", true, "town", "knows", None, &none(alloc), &none(alloc)), Err(SchemaFault::NoSuchType(name)) if name.as_str() == "knows")
-    );
-    assert!(rt;
-        matches!(&catalog.add_edge_type("x", true, "town", "town", None, &weight(alloc, "w", None)?, &weight(alloc, "w", None)?), Err(SchemaFault::AttributeTwice(name)) if name.as_str() == "w")
-    );
-    assert_eq!(rt; catalog.type_count(), 5);
+    let id = id(alloc, true)?;
+    let answer = catalog.add_vertex_type(name, &id, attributes);
+    let (kind, named) = refusal(&answer);
+    Ok(kind == wanted.0 && named == wanted.1)
+}
+
+// Whether an edge type `x` from `town` is refused so.
+fn refuses_edge(
+    alloc: Global,
+    to: &str,
+    reverse: Option<&str>,
+    attributes: &Attributes,
+    wanted: (u8, &str),
+) -> Result<bool, SchemaFault>
+    requires { All (λ a. is_plain a ≡ true) attributes.now }
+{
+    let mut catalog = social(alloc)?;
+    let answer = catalog.add_edge_type("x", true, "town", to, reverse, attributes, attributes);
+    let (kind, named) = refusal(&answer);
+    Ok(kind == wanted.0 && named == wanted.1)
+}
+
+#[test]
+fn each_refusal_of_a_vertex_type_names_what_it_is_about(rt: HostRuntime) -> Result<(), Fail> {
+    let alloc = rt.alloc();
+    let id = weight(alloc, "id", None)?;
+    let bad = weight(alloc, "w", Some(Value::Int(-1)))?;
+    assert!(rt; refuses_vertex(alloc, "lives", &id, (1, "lives"))?);
+    assert!(rt; refuses_vertex(alloc, "x", &id, (3, "id"))?);
+    assert!(rt; refuses_vertex(alloc, "x", &bad, (6, "w"))?);
+    Ok(())
+}
+
+#[test]
+fn each_refusal_of_an_edge_type_names_what_it_is_about(rt: HostRuntime) -> Result<(), Fail> {
+    let alloc = rt.alloc();
+    let twice = weight(alloc, "w", None)?;
+    let none = none(alloc);
+    assert!(rt; refuses_edge(alloc, "knows", Some("x"), &none, (1, "x"))?);
+    assert!(rt; refuses_edge(alloc, "knows", None, &none, (2, "knows"))?);
+    assert!(rt; refuses_edge(alloc, "town", None, &twice, (3, "w"))?);
     Ok(())
 }
 
@@ -116,45 +157,45 @@ fn a_graph_takes_both_types_of_a_pair_once(rt: HostRuntime) -> Result<(), Fail> 
         assert_eq!(rt; graph.vertices.as_slice(), [0].as_slice());
         assert_eq!(rt; graph.edges.as_slice(), [0, 1].as_slice());
     }
-    let open = names(alloc, &["person", "lives"])?;
-    assert!(rt;
-        matches!(&catalog.add_graph("h", Some(&open)), Err(SchemaFault::NoSuchType(name)) if name.as_str() == "lives")
-    );
-    assert!(rt;
-        matches!(
-            &catalog.add_graph("g", None),
-            Err(SchemaFault::GraphExists(_))
-        )
-    );
-    assert_eq!(rt; catalog.add_graph("all", None)?, 1);
-    assert_eq!(rt; catalog.graph("all"), Some(1));
     Ok(())
+}
+
+#[test]
+fn a_graph_is_refused_for_its_name_and_for_a_missing_end(rt: HostRuntime) -> Result<(), Fail> {
+    let alloc = rt.alloc();
+    let mut catalog = social(alloc)?;
+    let open = names(alloc, &["person", "lives"])?;
+    let refused = catalog.add_graph("h", Some(&open));
+    assert!(rt; refusal(&refused) == (2, "lives"));
+    assert_eq!(rt; catalog.add_graph("all", None)?, 0);
+    let again = catalog.add_graph("all", None);
+    assert!(rt; refusal(&again) == (4, "all"));
+    Ok(())
+}
+
+// A catalog with so many vertex types.
+fn many(alloc: Global, count: u32) -> Result<Catalog, Fail> {
+    let mut catalog = Catalog::new(alloc);
+    for n in 0..count {
+        let name = format!(in alloc; "v{n}")?;
+        catalog.add_vertex_type(name.as_str(), &id(alloc, false)?, &none(alloc))?;
+    }
+    Ok(catalog)
 }
 
 #[test]
 fn there_are_256_types_at_most(rt: HostRuntime) -> Result<(), Fail> {
     let alloc = rt.alloc();
-    let mut catalog = Catalog::new(alloc);
-    for n in 0..255u32 {
-        let name = format!(in alloc; "v{n}")?;
-        catalog.add_vertex_type(name.as_str(), &id(alloc, false)?, &none(alloc))?;
-    }
-    assert!(rt;
-        matches!(
-            &catalog.add_edge_type("e", true, "v0", "v1", Some("r"), &none(alloc), &none(alloc)),
-            Err(SchemaFault::TooMany)
-        )
-    );
+    let mut catalog = many(alloc, 255)?;
+    let none = none(alloc);
+    let pair = catalog.add_edge_type("e", true, "v0", "v1", Some("r"), &none, &none);
+    assert!(rt; refusal(&pair) == (5, ""));
     assert_eq!(rt; catalog.edge_type("e"), None);
     assert_eq!(rt;
-        catalog.add_edge_type("e", true, "v0", "v1", None, &none(alloc), &none(alloc))?,
+        catalog.add_edge_type("e", true, "v0", "v1", None, &none, &none)?,
         0
     );
-    assert!(rt;
-        matches!(
-            &catalog.add_vertex_type("v", &id(alloc, false)?, &none(alloc)),
-            Err(SchemaFault::TooMany)
-        )
-    );
+    let full = catalog.add_vertex_type("v", &id(alloc, false)?, &none);
+    assert!(rt; refusal(&full) == (5, ""));
     Ok(())
 }
