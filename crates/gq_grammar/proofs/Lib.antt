@@ -5,6 +5,8 @@ pub mod ThenLemmas
 pub mod MadeLemmas
 pub mod ManyLemmas
 pub mod SignLemmas
+pub mod ExactLemmas
+pub mod SeriesLemmas
 pub mod LoopLemmas
 pub mod GrowthLemmas
 pub mod WholeLemmas

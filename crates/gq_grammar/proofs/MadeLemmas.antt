@@ -8,7 +8,7 @@ use Rattle.gq_grammar.proofs.Claims.{Spelled, Goes, Reads, Takes, some_inj, or_c
 
 -- ---- a value made of what is read
 
-made_some : {A B : Type 0} (f : A → B) (o : Option (A × Lexemes)) (b : B) (r : Lexemes) → and_then o (λ a r. Some (f a, r)) ≡ Some (b, r) → (a : A) × (o ≡ Some (a, r)) × (b ≡ f a)
+pub made_some : {A B : Type 0} (f : A → B) (o : Option (A × Lexemes)) (b : B) (r : Lexemes) → and_then o (λ a r. Some (f a, r)) ≡ Some (b, r) → (a : A) × (o ≡ Some (a, r)) × (b ≡ f a)
 made_some f None b r h = cc
 made_some {A} {B} f (Some p) b r h =
     let i : ◌≡◌ {A = B × Lexemes} (f p.0, p.1) (b, r) = some_inj h in
@@ -45,17 +45,17 @@ made_takes {D' = D'} {p = p} {cs = cs} f g = record {
 
 -- ---- one of two
 
-or_some : {X : Type 0} (o1 o2 : Option X) (x : X) → or_else o1 o2 ≡ Some x → (o1 ≡ Some x) ⊎ ((o1 ≡ None) × (o2 ≡ Some x))
+pub or_some : {X : Type 0} (o1 o2 : Option X) (x : X) → or_else o1 o2 ≡ Some x → (o1 ≡ Some x) ⊎ ((o1 ≡ None) × (o2 ≡ Some x))
 or_some None o2 x h = inr (refl, h)
 or_some (Some z) o2 x h = inl h
 
-either_first : {A : Type 0} (p q : Parser A) (cs hs : List Terminal) (a : A) (l y : Lexemes) → Goes p cs a l y → Goes (◌or◌ p q) (cs ++ hs) a l y
+pub either_first : {A : Type 0} (p q : Parser A) (cs hs : List Terminal) (a : A) (l y : Lexemes) → Goes p cs a l y → Goes (◌or◌ p q) (cs ++ hs) a l y
 either_first p q cs hs a l y g = ⊎_elim
     (λ exact. inl (ap (λ o. or_else o (q l)) exact))
     (λ on. inr (starts_left cs hs y on.0, record { found = on.1.found; eaten = on.1.eaten; left = on.1.left; is = ap (λ o. or_else o (q l)) on.1.is; after = on.1.after }))
     g
 
-either_second : {A : Type 0} (p q : Parser A) (cs hs : List Terminal) (a : A) (l y : Lexemes) → p l ≡ None → Goes q hs a l y → Goes (◌or◌ p q) (cs ++ hs) a l y
+pub either_second : {A : Type 0} (p q : Parser A) (cs hs : List Terminal) (a : A) (l y : Lexemes) → p l ≡ None → Goes q hs a l y → Goes (◌or◌ p q) (cs ++ hs) a l y
 either_second p q cs hs a l y none g = ⊎_elim
     (λ exact. inl (ap (λ o. or_else o (q l)) none ∙ exact))
     (λ on. inr (starts_right cs hs y on.0, record { found = on.1.found; eaten = on.1.eaten; left = on.1.left; is = ap (λ o. or_else o (q l)) none ∙ on.1.is; after = on.1.after }))
@@ -121,7 +121,7 @@ spelled_some D l r c a e s = record { text = s.text; is = s.is; derives = subst 
 starts_head : (fs : List Terminal) (x y : Lexemes) → Starts fs x → Starts fs (x ++ y)
 starts_head fs x y h = starts_on fs x y h
 
-maybe_begins : {A : Type 0} {D : Language A} (fs : List Terminal) → ((a : A) (x : Lexemes) → D a x → Starts fs x) → (c : Option A) (x : Lexemes) → Maybe D c x → (x ≡ []) ⊎ Starts fs x
+pub maybe_begins : {A : Type 0} {D : Language A} (fs : List Terminal) → ((a : A) (x : Lexemes) → D a x → Starts fs x) → (c : Option A) (x : Lexemes) → Maybe D c x → (x ≡ []) ⊎ Starts fs x
 maybe_begins fs f None x d = inl d
 maybe_begins fs f (Some a) x d = inr (f a x d)
 

@@ -53,7 +53,7 @@ run {D = D} fs p f (suc n) found l = ⊎_elim
     (λ some. let w = f l some.0.0 some.0.1 some.1 in run_some D fs p n found l some.0.0 some.0.1 some.1 w.0 w.1 (run {D = D} fs p f n (found ++ some.0.0 ∷ []) some.0.1))
     (or_cases (p l))
 
-many_begins : {A : Type 0} {D : Language A} (fs : List Terminal) → ((a : A) (x : Lexemes) → D a x → Starts fs x) → (items : List A) (x : Lexemes) → Many D items x → (x ≡ []) ⊎ Starts fs x
+pub many_begins : {A : Type 0} {D : Language A} (fs : List Terminal) → ((a : A) (x : Lexemes) → D a x → Starts fs x) → (items : List A) (x : Lexemes) → Many D items x → (x ≡ []) ⊎ Starts fs x
 many_begins fs f [] x d = inl d
 many_begins fs f (a ∷ items) x d = inr (subst (Starts fs) (sym d.2) (starts_on fs d.0 d.1 (f a d.0 d.3)))
 

@@ -6,7 +6,7 @@ use Rattle.gq_grammar.specs.Parsers.{Parser, and_then, both}
 use Rattle.gq_grammar.proofs.Sets.{Starts, disjoint, clash, starts_left, starts_right, starts_on, starts_some}
 use Rattle.gq_grammar.proofs.Claims.{Spelled, Ahead, Goes, Reads, Takes, some_inj, cut, shorter, no_longer, goes_more}
 
-then_some : {A B : Type 0} (o : Option (A × Lexemes)) (f : A → Lexemes → Option (B × Lexemes)) (z : B × Lexemes) → and_then o f ≡ Some z → (a : A) × (r : Lexemes) × (o ≡ Some (a, r)) × (f a r ≡ Some z)
+pub then_some : {A B : Type 0} (o : Option (A × Lexemes)) (f : A → Lexemes → Option (B × Lexemes)) (z : B × Lexemes) → and_then o f ≡ Some z → (a : A) × (r : Lexemes) × (o ≡ Some (a, r)) × (f a r ≡ Some z)
 then_some None f z h = cc
 then_some (Some p) f z h = (p.0, p.1, refl, h)
 
@@ -16,20 +16,20 @@ both_second {A} {B} a (Some p) c s h =
     let e : ◌≡◌ {A = (A × B) × Lexemes} ((a, p.0), p.1) (c, s) = some_inj h in
     (ap (λ z. z.0.0) e, ap (λ z. Some (z.0.1, z.1)) e)
 
-both_first : {A B : Type 0} (o : Option (A × Lexemes)) (q : Parser B) (c : A × B) (s : Lexemes) → and_then o (λ a r. and_then (q r) (λ b s. Some ((a, b), s))) ≡ Some (c, s) → (r : Lexemes) × (o ≡ Some (c.0, r)) × (q r ≡ Some (c.1, s))
+pub both_first : {A B : Type 0} (o : Option (A × Lexemes)) (q : Parser B) (c : A × B) (s : Lexemes) → and_then o (λ a r. and_then (q r) (λ b s. Some ((a, b), s))) ≡ Some (c, s) → (r : Lexemes) × (o ≡ Some (c.0, r)) × (q r ≡ Some (c.1, s))
 both_first None q c s h = cc
 both_first (Some p) q c s h =
     let w = both_second p.0 (q p.1) c s h in
     (p.1, ap (λ a. Some (a, p.1)) w.0, w.1)
 
-both_some : {A B : Type 0} (p : Parser A) (q : Parser B) (l : Lexemes) (c : A × B) (s : Lexemes) → both p q l ≡ Some (c, s) → (r : Lexemes) × (p l ≡ Some (c.0, r)) × (q r ≡ Some (c.1, s))
+pub both_some : {A B : Type 0} (p : Parser A) (q : Parser B) (l : Lexemes) (c : A × B) (s : Lexemes) → both p q l ≡ Some (c, s) → (r : Lexemes) × (p l ≡ Some (c.0, r)) × (q r ≡ Some (c.1, s))
 both_some p q l c s h = both_first (p l) q c s h
 
 both_at : {A B : Type 0} (p : Parser A) (q : Parser B) (l : Lexemes) (a : A) (b : B) (r s : Lexemes) → p l ≡ Some (a, r) → q r ≡ Some (b, s) → both p q l ≡ Some ((a, b), s)
 both_at p q l a b r s e f =
     ap (λ o. and_then o (λ a r. and_then (q r) (λ b s. Some ((a, b), s)))) e ∙ ap (λ o. and_then o (λ b s. Some ((a, b), s))) f
 
-spelled_both : {A B : Type 0} (D : Language A) (E : Language B) (l : Lexemes) (c : A × B) (r s : Lexemes) → Spelled D l c.0 r → Spelled E r c.1 s → Spelled (◌then◌ D E) l c s
+pub spelled_both : {A B : Type 0} (D : Language A) (E : Language B) (l : Lexemes) (c : A × B) (r s : Lexemes) → Spelled D l c.0 r → Spelled E r c.1 s → Spelled (◌then◌ D E) l c s
 spelled_both D E l c r s a b = record {
   text = a.text ++ b.text;
   is = a.is ∙ ap (λ z. a.text ++ z) b.is ∙ sym (append_assoc a.text b.text s);
@@ -37,7 +37,7 @@ spelled_both D E l c r s a b = record {
 }
 
 -- the first stops exactly, and the second goes on as it does
-goes_both : {A B : Type 0} (p : Parser A) (q : Parser B) (hs : List Terminal) (a : A) (b : B) (l m y : Lexemes) → p l ≡ Some (a, m) → Goes q hs b m y → Goes (both p q) hs (a, b) l y
+pub goes_both : {A B : Type 0} (p : Parser A) (q : Parser B) (hs : List Terminal) (a : A) (b : B) (l m y : Lexemes) → p l ≡ Some (a, m) → Goes q hs b m y → Goes (both p q) hs (a, b) l y
 goes_both p q hs a b l m y e (inl g) = inl (both_at p q l a b m y e g)
 goes_both p q hs a b l m y e (inr g) =
     inr (g.0, record { found = (a, g.1.found); eaten = g.1.eaten; left = g.1.left; is = both_at p q l a g.1.found m g.1.left e g.1.is; after = g.1.after })

@@ -4,3 +4,4 @@ pub mod Languages
 pub mod Signs
 pub mod Parsers
 pub mod Reading
+pub mod Series

@@ -1,14 +1,17 @@
 // Tokens with the bytes that they were cut from.
-ghost use Rattle.std.specs.Prelude.{◌≡◌, ◌≤◌, length, All};
+ghost use Rattle.std.specs.Prelude.{◌≡◌, ◌≤◌, length, All, IfOk};
 ghost use Rattle.std.specs.Option.{option_map};
 ghost use Rattle.gq_token.specs.Cut.{IsSpelledIn};
 ghost use Rattle.gq_grammar.specs.Lexemes as lexemes;
-ghost use Rattle.gq_grammar.specs.Lexemes.{lexemes_of, Sign, Keyword, Name, Number, Text, Global, Attached};
+ghost use Rattle.gq_grammar.specs.Lexemes.{lexemes_of, Sign, Keyword, Name, Number, Text, Attached};
 ghost use Rattle.gq_grammar.specs.Parsers.{Found, token, one, stands};
+ghost use Rattle.gq_grammar.specs.Reading.{between};
+ghost use Rattle.gq_grammar.specs.Series.{joined};
 
 use crate::reserved::is_reserved;
 use gq_token::{Shape, Token};
-use gq_value::Txt;
+use gq_value::{Memory, Txt};
+use std::alloc::Global;
 use std::marker::Model;
 
 /// The tokens of a script with its bytes, as readers see them: contracts see a list of lexemes. It only lends.
@@ -37,6 +40,20 @@ impl<'a> Source<'a> {
         ensures { result ≡ lexemes_of bytes.now tokens.now }
     {
         Source { bytes, tokens }
+    }
+
+    /// The bytes of the tokens from `from` to before `to`, joined.
+    #[tactic(auto, using(crate::proofs::SeriesLemmas::joins))]
+    pub fn joined(&self, alloc: Global, from: usize, to: usize) -> Result<Vec<u8>, Memory>
+        requires order { from ≤ to }
+        requires within { to ≤ length self.now }
+        ensures { IfOk result (λ text. text.items ≡ joined (between self.now from to)) }
+    {
+        let mut text = Vec::new(alloc);
+        for token in &self.tokens[from..to] {
+            text.extend_from_slice(token.text(self.bytes))?;
+        }
+        Ok(text)
     }
 
     /// How many tokens there are.
@@ -111,7 +128,7 @@ impl<'a> Source<'a> {
     /// The spelling of the `@@` and word at `at`, and the place after them.
     pub fn global(&self, at: usize) -> Option<(&'a str, usize)>
         requires { at ≤ length self.now }
-        ensures { Found (token Global lexemes.spelling) self.now at (option_map (λ read. (read.0.now, read.1)) result) }
+        ensures { Found (token lexemes.Global lexemes.spelling) self.now at (option_map (λ read. (read.0.now, read.1)) result) }
     {
         if at == self.tokens.len() {
             return None;

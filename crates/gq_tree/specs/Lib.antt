@@ -2,3 +2,13 @@ pub mod Tree
 pub mod View
 pub mod Shapes
 pub mod Expressions
+pub mod Literals
+pub mod Schema
+pub mod Jobs
+pub mod Kinds
+pub mod Acts
+pub mod Selects
+pub mod Bodies
+pub mod Queries
+pub mod Scripts
+pub mod Cutting

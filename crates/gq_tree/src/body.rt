@@ -1,0 +1,113 @@
+// The trees of statements in a body.
+use crate::expr::Node;
+use crate::kind::Definition;
+use crate::query::BaseTree;
+use crate::select::{Change, SelectTree};
+use gq_list::List;
+use gq_value::Txt;
+
+/// What a written vertex set holds.
+#[derive(Drop)]
+pub enum Seed {
+    /// `T.*`.
+    Type(Txt),
+
+    /// ANY, with or without `.*`.
+    Any,
+
+    /// A parameter or a set variable.
+    Name(Txt),
+
+    /// The name of a global accumulator, with its `@@`.
+    Global(Txt),
+}
+
+/// An operand of set operators.
+#[derive(Drop)]
+pub enum SetTerm {
+    Name(Txt),
+    Seeds(List<Seed>),
+}
+
+/// Between operands of sets.
+#[derive(Clone, Copy, Debug, PartialEq, Eq)]
+pub enum SetOp {
+    Union,
+    Intersect,
+    Minus,
+}
+
+/// A written set, or several in a chain. A name alone is no set.
+#[derive(Drop)]
+pub struct Sets {
+    pub first: SetTerm,
+    pub others: List<(SetOp, SetTerm)>,
+}
+
+/// The types that a set variable is declared with.
+#[derive(Drop)]
+pub enum SetTypes {
+    Any,
+    Of(Txt),
+}
+
+/// The right side of `=` behind a name.
+#[derive(Drop)]
+pub enum Right {
+    Select(SelectTree),
+    Sets(Sets),
+    Value(Node),
+}
+
+/// What FOREACH goes over.
+#[derive(Drop)]
+pub enum Over {
+    Elements(Node),
+    Range(Node, Node),
+}
+
+/// The key that a value is printed under.
+#[derive(Drop)]
+pub enum Label {
+    /// The name behind AS.
+    Named(Txt),
+
+    /// Without AS: the spellings of the value's tokens, joined.
+    Spelled(List<u8>),
+}
+
+/// What PRINT prints.
+#[derive(Drop)]
+pub enum Item {
+    Value(Node, Label),
+
+    /// A vertex set with columns, and the name behind AS.
+    Columns(Txt, List<(Node, Label)>, Option<Txt>),
+}
+
+/// A statement of a body.
+#[cycle(body)]
+#[derive(Drop)]
+pub enum Stmt {
+    /// New variables, each with its value where one is given.
+    Local(BaseTree, List<(Txt, Option<Node>)>),
+    Assign(Txt, Option<SetTypes>, Right),
+
+    /// A change of the global accumulator of this name.
+    Global(Txt, Change),
+
+    /// IF and each ELSE IF with its condition, and what stands behind ELSE.
+    If(List<(Node, List<Stmt>)>, Option<List<Stmt>>),
+
+    /// WHILE: the condition, the LIMIT and the body.
+    While(Node, Option<Node>, List<Stmt>),
+    Foreach(Txt, Over, List<Stmt>),
+    Print(List<Item>),
+}
+
+/// The body of a query.
+#[derive(Drop)]
+pub struct Body {
+    pub definitions: List<Definition>,
+    pub statements: List<Stmt>,
+}

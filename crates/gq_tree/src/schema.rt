@@ -1,0 +1,91 @@
+// The trees of what declares types and graphs, and of INSERT.
+use gq_list::List;
+use gq_value::{IdKind, Txt};
+
+/// A value as a script writes it.
+#[derive(Drop)]
+pub enum Literal {
+    /// A number, and whether a minus sign stands before it.
+    Number(bool, u64),
+
+    /// What a text in quotes says.
+    Text(Txt),
+    Truth(bool),
+}
+
+/// The type of an attribute.
+#[derive(Clone, Copy, Debug, PartialEq, Eq)]
+pub enum AttributeKind {
+    Int,
+    UInt,
+    Bool,
+    Text,
+
+    /// DATETIME, which has no DEFAULT and is no discriminator.
+    Time,
+}
+
+/// An attribute of a vertex or edge type.
+#[derive(Drop)]
+pub struct AttributeTree {
+    pub name: Txt,
+    pub kind: AttributeKind,
+    pub default: Option<Literal>,
+}
+
+/// What stands behind the WITH of a vertex type: the text of an option.
+#[derive(Drop)]
+pub enum VertexOption {
+    Stats(Txt),
+    IdAsAttribute(Txt),
+}
+
+/// CREATE VERTEX.
+#[derive(Drop)]
+pub struct VertexTree {
+    pub name: Txt,
+    pub id: Txt,
+    pub id_kind: IdKind,
+    pub attributes: List<AttributeTree>,
+    pub options: List<VertexOption>,
+}
+
+/// What an edge type consists of beside its direction and its reverse type.
+#[derive(Drop)]
+pub struct EndsTree {
+    pub name: Txt,
+    pub from: Txt,
+    pub to: Txt,
+    pub discriminators: List<(Txt, AttributeKind)>,
+    pub attributes: List<AttributeTree>,
+}
+
+/// CREATE DIRECTED EDGE and CREATE UNDIRECTED EDGE.
+#[derive(Drop)]
+pub enum EdgeTree {
+    /// With the text of REVERSE_EDGE, where there is one.
+    Directed(EndsTree, Option<Txt>),
+    Undirected(EndsTree),
+}
+
+/// The types of a graph.
+#[derive(Drop)]
+pub enum Members {
+    /// `*`.
+    All,
+    Named(List<Txt>),
+}
+
+/// CREATE GRAPH.
+#[derive(Drop)]
+pub struct GraphTree {
+    pub name: Txt,
+    pub members: Members,
+}
+
+/// INSERT: the type, and its values in order, where None is `_`.
+#[derive(Drop)]
+pub struct InsertTree {
+    pub name: Txt,
+    pub values: List<Option<Literal>>,
+}

@@ -1,0 +1,103 @@
+// The trees of SELECT.
+use crate::expr::Node;
+use gq_list::List;
+use gq_value::Txt;
+
+/// What `+=` feeds an accumulator.
+#[cycle(input)]
+#[derive(Drop)]
+pub enum InputTree {
+    One(Node),
+
+    /// Keys, and an input for each part.
+    Keyed(List<Node>, List<InputTree>),
+}
+
+/// What happens to an accumulator.
+#[derive(Drop)]
+pub enum Change {
+    /// `+=`.
+    Feed(InputTree),
+
+    /// `=`.
+    Set(Node),
+}
+
+/// An act of ACCUM or POST-ACCUM.
+#[cycle(act)]
+#[derive(Drop)]
+pub enum Act {
+    /// A change of the accumulator of this name, with its `@`, at an alias.
+    Attached(Txt, Txt, Change),
+
+    /// A change of the global accumulator of this name.
+    Global(Txt, Change),
+
+    /// IF and each ELSE IF with its condition, and what stands behind ELSE.
+    If(List<(Node, List<Act>)>, Option<List<Act>>),
+}
+
+/// The types at a place of a pattern.
+#[derive(Drop)]
+pub enum Types {
+    /// ANY and `_`.
+    Any,
+    Named(List<Txt>),
+}
+
+/// One hop: edges and where they lead, each with types and an alias that may be left out.
+#[derive(Drop)]
+pub struct HopTree {
+    pub edges: Option<Types>,
+    pub edge_alias: Option<Txt>,
+    pub targets: Option<Types>,
+    pub target_alias: Option<Txt>,
+}
+
+/// How a step walks an edge type.
+#[derive(Clone, Copy, Debug, PartialEq, Eq)]
+pub enum Way {
+    /// `E>`.
+    Forward,
+
+    /// `<E`.
+    Backward,
+
+    /// `E`.
+    Both,
+}
+
+/// A step of a path.
+#[derive(Drop)]
+pub struct StepTree {
+    pub ways: List<(Way, Txt)>,
+    pub edge_alias: Option<Txt>,
+    pub targets: Types,
+    pub target_alias: Option<Txt>,
+}
+
+/// The pattern of a SELECT, behind its source.
+#[derive(Drop)]
+pub enum Walk {
+    Hop(HopTree),
+
+    /// One to three steps.
+    Path(List<StepTree>),
+}
+
+/// SELECT.
+#[derive(Drop)]
+pub struct SelectTree {
+    pub selected: Txt,
+    pub source: Txt,
+    pub alias: Option<Txt>,
+    pub walk: Option<Walk>,
+    pub filter: Option<Node>,
+    pub accum: Option<List<Act>>,
+    pub post: Option<List<Act>>,
+    pub having: Option<Node>,
+
+    /// The values to order by, each with whether it descends; there is one at least.
+    pub order: Option<List<(Node, bool)>>,
+    pub limit: Option<Node>,
+}
