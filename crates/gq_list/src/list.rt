@@ -1,4 +1,5 @@
 // Lists.
+ghost use Rattle.std.specs.Borrow.{sem};
 ghost use Rattle.std.specs.Prelude.{◌≡◌, [], ◌∷◌, ◌++◌, ◌<◌, length, slice_get, slice_set, take, IfOk, OnOk, OnErr};
 
 use crate::Memory;
@@ -23,6 +24,8 @@ impl<T> Model for List<T> {
 }
 
 impl<T> List<T> {
+    ghost use Rattle.gq_list.specs.Lends.{lends_item, lends_items};
+
     /// A list of no items, which takes no memory.
     pub fn new(alloc: Global) -> List<T>
         ensures { result ≡ [] }
@@ -59,6 +62,23 @@ impl<T> List<T> {
         ensures { slice_get self.now at ≡ Some result.now }
     {
         &self.items[at]
+    }
+
+    /// The item at `at`, to be changed in its place.
+    pub fn at_mut(&mut self, at: usize) -> &mut T
+        requires { at < length self.old }
+        ensures* writes_back { sem 𝓛 (lends_item T.row self.entry at result) }
+        ensures value { slice_get self.old at ≡ Some result.now }
+    {
+        &mut self.items[at]
+    }
+
+    /// The items, in order, to be changed in their places.
+    pub fn as_mut_slice(&mut self) -> &mut [T]
+        ensures* writes_back { sem 𝓛 (lends_items T.row self.entry result) }
+        ensures value { result.now ≡ self.old }
+    {
+        self.items.as_mut_slice()
     }
 }
 

@@ -6,6 +6,7 @@
 mod arithmetic;
 mod catalog;
 mod kind;
+mod kind_copies;
 mod order;
 mod order_laws;
 mod ordered;

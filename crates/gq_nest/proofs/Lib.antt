@@ -1,0 +1,12 @@
+pub mod EntryLemmas
+pub mod LevelLemmas
+pub mod FreshSteps
+pub mod SetSteps
+pub mod FeedSteps
+pub mod CopySteps
+pub mod MergeSteps
+pub mod ShowSteps
+pub mod SortSteps
+pub mod TellSteps
+pub mod ReadSteps
+pub mod FitSteps

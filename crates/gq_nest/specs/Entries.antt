@@ -1,0 +1,60 @@
+-- Entries: what stands under a key row, in a list of keys with what belongs to each.
+-- The keys of a map are values and those of a group are rows, and both are read as key rows. The code has ordered maps.
+use Rattle.std.specs.Prelude.{if◌then◌else◌, ◌≡◌, Bool, false, List, [], ◌∷◌, map, Option, Some, None}
+use Rattle.std.specs.Ordering.{is_eq}
+use Rattle.std.specs.Map.{lookup}
+use Rattle.gq_value.specs.declared.value.Value.{Value}
+use Rattle.gq_value.specs.Val.{Val}
+use Rattle.gq_value.specs.Views.{val}
+use Rattle.gq_content.specs.Gather.{put, distinct}
+use Rattle.gq_content.specs.Holds.{row_cmp}
+
+-- a value as a row of its own
+abbrev pub key_row : Value → List Val
+key_row v = val v ∷ []
+
+-- each of a list is so
+abbrev pub every : {A : Type 0} → (A → Type 0) → List A → Type 0
+every P [] = Unit {0}
+every P (x ∷ xs) = P x × every P xs
+
+-- what f makes of what is there, and d where nothing is
+abbrev pub at_or : {A B : Type 0} → (A → B) → B → Option A → B
+at_or f d None = d
+at_or f d (Some x) = f x
+
+-- whether a key has this row
+abbrev pub is_row : {K : Type 0} → (K → List Val) → List Val → K → Bool
+is_row row q key = is_eq (row_cmp q (row key))
+
+module _ {K X : Type 0} (row : K → List Val) where
+  abbrev pub rows : List (K × X) → List (List Val)
+  rows es = map (λ e. row e.0) es
+
+  -- what stands under a key row
+  abbrev pub under : List Val → List (K × X) → Option X
+  under q es = lookup (is_row row q) es
+
+  -- what stands under any key row is so
+  abbrev pub Each : (X → Type 0) → List (K × X) → Type 0
+  Each P es = (q : List Val) (x : X) → under q es ≡ Some x → P x
+
+  -- under the key row stands x now, and under the others what stood there
+  pub record Puts (old : List (K × X)) (key : List Val) (x : X) (new : List (K × X)) : Type 0 where
+    pub keys : distinct row_cmp (rows new) ≡ put row_cmp false key (distinct row_cmp (rows old))
+    pub at : (q : List Val) → under q new ≡ (if is_eq (row_cmp q key) then Some x else under q old)
+
+  -- what stood under the key row, or what a new one begins with, has made a step
+  pub record Changes (begins : X → Type 0) (step : X → X → Type 0) (old : List (K × X)) (key : List Val) (new : List (K × X)) : Type 0 where
+    pub was : X
+    pub now : X
+    pub begun : under key old ≡ None → begins was
+    pub found : (x : X) → under key old ≡ Some x → x ≡ was
+    pub stepped : step was now
+    pub puts : Puts old key now new
+
+  -- each is a copy of what stood there
+  pub record CopiesEach (copies : X → X → Type 0) (all new : List (K × X)) : Type 0 where
+    pub keys : distinct row_cmp (rows new) ≡ distinct row_cmp (rows all)
+    pub none : (q : List Val) → under q all ≡ None → under q new ≡ None
+    pub some : (q : List Val) (p : X) → under q all ≡ Some p → (c : X) × (under q new ≡ Some c) × copies p c

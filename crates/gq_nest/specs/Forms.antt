@@ -1,0 +1,118 @@
+-- Forms: what a content of the code holds, read as the content of a kind.
+-- Bags and heaps are kept in no order, and read in order. Sets and maps are read through the order of their keys.
+use Rattle.std.specs.Prelude.{◌≡◌, true, false, List, [], ◌∷◌, ◌++◌, map, take}
+use Rattle.gq_value.specs.declared.value.Value.{Value}
+use Rattle.gq_value.specs.Val.{Val}
+use Rattle.gq_value.specs.Views.{val}
+use Rattle.gq_value.specs.Order.{place}
+use Rattle.gq_value.specs.Accums.{Base, Accum, SetAccum, BagAccum, ListAccum, MapAccum, HeapAccum, Given}
+use Rattle.gq_value.specs.Typed.{suits}
+use Rattle.gq_content.specs.Gather.{sorted, distinct}
+use Rattle.gq_content.specs.Holds.{Holds, row_cmp, heap_cmp}
+use Rattle.gq_content.specs.After.{fresh, after, merged}
+use Rattle.gq_content.specs.Fits.{HasRoom, IsProper}
+use Rattle.gq_accum.specs.declared.scalar.Scalar.{Scalar}
+use Rattle.gq_accum.specs.declared.scalar.Scalar.TheVariants as scalar
+use Rattle.gq_accum.specs.Scalars.{kind_of, content}
+use Rattle.gq_nest.specs.declared.content.Content.{Content, Content-F, out-Content}
+use Rattle.gq_nest.specs.declared.content.Heap.{Heap}
+use Rattle.gq_nest.specs.Entries.{key_row, every, at_or, rows, under, Each, Changes, CopiesEach}
+
+abbrev pub scalar_in : Content-F Content → Scalar
+scalar_in (Content-F.Scalar s) = s
+scalar_in l = scalar.Or false
+
+abbrev pub items_in : Content-F Content → List Value
+items_in (Content-F.Set m) = m.keys
+items_in (Content-F.Bag items) = items
+items_in (Content-F.List items) = items
+items_in (Content-F.Heap h) = h.tuples
+items_in l = []
+
+abbrev pub entries_in : Content-F Content → List (Value × Content)
+entries_in (Content-F.Map o m) = m.entries
+entries_in l = []
+
+-- what new keys begin with
+abbrev pub openings_in : Content-F Content → List Content
+openings_in (Content-F.Map o m) = o ∷ []
+openings_in l = []
+
+-- what is held, as a content of a kind
+abbrev pub view : (k : Accum) → Content-F Content → Holds k
+view (SetAccum b) l = distinct place (map val (items_in l))
+view (BagAccum b) l = sorted place (map val (items_in l))
+view (ListAccum b) l = map val (items_in l)
+view (HeapAccum b n by) l = take n (sorted (heap_cmp by) (map val (items_in l)))
+view (MapAccum b k) l = (distinct row_cmp (rows key_row (entries_in l)), λ q. at_or (λ c. view k (out-Content c)) (fresh k) (under key_row q (entries_in l)))
+view k l = content k (scalar_in l)
+
+-- whether the uppermost level is of a kind
+abbrev pub HasForm : Content-F Content → Accum → Type 0
+HasForm (Content-F.Scalar s) k = k ≡ kind_of s
+HasForm (Content-F.Set m) k = (b : Base) × (k ≡ SetAccum b)
+HasForm (Content-F.Bag items) k = (b : Base) × (k ≡ BagAccum b)
+HasForm (Content-F.List items) k = (b : Base) × (k ≡ ListAccum b)
+HasForm (Content-F.Heap h) k = (b : Base) × (k ≡ HeapAccum b h.capacity h.order)
+HasForm (Content-F.Map o m) k = (b : Base) × (j : Accum) × (k ≡ MapAccum b j)
+HasForm Content-F.Spoiled k = ⊥
+
+-- and all levels below
+abbrev pub Deep : (k : Accum) → Content-F Content → Type 0
+Deep (MapAccum b k) l = every (λ c. (HasForm (out-Content c) k × Deep k (out-Content c)) × (view k (out-Content c) ≡ fresh k)) (openings_in l)
+    × Each key_row (λ c. HasForm (out-Content c) k × Deep k (out-Content c)) (entries_in l)
+Deep k l = Unit {0}
+
+abbrev pub IsOf : Accum → Content-F Content → Type 0
+IsOf k l = HasForm l k × Deep k l
+
+-- one more input
+pub record Feeds (old : Content-F Content) (x : Given) (new : Content-F Content) : Type 0 where
+  pub each : (k : Accum) → IsOf k old → IsProper k (view k old) → HasRoom k (view k old) → suits k x ≡ true
+      → IsOf k new × (view k new ≡ after k (view k old) (x ∷ []))
+
+-- another content of the kind
+pub record Merges (old other new : Content-F Content) : Type 0 where
+  pub each : (k : Accum) → IsOf k old → IsOf k other → IsProper k (view k old) → HasRoom k (view k old) → HasRoom k (view k other)
+      → IsOf k new × (view k new ≡ merged k (view k old) (view k other))
+
+-- the same once more
+pub record Copies (old new : Content-F Content) : Type 0 where
+  pub each : (k : Accum) → IsOf k old → IsOf k new × (view k new ≡ view k old)
+
+-- one more input under a key row
+abbrev pub FeedsAt : Content → List (Value × Content) → List Val → Given → List (Value × Content) → Type 0
+FeedsAt opening old key x new = Changes key_row (λ c. Copies (out-Content opening) (out-Content c)) (λ was now. Feeds (out-Content was) x (out-Content now)) old key new
+
+-- tuples more, of which the first are kept
+pub record TakesTuples (old : Heap) (more : List Val) (new : Heap) : Type 0 where
+  pub capacity : new.capacity ≡ old.capacity
+  pub order : new.order ≡ old.order
+  pub first : take old.capacity (sorted (heap_cmp old.order) (map val new.tuples)) ≡ take old.capacity (sorted (heap_cmp old.order) (map val old.tuples ++ more))
+
+-- what a map holds, once more
+abbrev pub CopiesEntries : List (Value × Content) → List (Value × Content) → Type 0
+CopiesEntries = CopiesEach key_row (λ p c. Copies (out-Content p) (out-Content c))
+
+-- another content merged into what stands under a key row
+abbrev pub MergesAt : Content → List (Value × Content) → List Val → Content → List (Value × Content) → Type 0
+MergesAt opening old key part new = Changes key_row (λ c. Copies (out-Content opening) (out-Content c)) (λ was now. Merges (out-Content was) (out-Content part) (out-Content now)) old key new
+
+-- what is held under a key row, as a content of a kind
+abbrev pub at_row : (k : Accum) → List Val → List (Value × Content) → Holds k
+at_row k q es = at_or (λ c. view k (out-Content c)) (fresh k) (under key_row q es)
+
+-- what a merge of entries may count on
+pub record AreReady (k : Accum) (opening : Content) (old all : List (Value × Content)) : Type 0 where
+  pub first : IsOf k (out-Content opening)
+  pub opens : view k (out-Content opening) ≡ fresh k
+  pub mine : Each key_row (λ c. IsOf k (out-Content c)) old
+  pub theirs : Each key_row (λ c. IsOf k (out-Content c)) all
+  pub proper : (q : List Val) → IsProper k (at_row k q old)
+  pub room : (q : List Val) → HasRoom k (at_row k q old)
+  pub also : (q : List Val) → HasRoom k (at_row k q all)
+
+-- the entries of a map merged into those of another
+pub record Unites (opening : Content) (old all new : List (Value × Content)) : Type 0 where
+  pub keys : distinct row_cmp (rows key_row new) ≡ distinct row_cmp (distinct row_cmp (rows key_row old) ++ distinct row_cmp (rows key_row all))
+  pub each : (k : Accum) → AreReady k opening old all → Each key_row (λ c. IsOf k (out-Content c)) new × ((q : List Val) → at_row k q new ≡ merged k (at_row k q old) (at_row k q all))

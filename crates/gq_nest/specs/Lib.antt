@@ -1,0 +1,4 @@
+pub mod Entries
+pub mod Forms
+pub mod Shows
+pub mod Tells

@@ -1,0 +1,57 @@
+// Copies.
+ghost use Rattle.std.specs.Prelude.{IfOk};
+ghost use Rattle.gq_nest.specs.declared.content.Content.{out-Content};
+ghost use Rattle.gq_nest.specs.Forms.{Copies, CopiesEntries, entries_in};
+
+use crate::content::{Content, Heap};
+use crate::more::{add_keys, put_entry};
+use gq_list::{Boxed, List, Memory};
+use gq_value::{Value, duplicate_row};
+use std::alloc::Global;
+use std::collections::{BTreeMap, BTreeSet};
+
+/// A content that holds the same, with memory of its own.
+#[cycle(copying)]
+pub(crate) fn duplicate(alloc: Global, content: &Content) -> Result<Content, Memory>
+    ensures { IfOk result (λ copy. Copies (out-Content content.now) (out-Content copy)) }
+{
+    match content {
+        Content::Scalar(scalar) => Ok(Content::Scalar(*scalar)),
+        Content::Set(keys) => {
+            let mut copy = BTreeSet::new(alloc);
+            add_keys(alloc, &mut copy, keys)?;
+            Ok(Content::Set(copy))
+        }
+        Content::Bag(items) => Ok(Content::Bag(duplicate_row(alloc, items.as_slice())?)),
+        Content::List(items) => Ok(Content::List(duplicate_row(alloc, items.as_slice())?)),
+        Content::Heap(heap) => Ok(Content::Heap(Heap {
+            capacity: heap.capacity,
+            order: List::from_slice(alloc, heap.order.as_slice())?,
+            tuples: duplicate_row(alloc, heap.tuples.as_slice())?,
+        })),
+        Content::Map(opening, _) => {
+            let opening = duplicate(alloc, opening.get())?;
+            let copy = duplicate_entries(alloc, content)?;
+            Ok(Content::Map(Boxed::new(alloc, opening)?, copy))
+        }
+        Content::Spoiled => Err(Memory),
+    }
+}
+
+/// The entries of a map once more.
+#[cycle(copying)]
+fn duplicate_entries(alloc: Global, content: &Content) -> Result<BTreeMap<Value, Content>, Memory>
+    ensures { IfOk result (λ copy. CopiesEntries (entries_in (out-Content content.now)) copy.entries) }
+{
+    match content {
+        Content::Map(_, entries) => {
+            let mut copy = BTreeMap::new(alloc);
+            for (key, part) in entries {
+                let part = duplicate(alloc, part)?;
+                put_entry(&mut copy, key.duplicate(alloc)?, part)?;
+            }
+            Ok(copy)
+        }
+        _ => Err(Memory),
+    }
+}

@@ -1,0 +1,27 @@
+// Whether contents fit.
+ghost use Rattle.gq_content.specs.Fits.{fits as all_fit};
+ghost use Rattle.gq_nest.specs.Tells.{Tells};
+
+use crate::content::Content;
+
+/// Whether each sum and average in it is within its type.
+pub(crate) fn fits(content: &Content) -> bool
+    ensures { Tells content.now result all_fit }
+{
+    match content {
+        Content::Scalar(scalar) => scalar.fits(),
+        Content::Map(_, entries) => {
+            for (_, part) in entries {
+                if !fits(part) {
+                    return false;
+                }
+            }
+            true
+        }
+        Content::Set(_) => true,
+        Content::Bag(_) => true,
+        Content::List(_) => true,
+        Content::Heap(_) => true,
+        Content::Spoiled => true,
+    }
+}

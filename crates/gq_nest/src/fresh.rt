@@ -1,0 +1,43 @@
+// Contents before any input.
+ghost use Rattle.std.specs.Prelude.{◌≡◌, [], IfOk};
+ghost use Rattle.gq_value.specs.AccumViews.{accum_of};
+ghost use Rattle.gq_content.specs.After as model;
+ghost use Rattle.gq_nest.specs.Shows.{Shows};
+
+use crate::content::{Content, Heap};
+use gq_accum::Scalar;
+use gq_list::{Boxed, List, Memory};
+use gq_value::Kind;
+use std::alloc::Global;
+use std::collections::{BTreeMap, BTreeSet};
+
+#[cycle(openings)]
+#[tactic(auto, using(gq_value::proofs::AccumLemmas::accum_laws, crate::proofs::FreshSteps::fresh_scalar))]
+/// The content before any input.
+pub(crate) fn fresh(alloc: Global, kind: &Kind) -> Result<Content, Memory>
+    ensures { IfOk result (λ c. Shows (accum_of kind.now) c (model.fresh (accum_of kind.now))) }
+{
+    match kind {
+        Kind::Sum(_)
+        | Kind::Min(_)
+        | Kind::Max(_)
+        | Kind::Or
+        | Kind::And
+        | Kind::BitOr
+        | Kind::BitAnd
+        | Kind::Avg => Ok(Content::Scalar(Scalar::fresh(kind))),
+        Kind::Set(_) => Ok(Content::Set(BTreeSet::new(alloc))),
+        Kind::Bag(_) => Ok(Content::Bag(List::new(alloc))),
+        Kind::List(_) => Ok(Content::List(List::new(alloc))),
+        Kind::Heap(shape) => Ok(Content::Heap(Heap {
+            capacity: shape.capacity,
+            order: List::from_slice(alloc, shape.order.as_slice())?,
+            tuples: List::new(alloc),
+        })),
+        Kind::Map(_, values) => {
+            let opening = fresh(alloc, values.get())?;
+            Ok(Content::Map(Boxed::new(alloc, opening)?, BTreeMap::new(alloc)))
+        }
+        Kind::Group(_) => Err(Memory),
+    }
+}

@@ -1,0 +1,109 @@
+// Contents merged into contents.
+ghost use Rattle.std.specs.Prelude.{◌≡◌, ◌∷◌, [], true, OnOk, IsOk, IsErr};
+ghost use Rattle.gq_value.specs.Views.{val};
+ghost use Rattle.gq_nest.specs.declared.content.Content.{out-Content};
+ghost use Rattle.gq_nest.specs.Forms.{Merges, MergesAt, Unites, entries_in};
+ghost use Rattle.gq_nest.specs.Shows.{is_plain, is_spoiled};
+
+use crate::content::Content;
+use crate::copies::duplicate;
+use crate::more::{add_items, add_keys, put_entry};
+use gq_accum::Fold;
+use gq_list::Memory;
+use gq_value::Value;
+use std::alloc::Global;
+use std::collections::BTreeMap;
+
+/// Takes all that `other` has taken. A content of another form is answered as want of memory.
+#[cycle(merging)]
+pub(crate) fn merge(alloc: Global, content: &mut Content, other: &Content) -> Result<(), Memory>
+    ensures merged { OnOk result (Merges (out-Content content.old) (out-Content other.now) (out-Content content.new)) }
+    ensures stays { is_spoiled content.old ≡ true → IsErr result }
+    ensures plain { is_plain content.old ≡ true → is_plain other.now ≡ true → IsOk result }
+{
+    match content {
+        Content::Map(opening, entries) => merge_entries(alloc, opening.get(), entries, other),
+        _ => merge_flat(alloc, content, other),
+    }
+}
+
+/// Takes all that `other` has taken, where neither has keys.
+fn merge_flat(alloc: Global, content: &mut Content, other: &Content) -> Result<(), Memory>
+    ensures merged { OnOk result (Merges (out-Content content.old) (out-Content other.now) (out-Content content.new)) }
+    ensures stays { is_spoiled content.old ≡ true → IsErr result }
+    ensures plain { is_plain content.old ≡ true → is_plain other.now ≡ true → IsOk result }
+{
+    match content {
+        Content::Scalar(mine) => match other {
+            Content::Scalar(theirs) => {
+                mine.merge(theirs);
+                Ok(())
+            }
+            Content::Set(_)
+            | Content::Bag(_)
+            | Content::List(_)
+            | Content::Heap(_)
+            | Content::Map(_, _)
+            | Content::Spoiled => Err(Memory),
+        },
+        Content::Set(keys) => match other {
+            Content::Set(more) => add_keys(alloc, keys, more),
+            _ => Err(Memory),
+        },
+        Content::Bag(items) => match other {
+            Content::Bag(more) => add_items(alloc, items, more.as_slice()),
+            _ => Err(Memory),
+        },
+        Content::List(items) => match other {
+            Content::List(more) => add_items(alloc, items, more.as_slice()),
+            _ => Err(Memory),
+        },
+        Content::Heap(heap) => match other {
+            Content::Heap(more) => heap.add_all(alloc, more.tuples.as_slice()),
+            _ => Err(Memory),
+        },
+        Content::Map(_, _) | Content::Spoiled => Err(Memory),
+    }
+}
+
+/// Takes the entries of a map into those of another.
+#[cycle(merging)]
+fn merge_entries(
+    alloc: Global,
+    opening: &Content,
+    entries: &mut BTreeMap<Value, Content>,
+    other: &Content,
+) -> Result<(), Memory>
+    ensures { OnOk result (Unites opening.now entries.old.entries (entries_in (out-Content other.now)) entries.new.entries) }
+{
+    match other {
+        Content::Map(_, more) => {
+            for (key, part) in more {
+                merge_entry(alloc, opening, entries, key, part)?;
+            }
+            Ok(())
+        }
+        _ => Err(Memory),
+    }
+}
+
+/// Takes a content under a key, which begins with the opening where it is new.
+#[cycle(merging)]
+fn merge_entry(
+    alloc: Global,
+    opening: &Content,
+    entries: &mut BTreeMap<Value, Content>,
+    key: &Value,
+    part: &Content,
+) -> Result<(), Memory>
+    ensures { OnOk result (MergesAt opening.now entries.old.entries (val key.now ∷ []) part.now entries.new.entries) }
+{
+    match entries.get_mut(key) {
+        Some(mine) => merge(alloc, mine, part),
+        None => {
+            let mut mine = duplicate(alloc, opening)?;
+            merge(alloc, &mut mine, part)?;
+            put_entry(entries, key.duplicate(alloc)?, mine)
+        }
+    }
+}

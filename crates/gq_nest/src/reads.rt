@@ -1,0 +1,141 @@
+// What contents tell.
+ghost use Rattle.std.specs.Prelude.{map, IfOk, MatchOption};
+ghost use Rattle.gq_value.specs.Views.{val};
+ghost use Rattle.gq_content.specs.Fits.{fits as all_fit};
+ghost use Rattle.gq_content.specs.Reads.{value_in};
+ghost use Rattle.gq_nest.specs.Tells.{Tells, LacksKey, HasKey, IsFitting, CanBeSet, IsSet, size_of, has_value, elements_of, keys_of};
+
+use crate::content::Content;
+use crate::fitting::fits;
+use crate::rows::{key_rows, keys_in_order, sorted_row};
+use gq_list::{List, Memory};
+use gq_value::{Row, Value, duplicate_row};
+use std::alloc::Global;
+
+/// Key rows in order.
+pub type Keys = List<Row>;
+
+impl Content {
+    /// Puts a content of one number or truth to a value, whatever it was. Takes no memory.
+    pub fn set(&mut self, x: &Value)
+        requires { CanBeSet self.old (val x.now) }
+        ensures { IsSet self.old (val x.now) self.new }
+    {
+        match self {
+            Content::Scalar(scalar) => scalar.set(x),
+            Content::Set(_) => unreachable!(),
+            Content::Bag(_) => unreachable!(),
+            Content::List(_) => unreachable!(),
+            Content::Heap(_) => unreachable!(),
+            Content::Map(_, _) => unreachable!(),
+            Content::Spoiled => unreachable!(),
+        }
+    }
+
+    /// Whether each sum in it is within its type, and each average has a sum within INT and a count below 2^63.
+    ///
+    /// Goes through all keys. Takes no memory.
+    pub fn fits(&self) -> bool
+        ensures { Tells self.now result all_fit }
+    {
+        fits(self)
+    }
+
+    /// The value of a scalar content that fits. An average without inputs is 0 over 1. Takes no memory.
+    pub fn value(&self) -> Value
+        requires { IsFitting self.now }
+        ensures { Tells self.now (val result) value_in }
+    {
+        match self {
+            Content::Scalar(scalar) => match scalar.seal() {
+                Ok(value) => value,
+                Err(_) => unreachable!(),
+            },
+            Content::Set(_) => unreachable!(),
+            Content::Bag(_) => unreachable!(),
+            Content::List(_) => unreachable!(),
+            Content::Heap(_) => unreachable!(),
+            Content::Map(_, _) => unreachable!(),
+            Content::Spoiled => unreachable!(),
+        }
+    }
+
+    /// How many elements or keys it has; 0 for a number, truth or average. Takes no memory.
+    pub fn size(&self) -> u64
+        ensures { Tells self.now result size_of }
+    {
+        match self {
+            Content::Scalar(_) => 0,
+            Content::Set(keys) => keys.len() as u64,
+            Content::Bag(items) => items.len() as u64,
+            Content::List(items) => items.len() as u64,
+            Content::Heap(heap) => (heap.tuples.len() as u64).min(u64::from(heap.capacity)),
+            Content::Map(_, entries) => entries.len() as u64,
+            Content::Spoiled => 0,
+        }
+    }
+
+    /// Whether a set, bag or list has the value. A set is searched by halving, the others one by one. Takes no memory.
+    pub fn contains(&self, x: &Value) -> bool
+        ensures { Tells self.now result (has_value (val x.now)) }
+    {
+        match self {
+            Content::Scalar(_) => false,
+            Content::Set(keys) => keys.contains(x),
+            Content::Bag(items) => items.as_slice().contains(x),
+            Content::List(items) => items.as_slice().contains(x),
+            Content::Heap(_) => false,
+            Content::Map(_, _) => false,
+            Content::Spoiled => false,
+        }
+    }
+
+    /// What stands at a key of a map, found by halving; None where the key isn't there. Takes no memory.
+    pub fn get(&self, key: &Row) -> Option<&Content>
+        ensures { MatchOption result (LacksKey self.now (map val key.now)) (λ part. HasKey self.now (map val key.now) part.now) }
+    {
+        match self {
+            Content::Map(_, entries) => match key.as_slice() {
+                [] => None,
+                [key] => entries.get(key),
+                [_, _, ..] => None,
+            },
+            Content::Scalar(_) => None,
+            Content::Set(_) => None,
+            Content::Bag(_) => None,
+            Content::List(_) => None,
+            Content::Heap(_) => None,
+            Content::Spoiled => None,
+        }
+    }
+
+    /// Copies of all elements of a set, bag, list or heap, in order.
+    pub fn elements(&self, alloc: Global) -> Result<Row, Memory>
+        ensures { IfOk result (λ row. Tells self.now (map val row) elements_of) }
+    {
+        match self {
+            Content::Scalar(_) => Ok(List::new(alloc)),
+            Content::Set(keys) => keys_in_order(alloc, keys),
+            Content::Bag(items) => sorted_row(alloc, items.as_slice()),
+            Content::List(items) => duplicate_row(alloc, items.as_slice()),
+            Content::Heap(heap) => heap.first(alloc),
+            Content::Map(_, _) => Ok(List::new(alloc)),
+            Content::Spoiled => Ok(List::new(alloc)),
+        }
+    }
+
+    /// Copies of all key rows of a map, ascending. A key of a map is a row of one value.
+    pub fn keys(&self, alloc: Global) -> Result<Keys, Memory>
+        ensures { IfOk result (λ rows. Tells self.now (map (map val) rows) keys_of) }
+    {
+        match self {
+            Content::Map(_, entries) => key_rows(alloc, entries),
+            Content::Scalar(_) => Ok(List::new(alloc)),
+            Content::Set(_) => Ok(List::new(alloc)),
+            Content::Bag(_) => Ok(List::new(alloc)),
+            Content::List(_) => Ok(List::new(alloc)),
+            Content::Heap(_) => Ok(List::new(alloc)),
+            Content::Spoiled => Ok(List::new(alloc)),
+        }
+    }
+}

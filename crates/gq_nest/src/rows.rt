@@ -1,0 +1,49 @@
+// Rows of copies, in the order of their content.
+ghost use Rattle.std.specs.Prelude.{◌≡◌, map, IfOk};
+ghost use Rattle.gq_value.specs.Views.{val};
+ghost use Rattle.gq_value.specs.Order.{place};
+ghost use Rattle.gq_content.specs.Gather.{sorted, distinct};
+ghost use Rattle.gq_content.specs.Holds.{row_cmp};
+ghost use Rattle.gq_nest.specs.Entries.{key_row, rows};
+
+use crate::content::Content;
+use gq_list::{List, Memory};
+use gq_value::{Row, Value, duplicate_row};
+use std::alloc::Global;
+use std::collections::{BTreeMap, BTreeSet};
+
+/// The keys, ascending.
+pub(crate) fn keys_in_order(alloc: Global, keys: &BTreeSet<Value>) -> Result<Row, Memory>
+    ensures { IfOk result (λ row. map val row ≡ distinct place (map val keys.now.keys)) }
+{
+    let mut row = List::new(alloc);
+    for key in keys {
+        row.push(key.duplicate(alloc)?)?;
+    }
+    Ok(row)
+}
+
+/// The items, ascending.
+pub(crate) fn sorted_row(alloc: Global, items: &[Value]) -> Result<Row, Memory>
+    ensures { IfOk result (λ row. map val row ≡ sorted place (map val items.now)) }
+{
+    let mut row = duplicate_row(alloc, items)?;
+    row.as_mut_slice().sort_unstable();
+    Ok(row)
+}
+
+/// The keys as rows of one value, ascending.
+pub(crate) fn key_rows(
+    alloc: Global,
+    entries: &BTreeMap<Value, Content>,
+) -> Result<List<Row>, Memory>
+    ensures { IfOk result (λ all. map (map val) all ≡ distinct row_cmp (rows key_row entries.now.entries)) }
+{
+    let mut all = List::new(alloc);
+    for (key, _) in entries {
+        let mut row = List::new(alloc);
+        row.push(key.duplicate(alloc)?)?;
+        all.push(row)?;
+    }
+    Ok(all)
+}
