@@ -65,6 +65,14 @@ impl Edges {
         &self.rows[edge as usize]
     }
 
+    /// All edges, by their numbers.
+    pub fn rows(&self) -> &[EdgeRow]
+        ensures rows { result.now ≡ self.now.rows }
+        ensures few { length self.now.rows ≤ most_edges }
+    {
+        self.rows.as_slice()
+    }
+
     /// Gives the edge of that name the attributes, or puts it last. The first `key` attributes belong to the name, and the
     /// ends have no order where the edge isn't directed. Unchanged after a refusal.
     pub fn upsert(

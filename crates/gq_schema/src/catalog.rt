@@ -95,6 +95,14 @@ impl Catalog {
         &self.edge_types[kind as usize]
     }
 
+    /// All edge types, by their numbers.
+    pub fn edge_types(&self) -> &[EdgeType]
+        ensures types { result.now ≡ self.now.edge_types }
+        ensures few { length self.now.edge_types ≤ spec.most_types }
+    {
+        self.edge_types.as_slice()
+    }
+
     /// A graph, by its number.
     pub fn graph_at(&self, graph: u32) -> &GraphType
         requires { graph < length self.now.graphs }

@@ -1,0 +1,9 @@
+pub mod PlaceLemmas
+pub mod WalkLemmas
+pub mod IndexLemmas
+pub mod DegreeLemmas
+pub mod SightLemmas
+pub mod OrderLemmas
+pub mod RunLemmas
+pub mod CandidateLemmas
+pub mod GatherLemmas

@@ -1,0 +1,5 @@
+pub mod Places
+pub mod Sights
+pub mod Walks
+pub mod Runs
+pub mod Segments

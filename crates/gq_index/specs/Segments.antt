@@ -1,0 +1,44 @@
+-- Segments: how many segments a list of candidates has, and what the code keeps of candidates.
+-- A segment is one source with one edge type and at least one candidate.
+use Rattle.std.specs.Prelude.{ℕ, ◌-◌, Bool, false, ◌&&◌, ◌||◌, not, ◌==◌, List, length, map, Option, Some, slice_index_or}
+use Rattle.std.specs.Option.{is_some}
+use Rattle.gq_value.specs.declared.store.Candidate.{Candidate}
+use Rattle.gq_value.specs.Candidates.{alone, among, is_target}
+use Rattle.gq_index.specs.declared.candidates.Held.{Held}
+use Rattle.gq_index.specs.declared.candidates.Held.TheVariants.{Vertices, Edges}
+use Rattle.gq_index.specs.declared.walks.Walk.{Walk}
+use Rattle.gq_index.specs.Places.{many}
+
+-- a candidate along an edge
+abbrev pub of_walk : Walk → Candidate
+of_walk walk = record { source = walk.source; edge = Some walk.row; kind = Some walk.kind; target = Some walk.target }
+
+-- the candidates that are kept
+abbrev pub listed : Held → List Candidate
+listed (Vertices vertices) = map alone vertices.items
+listed (Edges walks) = map of_walk walks
+
+-- a candidate, by its place
+abbrev pub candidate_at : List Candidate → ℕ → Candidate
+candidate_at cs i = slice_index_or cs i (alone 0)
+
+-- whether both have one type
+abbrev pub same_kind : Option ℕ → Option ℕ → Bool
+same_kind (Some a) (Some b) = a == b
+same_kind _ _ = false
+
+-- whether a candidate along an edge stands first in its segment, where this one stands before it
+abbrev pub opens_beside : ℕ → Candidate → Candidate → Bool
+opens_beside i c before = is_some c.kind && ((i == 0) || not ((c.source == before.source) && same_kind c.kind before.kind))
+
+-- whether a segment starts at a place
+abbrev pub opens_segment : List Candidate → ℕ → Bool
+opens_segment cs i = opens_beside i (candidate_at cs i) (candidate_at cs (i - 1))
+
+-- how many segments there are
+unfoldable pub segment_count : List Candidate → ℕ
+segment_count cs = many (opens_segment cs) (length cs)
+
+-- whether a walk has a listed type and leads to a vertex of a listed type
+abbrev pub is_wanted : List ℕ → List ℕ → List ℕ → Walk → Bool
+is_wanted edges kinds targets walk = among edges walk.kind && is_target kinds targets walk.target

@@ -1,0 +1,23 @@
+-- Sights: what a catalog and a store let a block see.
+use Rattle.std.specs.Prelude.{ℕ, false, List, [], map, None, slice_index_or}
+use Rattle.gq_value.specs.declared.catalog.EdgeType.{EdgeType}
+use Rattle.gq_value.specs.declared.store.VertexRow.{VertexRow}
+use Rattle.gq_value.specs.Candidates.{Sight}
+use Rattle.gq_value.specs.Catalog.{Schema}
+use Rattle.gq_value.specs.Edges.{EdgeTable}
+
+-- the type of each vertex
+abbrev pub vertex_kinds : List VertexRow → List ℕ
+vertex_kinds vertices = map (λ (row : VertexRow). row.kind) vertices
+
+-- what is seen of a catalog, of vertices and of edges
+abbrev pub sight_of : Schema → List VertexRow → EdgeTable → Sight
+sight_of schema vertices edges = record { kinds = vertex_kinds vertices; types = schema.edge_types; edges = edges.rows }
+
+-- no type
+abbrev pub no_type : EdgeType
+no_type = record { name = []; directed = false; from = 0; to = 0; forward = None; reverse = None; discriminators = 0; attributes = [] }
+
+-- an edge type, by its number
+abbrev pub type_at : List EdgeType → ℕ → EdgeType
+type_at types e = slice_index_or types e no_type

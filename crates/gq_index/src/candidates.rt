@@ -1,0 +1,252 @@
+// The candidates of a block.
+ghost use Rattle.std.specs.Prelude.{◌≡◌, ℕ, ◌+◌, ◌<◌, ◌≤◌, ◌^◌, ◌++◌, List, [], ◌∷◌, length, Some, IfOk, map, filter, nat_lt, slice_get};
+ghost use Rattle.std.specs.List.{flat_map};
+ghost use Rattle.std.specs.Option.{option_copied};
+ghost use Rattle.gq_value.specs.Candidates.{by_number, candidates, is_target};
+ghost use Rattle.gq_index.specs.declared.walks.Walk.{Walk};
+ghost use Rattle.gq_index.specs.Runs.{Holds};
+ghost use Rattle.gq_index.specs.Sights.{sight_of, vertex_kinds};
+ghost use Rattle.gq_index.specs.Walks.{adjacency, walks_at, walked};
+ghost use Rattle.gq_index.specs.Segments.{is_wanted, segment_count, of_walk};
+
+use crate::marks::Marks;
+use crate::runs::{Reached, Runs, Segment, push};
+use crate::walks::{Walk, Way};
+use crate::{Graph, Index, VertexList};
+use gq_value::{Candidate, Memory, Pattern, Steps};
+use gq_vertex::Vertices;
+use std::alloc::Global;
+use std::marker::Model;
+
+/// What is kept of candidates.
+#[derive(Drop)]
+pub enum Held {
+    Vertices(Vec<u32>),
+    Edges(Runs),
+}
+
+/// The types that a pattern lists.
+#[derive(Drop)]
+struct Wanted<'a> {
+    edges: Marks<'a>,
+    targets: Marks<'a>,
+}
+
+/// Whether a vertex is there and has a type that is listed.
+fn reaches(targets: &Marks<'_>, vertices: &Vertices, vertex: u32) -> bool
+    ensures { result ≡ is_target (vertex_kinds vertices.now) targets.now vertex }
+{
+    if vertex >= vertices.len() {
+        return false;
+    }
+    targets.has(vertices.kind(vertex))
+}
+
+/// Whether a walk has a wanted type and leads to a vertex of a wanted type.
+fn wants(wanted: &Wanted<'_>, vertices: &Vertices, walk: Walk) -> bool
+    ensures { result ≡ is_wanted wanted.now.edges (vertex_kinds vertices.now) wanted.now.targets walk }
+{
+    wanted.edges.has(walk.kind) && reaches(&wanted.targets, vertices, walk.target)
+}
+
+/// Adds a walk if it is wanted.
+fn add_way(
+    walk: Walk,
+    wanted: &Wanted<'_>,
+    vertices: &Vertices,
+    segments: &mut Vec<Segment>,
+    reached: &mut Vec<Reached>,
+) -> Result<(), Memory>
+    ensures { IfOk result (λ _. (before : List Walk) → Holds segments.old.items reached.old.items before
+        → Holds segments.new.items reached.new.items
+        (before ++ filter (is_wanted wanted.now.edges (vertex_kinds vertices.now) wanted.now.targets) (walk ∷ []))) }
+{
+    if reached.len() >= u32::MAX as usize {
+        return Err(Memory);
+    }
+    if wants(wanted, vertices, walk) {
+        push(segments, reached, walk)?;
+        return Ok(());
+    }
+    Ok(())
+}
+
+/// Adds those walks from one vertex that are wanted.
+fn add_wanted(
+    source: u32,
+    ways: &[Way],
+    wanted: &Wanted<'_>,
+    vertices: &Vertices,
+    segments: &mut Vec<Segment>,
+    reached: &mut Vec<Reached>,
+) -> Result<(), Memory>
+    ensures { IfOk result (λ _. (before : List Walk) → Holds segments.old.items reached.old.items before
+        → Holds segments.new.items reached.new.items
+        (before ++ filter (is_wanted wanted.now.edges (vertex_kinds vertices.now) wanted.now.targets) (map (walked source) ways.now))) }
+{
+    for way in ways {
+        let walk = Walk {
+            source,
+            kind: way.kind,
+            row: way.row,
+            target: way.target,
+        };
+        add_way(walk, wanted, vertices, segments, reached)?;
+    }
+    Ok(())
+}
+
+/// All wanted walks from the given vertices.
+fn gather(
+    alloc: Global,
+    index: &Index,
+    sources: &[u32],
+    wanted: &Wanted<'_>,
+    vertices: &Vertices,
+) -> Result<Runs, Memory>
+    ensures { IfOk result (λ r. r ≡ flat_map (λ v. filter (is_wanted wanted.now.edges (vertex_kinds vertices.now) wanted.now.targets) (walks_at index.now v)) sources.now) }
+{
+    let mut segments = Vec::new(alloc);
+    let mut reached = Vec::new(alloc);
+    for source in sources {
+        add_wanted(
+            *source,
+            index.ways(*source),
+            wanted,
+            vertices,
+            &mut segments,
+            &mut reached,
+        )?;
+    }
+    Ok(Runs::of(segments, reached))
+}
+
+/// The numbers below a count.
+fn below(alloc: Global, numbers: &[u32], count: u32) -> Result<Vec<u32>, Memory>
+    ensures { IfOk result (λ kept. kept.items ≡ filter (λ n. nat_lt n count) numbers.now) }
+{
+    Ok(
+        numbers
+            .iter()
+            .copied()
+            .filter(|number| *number < count)
+            .collect(alloc)?,
+    )
+}
+
+/// The vertices of a set that are there, by number, at a cost of the set alone.
+fn in_number_order(alloc: Global, set: &[u32], graph: &Graph<'_>) -> Result<Vec<u32>, Memory>
+    ensures { IfOk result (λ v. v.items ≡ by_number (sight_of graph.now.catalog.now graph.now.store.now.vertices graph.now.store.now.edges) set.now) }
+{
+    let mut sources = below(alloc, set, graph.store.vertices.len())?;
+    sources.sort()?;
+    sources.dedup();
+    Ok(sources)
+}
+
+/// All candidates of a step along edges.
+fn walks_of(
+    alloc: Global,
+    graph: &Graph<'_>,
+    set: &[u32],
+    pattern: &Pattern,
+) -> Result<Runs, Memory>
+    requires indexed { graph.now.index.now ≡ adjacency (sight_of graph.now.catalog.now graph.now.store.now.vertices graph.now.store.now.edges) }
+    ensures { IfOk result (λ r. map of_walk r ≡ candidates (sight_of graph.now.catalog.now graph.now.store.now.vertices graph.now.store.now.edges) set.now (Some pattern.now)) }
+{
+    let sources = in_number_order(alloc, set, graph)?;
+    let count = graph.catalog.type_count();
+    let edges = Marks::of(alloc, pattern.edges.as_slice(), count)?;
+    let targets = Marks::of(alloc, pattern.targets.as_slice(), count)?;
+    let wanted = Wanted { edges, targets };
+    let walks = gather(alloc, graph.index, &sources, &wanted, &graph.store.vertices)?;
+    Ok(walks)
+}
+
+/// The candidates of a block, in order of source, edge type and edge. Contracts see them as a list.
+///
+/// They take 4 bytes for each vertex of a block without a pattern; else 12 for each segment, which is one source with one
+/// edge type and at least one candidate, and 8 for each candidate.
+#[derive(Drop)]
+pub struct Candidates {
+    held: Held,
+}
+
+impl Model for Candidates {
+    ghost use Rattle.std.specs.Prelude.{List};
+    ghost use Rattle.gq_value.specs.declared.store.Candidate.{Candidate};
+    ghost use Rattle.gq_index.specs.Segments.{listed};
+
+    ghost Value = { List Candidate };
+
+    ghost view = { λ c. listed c.held };
+}
+
+impl Candidates {
+    /// The candidates of a set along a pattern, or of a set alone. The cost is that of sorting the set, and of the walks
+    /// from its vertices, whatever else the graph holds. More than 4,294,967,295 candidates are want of memory too.
+    pub fn of(
+        alloc: Global,
+        graph: &Graph<'_>,
+        set: &VertexList,
+        pattern: Option<&Pattern>,
+    ) -> Result<Candidates, Memory>
+        requires indexed { graph.now.index.now ≡ adjacency (sight_of graph.now.catalog.now graph.now.store.now.vertices graph.now.store.now.edges) }
+        ensures { IfOk result (λ c. c ≡ candidates (sight_of graph.now.catalog.now graph.now.store.now.vertices graph.now.store.now.edges) set.now (option_copied pattern.entry)) }
+    {
+        match pattern {
+            None => {
+                let vertices = in_number_order(alloc, set.as_slice(), graph)?;
+                Ok(Candidates {
+                    held: Held::Vertices(vertices),
+                })
+            }
+            Some(pattern) => {
+                let walks = walks_of(alloc, graph, set.as_slice(), pattern)?;
+                Ok(Candidates {
+                    held: Held::Edges(walks),
+                })
+            }
+        }
+    }
+
+    /// How many candidates there are.
+    pub fn count(&self) -> u64
+        ensures { result ≡ length self.now }
+    {
+        match &self.held {
+            Held::Vertices(vertices) => vertices.len() as u64,
+            Held::Edges(walks) => walks.len(),
+        }
+    }
+
+    /// The candidate at a place, found by halving, so that a worker may begin anywhere.
+    ///
+    /// Adds to `steps` one for each segment that is looked at, and one for the edge that is read. Takes no memory.
+    pub fn at(&self, place: u64, steps: &mut Steps) -> Candidate
+        requires within { place < length self.now }
+        requires room { steps.old < 2 ^ 63 }
+        ensures candidate { slice_get self.now place ≡ Some result }
+
+        // Halving alone takes as many steps as the number of segments has binary digits.
+        ensures few { (d : ℕ) → segment_count self.now < 2 ^ d → steps.new ≤ steps.old + d + 1 }
+    {
+        match &self.held {
+            Held::Vertices(vertices) => Candidate {
+                source: vertices[place as usize],
+                edge: None,
+                kind: None,
+                target: None,
+            },
+            Held::Edges(walks) => {
+                let walk = walks.at(place, steps);
+                Candidate {
+                    source: walk.source,
+                    edge: Some(walk.row),
+                    kind: Some(walk.kind),
+                    target: Some(walk.target),
+                }
+            }
+        }
+    }
+}

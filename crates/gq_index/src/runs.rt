@@ -1,0 +1,153 @@
+// A list of walks that keeps the source and the type of neighbours once.
+ghost use Rattle.std.specs.Prelude.{◌≡◌, ℕ, ◌+◌, ◌-◌, ◌<◌, ◌≤◌, ◌^◌, ◌++◌, List, [], ◌∷◌, length, IfOk, vec_len, count_by, nat_le, ◌==◌, ◌&&◌, true, false};
+ghost use Rattle.gq_index.specs.declared.walks.Walk.{Walk};
+ghost use Rattle.gq_index.specs.Runs.{shown, IsRising, Holds, run_count, segment_at, reached_at, segment_of, walk_of};
+ghost use Rattle.gq_index.specs.Walks.{walk_at};
+
+use crate::walks::Walk;
+use gq_value::{Memory, Steps};
+use std::marker::Model;
+
+/// The source and the type of neighbouring walks, and the place of the first of them.
+#[derive(Clone, Copy)]
+pub struct Segment {
+    pub source: u32,
+    pub kind: u32,
+    pub start: u32,
+}
+
+/// The edge and the far end of a walk.
+#[derive(Clone, Copy)]
+pub struct Reached {
+    pub row: u32,
+    pub target: u32,
+}
+
+/// How many segments start at or before a place, found by halving. Each segment that is looked at is a step.
+fn find(segments: &[Segment], place: u64, steps: &mut Steps) -> usize
+    requires rising { IsRising segments.now }
+    requires short { length segments.now < 2 ^ 63 }
+    requires room { steps.old < 2 ^ 63 }
+    ensures found { result ≡ count_by (λ s. nat_le s.start place) segments.now }
+    ensures counted { (d : ℕ) → length segments.now < 2 ^ d → steps.new ≤ steps.old + d }
+{
+    let mut low = 0;
+    let mut high = segments.len();
+    while low < high {
+        let middle = low + (high - low) / 2;
+        steps.tick();
+        if segments[middle].start as u64 <= place {
+            low = middle + 1;
+        } else {
+            high = middle;
+        }
+    }
+    low
+}
+
+/// Whether a walk belongs to the last segment.
+fn continues(segments: &[Segment], walk: Walk) -> bool
+    ensures yes { result ≡ true → (0 < length segments.now) × (walk.source ≡ (segment_at segments.now (length segments.now - 1)).source) × (walk.kind ≡ (segment_at segments.now (length segments.now - 1)).kind) }
+    ensures no { result ≡ false → 0 < length segments.now → ((walk.source == (segment_at segments.now (length segments.now - 1)).source) && (walk.kind == (segment_at segments.now (length segments.now - 1)).kind)) ≡ false }
+{
+    if segments.is_empty() {
+        return false;
+    }
+    let last = segments[segments.len() - 1];
+    walk.source == last.source && walk.kind == last.kind
+}
+
+/// Puts a walk last.
+pub fn push(
+    segments: &mut Vec<Segment>,
+    reached: &mut Vec<Reached>,
+    walk: Walk,
+) -> Result<(), Memory>
+    requires { vec_len reached.old < 2 ^ 32 }
+    ensures { IfOk result (λ _. (walks : List Walk) → Holds segments.old.items reached.old.items walks → Holds segments.new.items reached.new.items (walks ++ walk ∷ [])) }
+{
+    if continues(segments, walk) {
+        reached.push(Reached {
+            row: walk.row,
+            target: walk.target,
+        })?;
+        return Ok(());
+    }
+    segments.push(Segment {
+        source: walk.source,
+        kind: walk.kind,
+        start: reached.len() as u32,
+    })?;
+    reached.push(Reached {
+        row: walk.row,
+        target: walk.target,
+    })?;
+    Ok(())
+}
+
+/// The walk at a place.
+fn walk_at_place(segments: &[Segment], reached: &[Reached], place: u64, steps: &mut Steps) -> Walk
+    requires holds { Holds segments.now reached.now (shown segments.now reached.now) }
+    requires within { place < length reached.now }
+    requires short { length segments.now < 2 ^ 63 }
+    requires room { steps.old < 2 ^ 63 }
+    ensures exact { result ≡ walk_of (segment_of segments.now place) (reached_at reached.now place) }
+    ensures counted { (d : ℕ) → length segments.now < 2 ^ d → steps.new ≤ steps.old + d + 1 }
+{
+    let end = find(segments, place, steps);
+    let segment = segments[end - 1];
+    steps.tick();
+    let found = reached[place as usize];
+    Walk {
+        source: segment.source,
+        kind: segment.kind,
+        row: found.row,
+        target: found.target,
+    }
+}
+
+/// A list of walks: 12 bytes for each segment, and 8 for each walk.
+#[derive(Drop)]
+pub struct Runs {
+    segments: Vec<Segment>,
+    reached: Vec<Reached>,
+}
+
+impl Model for Runs {
+    ghost use Rattle.std.specs.Prelude.{List};
+    ghost use Rattle.gq_index.specs.declared.walks.Walk.{Walk};
+    ghost use Rattle.gq_index.specs.Runs.{shown, Holds};
+
+    ghost Value = { List Walk };
+
+    ghost view = { λ r. shown r.segments.items r.reached.items };
+
+    ghost invariant = { λ r. Holds r.segments.items r.reached.items (shown r.segments.items r.reached.items) };
+}
+
+impl Runs {
+    /// The list that segments and places show.
+    pub fn of(segments: Vec<Segment>, reached: Vec<Reached>) -> Runs
+        requires { Holds segments.items reached.items (shown segments.items reached.items) }
+        ensures { result ≡ shown segments.items reached.items }
+    {
+        Runs { segments, reached }
+    }
+
+    /// How many walks there are.
+    pub fn len(&self) -> u64
+        ensures { result ≡ length self.now }
+    {
+        self.reached.len() as u64
+    }
+
+    /// The walk at a place.
+    pub fn at(&self, place: u64, steps: &mut Steps) -> Walk
+        requires within { place < length self.now }
+        requires room { steps.old < 2 ^ 63 }
+        ensures exact { result ≡ walk_at self.now place }
+        ensures counted { (d : ℕ) → run_count self.now < 2 ^ d → steps.new ≤ steps.old + d + 1 }
+    {
+        walk_at_place(&self.segments, &self.reached, place, steps)
+    }
+}

@@ -1,0 +1,74 @@
+// Lists of vertices.
+ghost use Rattle.std.specs.Prelude.{◌≡◌, ◌<◌, ◌++◌, [], ◌∷◌, false, length, slice_get, Some, OnOk, OnErr};
+ghost use Rattle.gq_value.specs.Candidates.{among};
+
+use gq_list::List;
+use gq_value::Memory;
+use std::alloc::Global;
+use std::marker::Model;
+
+/// The numbers of vertices, none of them twice. Contracts see them as a list.
+#[derive(Debug, Drop)]
+pub struct VertexList {
+    vertices: List<u32>,
+}
+
+impl Model for VertexList {
+    ghost use Rattle.std.specs.Prelude.{List, ℕ, nat_eq};
+    ghost use Rattle.std.specs.List.{IsDistinct};
+
+    ghost Value = { List ℕ };
+
+    ghost view = { λ l. l.vertices };
+
+    ghost invariant = { λ l. IsDistinct nat_eq l.vertices };
+}
+
+impl VertexList {
+    /// No vertices, which takes no memory.
+    pub fn new(alloc: Global) -> VertexList
+        ensures { result ≡ [] }
+    {
+        VertexList {
+            vertices: List::new(alloc),
+        }
+    }
+
+    /// Puts a vertex last that isn't listed yet. Unchanged after want of memory.
+    pub fn push(&mut self, vertex: u32) -> Result<(), Memory>
+        requires new { among self.old vertex ≡ false }
+        ensures ok { OnOk result (self.new ≡ self.old ++ vertex ∷ []) }
+        ensures err { OnErr result (self.new ≡ self.old) }
+    {
+        self.vertices.push(vertex)
+    }
+
+    /// Whether a vertex is listed. It looks at each.
+    pub fn contains(&self, vertex: u32) -> bool
+        ensures { result ≡ among self.now vertex }
+    {
+        self.vertices.as_slice().contains(&vertex)
+    }
+
+    /// The vertex at a place.
+    pub fn at(&self, place: usize) -> &u32
+        requires { place < length self.now }
+        ensures { slice_get self.now place ≡ Some result.now }
+    {
+        self.vertices.at(place)
+    }
+
+    /// How many vertices there are.
+    pub fn len(&self) -> usize
+        ensures { result ≡ length self.now }
+    {
+        self.vertices.len()
+    }
+
+    /// The vertices, in order, to loop over.
+    pub fn as_slice(&self) -> &[u32]
+        ensures { result.now ≡ self.now }
+    {
+        self.vertices.as_slice()
+    }
+}
