@@ -1,0 +1,2 @@
+pub mod SchemaReads
+pub mod JobReads

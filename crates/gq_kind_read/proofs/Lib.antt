@@ -1,0 +1,2 @@
+pub mod KindReads
+mod LevelLemmas

@@ -1,0 +1,4 @@
+pub mod Steps
+pub mod LiteralReads
+pub mod ExactReads
+mod ListLemmas

@@ -1,0 +1,4 @@
+pub mod Expression
+pub mod Literals
+pub mod Readers
+pub mod Exact
