@@ -1,0 +1,37 @@
+//! What queries mean: definitions and laws.
+//!
+//! The definitions stand in `specs/`: begin with `Answers.antt` and `Expressions.antt`. Nothing here runs: each function below says
+//! that a law holds of the definitions.
+#![tactic(auto)]
+
+ghost use Rattle.gq_typing.specs.Statements.{Bytes};
+ghost use Rattle.gq_meaning.specs.Laws.{ExpressionLaw, LookLaw, InputLaw, ContentLaw};
+ghost use Rattle.gq_meaning.specs.Built.{LineLaw};
+
+/// A typed expression is never stuck, and what it is has its type.
+#[tactic(auto, using(crate::proofs::NeverStuck::expression_law_by_name))]
+pub fn no_expression_is_stuck()
+    ensures { ExpressionLaw Bytes }
+{}
+
+/// What is seen of a state that fits its scope has the types of what may be named.
+pub fn a_fitting_state_is_seen_as_typed()
+    ensures { LookLaw Bytes }
+{}
+
+/// A typed input is never stuck, and is one that its kind takes.
+pub fn no_input_is_stuck()
+    ensures { InputLaw Bytes }
+{}
+
+/// Contents keep to values of their types, whatever inputs of their kind they are fed.
+#[tactic(auto, using(crate::proofs::AfterLaws::content_law_by_name))]
+pub fn contents_keep_their_types()
+    ensures { ContentLaw Bytes }
+{}
+
+/// The line of what a query prints is the one that gq_json writes.
+#[tactic(auto, using(crate::proofs::LineLaws::line_law))]
+pub fn one_line()
+    ensures { LineLaw }
+{}

@@ -1,0 +1,2 @@
+//! Types of expressions, statements and queries: definitions and laws.
+#![tactic(auto)]
