@@ -25,3 +25,4 @@ pub mod LookLaws
 pub mod AfterLaws
 pub mod InputLaws
 pub mod LineLaws
+pub mod ContributionLaws

@@ -93,7 +93,7 @@ module _ {N : Type 0} (world : World N) (s : Scope N) where
 
   -- ---- accumulators
 
-  declared_entry : (attached : Bool) (a : N) (k : Accum) → declared_kind s attached a ≡ Ok k → entry s a ≡ Some (Accumulator k attached)
+  pub declared_entry : (attached : Bool) (a : N) (k : Accum) → declared_kind s attached a ≡ Ok k → entry s a ≡ Some (Accumulator k attached)
   declared_entry attached a k e = go (entry s a) refl e
     where
       of_entry : Option Entry → Judged Accum

@@ -1,19 +1,19 @@
 -- Laws: what holds of all typed expressions, blocks, statements and queries.
-use Rattle.std.specs.Prelude.{◌≡◌, ℕ, true, Ok, Bool, false, List, Some}
+use Rattle.std.specs.Prelude.{◌≡◌, ℕ, true, Ok, Bool, false, List, Some, slice_get}
 use Rattle.gq_tree.specs.Tree.{Tree}
 use Rattle.gq_value.specs.Accums.{Accum, Given}
 use Rattle.gq_value.specs.Candidates.{is_target}
 use Rattle.gq_content.specs.Holds.{Holds}
 use Rattle.gq_content.specs.After.{after}
-use Rattle.gq_typing.specs.Selecting.{Input}
+use Rattle.gq_typing.specs.Selecting.{Input, Acts}
 use Rattle.gq_typing.specs.Judging.{Typed}
 use Rattle.gq_typing.specs.Kinds.{read_type}
 use Rattle.gq_typing.specs.ExpressionTypes.{Names, typing}
-use Rattle.gq_typing.specs.ActTypes.{typing_input}
+use Rattle.gq_typing.specs.ActTypes.{typing_input, typing_acts}
 use Rattle.gq_typing.specs.Scopes.{Place, InSelection, Scope, names_at}
 use Rattle.gq_meaning.specs.Expressions.{World, setting, Look, meaning}
 use Rattle.gq_meaning.specs.States.{Thing, Slot, field_of, sight}
-use Rattle.gq_meaning.specs.Blocks.{input_of}
+use Rattle.gq_meaning.specs.Blocks.{Contribution, input_of, contributions}
 use Rattle.gq_meaning.specs.StateFits.{NamesFit, InputFits, AllOf}
 use Rattle.gq_meaning.specs.Fitting.{Safe, Suits, HoldsValues, WorldFits}
 
@@ -48,3 +48,12 @@ InputLaw N = (names : Names N) (look : Look N) → LookFits names look → (k : 
 -- contents keep to values of their types, whatever inputs of their kind they are fed
 abbrev pub ContentLaw : Type 0 → Type 0
 ContentLaw N = (world : World N) (k : Accum) (c : Holds k) (xs : List Given) → HoldsValues world k c → AllOf (InputFits world k) xs → HoldsValues world k (after k c xs)
+
+-- an input is one that its accumulator takes
+abbrev pub Contributes : {N : Type 0} → World N → List (Slot N) → Contribution → Type 0
+Contributes {N = N} world slots x = (slot : Slot N) → slice_get slots x.slot ≡ Some slot → InputFits world slot.kind x.input
+
+-- what a typed ACCUM contributes is never stuck, where names and accumulators fit its scope
+abbrev pub ContributionLaw : Type 0 → Type 0
+ContributionLaw N = (world : World N) (s : Scope N) (names : List (N × Thing)) (slots : List (Slot N)) → NamesFit world s names slots
+    → (acts : Acts N) (n m : ℕ) → typing_acts s false n acts ≡ Ok m → Safe (AllOf (Contributes world slots)) (contributions (sight world names slots slots) slots acts)

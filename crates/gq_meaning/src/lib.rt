@@ -5,7 +5,7 @@
 #![tactic(auto)]
 
 ghost use Rattle.gq_typing.specs.Statements.{Bytes};
-ghost use Rattle.gq_meaning.specs.Laws.{ExpressionLaw, LookLaw, InputLaw, ContentLaw};
+ghost use Rattle.gq_meaning.specs.Laws.{ExpressionLaw, LookLaw, InputLaw, ContentLaw, ContributionLaw};
 ghost use Rattle.gq_meaning.specs.Built.{LineLaw};
 
 /// A typed expression is never stuck, and what it is has its type.
@@ -22,6 +22,11 @@ pub fn a_fitting_state_is_seen_as_typed()
 /// A typed input is never stuck, and is one that its kind takes.
 pub fn no_input_is_stuck()
     ensures { InputLaw Bytes }
+{}
+
+/// What a typed ACCUM contributes is never stuck, and each input is one that its accumulator takes.
+pub fn no_contribution_is_stuck()
+    ensures { ContributionLaw Bytes }
 {}
 
 /// Contents keep to values of their types, whatever inputs of their kind they are fed.

@@ -2,7 +2,7 @@
 use Rattle.std.proofs.Common.{ℕ, zero, suc, Bool, true, false, List, [], ◌∷◌, ◌++◌, Option, Some, None, Ok, Err}
 use Rattle.std.specs.Prelude.{codes}
 use Rattle.gq_tree.specs.Tree.{Tree}
-use Rattle.gq_value.specs.Accums.{INT, DATETIME}
+use Rattle.gq_value.specs.Accums.{INT, STRING, DATETIME}
 use Rattle.gq_typing.specs.Statements.{Bytes, KindTree, Definition, Stmts, Query}
 use Rattle.gq_typing.specs.Sorts.{Sorts, EdgeSort}
 use Rattle.gq_typing.specs.Judging.{TypingFault, Judged}
@@ -15,7 +15,7 @@ knows name forward = record { name = name; directed = true; from = 0; to = 0; fo
 -- all of them are the graph's
 abbrev pub all_sorts : Sorts
 all_sorts = record {
-  vertices = record { name = codes "person"; fields = (codes "age", INT) ∷ [] } ∷ record { name = codes "city"; fields = (codes "size", INT) ∷ [] } ∷ record { name = codes "event"; fields = (codes "at", DATETIME) ∷ [] } ∷ [];
+  vertices = record { name = codes "person"; fields = (codes "age", INT) ∷ (codes "name", STRING) ∷ [] } ∷ record { name = codes "city"; fields = (codes "size", INT) ∷ (codes "name", INT) ∷ [] } ∷ record { name = codes "event"; fields = (codes "at", DATETIME) ∷ [] } ∷ [];
   edges = knows (codes "knows") None ∷ knows (codes "known_by") (Some 0) ∷ record { name = codes "lives"; directed = true; from = 0; to = 1; forward = None; fields = [] } ∷ record { name = codes "near"; directed = false; from = 0; to = 1; forward = None; fields = [] } ∷ [];
   own_vertices = 0 ∷ 1 ∷ 2 ∷ [];
   own_edges = 0 ∷ 1 ∷ 2 ∷ 3 ∷ [];

@@ -1,13 +1,14 @@
 -- TypedSelects: which rule on SELECT fails first, and what is taken.
 use Rattle.std.proofs.Common.{◌≡◌, true, false, [], ◌∷◌, Some, None, refl}
 use Rattle.std.specs.Prelude.{codes}
+use Rattle.gq_tree.specs.declared.expr.AddSign.TheVariants as add
 use Rattle.gq_tree.specs.declared.expr.CmpSign.TheVariants as cmp
 use Rattle.gq_tree.specs.declared.select.Way.TheVariants as way
 use Rattle.gq_tree.specs.declared.kind.Plain.TheVariants as plain
-use Rattle.gq_tree.specs.Tree.{Number, Text, Global, Name, Post, Cmp, And, Field, Method, Attached, Before}
-use Rattle.gq_tree.specs.View.{trees_of, parts_of}
+use Rattle.gq_tree.specs.Tree.{Number, Text, Global, Name, Post, Sum, Cmp, And, Field, Method, Attached, Before}
+use Rattle.gq_tree.specs.View.{trees_of, parts_of, terms_of}
 use Rattle.gq_typing.specs.Selecting.{Plain, Adds, Puts, AtAlias, AtGlobal, Choose, no_act, otherwise, when, Every, These, Nowhere, Path}
-use Rattle.gq_typing.specs.Statements.{Ints, Strings, OfBase, OverElem, Averaged, AllOf, Seeds, Selects, Sets, Whole, Local, Assign, Print, TupleType, Accums}
+use Rattle.gq_typing.specs.Statements.{Ints, Strings, OfBase, OverElem, Averaged, AllOf, Seeds, Selects, Sets, Whole, Selection, Local, Assign, Print, TupleType, Accums}
 use Rattle.gq_typing.specs.Judging.{Mismatch, NotAllowedHere, TwoAliases, TooMany, UnknownName, NoAttribute, OrderDependent, WiderSet, NameTwice}
 use Rattle.gq_typing.proofs.Written.{acts, stmts, item, hop, selecting}
 use Rattle.gq_typing.proofs.Judged.{refused, repeated}
@@ -461,3 +462,15 @@ both_ways_of_one_type : refused true [] (stmts (Assign (codes "S") None (Sets (S
     Assign (codes "T") None (Selects (selecting (codes "t") (codes "S") (Some (codes "s")) (Path (record { ways = ((way.Forward, codes "knows") ∷ (way.Backward, codes "knows") ∷ []); edge_alias = None; targets = (These (codes "person" ∷ [])); target_alias = (Some (codes "t")) } ∷ [])))) ∷
     [])) ≡ None
 both_ways_of_one_type = refl
+
+-- S = {person.*, city.*}; PRINT S[S.name];
+an_attribute_of_two_types : refused false [] (stmts (Assign (codes "S") None (Sets (Seeds (AllOf (codes "person") ∷ AllOf (codes "city") ∷ [])) []) ∷
+    Print (Selection (codes "S") ((item (Post (Name (codes "S")) (parts_of ((Field (codes "name")) ∷ []))) (codes "S.name")) ∷ []) (codes "S") ∷ []) ∷
+    [])) ≡ Some (NoAttribute (codes "name"))
+an_attribute_of_two_types = refl
+
+-- S = {city.*}; PRINT S[S.name + 1 AS n];
+an_attribute_of_one_type : refused false [] (stmts (Assign (codes "S") None (Sets (Seeds (AllOf (codes "city") ∷ [])) []) ∷
+    Print (Selection (codes "S") ((item (Sum (Post (Name (codes "S")) (parts_of ((Field (codes "name")) ∷ []))) (terms_of ((add.Plus, (Number 1)) ∷ []))) (codes "n")) ∷ []) (codes "S") ∷ []) ∷
+    [])) ≡ None
+an_attribute_of_one_type = refl
