@@ -1,0 +1,18 @@
+-- Reference: what stands for a name in a plan.
+use Rattle.std.specs.Prelude.{ℕ}
+use Rattle.gq_typing.specs.Words.{Function, Method}
+use Rattle.gq_resolved.specs.declared.expr.Columns.{Columns}
+
+pub data Reference : Type 0 where
+  -- a variable, a set or an alias: a place of the frame
+  Place : ℕ → Reference
+  -- an accumulator: the number of its slot
+  Slot : ℕ → Reference
+  -- types by their numbers
+  VertexType EdgeType TupleType : ℕ → Reference
+  -- the name of a type, behind a dot
+  TypeName : Reference
+  -- a field: where it stands in each type
+  Column : Columns → Reference
+  Calls : Function → Reference
+  Does : Method → Reference
