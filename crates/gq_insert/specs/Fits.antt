@@ -1,0 +1,100 @@
+-- Fits: when a catalog's types are whole, and when an insert is one of a catalog.
+use Rattle.std.specs.Prelude.{ℕ, ◌<◌, ◌≤◌, ◌≡◌, ◌≢◌, Bool, true, false, ◌&&◌, List, [], ◌∷◌, length, All, None, ℤ, pos}
+use Rattle.std.specs.Fmt.{decimal, signed_decimal}
+use Rattle.std.specs.Option.{option_map_or}
+use Rattle.gq_value.specs.declared.catalog.Attribute.{Attribute}
+use Rattle.gq_value.specs.declared.catalog.EdgeType.{EdgeType}
+use Rattle.gq_value.specs.declared.catalog.VertexType.{VertexType}
+use Rattle.gq_value.specs.declared.catalog.IdKind.{IdKind}
+use Rattle.gq_value.specs.declared.catalog.IdKind.TheVariants as id
+use Rattle.gq_value.specs.declared.kind.Number.TheVariants as number
+use Rattle.gq_value.specs.declared.value.Value.{Value}
+use Rattle.gq_value.specs.Arithmetic.{is_within}
+use Rattle.gq_value.specs.Catalog.{Schema}
+use Rattle.gq_value.specs.Defaults.{Sort, INT, UINT, BOOL, STRING, DATETIME, OTHER, sort_of, is_time}
+use Rattle.gq_value.specs.Val.{Val, Int, UInt, Truth, Text}
+use Rattle.gq_value.specs.Views.{val}
+use Rattle.gq_job.specs.declared.insert.End.{End}
+use Rattle.gq_job.specs.declared.insert.Insert.{Insert}
+use Rattle.gq_job.specs.declared.insert.Insert.TheVariants as insert
+use Rattle.gq_job.specs.Targets.{vertex_type_at, edge_type_at}
+
+-- ---- values and ids
+
+-- a value of an attribute's type. That numbers lie within 64 bits is what the code's values can't but keep to
+abbrev pub is_value : Sort → Val → Bool
+is_value INT (Int z) = true
+is_value UINT (UInt n) = true
+is_value BOOL (Truth b) = true
+is_value STRING (Text s) = true
+is_value DATETIME (Int z) = is_time z
+is_value sort v = false
+
+-- a value for each attribute
+abbrev pub row_fits : List Attribute → List Value → Bool
+row_fits [] [] = true
+row_fits (a ∷ attributes) (v ∷ row) = is_value (sort_of a.kind) (val v) && row_fits attributes row
+row_fits _ _ = false
+
+-- an id as it is kept: a text that isn't empty, or the shortest decimal text of a number
+abbrev pub IsId : IdKind → List ℕ → Type 0
+IsId id.Text text = text ≢ []
+IsId id.Int text = (z : ℤ) × (is_within number.Int z ≡ true) × (text ≡ signed_decimal z)
+IsId id.UInt text = (n : ℕ) × (is_within number.UInt (pos n) ≡ true) × (text ≡ decimal n)
+
+-- ---- catalogs
+
+-- an attribute's default, if it has one, is a value of its type
+abbrev pub has_own_default : Attribute → Bool
+has_own_default a = option_map_or (λ v. is_value (sort_of a.kind) (val v)) a.default true
+
+-- an attribute has a plain type, and its default, if it has one, is a value of it
+abbrev pub AttributeFits : Attribute → Type 0
+AttributeFits a = (sort_of a.kind ≢ OTHER) × (has_own_default a ≡ true)
+
+abbrev pub VertexTypeFits : VertexType → Type 0
+VertexTypeFits t = All AttributeFits t.attributes
+
+-- an edge type's ends are vertex types, and its discriminators are some of its attributes
+pub record EdgeTypeFits (schema : Schema) (t : EdgeType) : Type 0 where
+  pub from : t.from < length schema.vertex_types
+  pub to : t.to < length schema.vertex_types
+  pub key : t.discriminators ≤ length t.attributes
+  pub attributes : All AttributeFits t.attributes
+
+-- all types are whole, as declarations leave them
+pub record IsSound (schema : Schema) : Type 0 where
+  pub vertex_types : All VertexTypeFits schema.vertex_types
+  pub edge_types : All (EdgeTypeFits schema) schema.edge_types
+
+-- ---- inserts
+
+-- an end of a type
+pub record EndFits (schema : Schema) (n : ℕ) (end : End) : Type 0 where
+  pub kind : end.kind ≡ n
+  pub there : n < length schema.vertex_types
+  pub id : IsId (vertex_type_at schema n).id.kind end.id
+  pub missing : row_fits (vertex_type_at schema n).attributes end.missing ≡ true
+
+-- both ends of an edge of a type
+pub record EndsFit (schema : Schema) (n : ℕ) (ends : End × End) : Type 0 where
+  pub from : EndFits schema (edge_type_at schema n).from ends.0
+  pub to : EndFits schema (edge_type_at schema n).to ends.1
+
+pub record VertexFits (schema : Schema) (n : ℕ) (text : List ℕ) (values : List Value) : Type 0 where
+  pub there : n < length schema.vertex_types
+  pub id : IsId (vertex_type_at schema n).id.kind text
+  pub row : row_fits (vertex_type_at schema n).attributes values ≡ true
+
+pub record EdgeFits (schema : Schema) (n : ℕ) (flag : Bool) (count : ℕ) (first second : End) (values : List Value) : Type 0 where
+  pub there : n < length schema.edge_types
+  pub own : (edge_type_at schema n).forward ≡ None
+  pub directed : flag ≡ (edge_type_at schema n).directed
+  pub key : count ≡ (edge_type_at schema n).discriminators
+  pub ends : EndsFit schema n (first, second)
+  pub row : row_fits (edge_type_at schema n).attributes values ≡ true
+
+-- an insert's numbers, flags, ids and rows are those of its type
+abbrev pub InsertFits : Schema → Insert → Type 0
+InsertFits schema (insert.Vertex n text values) = VertexFits schema n text values
+InsertFits schema (insert.Edge n flag count first second values) = EdgeFits schema n flag count first second values

@@ -1,0 +1,10 @@
+//! The records of a file, one after the other.
+//!
+//! Read `specs/Records.antt`: which records a file has. `csv` cuts them.
+#![tactic(auto)]
+
+mod records;
+#[cfg(test)]
+mod tests;
+
+pub use records::Records;

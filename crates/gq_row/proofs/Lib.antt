@@ -1,0 +1,5 @@
+pub mod ColumnLemmas
+pub mod DraftLemmas
+pub mod ListLemmas
+pub mod PlaceLemmas
+pub mod RowLemmas

@@ -1,0 +1,5 @@
+pub mod Columns
+pub mod Routes
+pub mod Rows
+pub mod Drafts
+pub mod Records
