@@ -111,7 +111,7 @@ module _ {K X : Type 0} (row : K → List Val) where
 pub copies_same : (l : Content-F Content) → Copies l l
 copies_same l = record { each = λ k h. (h, refl) }
 
-copies_by : {A : Type 0} (K : A → Accum) (l l' : Content-F Content) (new : Content) → out-Content new ≡ l'
+pub copies_by : {A : Type 0} (K : A → Accum) (l l' : Content-F Content) (new : Content) → out-Content new ≡ l'
     → ((k : Accum) → HasForm l k → (a : A) × (k ≡ K a))
     → ((a : A) → Deep (K a) l → IsOf (K a) l' × (view (K a) l' ≡ view (K a) l))
     → Copies l (out-Content new)

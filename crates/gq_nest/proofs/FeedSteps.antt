@@ -1,5 +1,5 @@
 -- FeedSteps: one more input, at each variant.
-use Rattle.std.proofs.Common.{if◌then◌else◌, ◌≡◌, Bool, true, false, List, [], ◌∷◌, ◌++◌, map, take, Result, Ok, Err, OnOk, refl, sym, ap, ◌∙◌, subst, subst₂}
+use Rattle.std.proofs.Common.{if◌then◌else◌, ◌≡◌, Bool, true, false, List, [], ◌∷◌, ◌++◌, map, Result, Ok, Err, OnOk, refl, sym, ap, ◌∙◌, subst, subst₂}
 use Rattle.std.specs.Ordering.{is_eq}
 use Rattle.std.specs.BTreeMap.{BTreeMap}
 use Rattle.std.specs.BTreeSet.{BTreeSet}
@@ -41,7 +41,7 @@ pub by_kind : {A : Type 0} (K : A → Accum) (l : Content-F Content) → ((k : A
     → ((a : A) → Deep (K a) l → Q (K a)) → (k : Accum) → IsOf k l → Q k
 by_kind K l known Q step k of_kind = let s = known k of_kind.0 in subst (λ (j : Accum). Deep j l → Q j) (sym s.1) (step s.0) of_kind.1
 
-feeds_by : {A : Type 0} (K : A → Accum) (l l' : Content-F Content) (new : Content) (x : Given) → out-Content new ≡ l'
+pub feeds_by : {A : Type 0} (K : A → Accum) (l l' : Content-F Content) (new : Content) (x : Given) → out-Content new ≡ l'
     → ((k : Accum) → HasForm l k → (a : A) × (k ≡ K a))
     → ((a : A) → Deep (K a) l → IsProper (K a) (view (K a) l) → HasRoom (K a) (view (K a) l) → suits (K a) x ≡ true → IsOf (K a) l' × (view (K a) l' ≡ after (K a) (view (K a) l) (x ∷ [])))
     → Feeds l x (out-Content new)
@@ -65,7 +65,7 @@ put_more vs v = sym (ap (put place false v) (gathered_into place place_linear fa
     ∙ sym (past (put place false) (put_commutes place place_linear false) v (distinct place vs) [])
     ∙ sym (into-append (put place false) (put_commutes place place_linear false) (distinct place vs) (v ∷ []) [])
 
-rows_more : (vs : List (List Val)) (v : List Val) → put row_cmp false v (distinct row_cmp vs) ≡ distinct row_cmp (distinct row_cmp vs ++ v ∷ [])
+pub rows_more : (vs : List (List Val)) (v : List Val) → put row_cmp false v (distinct row_cmp vs) ≡ distinct row_cmp (distinct row_cmp vs ++ v ∷ [])
 rows_more vs v = sym (ap (put row_cmp false v) (gathered_into row_cmp row_linear false vs []))
     ∙ sym (past (put row_cmp false) (put_commutes row_cmp row_linear false) v (distinct row_cmp vs) [])
     ∙ sym (into-append (put row_cmp false) (put_commutes row_cmp row_linear false) (distinct row_cmp vs) (v ∷ []) [])
@@ -84,9 +84,9 @@ feed_list xs ys v d = feeds_by ListAccum (Content-F.List xs) (Content-F.List ys)
 
 pub feed_heap : (h g : Heap) (v : Val) → TakesTuples h (v ∷ []) g → Feeds (Content-F.Heap h) (One v) (out-Content (made.Heap g))
 feed_heap h g v d = feeds_by (λ b. HeapAccum b h.capacity h.order) (Content-F.Heap h) (Content-F.Heap g) (made.Heap g) (One v) (opened-Heap g) (λ k h. h)
-    (λ b deep proper room suit. (
-      ((b, λ i. HeapAccum b (sym d.capacity i) (sym d.order i)), tt),
-      d.first ∙ sym (top_cut (heap_cmp h.order) (heap_linear h.order) h.capacity (map val h.tuples) (v ∷ [])),
+    (λ b deep proper room suit. let t = d.each deep in (
+      ((b, λ i. HeapAccum b (sym d.capacity i) (sym d.order i)), t.0),
+      t.1 ∙ sym (top_cut (heap_cmp h.order) (heap_linear h.order) h.capacity (map val h.tuples) (v ∷ [])),
     ))
 
 -- an input under a key
@@ -123,9 +123,6 @@ map_of p = MapAccum p.0 p.1
 pub feed_map : (o : Content) (m m' : BTreeMap Value Content) (v : Val) (y : Given) → FeedsAt o m.entries (v ∷ []) y m'.entries → Feeds (Content-F.Map o m) (Keyed (v ∷ []) (given_and y no_given)) (out-Content (made.Map o m'))
 feed_map o m m' v y c = feeds_by map_of (Content-F.Map o m) (Content-F.Map o m') (made.Map o m') (Keyed (v ∷ []) (given_and y no_given)) (opened-Map o m') (λ k h. ((h.0, h.1), h.2))
     (λ p. entered_all o m m' v y c p.0 p.1)
-
-pub takes_more : (h g : Heap) (more : List Val) → g.capacity ≡ h.capacity → g.order ≡ h.order → map val g.tuples ≡ map val h.tuples ++ more → TakesTuples h more g
-takes_more h g more c o t = record { capacity = c; order = o; first = ap (λ l. take h.capacity (sorted (heap_cmp h.order) l)) t }
 
 pub feed_keyed : (o : Content) (m m' : BTreeMap Value Content) (row : List Value) (xs : List Input) (key : Value) (x : Input) → row ≡ key ∷ [] → xs ≡ x ∷ []
     → FeedsAt o m.entries (val key ∷ []) (given x) m'.entries → Feeds (Content-F.Map o m) (Keyed (map val row) (givens (map given xs))) (out-Content (made.Map o m'))

@@ -1,5 +1,5 @@
 -- FreshSteps: what each arm of `fresh` gives.
-use Rattle.std.proofs.Common.{◌≡◌, zero, suc, Bool, ℕ, List, [], map, take, None, refl, sym, ap, ◌∙◌, subst}
+use Rattle.std.proofs.Common.{◌≡◌, zero, suc, Bool, ℕ, List, [], map, take, None, refl, sym, ap, ◌∙◌, subst, arith}
 use Rattle.std.specs.BTreeMap.{BTreeMap}
 use Rattle.std.specs.BTreeSet.{BTreeSet}
 use Rattle.gq_value.specs.declared.value.Value.{Value}
@@ -21,13 +21,14 @@ use Rattle.gq_accum.specs.Scalars.{kind_of, content, IsFresh}
 use Rattle.gq_nest.specs.declared.content.Heap.{Heap}
 use Rattle.gq_nest.specs.declared.content.Content.{Content, Content-F, out-Content}
 use Rattle.gq_nest.specs.declared.content.Content.TheVariants as made
+use Rattle.gq_nest.specs.Heaps.{AreKept}
 use Rattle.gq_nest.specs.Entries.{key_row, at_or, rows, under}
 use Rattle.gq_nest.specs.Forms.{view, IsOf}
 use Rattle.gq_nest.specs.Shows.{Shows}
 use Rattle.gq_nest.proofs.LevelLemmas.{opened-Scalar, opened-Set, opened-Bag, opened-List, opened-Heap, opened-Map, scalar_view, scalar_deep}
 
 -- from a level of a known kind
-shows_at : (k k0 : Accum) (c : Content) (l : Content-F Content) → k ≡ k0 → out-Content c ≡ l → IsOf k0 l → view k0 l ≡ fresh k0 → Shows k c (fresh k)
+pub shows_at : (k k0 : Accum) (c : Content) (l : Content-F Content) → k ≡ k0 → out-Content c ≡ l → IsOf k0 l → view k0 l ≡ fresh k0 → Shows k c (fresh k)
 shows_at k k0 c l e o of_kind opening = subst (λ (a : Accum). Shows a c (fresh a)) (sym e) (record {
   of_kind = subst (IsOf k0) (sym o) of_kind;
   holds = ap (view k0) o ∙ opening;
@@ -58,8 +59,13 @@ take_none (suc n) by = refl
 pub fresh_heap : (k : Kind) (s : HeapShape) (h : Heap) → k ≡ kind.Heap s → h.capacity ≡ s.capacity → h.order ≡ s.order → h.tuples ≡ [] → Shows (accum_of k) (made.Heap h) (fresh (accum_of k))
 fresh_heap k s h e cap ord empty =
     let b = TUPLE s.tuple (bases (map base_of s.fields)) in
-    shows_at (accum_of k) (HeapAccum b s.capacity s.order) (made.Heap h) (Content-F.Heap h) (ap accum_of e ∙ accum_of-Heap s) (opened-Heap h)
-    ((b, λ i. HeapAccum b (sym cap i) (sym ord i)), tt)
+    shows_at (accum_of k) (HeapAccum b s.capacity s.order) (made.Heap h) (Content-F.Heap h) (ap accum_of e ∙ accum_of-Heap s) (opened-Heap h) (
+      (b, λ i. HeapAccum b (sym cap i) (sym ord i)),
+      subst (λ ts. AreKept s.capacity s.order (map val ts)) (sym empty) (record {
+        few = omega arith;
+        heaped = record { each = λ p c a l. absurd (omega (arith, l)) };
+      }),
+    )
     (ap (λ ks. take s.capacity (sorted (heap_cmp s.order) (map val ks))) empty ∙ take_none s.capacity s.order)
 
 pub fresh_map : (k : Kind) (t : BaseType) (j : Kind) (o : Content) (m : BTreeMap Value Content) → k ≡ kind.Map t j → Shows (accum_of j) o (fresh (accum_of j)) → m.entries ≡ [] → Shows (accum_of k) (made.Map o m) (fresh (accum_of k))

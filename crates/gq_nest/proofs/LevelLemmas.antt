@@ -2,6 +2,7 @@
 use Rattle.std.proofs.Common.{◌≡◌, List, refl, sym, ap, ◌∙◌}
 use Rattle.std.specs.BTreeMap.{BTreeMap}
 use Rattle.std.specs.BTreeSet.{BTreeSet}
+use Rattle.std.specs.Global.{Vec}
 use Rattle.gq_value.specs.declared.value.Value.{Value}
 use Rattle.gq_accum.specs.declared.scalar.Scalar.{Scalar}
 use Rattle.gq_accum.specs.declared.scalar.Scalar.TheVariants.{SumInt, SumUInt, MinInt, MinUInt, MaxInt, MaxUInt, Or, And, BitOr, BitAnd, Avg}
@@ -29,10 +30,13 @@ opened-Heap h = ap out-Content (sym (made.rolls-Heap h)) ∙ out-roll-Content (C
 pub opened-Map : (o : Content) (m : BTreeMap Value Content) → out-Content (made.Map o m) ≡ Content-F.Map o m
 opened-Map o m = ap out-Content (sym (made.rolls-Map o m)) ∙ out-roll-Content (Content-F.Map o m)
 
+pub opened-Group : (os : List Content) (m : BTreeMap (Vec Value) (List Content)) → out-Content (made.Group os m) ≡ Content-F.Group os m
+opened-Group os m = ap out-Content (sym (made.rolls-Group os m)) ∙ out-roll-Content (Content-F.Group os m)
+
 pub opened-Spoiled : out-Content made.Spoiled ≡ Content-F.Spoiled
 opened-Spoiled = ap out-Content (sym made.rolls-Spoiled) ∙ out-roll-Content Content-F.Spoiled
 
-pub ruleset opened = (opened-Scalar, opened-Set, opened-Bag, opened-List, opened-Heap, opened-Map, opened-Spoiled)
+pub ruleset opened = (opened-Scalar, opened-Set, opened-Bag, opened-List, opened-Heap, opened-Map, opened-Group, opened-Spoiled)
 
 -- a scalar is read as a content of its own kind
 pub scalar_view : (s : Scalar) (l : Content-F Content) → view (kind_of s) l ≡ content (kind_of s) (scalar_in l)

@@ -10,3 +10,9 @@ pub mod SortSteps
 pub mod TellSteps
 pub mod ReadSteps
 pub mod FitSteps
+pub mod PartSteps
+pub mod GroupLemmas
+pub mod GroupSteps
+pub mod GroupMerges
+pub mod HeapLemmas
+pub mod HeapSteps

@@ -29,7 +29,7 @@ use Rattle.gq_nest.proofs.LevelLemmas.{opened-Scalar, opened-Set, opened-Bag, op
 use Rattle.gq_nest.proofs.FeedSteps.{by_kind, map_of}
 use Rattle.gq_nest.proofs.CopySteps.{Rising, first_under, later_under, other_under}
 
-merges_by : {A : Type 0} (K : A → Accum) (l o l' : Content-F Content) (new : Content) → out-Content new ≡ l'
+pub merges_by : {A : Type 0} (K : A → Accum) (l o l' : Content-F Content) (new : Content) → out-Content new ≡ l'
     → ((k : Accum) → HasForm l k → (a : A) × (k ≡ K a))
     → ((a : A) → Deep (K a) l → IsOf (K a) o → IsProper (K a) (view (K a) l) → HasRoom (K a) (view (K a) l) → HasRoom (K a) (view (K a) o) → IsOf (K a) l' × (view (K a) l' ≡ merged (K a) (view (K a) l) (view (K a) o)))
     → Merges l o (out-Content new)
@@ -55,7 +55,7 @@ keys_both xs ys = swap_into (put place false) (put_commutes place place_linear f
     ∙ sym (into-append (put place false) (put_commutes place place_linear false) (distinct place ys) xs [])
     ∙ sym (gather_part place place_linear false (distinct place ys) xs)
 
-rows_both : (xs ys : List (List Val)) → into (put row_cmp false) xs (distinct row_cmp ys) ≡ distinct row_cmp (distinct row_cmp ys ++ distinct row_cmp xs)
+pub rows_both : (xs ys : List (List Val)) → into (put row_cmp false) xs (distinct row_cmp ys) ≡ distinct row_cmp (distinct row_cmp ys ++ distinct row_cmp xs)
 rows_both xs ys = swap_into (put row_cmp false) (put_commutes row_cmp row_linear false) xs ys []
     ∙ sym (gathered_into row_cmp row_linear false ys (distinct row_cmp xs))
     ∙ sym (into-append (put row_cmp false) (put_commutes row_cmp row_linear false) (distinct row_cmp ys) xs [])
@@ -75,9 +75,9 @@ merge_list xs zs ys d = merges_by ListAccum (Content-F.List xs) (Content-F.List 
 
 pub merge_heap : (h o g : Heap) → TakesTuples h (map val o.tuples) g → Merges (Content-F.Heap h) (Content-F.Heap o) (out-Content (made.Heap g))
 merge_heap h o g d = merges_by (λ b. HeapAccum b h.capacity h.order) (Content-F.Heap h) (Content-F.Heap o) (Content-F.Heap g) (made.Heap g) (opened-Heap g) (λ k h. h)
-    (λ b deep other proper room also. (
-      ((b, λ i. HeapAccum b (sym d.capacity i) (sym d.order i)), tt),
-      d.first ∙ sym (top_cut (heap_cmp h.order) (heap_linear h.order) h.capacity (map val h.tuples) (map val o.tuples))
+    (λ b deep other proper room also. let t = d.each deep in (
+      ((b, λ i. HeapAccum b (sym d.capacity i) (sym d.order i)), t.0),
+      t.1 ∙ sym (top_cut (heap_cmp h.order) (heap_linear h.order) h.capacity (map val h.tuples) (map val o.tuples))
           ∙ sym (top_part (heap_cmp h.order) (heap_linear h.order) h.capacity (take h.capacity (sorted (heap_cmp h.order) (map val h.tuples))) (map val o.tuples)),
     ))
 

@@ -39,7 +39,7 @@ of_level Q c l o each k h s = subst (Q k) s.holds (subst (λ m. (j : Accum) → 
 
 -- an answer for the kinds that a level may be of, is one for each kind that it is of
 module _ {A : Type 0} (c : Content) (a : A) (f : (k : Accum) → Holds k → A) where
-  tells_by : {B : Type 0} (K : B → Accum) (l : Content-F Content) → out-Content c ≡ l → ((k : Accum) → HasForm l k → (b : B) × (k ≡ K b)) → ((b : B) → a ≡ f (K b) (view (K b) l)) → Tells c a f
+  pub tells_by : {B : Type 0} (K : B → Accum) (l : Content-F Content) → out-Content c ≡ l → ((k : Accum) → HasForm l k → (b : B) × (k ≡ K b)) → ((b : B) → a ≡ f (K b) (view (K b) l)) → Tells c a f
   tells_by K l o known step = record { each = of_level (λ k h. a ≡ f k h) c l o (by_kind K l known (λ k. a ≡ f k (view k l)) (λ b deep. step b)) }
 
   pub tells_scalar : (s : Scalar) → c ≡ made.Scalar s → a ≡ f (kind_of s) (content (kind_of s) s) → Tells c a f

@@ -3,6 +3,7 @@
 use Rattle.std.specs.Prelude.{if◌then◌else◌, ◌≡◌, Bool, false, List, [], ◌∷◌, map, Option, Some, None}
 use Rattle.std.specs.Ordering.{is_eq}
 use Rattle.std.specs.Map.{lookup}
+use Rattle.std.specs.Global.{Vec}
 use Rattle.gq_value.specs.declared.value.Value.{Value}
 use Rattle.gq_value.specs.Val.{Val}
 use Rattle.gq_value.specs.Views.{val}
@@ -13,6 +14,10 @@ use Rattle.gq_content.specs.Holds.{row_cmp}
 abbrev pub key_row : Value → List Val
 key_row v = val v ∷ []
 
+-- the key row of a group
+abbrev pub group_row : Vec Value → List Val
+group_row row = map val row.items
+
 -- each of a list is so
 abbrev pub every : {A : Type 0} → (A → Type 0) → List A → Type 0
 every P [] = Unit {0}
@@ -22,6 +27,18 @@ every P (x ∷ xs) = P x × every P xs
 abbrev pub at_or : {A B : Type 0} → (A → B) → B → Option A → B
 at_or f d None = d
 at_or f d (Some x) = f x
+
+-- two lists are as long, and so are those in one place
+abbrev pub Pairs : {X Y : Type 0} → (X → Y → Type 0) → List X → List Y → Type 0
+Pairs R [] [] = Unit {0}
+Pairs R (x ∷ xs) (y ∷ ys) = R x y × Pairs R xs ys
+Pairs R _ _ = ⊥
+
+-- as many as before, and each has made a step, by what stands in its place
+abbrev pub StepsEach : {X Y : Type 0} → (X → Y → X → Type 0) → List X → List Y → List X → Type 0
+StepsEach step [] [] [] = Unit {0}
+StepsEach step (x ∷ old) (y ∷ ys) (z ∷ new) = step x y z × StepsEach step old ys new
+StepsEach step _ _ _ = ⊥
 
 -- whether a key has this row
 abbrev pub is_row : {K : Type 0} → (K → List Val) → List Val → K → Bool

@@ -1,12 +1,15 @@
 -- Shows: what a content is to its callers.
 -- A content shows what it holds for a kind. Each call says which showing becomes which; the code reads and writes one level.
-use Rattle.std.specs.Prelude.{◌≡◌, Bool, true, false, List, [], ◌∷◌}
-use Rattle.gq_value.specs.Accums.{Accum, Given, One, Keyed}
+use Rattle.std.specs.Prelude.{◌≡◌, ℕ, Bool, true, false, List, [], ◌∷◌}
+use Rattle.gq_value.specs.Accums.{Accum, Parts, no_part, part_and, Given, One, Keyed}
+use Rattle.gq_value.specs.AccumViews.{accum_of}
+use Rattle.gq_value.specs.declared.kind.Kind.{Kind}
 use Rattle.gq_value.specs.Typed.{suits}
-use Rattle.gq_content.specs.Holds.{Holds}
+use Rattle.gq_content.specs.Holds.{Holds, HoldsEach}
 use Rattle.gq_content.specs.After.{fresh, after, merged}
 use Rattle.gq_content.specs.Fits.{HasRoom, IsProper}
 use Rattle.gq_nest.specs.declared.content.Content.{Content, Content-F, out-Content}
+use Rattle.gq_nest.specs.Entries.{Pairs}
 use Rattle.gq_nest.specs.Forms.{view, IsOf}
 
 -- c is a content of the kind, isn't spoiled, and holds this, which inputs can lead to
@@ -47,3 +50,13 @@ pub record TakesContent (old other new : Content) : Type 0 where
 -- whatever the one shows, the other shows
 pub record ShowsTheSame (old new : Content) : Type 0 where
   pub each : (k : Accum) (h : Holds k) → Shows k old h → Shows k new h
+
+-- each part before any input
+abbrev pub AreFresh : List (List ℕ × Kind) → List Content → Type 0
+AreFresh = Pairs (λ p c. Shows (accum_of p.1) c (fresh (accum_of p.1)))
+
+-- each part shows what is held in its place
+abbrev pub ShowEach : (ps : Parts) → List Content → HoldsEach ps → Type 0
+ShowEach no_part [] h = Unit {0}
+ShowEach (part_and name k ps) (c ∷ cs) h = Shows k c h.0 × ShowEach ps cs h.1
+ShowEach _ _ _ = ⊥

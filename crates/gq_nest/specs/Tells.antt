@@ -1,16 +1,16 @@
 -- Tells: what a content tells its readers.
 -- An answer is a function of what the content shows, whatever its kind. The code looks at the uppermost level.
-use Rattle.std.specs.Prelude.{◌≡◌, ℕ, Bool, true, false, List, [], length}
+use Rattle.std.specs.Prelude.{◌≡◌, ℕ, zero, suc, Bool, true, false, List, [], length}
 use Rattle.gq_value.specs.Val.{Val}
 use Rattle.gq_value.specs.Order.{place}
-use Rattle.gq_value.specs.Accums.{Base, Accum, AvgAccum, SetAccum, BagAccum, ListAccum, MapAccum, GroupByAccum, HeapAccum}
+use Rattle.gq_value.specs.Accums.{Base, Accum, AvgAccum, SetAccum, BagAccum, ListAccum, MapAccum, GroupByAccum, HeapAccum, Parts, no_part, part_and}
 use Rattle.gq_value.specs.Typed.{is_scalar, takes}
 use Rattle.gq_content.specs.Gather.{among}
-use Rattle.gq_content.specs.Holds.{Holds, row_cmp}
-use Rattle.gq_content.specs.Fits.{fits}
+use Rattle.gq_content.specs.Holds.{Holds, HoldsEach, row_cmp}
+use Rattle.gq_content.specs.Fits.{fits, fit}
 use Rattle.gq_content.specs.Reads.{set_to}
 use Rattle.gq_nest.specs.declared.content.Content.{Content}
-use Rattle.gq_nest.specs.Shows.{Shows}
+use Rattle.gq_nest.specs.Shows.{Shows, ShowEach}
 
 -- the elements of a set, bag, list or heap, in order; other kinds have none
 abbrev pub elements_of : (k : Accum) → Holds k → List Val
@@ -50,6 +50,30 @@ pub record LacksKey (c : Content) (key : List Val) : Type 0 where
 -- a map holds the key, and this stands there
 pub record HasKey (c : Content) (key : List Val) (part : Content) : Type 0 where
   pub each : (b : Base) (k : Accum) (h : Holds (MapAccum b k)) → Shows (MapAccum b k) c h → (among row_cmp key h.0 ≡ true) × Shows k part (h.1 key)
+
+-- what the part at a place holds is what a content shows
+abbrev pub ShowsPart : (ps : Parts) → ℕ → HoldsEach ps → Content → Type 0
+ShowsPart no_part i h c = ⊥
+ShowsPart (part_and name k ps) zero h c = Shows k c h.0
+ShowsPart (part_and name k ps) (suc i) h c = ShowsPart ps i h.1 c
+
+-- whether there is a part at a place
+abbrev pub has_part : Parts → ℕ → Bool
+has_part no_part i = false
+has_part (part_and name k ps) zero = true
+has_part (part_and name k ps) (suc i) = has_part ps i
+
+-- a group doesn't hold the key row, if it has such a part
+pub record LacksPart (c : Content) (key : List Val) (i : ℕ) : Type 0 where
+  pub each : (keys : List (List ℕ × Base)) (ps : Parts) (h : Holds (GroupByAccum keys ps)) → Shows (GroupByAccum keys ps) c h → has_part ps i ≡ true → among row_cmp key h.0 ≡ false
+
+-- a group holds the key row, and this is its part there
+pub record HasPart (c : Content) (key : List Val) (i : ℕ) (part : Content) : Type 0 where
+  pub each : (keys : List (List ℕ × Base)) (ps : Parts) (h : Holds (GroupByAccum keys ps)) → Shows (GroupByAccum keys ps) c h → (among row_cmp key h.0 ≡ true) × ShowsPart ps i (h.1 key) part
+
+-- the answer is whether all that some parts show fits
+pub record EachTells (cs : List Content) (answer : Bool) : Type 0 where
+  pub each : (ps : Parts) (h : HoldsEach ps) → ShowEach ps cs h → answer ≡ fit ps h
 
 -- one number, truth or average that is within its type
 pub record IsFitting (c : Content) : Type 0 where

@@ -29,11 +29,17 @@ pub enum Content {
     Heap(Heap),
     /// What a new key begins with, and what stands at each key.
     Map(Boxed<Content>, BTreeMap<Value, Content>),
+    /// What the parts of a new key row begin with, and the parts at each key row.
+    Group(Parts, BTreeMap<Vec<Value>, Parts>),
     /// What is left of a content after want of memory.
     Spoiled,
 }
 
-/// The tuples of a heap, in no order: all that may be among its first, and at most twice its capacity and one.
+/// The parts of a group, in order of declaration.
+pub type Parts = List<Content>;
+
+/// The first tuples of a heap, at most as many as its capacity. The last of them stands in front, and each is at most the one
+/// above it, by its place.
 #[derive(Drop)]
 pub struct Heap {
     pub(crate) capacity: u32,
@@ -61,7 +67,8 @@ impl Content {
             | Content::Bag(_)
             | Content::List(_)
             | Content::Heap(_)
-            | Content::Map(_, _) => false,
+            | Content::Map(_, _)
+            | Content::Group(_, _) => false,
         }
     }
 

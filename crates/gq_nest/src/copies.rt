@@ -1,9 +1,9 @@
 // Copies.
-ghost use Rattle.std.specs.Prelude.{IfOk};
+ghost use Rattle.std.specs.Prelude.{◌≡◌, IfOk};
 ghost use Rattle.gq_nest.specs.declared.content.Content.{out-Content};
-ghost use Rattle.gq_nest.specs.Forms.{Copies, CopiesEntries, entries_in};
+ghost use Rattle.gq_nest.specs.Forms.{Copies, CopiesEntries, CopiesGroups, CopyEach, entries_in, groups_in};
 
-use crate::content::{Content, Heap};
+use crate::content::{Content, Heap, Parts};
 use crate::more::{add_keys, put_entry};
 use gq_list::{Boxed, List, Memory};
 use gq_value::{Value, duplicate_row};
@@ -34,8 +34,54 @@ pub(crate) fn duplicate(alloc: Global, content: &Content) -> Result<Content, Mem
             let copy = duplicate_entries(alloc, content)?;
             Ok(Content::Map(Boxed::new(alloc, opening)?, copy))
         }
+        Content::Group(openings, _) => {
+            let openings = duplicate_parts(alloc, openings.as_slice())?;
+            let copy = duplicate_groups(alloc, content)?;
+            Ok(Content::Group(openings, copy))
+        }
         Content::Spoiled => Err(Memory),
     }
+}
+
+/// Contents that hold the same, in the same order.
+#[cycle(copying)]
+pub(crate) fn duplicate_parts(alloc: Global, parts: &[Content]) -> Result<Parts, Memory>
+    ensures { IfOk result (CopyEach parts.now) }
+{
+    let mut copy = List::from_vec(Vec::with_capacity(alloc, parts.len())?);
+    for part in parts {
+        copy.push(duplicate(alloc, part)?)?;
+    }
+    Ok(copy)
+}
+
+/// The key rows of a group, with their parts, once more.
+#[cycle(copying)]
+fn duplicate_groups(alloc: Global, content: &Content) -> Result<BTreeMap<Vec<Value>, Parts>, Memory>
+    ensures { IfOk result (λ copy. CopiesGroups (groups_in (out-Content content.now)) copy.entries) }
+{
+    match content {
+        Content::Group(_, groups) => {
+            let mut copy = BTreeMap::new(alloc);
+            for (row, parts) in groups {
+                let parts = duplicate_parts(alloc, parts.as_slice())?;
+                put_entry(&mut copy, key_row(alloc, row.as_slice())?, parts)?;
+            }
+            Ok(copy)
+        }
+        _ => Err(Memory),
+    }
+}
+
+/// A copy of a key row.
+pub(crate) fn key_row(alloc: Global, row: &[Value]) -> Result<Vec<Value>, Memory>
+    ensures { IfOk result (λ copy. copy.items ≡ row.now) }
+{
+    let mut copy = Vec::with_capacity(alloc, row.len())?;
+    for value in row {
+        copy.push(value.duplicate(alloc)?)?;
+    }
+    Ok(copy)
 }
 
 /// The entries of a map once more.

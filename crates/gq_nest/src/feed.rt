@@ -1,14 +1,14 @@
 // One more input.
-ghost use Rattle.std.specs.Prelude.{◌≡◌, ◌∷◌, [], true, OnOk, IsOk, IsErr};
+ghost use Rattle.std.specs.Prelude.{◌≡◌, ◌∷◌, [], true, map, OnOk, IsOk, IsErr};
 ghost use Rattle.gq_value.specs.Accums as plain;
 ghost use Rattle.gq_value.specs.Views.{val};
 ghost use Rattle.gq_value.specs.AccumViews.{given};
 ghost use Rattle.gq_nest.specs.declared.content.Content.{out-Content};
-ghost use Rattle.gq_nest.specs.Forms.{Feeds, FeedsAt};
+ghost use Rattle.gq_nest.specs.Forms.{Feeds, FeedsAt, FeedsEach, FeedsGroup};
 ghost use Rattle.gq_nest.specs.Shows.{is_one, is_plain, is_spoiled};
 
-use crate::content::Content;
-use crate::copies::duplicate;
+use crate::content::{Content, Parts};
+use crate::copies::{duplicate, duplicate_parts, key_row};
 use crate::more::{add_item, add_key, push_item, put_entry};
 use gq_accum::Fold;
 use gq_list::Memory;
@@ -33,6 +33,15 @@ pub(crate) fn feed(alloc: Global, content: &mut Content, input: &Input) -> Resul
                 },
                 _ => Err(Memory),
             },
+            Content::Group(openings, groups) => {
+                feed_group(
+                    alloc,
+                    inputs.as_slice(),
+                    openings.as_slice(),
+                    groups,
+                    row.as_slice(),
+                )
+            }
             _ => Err(Memory),
         },
     }
@@ -53,7 +62,7 @@ fn feed_one(alloc: Global, content: &mut Content, value: &Value) -> Result<(), M
         Content::Bag(items) => add_item(alloc, items, value),
         Content::List(items) => add_item(alloc, items, value),
         Content::Heap(heap) => heap.add(alloc, value),
-        Content::Map(_, _) | Content::Spoiled => Err(Memory),
+        Content::Map(_, _) | Content::Group(_, _) | Content::Spoiled => Err(Memory),
     }
 }
 
@@ -76,6 +85,41 @@ fn feed_entry(
             put_entry(entries, key.duplicate(alloc)?, part)
         }
     }
+}
+
+/// Takes an input for each part under a key row, whose parts begin with the openings where it is new.
+#[cycle(feeding)]
+fn feed_group(
+    alloc: Global,
+    inputs: &[Input],
+    openings: &[Content],
+    groups: &mut BTreeMap<Vec<Value>, Parts>,
+    row: &[Value],
+) -> Result<(), Memory>
+    ensures { OnOk result (FeedsGroup openings.now groups.old.entries (map val row.now) (map given inputs.now) groups.new.entries) }
+{
+    match groups.get_mut(row) {
+        Some(parts) => feed_parts(alloc, inputs, parts),
+        None => {
+            let mut parts = duplicate_parts(alloc, openings)?;
+            feed_parts(alloc, inputs, &mut parts)?;
+            put_entry(groups, key_row(alloc, row)?, parts)
+        }
+    }
+}
+
+/// Takes an input for each part.
+#[cycle(feeding)]
+fn feed_parts(alloc: Global, inputs: &[Input], parts: &mut Parts) -> Result<(), Memory>
+    ensures { OnOk result (FeedsEach parts.old (map given inputs.now) parts.new) }
+{
+    if inputs.len() != parts.len() {
+        return Err(Memory);
+    }
+    for (i, input) in inputs.iter().enumerate() {
+        feed(alloc, parts.at_mut(i), input)?;
+    }
+    Ok(())
 }
 
 /// Takes one value more, last of a list. Another content is answered as want of memory.

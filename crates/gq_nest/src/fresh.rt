@@ -2,12 +2,12 @@
 ghost use Rattle.std.specs.Prelude.{◌≡◌, [], IfOk};
 ghost use Rattle.gq_value.specs.AccumViews.{accum_of};
 ghost use Rattle.gq_content.specs.After as model;
-ghost use Rattle.gq_nest.specs.Shows.{Shows};
+ghost use Rattle.gq_nest.specs.Shows.{Shows, AreFresh};
 
-use crate::content::{Content, Heap};
+use crate::content::{Content, Heap, Parts};
 use gq_accum::Scalar;
 use gq_list::{Boxed, List, Memory};
-use gq_value::Kind;
+use gq_value::{Kind, Txt};
 use std::alloc::Global;
 use std::collections::{BTreeMap, BTreeSet};
 
@@ -38,6 +38,21 @@ pub(crate) fn fresh(alloc: Global, kind: &Kind) -> Result<Content, Memory>
             let opening = fresh(alloc, values.get())?;
             Ok(Content::Map(Boxed::new(alloc, opening)?, BTreeMap::new(alloc)))
         }
-        Kind::Group(_) => Err(Memory),
+        Kind::Group(shape) => Ok(Content::Group(
+            fresh_parts(alloc, shape.parts.as_slice())?,
+            BTreeMap::new(alloc),
+        )),
     }
+}
+
+/// The contents of a group's parts before any input.
+#[cycle(openings)]
+fn fresh_parts(alloc: Global, parts: &[(Txt, Kind)]) -> Result<Parts, Memory>
+    ensures { IfOk result (AreFresh parts.now) }
+{
+    let mut contents = List::new(alloc);
+    for (_, kind) in parts {
+        contents.push(fresh(alloc, kind)?)?;
+    }
+    Ok(contents)
 }

@@ -17,5 +17,5 @@ mod rows;
 #[cfg(test)]
 mod tests;
 
-pub use content::{Content, Heap};
+pub use content::{Content, Heap, Parts};
 pub use reads::Keys;

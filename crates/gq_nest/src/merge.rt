@@ -1,12 +1,12 @@
 // Contents merged into contents.
-ghost use Rattle.std.specs.Prelude.{◌≡◌, ◌∷◌, [], true, OnOk, IsOk, IsErr};
+ghost use Rattle.std.specs.Prelude.{◌≡◌, ◌∷◌, [], true, map, OnOk, IsOk, IsErr};
 ghost use Rattle.gq_value.specs.Views.{val};
 ghost use Rattle.gq_nest.specs.declared.content.Content.{out-Content};
-ghost use Rattle.gq_nest.specs.Forms.{Merges, MergesAt, Unites, entries_in};
+ghost use Rattle.gq_nest.specs.Forms.{Merges, MergesAt, MergesEach, MergesGroup, Unites, UnitesGroups, entries_in, groups_in};
 ghost use Rattle.gq_nest.specs.Shows.{is_plain, is_spoiled};
 
-use crate::content::Content;
-use crate::copies::duplicate;
+use crate::content::{Content, Parts};
+use crate::copies::{duplicate, duplicate_parts, key_row};
 use crate::more::{add_items, add_keys, put_entry};
 use gq_accum::Fold;
 use gq_list::Memory;
@@ -23,6 +23,7 @@ pub(crate) fn merge(alloc: Global, content: &mut Content, other: &Content) -> Re
 {
     match content {
         Content::Map(opening, entries) => merge_entries(alloc, opening.get(), entries, other),
+        Content::Group(openings, groups) => merge_groups(alloc, openings.as_slice(), groups, other),
         _ => merge_flat(alloc, content, other),
     }
 }
@@ -44,6 +45,7 @@ fn merge_flat(alloc: Global, content: &mut Content, other: &Content) -> Result<(
             | Content::List(_)
             | Content::Heap(_)
             | Content::Map(_, _)
+            | Content::Group(_, _)
             | Content::Spoiled => Err(Memory),
         },
         Content::Set(keys) => match other {
@@ -62,7 +64,7 @@ fn merge_flat(alloc: Global, content: &mut Content, other: &Content) -> Result<(
             Content::Heap(more) => heap.add_all(alloc, more.tuples.as_slice()),
             _ => Err(Memory),
         },
-        Content::Map(_, _) | Content::Spoiled => Err(Memory),
+        Content::Map(_, _) | Content::Group(_, _) | Content::Spoiled => Err(Memory),
     }
 }
 
@@ -106,4 +108,60 @@ fn merge_entry(
             put_entry(entries, key.duplicate(alloc)?, mine)
         }
     }
+}
+
+/// Takes the key rows of a group, with their parts, into those of another.
+#[cycle(merging)]
+fn merge_groups(
+    alloc: Global,
+    openings: &[Content],
+    groups: &mut BTreeMap<Vec<Value>, Parts>,
+    other: &Content,
+) -> Result<(), Memory>
+    ensures { OnOk result (UnitesGroups openings.now groups.old.entries (groups_in (out-Content other.now)) groups.new.entries) }
+{
+    match other {
+        Content::Group(_, more) => {
+            for (row, parts) in more {
+                merge_group(alloc, parts.as_slice(), openings, groups, row.as_slice())?;
+            }
+            Ok(())
+        }
+        _ => Err(Memory),
+    }
+}
+
+/// Takes parts under a key row, whose parts begin with the openings where it is new.
+#[cycle(merging)]
+fn merge_group(
+    alloc: Global,
+    parts: &[Content],
+    openings: &[Content],
+    groups: &mut BTreeMap<Vec<Value>, Parts>,
+    row: &[Value],
+) -> Result<(), Memory>
+    ensures { OnOk result (MergesGroup openings.now groups.old.entries (map val row.now) parts.now groups.new.entries) }
+{
+    match groups.get_mut(row) {
+        Some(mine) => merge_parts(alloc, parts, mine),
+        None => {
+            let mut mine = duplicate_parts(alloc, openings)?;
+            merge_parts(alloc, parts, &mut mine)?;
+            put_entry(groups, key_row(alloc, row)?, mine)
+        }
+    }
+}
+
+/// Takes each of the other parts into the part at its place.
+#[cycle(merging)]
+fn merge_parts(alloc: Global, parts: &[Content], mine: &mut Parts) -> Result<(), Memory>
+    ensures { OnOk result (MergesEach mine.old parts.now mine.new) }
+{
+    if parts.len() != mine.len() {
+        return Err(Memory);
+    }
+    for (i, part) in parts.iter().enumerate() {
+        merge(alloc, mine.at_mut(i), part)?;
+    }
+    Ok(())
 }

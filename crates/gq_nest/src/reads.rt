@@ -3,11 +3,11 @@ ghost use Rattle.std.specs.Prelude.{map, IfOk, MatchOption};
 ghost use Rattle.gq_value.specs.Views.{val};
 ghost use Rattle.gq_content.specs.Fits.{fits as all_fit};
 ghost use Rattle.gq_content.specs.Reads.{value_in};
-ghost use Rattle.gq_nest.specs.Tells.{Tells, LacksKey, HasKey, IsFitting, CanBeSet, IsSet, size_of, has_value, elements_of, keys_of};
+ghost use Rattle.gq_nest.specs.Tells.{Tells, LacksKey, HasKey, LacksPart, HasPart, IsFitting, CanBeSet, IsSet, size_of, has_value, elements_of, keys_of};
 
 use crate::content::Content;
 use crate::fitting::fits;
-use crate::rows::{key_rows, keys_in_order, sorted_row};
+use crate::rows::{group_rows, key_rows, keys_in_order, sorted_row};
 use gq_list::{List, Memory};
 use gq_value::{Row, Value, duplicate_row};
 use std::alloc::Global;
@@ -28,6 +28,7 @@ impl Content {
             Content::List(_) => unreachable!(),
             Content::Heap(_) => unreachable!(),
             Content::Map(_, _) => unreachable!(),
+            Content::Group(_, _) => unreachable!(),
             Content::Spoiled => unreachable!(),
         }
     }
@@ -56,6 +57,7 @@ impl Content {
             Content::List(_) => unreachable!(),
             Content::Heap(_) => unreachable!(),
             Content::Map(_, _) => unreachable!(),
+            Content::Group(_, _) => unreachable!(),
             Content::Spoiled => unreachable!(),
         }
     }
@@ -71,6 +73,7 @@ impl Content {
             Content::List(items) => items.len() as u64,
             Content::Heap(heap) => (heap.tuples.len() as u64).min(u64::from(heap.capacity)),
             Content::Map(_, entries) => entries.len() as u64,
+            Content::Group(_, groups) => groups.len() as u64,
             Content::Spoiled => 0,
         }
     }
@@ -86,6 +89,7 @@ impl Content {
             Content::List(items) => items.as_slice().contains(x),
             Content::Heap(_) => false,
             Content::Map(_, _) => false,
+            Content::Group(_, _) => false,
             Content::Spoiled => false,
         }
     }
@@ -105,6 +109,27 @@ impl Content {
             Content::Bag(_) => None,
             Content::List(_) => None,
             Content::Heap(_) => None,
+            Content::Group(_, _) => None,
+            Content::Spoiled => None,
+        }
+    }
+
+    /// The part of a group at a key row, by its place in order of declaration, from 0; None where the row isn't there. Takes no
+    /// memory.
+    pub fn part(&self, key: &Row, i: u32) -> Option<&Content>
+        ensures { MatchOption result (LacksPart self.now (map val key.now) i) (λ part. HasPart self.now (map val key.now) i part.now) }
+    {
+        match self {
+            Content::Group(_, groups) => match groups.get(key.as_slice()) {
+                Some(parts) => parts.as_slice().get(i as usize),
+                None => None,
+            },
+            Content::Scalar(_) => None,
+            Content::Set(_) => None,
+            Content::Bag(_) => None,
+            Content::List(_) => None,
+            Content::Heap(_) => None,
+            Content::Map(_, _) => None,
             Content::Spoiled => None,
         }
     }
@@ -120,16 +145,18 @@ impl Content {
             Content::List(items) => duplicate_row(alloc, items.as_slice()),
             Content::Heap(heap) => heap.first(alloc),
             Content::Map(_, _) => Ok(List::new(alloc)),
+            Content::Group(_, _) => Ok(List::new(alloc)),
             Content::Spoiled => Ok(List::new(alloc)),
         }
     }
 
-    /// Copies of all key rows of a map, ascending. A key of a map is a row of one value.
+    /// Copies of all key rows of a map or group, ascending. A key of a map is a row of one value.
     pub fn keys(&self, alloc: Global) -> Result<Keys, Memory>
         ensures { IfOk result (λ rows. Tells self.now (map (map val) rows) keys_of) }
     {
         match self {
             Content::Map(_, entries) => key_rows(alloc, entries),
+            Content::Group(_, groups) => group_rows(alloc, groups),
             Content::Scalar(_) => Ok(List::new(alloc)),
             Content::Set(_) => Ok(List::new(alloc)),
             Content::Bag(_) => Ok(List::new(alloc)),

@@ -4,9 +4,9 @@ ghost use Rattle.gq_value.specs.Views.{val};
 ghost use Rattle.gq_value.specs.Order.{place};
 ghost use Rattle.gq_content.specs.Gather.{sorted, distinct};
 ghost use Rattle.gq_content.specs.Holds.{row_cmp};
-ghost use Rattle.gq_nest.specs.Entries.{key_row, rows};
+ghost use Rattle.gq_nest.specs.Entries.{group_row, key_row, rows};
 
-use crate::content::Content;
+use crate::content::{Content, Parts};
 use gq_list::{List, Memory};
 use gq_value::{Row, Value, duplicate_row};
 use std::alloc::Global;
@@ -44,6 +44,20 @@ pub(crate) fn key_rows(
         let mut row = List::new(alloc);
         row.push(key.duplicate(alloc)?)?;
         all.push(row)?;
+    }
+    Ok(all)
+}
+
+/// The key rows of a group, ascending.
+pub(crate) fn group_rows(
+    alloc: Global,
+    groups: &BTreeMap<Vec<Value>, Parts>,
+) -> Result<List<Row>, Memory>
+    ensures { IfOk result (λ all. map (map val) all ≡ distinct row_cmp (rows group_row groups.now.entries)) }
+{
+    let mut all = List::new(alloc);
+    for (row, _) in groups {
+        all.push(duplicate_row(alloc, row.as_slice())?)?;
     }
     Ok(all)
 }

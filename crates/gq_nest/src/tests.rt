@@ -2,7 +2,7 @@
 use crate::Content;
 use gq_accum::Scalar;
 use gq_list::{Boxed, List, Memory};
-use gq_value::{BaseType, HeapShape, Input, Inputs, Kind, Number, Row, Txt, Value};
+use gq_value::{BaseType, GroupShape, HeapShape, Input, Inputs, Kind, Number, Row, Txt, Value};
 use std::alloc::Global;
 use std::test::Fail;
 
@@ -55,6 +55,141 @@ fn score(alloc: Global, n: i64, name: &str) -> Result<Value, Memory> {
     Ok(Value::Tuple(row))
 }
 
+// A whole number as a key row.
+fn number_row(alloc: Global, n: i64) -> Result<Row, Memory> {
+    let mut row = List::new(alloc);
+    row.push(Value::Int(n))?;
+    Ok(row)
+}
+
+// Groups by parity, with the total and the oldest of the ages.
+fn groups_by_parity(alloc: Global, ages: &[i64]) -> Result<Content, Memory> {
+    let mut keys = List::new(alloc);
+    keys.push((Txt::of(alloc, "parity")?, BaseType::Int))?;
+    let mut parts = List::new(alloc);
+    parts.push((Txt::of(alloc, "total")?, Kind::Sum(Number::Int)))?;
+    parts.push((Txt::of(alloc, "oldest")?, Kind::Max(Number::Int)))?;
+    let mut groups = Content::fresh(alloc, &Kind::Group(GroupShape { keys, parts }))?;
+    for age in ages {
+        let mut inputs: Inputs = List::new(alloc);
+        inputs.push(Input::One(Value::Int(*age)))?;
+        inputs.push(Input::One(Value::Int(*age)))?;
+        let row = number_row(alloc, *age % 2)?;
+        groups.feed(alloc, &Input::Keyed(row, inputs))?;
+    }
+    Ok(groups)
+}
+
+// A part of a group under a parity.
+fn part_under(
+    alloc: Global,
+    groups: &Content,
+    parity: i64,
+    at: u32,
+) -> Result<Option<i128>, Memory> {
+    match groups.part(&number_row(alloc, parity)?, at) {
+        Some(Content::Scalar(Scalar::SumInt(total))) => Ok(Some(*total)),
+        Some(Content::Scalar(Scalar::MaxInt(oldest))) => Ok(Some(i128::from(*oldest))),
+        _ => Ok(None),
+    }
+}
+
+// A kind of eight levels: seven maps, and a sum.
+fn eight_levels(alloc: Global) -> Result<Kind, Memory> {
+    let mut kind = Kind::Sum(Number::Int);
+    for _ in 0..7 {
+        kind = Kind::Map(BaseType::Int, Boxed::new(alloc, kind)?);
+    }
+    Ok(kind)
+}
+
+// A number under seven keys.
+fn under_seven_keys(alloc: Global, key: i64, n: i64) -> Result<Input, Memory> {
+    let mut input = Input::One(Value::Int(n));
+    for _ in 0..7 {
+        let mut inputs: Inputs = List::new(alloc);
+        inputs.push(input)?;
+        input = Input::Keyed(number_row(alloc, key)?, inputs);
+    }
+    Ok(input)
+}
+
+// A content of eight levels, after numbers under a key each.
+fn nested(alloc: Global, inputs: &[(i64, i64)]) -> Result<Content, Memory> {
+    let mut content = Content::fresh(alloc, &eight_levels(alloc)?)?;
+    for (key, n) in inputs {
+        content.feed(alloc, &under_seven_keys(alloc, *key, *n)?)?;
+    }
+    Ok(content)
+}
+
+// What stands under seven keys.
+fn lowest(alloc: Global, content: &Content, key: i64) -> Result<Option<i128>, Memory> {
+    let row = number_row(alloc, key)?;
+    let mut level = content;
+    for _ in 0..7 {
+        match level.get(&row) {
+            Some(below) => level = below,
+            None => return Ok(None),
+        }
+    }
+    match level {
+        Content::Scalar(Scalar::SumInt(sum)) => Ok(Some(*sum)),
+        _ => Ok(None),
+    }
+}
+
+// A heap of the two best scores, by number descending, after scores.
+fn best_two(alloc: Global, scores: &[(i64, &str)]) -> Result<Content, Memory> {
+    let kind = Kind::Heap(HeapShape {
+        tuple: 0,
+        fields: List::new(alloc),
+        capacity: 2,
+        order: List::from_slice(alloc, &[(0, true)])?,
+    });
+    let mut heap = Content::fresh(alloc, &kind)?;
+    for (n, name) in scores {
+        heap.feed(alloc, &Input::One(score(alloc, *n, name)?))?;
+    }
+    Ok(heap)
+}
+
+// Whether a value may be sent to other threads and shared among them.
+fn is_shared<T: Send + Sync>(_: &T) -> bool {
+    true
+}
+
+#[test]
+fn groups_have_each_part_of_their_own_inputs(rt: HostRuntime) -> Result<(), Fail> {
+    let alloc = rt.alloc();
+    for ages in [[1, 2, 3], [3, 2, 1], [2, 1, 3]] {
+        let mut groups = groups_by_parity(alloc, &ages[..1])?;
+        let rest = groups_by_parity(alloc, &ages[1..])?;
+        groups.merge(alloc, &rest)?;
+        assert_eq!(rt; groups.size(), 2);
+        for (parity, at, due) in [(0, 0, 2), (0, 1, 2), (1, 0, 4), (1, 1, 3)] {
+            assert_eq!(rt; part_under(alloc, &groups, parity, at)?, Some(due));
+        }
+        assert_eq!(rt; part_under(alloc, &groups, 2, 0)?, None);
+        let rows = groups.keys(alloc)?;
+        assert_eq!(rt; rows.len(), 2);
+    }
+    Ok(())
+}
+
+#[test]
+fn contents_nest_to_eight_levels(rt: HostRuntime) -> Result<(), Fail> {
+    let alloc = rt.alloc();
+    let mut all = nested(alloc, &[(1, 10), (2, 20)])?;
+    let part = nested(alloc, &[(1, 30)])?;
+    all.merge(alloc, &part)?;
+    for (key, due) in [(1, Some(40)), (2, Some(20)), (3, None)] {
+        assert_eq!(rt; lowest(alloc, &all, key)?, due);
+    }
+    assert!(rt; is_shared(&all));
+    Ok(())
+}
+
 #[test]
 fn a_map_is_the_same_for_every_order_and_cutting(rt: HostRuntime) -> Result<(), Fail> {
     let alloc = rt.alloc();
@@ -79,20 +214,13 @@ fn a_map_is_the_same_for_every_order_and_cutting(rt: HostRuntime) -> Result<(), 
 #[test]
 fn a_heap_keeps_equal_tuples_and_turns_a_field_round(rt: HostRuntime) -> Result<(), Fail> {
     let alloc = rt.alloc();
-    let kind = Kind::Heap(HeapShape {
-        tuple: 0,
-        fields: List::new(alloc),
-        capacity: 2,
-        order: List::from_slice(alloc, &[(0, true)])?,
-    });
-    let mut heap = Content::fresh(alloc, &kind)?;
-    for (n, name) in [(5, "b"), (4, "a"), (5, "a"), (5, "a"), (6, "z")] {
-        heap.feed(alloc, &Input::One(score(alloc, n, name)?))?;
-    }
+    let mut heap = best_two(alloc, &[(5, "b"), (4, "a"), (5, "a"), (5, "a"), (6, "z")])?;
+    let other = best_two(alloc, &[(5, "a")])?;
+    heap.merge(alloc, &other)?;
     let first = heap.elements(alloc)?;
     let due = [score(alloc, 6, "z")?, score(alloc, 5, "a")?];
-    assert_eq!(rt; heap.size(), 2);
     assert!(rt; first.as_slice() == due.as_slice());
+    assert!(rt; matches!(&heap, Content::Heap(kept) if kept.tuples.len() == 2));
     Ok(())
 }
 
@@ -147,6 +275,14 @@ fn a_content_that_found_no_memory_says_so_from_then_on(rt: HostRuntime) -> Resul
     if map.spoiled() {
         assert!(rt; map.feed(alloc, &input).is_err());
         assert!(rt; map.duplicate(alloc).is_err());
+    }
+    let more = groups_by_parity(alloc, &[1, 2])?;
+    let mut groups = groups_by_parity(alloc, &[])?;
+    let merged = groups.merge(alloc, &more);
+    assert_eq!(rt; merged.is_err(), groups.spoiled());
+    if groups.spoiled() {
+        assert!(rt; groups.merge(alloc, &more).is_err());
+        assert!(rt; groups.duplicate(alloc).is_err());
     }
     Ok(())
 }

@@ -1,5 +1,6 @@
 use Rattle.std.proofs.Common.{◌∙◌}
 use Rattle.gq_nest.proofs.TellSteps.{tells_set, tells_bag, tells_list, tells_heap, tells_map, set_size, bag_size, list_size, heap_size, map_size}
+use Rattle.gq_nest.proofs.GroupSteps.{tells_group, group_size}
 use Rattle.gq_nest.proofs.content.Content.size.Goals as goal
 
 pub returns-in-Set : goal.returns-in-Set
@@ -16,3 +17,6 @@ returns-in-Heap c = tells_heap _ _ _ _ c.in-Heap.is (λ b. c.min.ensures ∙ hea
 
 pub returns-in-Map : goal.returns-in-Map
 returns-in-Map c = tells_map _ _ _ _ _ c.in-Map.is (λ b k. map_size _ _ c.len-in-Map.ensures.len c.len-in-Map.ensures.ordered)
+
+pub returns-in-Group : goal.returns-in-Group
+returns-in-Group c = tells_group _ _ _ _ _ c.in-Group.is (λ keys ps. group_size _ _ c.len-in-Group.ensures.len c.len-in-Group.ensures.ordered)

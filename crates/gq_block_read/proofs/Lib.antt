@@ -1,0 +1,6 @@
+pub mod InputReads
+pub mod ActReads
+pub mod WalkReads
+pub mod SelectReads
+pub mod Missing
+mod LevelLemmas

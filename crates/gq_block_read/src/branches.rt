@@ -1,0 +1,190 @@
+// Acts, which may hold others.
+ghost use Rattle.std.specs.Prelude.{◌≤◌, length, IfOk, Some};
+ghost use Rattle.gq_grammar.specs.Lexemes as lexemes;
+ghost use Rattle.gq_grammar.specs.Parsers.{Found, both, made, maybe, many, after};
+ghost use Rattle.gq_tree.specs.Acts.{if_act};
+ghost use Rattle.gq_grammar.specs.Series.{chain};
+ghost use Rattle.gq_block_read.specs.Acts as spec;
+ghost use Rattle.gq_block_read.specs.Nests.{ActNests};
+
+use crate::changes::plain_act;
+use gq_grammar::Source;
+use gq_list::{List, Memory};
+use gq_part_read::{Read, expression, first_of, need};
+use gq_tree::{Act, Node};
+use std::alloc::Global;
+
+/// Reads an act that may hold others.
+#[derive(Drop)]
+pub struct Acts<'s, 'a, F> {
+    pub alloc: Global,
+    pub source: &'s Source<'a>,
+
+    /// How deep acts may still stand in one another.
+    pub levels: usize,
+
+    /// Reads an act that stands within.
+    pub inner: F,
+}
+
+impl<'s, 'a, F: Fn(Global, &Source<'_>, usize, usize) -> Read<Act>> Acts<'s, 'a, F> {
+    // An act that stands within.
+    fn inner(&self, at: usize) -> Read<Act>
+        requires nests { ActNests self.now.source.now self.now.levels (F.pre self.now.inner) (F.post self.now.inner) }
+        requires at { at ≤ length self.now.source.now }
+        ensures { IfOk result (Found (spec.nested_act_parser self.now.levels) self.now.source.now at) }
+    {
+        (self.inner)(self.alloc, self.source, self.levels, at)
+    }
+
+    // "," Act
+    #[tactic(auto, unfolding(gq_grammar::specs::Parsers::after))]
+    fn next_act(&self, at: usize) -> Read<Act>
+        requires nests { ActNests self.now.source.now self.now.levels (F.pre self.now.inner) (F.post self.now.inner) }
+        requires at { at ≤ length self.now.source.now }
+        ensures { IfOk result (Found (after (lexemes.sign ",") (spec.nested_act_parser self.now.levels)) self.now.source.now at) }
+    {
+        let at = need!(self.source.sign(at, ","));
+        self.inner(at)
+    }
+
+    // { "," Act }
+    #[tactic(auto, using(gq_grammar::proofs::LoopLemmas::loops))]
+    fn more_acts(&self, from: usize) -> Result<(Vec<Act>, usize), Memory>
+        requires nests { ActNests self.now.source.now self.now.levels (F.pre self.now.inner) (F.post self.now.inner) }
+        requires at { from ≤ length self.now.source.now }
+        ensures { IfOk result (λ read. Found (many (after (lexemes.sign ",") (spec.nested_act_parser self.now.levels))) self.now.source.now from (Some (read.0.items, read.1))) }
+    {
+        let mut found = Vec::new(self.alloc);
+        let mut at = from;
+        for _turn in from..self.source.len() {
+            match self.next_act(at)? {
+                None => return Ok((found, at)),
+                Some((act, next)) => {
+                    found.push(act)?;
+                    at = next;
+                }
+            }
+        }
+        Ok((found, at))
+    }
+
+    // Act { "," Act }
+    #[tactic(auto, unfolding(gq_grammar::specs::Series::chain))]
+    fn acts(&self, at: usize) -> Read<List<Act>>
+        requires nests { ActNests self.now.source.now self.now.levels (F.pre self.now.inner) (F.post self.now.inner) }
+        requires at { at ≤ length self.now.source.now }
+        ensures { IfOk result (Found (chain (lexemes.sign ",") (spec.nested_act_parser self.now.levels)) self.now.source.now at) }
+    {
+        let (first, at) = need!(self.inner(at)?);
+        let (mut all, at) = self.more_acts(at)?;
+        all.insert(0, first)?;
+        Ok(Some((List::from_vec(all), at)))
+    }
+
+    // IF Expr THEN Acts
+    #[tactic(auto, unfolding(crate::specs::Acts::if_acts_parser, crate::specs::Acts::act_branch_parser, gq_grammar::specs::Parsers::after))]
+    fn if_acts(&self, at: usize) -> Read<(Node, List<Act>)>
+        requires nests { ActNests self.now.source.now self.now.levels (F.pre self.now.inner) (F.post self.now.inner) }
+        requires at { at ≤ length self.now.source.now }
+        ensures { IfOk result (Found (spec.if_acts_parser (spec.nested_act_parser self.now.levels)) self.now.source.now at) }
+    {
+        let at = need!(self.source.keyword(at, "IF"));
+        let (condition, at) = need!(expression(self.alloc, self.source, at)?);
+        let at = need!(self.source.keyword(at, "THEN"));
+        let (acts, at) = need!(self.acts(at)?);
+        Ok(Some(((condition, acts), at)))
+    }
+
+    // ELSE IF Expr THEN Acts
+    #[tactic(auto, unfolding(gq_grammar::specs::Parsers::after))]
+    fn next_branch(&self, at: usize) -> Read<(Node, List<Act>)>
+        requires nests { ActNests self.now.source.now self.now.levels (F.pre self.now.inner) (F.post self.now.inner) }
+        requires at { at ≤ length self.now.source.now }
+        ensures { IfOk result (Found (after (lexemes.word "ELSE") (spec.if_acts_parser (spec.nested_act_parser self.now.levels))) self.now.source.now at) }
+    {
+        let at = need!(self.source.keyword(at, "ELSE"));
+        self.if_acts(at)
+    }
+
+    // { ELSE IF Expr THEN Acts }
+    #[tactic(auto, using(gq_grammar::proofs::LoopLemmas::loops))]
+    fn more_branches(&self, from: usize) -> Result<(Vec<(Node, List<Act>)>, usize), Memory>
+        requires nests { ActNests self.now.source.now self.now.levels (F.pre self.now.inner) (F.post self.now.inner) }
+        requires at { from ≤ length self.now.source.now }
+        ensures { IfOk result (λ read. Found (many (after (lexemes.word "ELSE") (spec.if_acts_parser (spec.nested_act_parser self.now.levels)))) self.now.source.now from (Some (read.0.items, read.1))) }
+    {
+        let mut found = Vec::new(self.alloc);
+        let mut at = from;
+        for _turn in from..self.source.len() {
+            match self.next_branch(at)? {
+                None => return Ok((found, at)),
+                Some((branch, next)) => {
+                    found.push(branch)?;
+                    at = next;
+                }
+            }
+        }
+        Ok((found, at))
+    }
+
+    // ELSE Acts, where the first act is no IF
+    #[tactic(auto, unfolding(crate::specs::Acts::else_acts_parser, crate::specs::Acts::last_acts_parser, gq_grammar::specs::Parsers::after))]
+    fn else_acts(&self, at: usize) -> Read<List<Act>>
+        requires nests { ActNests self.now.source.now self.now.levels (F.pre self.now.inner) (F.post self.now.inner) }
+        requires at { at ≤ length self.now.source.now }
+        ensures { IfOk result (Found (spec.else_acts_parser (spec.nested_act_parser self.now.levels)) self.now.source.now at) }
+    {
+        let at = need!(self.source.keyword(at, "ELSE"));
+        let (first, at) = need!(plain_act(self.alloc, self.source, at)?);
+        let (mut all, at) = self.more_acts(at)?;
+        all.insert(0, first)?;
+        Ok(Some((List::from_vec(all), at)))
+    }
+
+    // [ ELSE Acts ]
+    fn last_branch(&self, at: usize) -> Result<(Option<List<Act>>, usize), Memory>
+        requires nests { ActNests self.now.source.now self.now.levels (F.pre self.now.inner) (F.post self.now.inner) }
+        requires at { at ≤ length self.now.source.now }
+        ensures { IfOk result (λ read. Found (maybe (spec.else_acts_parser (spec.nested_act_parser self.now.levels))) self.now.source.now at (Some read)) }
+    {
+        let (acts, end) = need!(self.else_acts(at)?, else (None, at));
+        Ok((Some(acts), end))
+    }
+
+    // [ ELSE Acts ] END
+    #[tactic(auto, unfolding(crate::specs::Acts::acts_end_parser, gq_grammar::specs::Series::ended))]
+    fn acts_end(&self, at: usize) -> Read<Option<List<Act>>>
+        requires nests { ActNests self.now.source.now self.now.levels (F.pre self.now.inner) (F.post self.now.inner) }
+        requires at { at ≤ length self.now.source.now }
+        ensures { IfOk result (Found (spec.acts_end_parser (spec.nested_act_parser self.now.levels)) self.now.source.now at) }
+    {
+        let (last, at) = self.last_branch(at)?;
+        let at = need!(self.source.keyword(at, "END"));
+        Ok(Some((last, at)))
+    }
+
+    // IF Expr THEN Acts { ELSE IF Expr THEN Acts } [ ELSE Acts ] END
+    #[tactic(auto, unfolding(crate::specs::Acts::act_branches_parser))]
+    fn if_act(&self, at: usize) -> Read<Act>
+        requires nests { ActNests self.now.source.now self.now.levels (F.pre self.now.inner) (F.post self.now.inner) }
+        requires at { at ≤ length self.now.source.now }
+        ensures { IfOk result (Found (made if_act (both (spec.if_acts_parser (spec.nested_act_parser self.now.levels)) (spec.act_branches_parser (spec.nested_act_parser self.now.levels)))) self.now.source.now at) }
+    {
+        let (first, at) = need!(self.if_acts(at)?);
+        let (mut branches, at) = self.more_branches(at)?;
+        let (last, at) = need!(self.acts_end(at)?);
+        branches.insert(0, first)?;
+        Ok(Some((Act::If(List::from_vec(branches), last), at)))
+    }
+
+    /// An act that holds others of one level less.
+    #[tactic(auto, unfolding(crate::specs::Acts::act_in_parser))]
+    pub fn act_in(&self, at: usize) -> Read<Act>
+        requires nests { ActNests self.now.source.now self.now.levels (F.pre self.now.inner) (F.post self.now.inner) }
+        requires at { at ≤ length self.now.source.now }
+        ensures { IfOk result (Found (spec.act_in_parser (spec.nested_act_parser self.now.levels)) self.now.source.now at) }
+    {
+        first_of!(plain_act(self.alloc, self.source, at)?, self.if_act(at)?)
+    }
+}

@@ -1,0 +1,75 @@
+// What happens to an accumulator.
+ghost use Rattle.std.specs.Prelude.{◌≤◌, length, IfOk};
+ghost use Rattle.gq_tree.specs.Acts.{attached_act, global_act};
+ghost use Rattle.gq_grammar.specs.Lexemes as lexemes;
+ghost use Rattle.gq_grammar.specs.Parsers.{Found, token, both, made, after};
+ghost use Rattle.gq_block_read.specs.Acts as spec;
+
+use crate::input::input;
+use gq_grammar::Source;
+use gq_kind_read::value;
+use gq_part_read::{Read, attached, first_of, global, name, need};
+use gq_tree::{Act, Change, InputTree};
+use std::alloc::Global;
+
+// "+=" In
+#[tactic(auto, unfolding(gq_grammar::specs::Parsers::after))]
+fn fed(alloc: Global, source: &Source<'_>, at: usize) -> Read<InputTree>
+    requires { at ≤ length source.now }
+    ensures { IfOk result (Found (after (lexemes.sign "+=") spec.input_parser) source.now at) }
+{
+    let at = need!(source.sign(at, "+="));
+    input(alloc, source, at)
+}
+
+/// `"+=" In | "=" Expr`: what stands behind the name of an accumulator that changes.
+///
+/// Each level of parentheses takes some frames of the stack.
+#[tactic(auto, unfolding(crate::specs::Acts::change_parser))]
+pub fn change(alloc: Global, source: &Source<'_>, at: usize) -> Read<Change>
+    requires { at ≤ length source.now }
+    ensures { IfOk result (Found spec.change_parser source.now at) }
+{
+    match fed(alloc, source, at)? {
+        Some((input, next)) => Ok(Some((Change::Feed(input), next))),
+        None => {
+            let (value, next) = need!(value(alloc, source, at)?);
+            Ok(Some((Change::Set(value), next)))
+        }
+    }
+}
+
+// Name "." Attached ( "+=" In | "=" Expr )
+#[tactic(auto, unfolding(gq_grammar::specs::Parsers::after))]
+fn attached_act(alloc: Global, source: &Source<'_>, at: usize) -> Read<Act>
+    requires { at ≤ length source.now }
+    ensures { IfOk result (Found (made attached_act (both (token lexemes.Name lexemes.spelling) (after (lexemes.sign ".") (both (token lexemes.Attached lexemes.spelling) spec.change_parser)))) source.now at) }
+{
+    let (alias, at) = need!(name(alloc, source, at)?);
+    let at = need!(source.sign(at, "."));
+    let (accum, at) = need!(attached(alloc, source, at)?);
+    let (change, at) = need!(change(alloc, source, at)?);
+    Ok(Some((Act::Attached(alias, accum, change), at)))
+}
+
+// Global ( "+=" In | "=" Expr )
+fn global_act(alloc: Global, source: &Source<'_>, at: usize) -> Read<Act>
+    requires { at ≤ length source.now }
+    ensures { IfOk result (Found (made global_act (both (token lexemes.Global lexemes.spelling) spec.change_parser)) source.now at) }
+{
+    let (accum, at) = need!(global(alloc, source, at)?);
+    let (change, at) = need!(change(alloc, source, at)?);
+    Ok(Some((Act::Global(accum, change), at)))
+}
+
+/// `Name "." Attached ( "+=" In | "=" Expr ) | Global ( "+=" In | "=" Expr )`.
+#[tactic(auto, unfolding(crate::specs::Acts::plain_act_parser))]
+pub fn plain_act(alloc: Global, source: &Source<'_>, at: usize) -> Read<Act>
+    requires { at ≤ length source.now }
+    ensures { IfOk result (Found spec.plain_act_parser source.now at) }
+{
+    first_of!(
+        attached_act(alloc, source, at)?,
+        global_act(alloc, source, at)?
+    )
+}

@@ -1,0 +1,141 @@
+-- How a job comes from one LOAD to the next; and over files that are told it does one thing.
+use Rattle.std.proofs.Common.{◌≡◌, ℕ, zero, suc, ◌+◌, ◌-◌, ◌<◌, ◌≤◌, List, [], ◌∷◌, ◌++◌, Option, inl, inr, refl, ap, sym, ◌∙◌, subst, arith}
+use Rattle.gq_io.specs.Listing.{Listing}
+use Rattle.gq_refusal.specs.declared.refusal.Refusal.{Refusal}
+use Rattle.gq_refusal.specs.declared.refusal.Refusal.TheVariants as refusal
+use Rattle.gq_refusal.specs.Messages.{message_of}
+use Rattle.gq_report.specs.declared.lines.FileReport.{FileReport}
+use Rattle.gq_report.specs.Reports.{report_text}
+use Rattle.gq_script.specs.Effects.{Effect, Becomes, Refused}
+use Rattle.gq_script.specs.Known.{Known, Told, Answer, Absent, TooLong, Bytes, MayAnswer, known_of}
+use Rattle.gq_loading.specs.declared.loader.Counts.{Counts}
+use Rattle.gq_loading.specs.declared.loader.Place.{Place}
+use Rattle.gq_loading.specs.declared.loader.Place.TheVariants.{At, Nowhere}
+use Rattle.gq_loading.specs.Loads.{Loaded, Loads, Fails, report_of, Continues, AnswerLoads, PlaceLoads, LoadsMean, Unended, Ended, LeavesBehind}
+
+-- ---- over files that are told a job does one thing
+
+module _ {S : Type 0} (place_of : S → ℕ → Place) (loaded_by : S → ℕ → List ℕ → Loaded S) (pairs : Listing) where
+  module _ (e f : Effect S) (E F : S → List FileReport → Type 0) (rest : (t : S) (more : List FileReport) → E t more → F t more → e ≡ f) (s : S) (number : ℕ) (reports : List FileReport) where
+    same_loaded : (path : List ℕ) (loaded : Loaded S) → Continues place_of loaded_by (Told pairs) path reports loaded E e → Continues place_of loaded_by (Told pairs) path reports loaded F f → e ≡ f
+    same_loaded path (Loads t counts) a b = rest t (reports ++ report_of path counts ∷ []) a b
+    same_loaded path (Fails r) a b = a ∙ sym b
+
+    same_answer : (path : List ℕ) (answer : Answer) → AnswerLoads place_of loaded_by (Told pairs) s number path reports answer E e → AnswerLoads place_of loaded_by (Told pairs) s number path reports answer F f → e ≡ f
+    same_answer path Absent a b = a ∙ sym b
+    same_answer path TooLong a b = a ∙ sym b
+    same_answer path (Bytes bytes) a b = same_loaded path (loaded_by s number bytes) a b
+
+    same_place : (place : Place) → PlaceLoads place_of loaded_by (Told pairs) s number reports place E e → PlaceLoads place_of loaded_by (Told pairs) s number reports place F f → e ≡ f
+    same_place (Nowhere name) a b = a ∙ sym b
+    same_place (At path) (answer, may, loads) (other, might, otherwise) =
+        same_answer path answer loads (subst (λ o. AnswerLoads place_of loaded_by (Told pairs) s number path reports o F f) (might ∙ sym may) otherwise)
+
+  -- over files that are told, so many LOADs do one thing
+  pub loads_determined : (s : S) (number left : ℕ) (reports : List FileReport) (e f : Effect S)
+      → LoadsMean place_of loaded_by (Told pairs) s number left reports e → LoadsMean place_of loaded_by (Told pairs) s number left reports f → e ≡ f
+  loads_determined s number zero reports e f a b = a ∙ sym b
+  loads_determined s number (suc left) reports e f a b =
+      same_place e f (λ t more. LoadsMean place_of loaded_by (Told pairs) t (number + 1) left more e) (λ t more. LoadsMean place_of loaded_by (Told pairs) t (number + 1) left more f)
+      (λ t more x y. loads_determined t (number + 1) left more e f x y) s number reports (place_of s number) a b
+
+-- ---- one LOAD
+
+module _ {S : Type 0} (place_of : S → ℕ → Place) (loaded_by : S → ℕ → List ℕ → Loaded S) (known : Known) (s : S) (number : ℕ) (left : ℕ) (reports : List FileReport) where
+  abbrev Rest : Effect S → S → List FileReport → Type 0
+  Rest effect t more = LoadsMean place_of loaded_by known t (number + 1) left more effect
+
+  at_place : (place : Place) (effect : Effect S) → place ≡ place_of s number → PlaceLoads place_of loaded_by known s number reports place (Rest effect) effect → LoadsMean place_of loaded_by known s number (suc left) reports effect
+  at_place place effect is loads = subst (λ p. PlaceLoads place_of loaded_by known s number reports p (Rest effect) effect) is loads
+
+  pub nowhere : (name : List ℕ) → Nowhere name ≡ place_of s number → (effect : Effect S) → effect ≡ Refused (message_of (refusal.NoPath name)) → LoadsMean place_of loaded_by known s number (suc left) reports effect
+  nowhere name is effect refused = at_place (Nowhere name) effect is refused
+
+  pub unread : (path : List ℕ) → At path ≡ place_of s number → (answer : Answer) → MayAnswer known path answer → (effect : Effect S)
+      → AnswerLoads place_of loaded_by known s number path reports answer (Rest effect) effect → LoadsMean place_of loaded_by known s number (suc left) reports effect
+  unread path is answer may effect loads = at_place (At path) effect is (answer, may, loads)
+
+  pub failed : (path bytes : List ℕ) (r : Refusal) → At path ≡ place_of s number → MayAnswer known path (Bytes bytes) → loaded_by s number bytes ≡ Fails r
+      → LoadsMean place_of loaded_by known s number (suc left) reports (Refused (message_of r))
+  failed path bytes r is may fails =
+      unread path is (Bytes bytes) may (Refused (message_of r))
+      (subst (λ l. Continues place_of loaded_by known path reports l (Rest (Refused (message_of r))) (Refused (message_of r))) (sym fails) refl)
+
+  pub loads_on : (path bytes : List ℕ) (t : S) (counts : Counts) → At path ≡ place_of s number → MayAnswer known path (Bytes bytes) → loaded_by s number bytes ≡ Loads t counts
+      → (effect : Effect S) → LoadsMean place_of loaded_by known t (number + 1) left (reports ++ report_of path counts ∷ []) effect
+      → LoadsMean place_of loaded_by known s number (suc left) reports effect
+  loads_on path bytes t counts is may ends effect rest =
+      unread path is (Bytes bytes) may effect
+      (subst (λ l. Continues place_of loaded_by known path reports l (Rest effect) effect) (sym ends) rest)
+
+-- ---- what is left
+
+module _ {S : Type 0} (loaded_by : S → ℕ → List ℕ → Loaded S) (Leaves : S → ℕ → List ℕ → S → Type 0) where
+  pub leaves_it : (s : S) (number left : ℕ) → LeavesBehind loaded_by Leaves s number left s
+  leaves_it s number zero = refl
+  leaves_it s number (suc left) = inl refl
+
+  pub leaves_unended : (s : S) (number left : ℕ) (bytes : List ℕ) (t : S) → Leaves s number bytes t → LeavesBehind loaded_by Leaves s number (suc left) t
+  leaves_unended s number left bytes t leaves = inr (inl (bytes, leaves))
+
+  pub leaves_later : (s : S) (number left : ℕ) (bytes : List ℕ) (u : S) (counts : Counts) → loaded_by s number bytes ≡ Loads u counts → (t : S)
+      → LeavesBehind loaded_by Leaves u (number + 1) left t → LeavesBehind loaded_by Leaves s number (suc left) t
+  leaves_later s number left bytes u counts ends t rest = inr (inr (u, (bytes, counts, ends), rest))
+
+-- ---- a part of the LOADs
+
+pub one_left : (count number : ℕ) → number < count → count - number ≡ suc (count - (number + 1))
+one_left count number below = omega arith
+
+pub none_left : (count number : ℕ) → count ≤ number → count - number ≡ 0
+none_left count number end = omega arith
+
+module _ {S : Type 0} (place_of : S → ℕ → Place) (loaded_by : S → ℕ → List ℕ → Loaded S) (Leaves : S → ℕ → List ℕ → S → Type 0) (held : Option Listing) (first : S) (count : ℕ) where
+  -- before the LOAD of this number: how what the rest means and leaves belongs to the whole job
+  pub record HasLoaded (number : ℕ) (s : S) (reports : List FileReport) : Type 0 where
+    pub whole : (before now met : ℕ) (effect : Effect S)
+        → LoadsMean place_of loaded_by (known_of held before now met) s number (count - number) reports effect
+        → LoadsMean place_of loaded_by (known_of held before now met) first 0 count [] effect
+    pub leaves : (t : S) → LeavesBehind loaded_by Leaves s number (count - number) t → LeavesBehind loaded_by Leaves first 0 count t
+
+  pub loaded_none : HasLoaded 0 first []
+  loaded_none =
+      let all : count - 0 ≡ count = omega arith in
+      record {
+        whole = λ before now met effect loads. subst (λ n. LoadsMean place_of loaded_by (known_of held before now met) first 0 n [] effect) all loads;
+        leaves = λ t behind. subst (λ n. LeavesBehind loaded_by Leaves first 0 n t) all behind;
+      }
+
+  module _ (number : ℕ) (s : S) (reports : List FileReport) (come : HasLoaded number s reports) where
+    module _ (below : number < count) where
+      pub loaded_next : (t : S) (report : FileReport)
+          → ((before now met : ℕ) (left : ℕ) (more : List FileReport) (effect : Effect S)
+          → LoadsMean place_of loaded_by (known_of held before now met) t (number + 1) left (more ++ report ∷ []) effect
+          → LoadsMean place_of loaded_by (known_of held before now met) s number (suc left) more effect)
+          → ((left : ℕ) (u : S) → LeavesBehind loaded_by Leaves t (number + 1) left u → LeavesBehind loaded_by Leaves s number (suc left) u)
+          → HasLoaded (number + 1) t (reports ++ report ∷ [])
+      loaded_next t report means leaves = record {
+        whole = λ before now met effect loads.
+            come.whole before now met effect (subst (λ n. LoadsMean place_of loaded_by (known_of held before now met) s number n reports effect) (sym (one_left count number below))
+            (means before now met (count - (number + 1)) reports effect loads));
+        leaves = λ u behind. come.leaves u (subst (λ n. LeavesBehind loaded_by Leaves s number n u) (sym (one_left count number below)) (leaves (count - (number + 1)) u behind));
+      }
+
+      pub refused_here : (before now met : ℕ) (effect : Effect S)
+          → ((left : ℕ) (more : List FileReport) → LoadsMean place_of loaded_by (known_of held before now met) s number (suc left) more effect)
+          → LoadsMean place_of loaded_by (known_of held before now met) first 0 count [] effect
+      refused_here before now met effect means =
+          come.whole before now met effect (subst (λ n. LoadsMean place_of loaded_by (known_of held before now met) s number n reports effect) (sym (one_left count number below)) (means (count - (number + 1)) reports))
+
+      pub left_here : (t : S) → ((left : ℕ) → LeavesBehind loaded_by Leaves s number (suc left) t) → LeavesBehind loaded_by Leaves first 0 count t
+      left_here t behind = come.leaves t (subst (λ n. LeavesBehind loaded_by Leaves s number n t) (sym (one_left count number below)) (behind (count - (number + 1))))
+
+    pub left_as_it_is : LeavesBehind loaded_by Leaves first 0 count s
+    left_as_it_is = come.leaves s (leaves_it loaded_by Leaves s number (count - number))
+
+    pub loaded_all : count ≤ number → (before now met : ℕ) (line : List ℕ) → line ≡ report_text reports
+        → LoadsMean place_of loaded_by (known_of held before now met) first 0 count [] (Becomes s (line ∷ []))
+    loaded_all end before now met line is =
+        come.whole before now met (Becomes s (line ∷ []))
+        (subst (λ n. LoadsMean place_of loaded_by (known_of held before now met) s number n reports (Becomes s (line ∷ []))) (sym (none_left count number end))
+        (ap (λ l. Becomes s (l ∷ [])) is))

@@ -1,0 +1,61 @@
+-- Loads: what the LOADs of a job do, one after another, by what each of them does with the bytes of its file, and what they leave
+-- where one of them is refused.
+use Rattle.std.specs.Prelude.{◌≡◌, ◌⊎◌, ℕ, zero, suc, ◌+◌, List, [], ◌∷◌, ◌++◌}
+use Rattle.gq_refusal.specs.declared.refusal.Refusal.{Refusal}
+use Rattle.gq_refusal.specs.declared.refusal.Refusal.TheVariants as refusal
+use Rattle.gq_refusal.specs.Messages.{message_of}
+use Rattle.gq_report.specs.declared.lines.FileReport.{FileReport}
+use Rattle.gq_report.specs.Reports.{report_text}
+use Rattle.gq_script.specs.Effects.{Effect, Becomes, Refused}
+use Rattle.gq_script.specs.Known.{Known, Answer, Absent, TooLong, Bytes, MayAnswer}
+use Rattle.gq_loading.specs.declared.loader.Counts.{Counts}
+use Rattle.gq_loading.specs.declared.loader.Place.{Place}
+use Rattle.gq_loading.specs.declared.loader.Place.TheVariants.{At, Nowhere}
+
+-- what a LOAD does with the bytes of its file: another state, with the counts of its records; or its refusal
+pub data Loaded (S : Type 0) : Type 0 where
+  Loads : S → Counts → Loaded S
+  Fails : Refusal → Loaded S
+
+-- the report of a file
+abbrev pub report_of : List ℕ → Counts → FileReport
+report_of path counts = record { file = path; lines = counts.lines; loaded = counts.loaded; short = counts.short; unreadable = counts.unreadable }
+
+module _ {S : Type 0} (place_of : S → ℕ → Place) (loaded_by : S → ℕ → List ℕ → Loaded S) (known : Known) where
+  -- what comes of a LOAD of this path: its refusal, or the rest of the job behind its report
+  abbrev pub Continues : List ℕ → List FileReport → Loaded S → (S → List FileReport → Type 0) → Effect S → Type 0
+  Continues path reports (Loads t counts) Rest effect = Rest t (reports ++ report_of path counts ∷ [])
+  Continues path reports (Fails r) Rest effect = effect ≡ Refused (message_of r)
+
+  -- the same, by what the file answered
+  abbrev pub AnswerLoads : S → ℕ → List ℕ → List FileReport → Answer → (S → List FileReport → Type 0) → Effect S → Type 0
+  AnswerLoads s number path reports Absent Rest effect = effect ≡ Refused (message_of (refusal.MissingFile path))
+  AnswerLoads s number path reports TooLong Rest effect = effect ≡ Refused (message_of (refusal.TooLarge path))
+  AnswerLoads s number path reports (Bytes bytes) Rest effect = Continues path reports (loaded_by s number bytes) Rest effect
+
+  -- the same, by the place of the file
+  abbrev pub PlaceLoads : S → ℕ → List FileReport → Place → (S → List FileReport → Type 0) → Effect S → Type 0
+  PlaceLoads s number reports (Nowhere name) Rest effect = effect ≡ Refused (message_of (refusal.NoPath name))
+  PlaceLoads s number reports (At path) Rest effect =
+      (answer : Answer) × MayAnswer known path answer × AnswerLoads s number path reports answer Rest effect
+
+  -- what so many LOADs do from a state on, the first of which has this number, behind these reports
+  abbrev pub LoadsMean : S → ℕ → ℕ → List FileReport → Effect S → Type 0
+  LoadsMean s number zero reports effect = effect ≡ Becomes s (report_text reports ∷ [])
+  LoadsMean s number (suc left) reports effect =
+      PlaceLoads s number reports (place_of s number) (λ t more. LoadsMean t (number + 1) left more effect) effect
+
+-- a LOAD may leave this, where it doesn't end
+abbrev pub Unended : {S : Type 0} → (S → ℕ → List ℕ → S → Type 0) → S → ℕ → S → Type 0
+Unended Leaves s number t = (bytes : List ℕ) × Leaves s number bytes t
+
+-- a LOAD ends in this state
+abbrev pub Ended : {S : Type 0} → (S → ℕ → List ℕ → Loaded S) → S → ℕ → S → Type 0
+Ended loaded_by s number t = (bytes : List ℕ) × (counts : Counts) × (loaded_by s number bytes ≡ Loads t counts)
+
+module _ {S : Type 0} (loaded_by : S → ℕ → List ℕ → Loaded S) (Leaves : S → ℕ → List ℕ → S → Type 0) where
+  -- what so many LOADs may leave where not all of them end: what those before one leave, and what that one leaves, if it began
+  abbrev pub LeavesBehind : S → ℕ → ℕ → S → Type 0
+  LeavesBehind s number zero t = t ≡ s
+  LeavesBehind s number (suc left) t =
+      (t ≡ s) ⊎ (Unended Leaves s number t ⊎ ((u : S) × Ended loaded_by s number u × LeavesBehind u (number + 1) left t))

@@ -1,0 +1,3 @@
+pub mod QueryReads
+pub mod BodyReads
+mod SeriesLemmas

@@ -1,0 +1,4 @@
+mod NewestLemmas
+mod TupleLemmas
+mod KeptLemmas
+mod WordLemmas

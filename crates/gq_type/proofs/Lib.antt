@@ -1,0 +1,6 @@
+pub mod BaseLemmas
+pub mod RuleLemmas
+pub mod ScopeLemmas
+pub mod FieldLemmas
+pub mod CallLemmas
+pub mod ArgumentLemmas

@@ -1,0 +1,4 @@
+pub mod Views
+pub mod Parts
+pub mod Calls
+pub mod Arguments

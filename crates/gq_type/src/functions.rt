@@ -1,0 +1,228 @@
+// What functions give.
+ghost use Rattle.std.specs.Prelude.{◌≡◌, map, true};
+ghost use Rattle.gq_value.specs.AccumViews.{base_of};
+ghost use Rattle.std.specs.Option.{option_copied, option_map};
+ghost use Rattle.gq_tree.specs.View.{views};
+ghost use Rattle.gq_typing.specs.CallTypes as spec;
+ghost use Rattle.gq_typing.specs.Words as words;
+ghost use Rattle.gq_type.specs.Views.{base_is, typed_is, Judges};
+ghost use Rattle.gq_type.specs.Calls as calls;
+ghost use Rattle.gq_type.specs.Calls.{function_is};
+
+use crate::calls::{Function, only};
+use crate::fault::{TypeFault, unknown};
+use crate::operators::matched;
+use crate::rules::{convert_all, is_number};
+use crate::trees::text_of;
+use crate::typed::{Base, Typed, Types};
+use gq_time::Unit;
+use gq_tree::Node;
+use gq_value::{BaseType, Txt};
+use std::alloc::Global;
+
+// ---- arguments by how many there are
+
+/// The one argument's type, or type mismatch where there isn't one alone.
+fn one<'a>(types: &[Base<'a>]) -> Result<Base<'a>, TypeFault>
+    ensures { Judges base_is (calls.one (map base_is types.now)) result }
+{
+    match only(types) {
+        Some(base) => Ok(base),
+        None => Err(TypeFault::Mismatch),
+    }
+}
+
+fn two<'a>(types: &[Base<'a>]) -> Option<(Base<'a>, Base<'a>)>
+    ensures { option_map (λ p. (base_is p.0, base_is p.1)) result ≡ calls.pair (map base_is types.now) }
+{
+    if types.len() == 2 {
+        Some((types[0], types[1]))
+    } else {
+        None
+    }
+}
+
+fn three<'a>(types: &[Base<'a>]) -> Option<(Base<'a>, Base<'a>, Base<'a>)>
+    ensures { option_map (λ p. (base_is p.0, base_is p.1, base_is p.2)) result ≡ calls.triple (map base_is types.now) }
+{
+    if types.len() == 3 {
+        Some((types[0], types[1], types[2]))
+    } else {
+        None
+    }
+}
+
+fn is_time(base: Base<'_>) -> bool
+    ensures { result ≡ calls.is_time (base_is base.entry) }
+{
+    match base {
+        Base::Time => true,
+        Base::Int | Base::UInt | Base::Bool | Base::Text => false,
+        Base::AnyVertex | Base::VertexOf(_) | Base::Tuple(_, _) => false,
+    }
+}
+
+fn is_text(base: Base<'_>) -> bool
+    ensures { result ≡ calls.is_text (base_is base.entry) }
+{
+    match base {
+        Base::Text => true,
+        Base::Int | Base::UInt | Base::Bool | Base::Time => false,
+        Base::AnyVertex | Base::VertexOf(_) | Base::Tuple(_, _) => false,
+    }
+}
+
+fn has_text(base: Base<'_>) -> bool
+    ensures { result ≡ spec.has_text (base_is base.entry) }
+{
+    match base {
+        Base::Text | Base::Bool | Base::Int | Base::UInt => true,
+        Base::Time | Base::AnyVertex | Base::VertexOf(_) | Base::Tuple(_, _) => false,
+    }
+}
+
+// ---- functions
+
+fn made<'s>(
+    number: u32,
+    fields: &'s [(Txt, BaseType)],
+    types: &[Base<'_>],
+) -> Result<Typed<'s>, TypeFault>
+    ensures { Judges typed_is (calls.made number (map (λ f. base_of f.1) fields.now) (map base_is types.now)) result }
+{
+    matched(convert_all(types, Types::Named(fields)))?;
+    Ok(Typed::Of(Base::Tuple(number, Types::Named(fields))))
+}
+
+fn absolute<'s>(types: &[Base<'s>]) -> Result<Typed<'s>, TypeFault>
+    ensures { Judges typed_is (calls.absolute (map base_is types.now)) result }
+{
+    let base = one(types)?;
+    matched(is_number(base))?;
+    Ok(Typed::Of(base))
+}
+
+fn said<'s>(types: &[Base<'_>]) -> Result<Typed<'s>, TypeFault>
+    ensures { Judges typed_is (calls.said (map base_is types.now)) result }
+{
+    let base = one(types)?;
+    matched(has_text(base))?;
+    Ok(Typed::Of(Base::Text))
+}
+
+fn time_of_text<'s>(types: &[Base<'_>]) -> Result<Typed<'s>, TypeFault>
+    ensures { Judges typed_is (calls.time_of_text (map base_is types.now)) result }
+{
+    let base = one(types)?;
+    matched(is_text(base))?;
+    Ok(Typed::Of(Base::Time))
+}
+
+fn time_of_number<'s>(types: &[Base<'_>]) -> Result<Typed<'s>, TypeFault>
+    ensures { Judges typed_is (calls.time_of_number (map base_is types.now)) result }
+{
+    let base = one(types)?;
+    matched(is_number(base))?;
+    Ok(Typed::Of(Base::Time))
+}
+
+fn number_of_time<'s>(types: &[Base<'_>]) -> Result<Typed<'s>, TypeFault>
+    ensures { Judges typed_is (calls.number_of_time (map base_is types.now)) result }
+{
+    let base = one(types)?;
+    matched(is_time(base))?;
+    Ok(Typed::Of(Base::Int))
+}
+
+fn difference<'s>(types: &[Base<'_>]) -> Result<Typed<'s>, TypeFault>
+    ensures { Judges typed_is (calls.difference (map base_is types.now)) result }
+{
+    match two(types) {
+        None => Err(TypeFault::Mismatch),
+        Some((from, to)) => {
+            matched(is_time(from) && is_time(to))?;
+            Ok(Typed::Of(Base::Int))
+        }
+    }
+}
+
+fn later<'s>(alloc: Global, arguments: &[Node], types: &[Base<'_>]) -> Result<Typed<'s>, TypeFault>
+    ensures { Judges typed_is (calls.later (views arguments.now) (map base_is types.now)) result }
+{
+    match three(types) {
+        None => Err(TypeFault::Mismatch),
+        Some((from, by, unit)) => {
+            matched(is_time(from) && is_text(unit))?;
+            matched(is_number(by))?;
+            unit_known(alloc, third_text(arguments))
+        }
+    }
+}
+
+/// The third argument, where there are three and it is a text.
+fn third_text(arguments: &[Node]) -> Option<&str>
+    ensures { option_copied result ≡ calls.third_text (views arguments.now) }
+{
+    if arguments.len() == 3 {
+        text_of(&arguments[2])
+    } else {
+        None
+    }
+}
+
+fn unit_known<'s>(alloc: Global, unit: Option<&str>) -> Result<Typed<'s>, TypeFault>
+    ensures { Judges typed_is (calls.unit_of (option_copied unit.entry)) result }
+{
+    match unit {
+        None => Err(TypeFault::Mismatch),
+        Some(unit) => match unit_named(unit) {
+            None => Err(unknown(alloc, unit)),
+            Some(_) => Ok(Typed::Of(Base::Time)),
+        },
+    }
+}
+
+/// A unit of time by its text, in any case.
+pub fn unit_named(text: &str) -> Option<Unit>
+    ensures { result ≡ words.unit_named text.now }
+{
+    if "YEAR".eq_ignore_ascii_case(text) {
+        Some(Unit::Year)
+    } else if "MONTH".eq_ignore_ascii_case(text) {
+        Some(Unit::Month)
+    } else if "DAY".eq_ignore_ascii_case(text) {
+        Some(Unit::Day)
+    } else if "HOUR".eq_ignore_ascii_case(text) {
+        Some(Unit::Hour)
+    } else if "MINUTE".eq_ignore_ascii_case(text) {
+        Some(Unit::Minute)
+    } else if "SECOND".eq_ignore_ascii_case(text) {
+        Some(Unit::Second)
+    } else {
+        None
+    }
+}
+
+/// What a function gives, for arguments of these types.
+#[tactic(auto, using(crate::proofs::CallLemmas::function_laws))]
+pub(crate) fn function_type<'s>(
+    alloc: Global,
+    function: Function<'s>,
+    arguments: &[Node],
+    types: &[Base<'s>],
+) -> Result<Typed<'s>, TypeFault>
+    ensures { Judges typed_is (spec.function_type (function_is function.entry) (views arguments.now) (map base_is types.now)) result }
+{
+    match function {
+        Function::Makes(number, fields) => made(number, fields, types),
+        Function::Abs => absolute(types),
+        Function::ToString => said(types),
+        Function::ToDatetime => time_of_text(types),
+        Function::EpochToDatetime => time_of_number(types),
+        Function::DatetimeToEpoch => number_of_time(types),
+        Function::DatetimeDiff => difference(types),
+        Function::DatetimeAdd => later(alloc, arguments, types),
+        Function::Year | Function::Month | Function::Day => number_of_time(types),
+        Function::Hour | Function::Minute | Function::Second => number_of_time(types),
+    }
+}

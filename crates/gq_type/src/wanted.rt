@@ -1,0 +1,57 @@
+// What a place wants of an expression.
+ghost use Rattle.std.specs.Prelude.{◌≡◌, true};
+ghost use Rattle.gq_tree.specs.View.{view};
+ghost use Rattle.gq_typing.specs.ExpressionTypes as spec;
+ghost use Rattle.gq_scope.specs.Held.{names_in};
+ghost use Rattle.gq_type.specs.Views.{base_is, Judges};
+
+use crate::expressions::type_of;
+use crate::fault::TypeFault;
+use crate::operators::matched;
+use crate::rules::{as_base, converts, is_bool, is_number};
+use crate::typed::Base;
+use gq_scope::Scope;
+use gq_tree::Node;
+use std::alloc::Global;
+
+/// A value of a type.
+pub fn base_type<'s>(
+    alloc: Global,
+    scope: &'s Scope<'_>,
+    node: &Node,
+) -> Result<Base<'s>, TypeFault>
+    ensures { Judges base_is (spec.base_type (names_in scope.now) (view node.now)) result }
+{
+    let x = type_of(alloc, scope, node)?;
+    as_base(x)
+}
+
+/// A BOOL.
+pub fn condition(alloc: Global, scope: &Scope<'_>, node: &Node) -> Result<(), TypeFault>
+    ensures { Judges (λ _. true) (spec.condition (names_in scope.now) (view node.now)) result }
+{
+    let base = base_type(alloc, scope, node)?;
+    matched(is_bool(base))
+}
+
+/// A number; its type.
+pub fn number<'s>(alloc: Global, scope: &'s Scope<'_>, node: &Node) -> Result<Base<'s>, TypeFault>
+    ensures { Judges base_is (spec.number (names_in scope.now) (view node.now)) result }
+{
+    let base = base_type(alloc, scope, node)?;
+    matched(is_number(base))?;
+    Ok(base)
+}
+
+/// A value that converts to a type.
+pub fn converting(
+    alloc: Global,
+    scope: &Scope<'_>,
+    want: Base<'_>,
+    node: &Node,
+) -> Result<(), TypeFault>
+    ensures { Judges (λ _. true) (spec.converting (names_in scope.now) (base_is want.entry) (view node.now)) result }
+{
+    let base = base_type(alloc, scope, node)?;
+    matched(converts(base, want))
+}
