@@ -1,0 +1,5 @@
+pub mod StatementReads
+mod PlaceLemmas
+mod CutLemmas
+mod ScriptLemmas
+mod StepLemmas

@@ -1,0 +1,12 @@
+use Rattle.gq_stmt_read.proofs.StepLemmas.{known}
+use Rattle.gq_stmt_read.proofs.ScriptLemmas.{script_alike, fault_alike, script_apart}
+use Rattle.gq_stmt_read.proofs.laws.one_script.Goals as goal
+
+pub returns-clause-one : goal.returns-clause-one
+returns-clause-one c = λ b bodies bytes tokens. script_alike bytes tokens (known b bodies)
+
+pub returns-clause-one_fault : goal.returns-clause-one_fault
+returns-clause-one_fault c = λ b bodies bytes tokens. fault_alike bytes tokens (known b bodies)
+
+pub returns-clause-apart : goal.returns-clause-apart
+returns-clause-apart c = λ b bodies bytes tokens. script_apart bytes tokens (known b bodies)

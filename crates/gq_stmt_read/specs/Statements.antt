@@ -1,0 +1,34 @@
+-- Statements: what each function of the reader of statements computes, a definition for each production. `statements_are_exact` says that
+-- it is the grammar. A body is whatever the given parser reads.
+use Rattle.gq_tree.specs.declared.body.Body.{Body}
+use Rattle.gq_tree.specs.declared.statement.Statement.{Statement}
+use Rattle.gq_tree.specs.declared.statement.Statement.TheVariants as top
+use Rattle.gq_tree.specs.Scripts.{created_query}
+use Rattle.gq_grammar.specs.Lexemes.{word}
+use Rattle.gq_grammar.specs.Parsers.{Parser, made, ◌or◌, stands, after}
+use Rattle.gq_part_read.specs.Literals.{of_graph_parser}
+use Rattle.gq_def_read.specs.Schema.{vertex_parser, edge_parser, graph_parser, insert_parser}
+use Rattle.gq_def_read.specs.Jobs.{job_parser, run_job_parser}
+use Rattle.gq_query_read.specs.Queries.{created_query_parser, interpret_parser, install_parser, run_parser}
+
+unfoldable pub declared_parser : Parser Statement
+declared_parser =
+    made top.Vertex vertex_parser or made top.Edge edge_parser or made top.Graph graph_parser or made top.Job job_parser
+
+unfoldable pub created_parser : Parser Body → Parser Statement
+created_parser b = declared_parser or made created_query (created_query_parser b)
+
+unfoldable pub use_parser : Parser Statement
+use_parser = made top.Use (after (word "USE") of_graph_parser)
+
+unfoldable pub run_statement_parser : Parser Statement
+run_statement_parser = made top.RunJob run_job_parser or made top.Run run_parser
+
+unfoldable pub plain_parser : Parser Body → Parser Statement
+plain_parser b =
+    after (word "CREATE") (created_parser b) or use_parser or after (word "RUN") run_statement_parser or made top.Install install_parser
+
+unfoldable pub statement_parser : Parser Body → Parser Statement
+statement_parser b =
+    plain_parser b or made top.Interpret (interpret_parser b) or made top.Insert insert_parser or stands top.Begin (word "BEGIN")
+    or stands top.End (word "END")

@@ -1,0 +1,38 @@
+// Why a script isn't read.
+ghost use Rattle.std.specs.Prelude.{◌≡◌};
+ghost use Rattle.gq_stmt_read.specs.declared.fault.ScriptFault.TheVariants.{Memory};
+
+use gq_list::Memory;
+use std::alloc::AllocFailed;
+use thiserror::Error;
+
+/// Why a script isn't read. Places are counted in bytes from 0.
+#[derive(Clone, Copy, Debug, PartialEq, Eq, Error)]
+pub enum ScriptFault {
+    /// The statement of this number, counted from 1, whose first token begins at `at`: no prefix of the rest is a statement.
+    #[error("syntax error in statement {statement}")]
+    Syntax { statement: u64, at: usize },
+
+    /// The token that begins at `at` is the first that raises the depth to 65.
+    #[error("nested too deep at byte {at}")]
+    TooDeep { at: usize },
+
+    #[error("out of memory")]
+    Memory,
+}
+
+impl From<Memory> for ScriptFault {
+    ghost from_gives = { λ _ e. e ≡ Memory };
+
+    fn from(_: Memory) -> Self {
+        ScriptFault::Memory
+    }
+}
+
+impl<T: Drop> From<AllocFailed<T>> for ScriptFault {
+    ghost from_gives = { λ _ e. e ≡ Memory };
+
+    fn from(_: AllocFailed<T>) -> Self {
+        ScriptFault::Memory
+    }
+}
