@@ -35,13 +35,13 @@ sorts = record {
 abbrev knows : EdgeType
 knows = record { name = codes "knows"; directed = true; from = 0; to = 0; forward = None; reverse = None; discriminators = 0; attributes = [] }
 
-abbrev row : ℕ → ℕ → EdgeRow
-row a b = record { kind = 0; from = a; to = b; attributes = [] }
+abbrev edge_row : ℕ → ℕ → EdgeRow
+edge_row a b = record { kind = 0; from = a; to = b; attributes = [] }
 
 abbrev persons : Graph
 persons = record {
   sorts = sorts;
-  sight = record { kinds = 0 ∷ 0 ∷ 0 ∷ []; types = knows ∷ []; edges = row 0 1 ∷ row 0 2 ∷ row 1 2 ∷ [] };
+  sight = record { kinds = 0 ∷ 0 ∷ 0 ∷ []; types = knows ∷ []; edges = edge_row 0 1 ∷ edge_row 0 2 ∷ edge_row 1 2 ∷ [] };
   ids = codes "a" ∷ codes "b" ∷ codes "c" ∷ [];
   vertex_values = (Int (pos 1) ∷ []) ∷ (Int (pos 2) ∷ []) ∷ (Int (pos 3) ∷ []) ∷ [];
   edge_values = (Int (pos 10) ∷ []) ∷ (Int (pos 20) ∷ []) ∷ (Int (pos 30) ∷ []) ∷ [];
