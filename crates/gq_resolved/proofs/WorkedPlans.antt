@@ -1,5 +1,5 @@
 -- WorkedPlans: a query beside its plan: the plan is typed, and it prints what the query prints.
-use Rattle.std.proofs.Common.{◌≡◌, ℕ, true, false, [], ◌∷◌, pos, Some, None, Ok, refl}
+use Rattle.std.proofs.Common.{◌≡◌, ℕ, true, false, List, [], ◌∷◌, pos, Some, None, refl}
 use Rattle.std.specs.Prelude.{codes, is_ok}
 use Rattle.gq_tree.specs.declared.expr.AddSign.TheVariants as add
 use Rattle.gq_tree.specs.declared.kind.Plain.TheVariants as plain
@@ -11,16 +11,16 @@ use Rattle.gq_value.specs.declared.store.EdgeRow.{EdgeRow}
 use Rattle.gq_value.specs.Val.{Int}
 use Rattle.gq_value.specs.Accums.{INT, SumAccum}
 use Rattle.gq_typing.specs.Selecting.{Plain, Adds, AtAlias, no_act, act_and, These, OneHop, Select}
-use Rattle.gq_typing.specs.Statements.{Bytes, Ints, OfBase, OverElem, AllOf, Seeds, Selects, Sets, Selection, no_stmt, stmt_and, Assign, Print, Accums, QueryOver}
+use Rattle.gq_typing.specs.Statements.{Bytes, Ints, OfBase, OverElem, AllOf, Seeds, Selects, Sets, Whole, Selection, no_stmt, stmt_and, Assign, Print, Accums, QueryOver}
 use Rattle.gq_typing.specs.Sorts.{Sorts}
 use Rattle.gq_typing.specs.QueryTypes.{typing_over}
 use Rattle.gq_meaning.specs.Calendars.{Calendar}
 use Rattle.gq_meaning.specs.Graphs.{Graph}
 use Rattle.gq_meaning.specs.Queries.{run_query, run_plan}
-use Rattle.gq_resolved.specs.declared.expr.Columns.{Columns}
-use Rattle.gq_resolved.specs.Reference.{Reference, Place, Slot, VertexType, EdgeType as edge_numbered, Column}
-use Rattle.gq_resolved.specs.References.{by_number}
-use Rattle.gq_resolved.specs.Belonging.{world_of}
+use Rattle.gq_resolved.specs.declared.expr.FieldPlaces.{FieldPlaces}
+use Rattle.gq_resolved.specs.Reference.{Reference, Place, Slot, VertexType, EdgeType as edge_numbered, FieldAt}
+use Rattle.gq_resolved.specs.References.{by_reference}
+use Rattle.gq_resolved.specs.Belonging.{kind_judged, world_of}
 
 -- ---- a knows b and c, b knows c
 
@@ -47,7 +47,7 @@ persons = record {
   edge_values = (Int (pos 10) ∷ []) ∷ (Int (pos 20) ∷ []) ∷ (Int (pos 30) ∷ []) ∷ [];
 }
 
--- ---- SumAccum<INT> @n = 1; S = {person.*}; T = SELECT t FROM S:s -(knows:e)-> person:t ACCUM t.@n += s.@n + e.w; PRINT S[S.@n AS n];
+-- ---- SumAccum<INT> @n = 1; S = {person.*}; T = SELECT t FROM S:s -(knows:e)-> person:t ACCUM t.@n += s.@n + e.w; PRINT S[S.@n AS n], S AS all;
 
 -- what the names of it stand for
 record Uses (N : Type 0) : Type 0 where
@@ -83,20 +83,23 @@ module _ {N K : Type 0} (u : Uses N) (sum : K) where
     definitions = Accums sum ((true, u.n, Some (Number 1)) ∷ []) ∷ [];
     statements = stmt_and (Assign u.S None (Sets (Seeds (AllOf u.person ∷ [])) []))
         (stmt_and (Assign u.T None (Selects select))
-        (stmt_and (Print (Selection u.S (record { tree = Post (Name u.S) (parts_of (Attached u.n ∷ [])); key = codes "n" } ∷ []) (codes "S") ∷ [])) no_stmt));
+        (stmt_and (Print (Selection u.S (record { tree = Post (Name u.S) (parts_of (Attached u.n ∷ [])); key = codes "n" } ∷ []) (codes "S") ∷ Whole (record { tree = Name u.S; key = codes "all" }) ∷ [])) no_stmt));
   }
 
 abbrev names : Uses Bytes
 names = record { S = codes "S"; T = codes "T"; s = codes "s"; e = codes "e"; t = codes "t"; n = codes "@n"; w = codes "w"; person = codes "person"; knows = codes "knows" }
 
-abbrev weight : Columns
+abbrev slots : List Bytes
+slots = codes "@n" ∷ []
+
+abbrev weight : FieldPlaces
 weight = record { name = codes "w"; vertices = []; edges = Some 0 ∷ []; tuples = [] }
 
 abbrev references : Uses Reference
-references = record { S = Place 0; T = Place 1; s = Place 2; e = Place 3; t = Place 4; n = Slot 0; w = Column weight; person = VertexType 0; knows = edge_numbered 0 }
+references = record { S = Place 0; T = Place 1; s = Place 2; e = Place 3; t = Place 4; n = Slot 0; w = FieldAt weight; person = VertexType 0; knows = edge_numbered 0 }
 
-the_plan_is_typed : is_ok (typing_over (λ s name kind. Ok kind) (record { words = by_number; sorts = sorts; tuples = [] }) (snapshot references (SumAccum number.Int))) ≡ true
+the_plan_is_typed : is_ok (typing_over kind_judged (record { words = by_reference sorts slots; sorts = sorts; tuples = [] }) (snapshot references (SumAccum number.Int))) ≡ true
 the_plan_is_typed = refl
 
-the_plan_prints_what_the_query_prints : (clock : Calendar) → run_plan (world_of [] persons clock) (snapshot references (SumAccum number.Int)) [] 9 ≡ run_query persons clock (snapshot names (OverElem plain.Sum (OfBase Ints))) [] 9
+the_plan_prints_what_the_query_prints : (clock : Calendar) → run_plan (world_of slots [] persons clock) (snapshot references (SumAccum number.Int)) [] 9 ≡ run_query persons clock (snapshot names (OverElem plain.Sum (OfBase Ints))) [] 9
 the_plan_prints_what_the_query_prints clock = refl

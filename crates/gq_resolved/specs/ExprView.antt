@@ -14,13 +14,13 @@ use Rattle.gq_resolved.specs.declared.expr.Method as code_method
 use Rattle.gq_resolved.specs.declared.expr.Method.TheVariants as a_method
 use Rattle.gq_resolved.specs.declared.expr.Function as code_function
 use Rattle.gq_resolved.specs.declared.expr.Function.TheVariants as a_function
-use Rattle.gq_resolved.specs.Reference.{Reference, Place, Slot, TupleType, TypeName, Column, Calls, Does}
+use Rattle.gq_resolved.specs.Reference.{Reference, Place, Slot, TupleType, TypeName, FieldAt, Calls, Does}
 
 -- ---- references
 
 abbrev pub field_of : code_field.Field → Reference
 field_of a_field.Type = TypeName
-field_of (a_field.Columns c) = Column c
+field_of (a_field.Named c) = FieldAt c
 
 abbrev pub method_of : code_method.Method → words.Method
 method_of a_method.Size = words.Size

@@ -5,4 +5,5 @@ pub mod BlockView
 pub mod PlanView
 pub mod Renamed
 pub mod Settled
+pub mod PlanKinds
 pub mod Belonging

@@ -1,6 +1,7 @@
 -- PlanView: the statements of a plan, and a whole plan, as plain data.
-use Rattle.std.specs.Prelude.{ℕ, Bool, List, map, Option, None}
+use Rattle.std.specs.Prelude.{ℕ, Bool, List, [], ◌∷◌, map, Option, Some, None}
 use Rattle.std.specs.Option.{option_map}
+use Rattle.std.specs.List.{flat_map}
 use Rattle.gq_tree.specs.Tree.{Tree}
 use Rattle.gq_value.specs.Accums.{Accum}
 use Rattle.gq_value.specs.AccumViews.{accum_of}
@@ -102,6 +103,14 @@ view_accum a = (a.attached, Slot a.slot, option_map view a.opening)
 abbrev pub view_definition : Definition → plain.Definition Reference Accum
 view_definition (definition.Tuple fields n) = plain.TupleType (map (λ f. (view_declared f.0, f.1)) fields) (TupleType n)
 view_definition (definition.Accums kind accums) = plain.Accums (accum_of kind) (map view_accum accums)
+
+-- the names of the accumulators, in order of declaration
+abbrev pub names_in : Definition → List Bytes
+names_in (definition.Tuple fields n) = []
+names_in (definition.Accums kind accums) = map (λ (a : code.Accum). a.name) accums
+
+abbrev pub accum_names : Plan → List Bytes
+accum_names p = flat_map names_in p.definitions
 
 abbrev pub view_parameter : Parameter → plain.Parameter Reference
 view_parameter p = record { base = view_declared p.base; name = Place p.place; default = None }

@@ -1,7 +1,7 @@
 -- Reference: what stands for a name in a plan.
 use Rattle.std.specs.Prelude.{ℕ}
 use Rattle.gq_typing.specs.Words.{Function, Method}
-use Rattle.gq_resolved.specs.declared.expr.Columns.{Columns}
+use Rattle.gq_resolved.specs.declared.expr.FieldPlaces.{FieldPlaces}
 
 pub data Reference : Type 0 where
   -- a variable, a set or an alias: a place of the frame
@@ -13,6 +13,6 @@ pub data Reference : Type 0 where
   -- the name of a type, behind a dot
   TypeName : Reference
   -- a field: where it stands in each type
-  Column : Columns → Reference
+  FieldAt : FieldPlaces → Reference
   Calls : Function → Reference
   Does : Method → Reference

@@ -1,16 +1,20 @@
--- Settled: what a plan keeps at hand is what it follows from: the types of a tuple's fields from the tuple type's number, the edge
--- types that `outdegree` counts from what stands in its parentheses.
-use Rattle.std.specs.Prelude.{ℕ, ◌==◌, Bool, true, false, ◌&&◌, List, [], ◌∷◌, map, Option, Some, None}
-use Rattle.std.specs.List.{list_all}
+-- Settled: what a plan keeps at hand is what it follows from: where a field stands from its name, the types of a tuple's fields from
+-- the tuple type's number, the edge types that `outdegree` counts from what stands in its parentheses. And tuple types and slots are
+-- numbered in order of declaration.
+use Rattle.std.specs.Prelude.{ℕ, ◌==◌, Bool, true, false, ◌&&◌, List, [], ◌∷◌, ◌++◌, map, length, Option, Some, None}
+use Rattle.std.specs.List.{list_all, range_with_len}
 use Rattle.gq_tree.specs.declared.expr.AddSign.{AddSign}
 use Rattle.gq_tree.specs.declared.expr.MulSign.{MulSign}
 use Rattle.gq_value.specs.AccumViews.{base_of, bases}
-use Rattle.gq_typing.specs.Sorts.{Sorts, bases_of}
+use Rattle.gq_typing.specs.Sorts.{Sorts, bases_of, names_of, vertex_fields, edge_fields}
 use Rattle.gq_typing.specs.Types.{same_bases}
-use Rattle.gq_typing.specs.Words.{Setting, edge_quoted}
+use Rattle.gq_typing.specs.Words.{Owner, OfVertexType, OfEdgeType, OfTupleType, Setting, edge_quoted, place_of}
 use Rattle.gq_typing.specs.FieldTypes.{tuple_fields}
 use Rattle.gq_resolved.specs.declared.expr.Expr.{Expr, Expr-F, fold-Expr}
 use Rattle.gq_resolved.specs.declared.expr.Behind.{Behind-F}
+use Rattle.gq_resolved.specs.declared.expr.Field.{Field}
+use Rattle.gq_resolved.specs.declared.expr.Field.TheVariants as field
+use Rattle.gq_resolved.specs.declared.expr.FieldPlaces.{FieldPlaces}
 use Rattle.gq_resolved.specs.declared.expr.Function.{Function}
 use Rattle.gq_resolved.specs.declared.expr.Function.TheVariants as function
 use Rattle.gq_resolved.specs.declared.block.Feed.{Feed, Feed-F, fold-Feed}
@@ -30,6 +34,7 @@ use Rattle.gq_resolved.specs.declared.plan.Definition.{Definition}
 use Rattle.gq_resolved.specs.declared.plan.Definition.TheVariants as definition
 use Rattle.gq_resolved.specs.declared.plan.Plan.{Plan}
 use Rattle.gq_resolved.specs.Reference.{Reference}
+use Rattle.gq_resolved.specs.References.{place_in}
 
 abbrev pub all : List Bool → Bool
 all bs = list_all (λ b. b) bs
@@ -37,6 +42,11 @@ all bs = list_all (λ b. b) bs
 abbrev pub all_in : {A : Type 0} → (A → Bool) → Option A → Bool
 all_in test None = true
 all_in test (Some a) = test a
+
+abbrev pub same_place : Option ℕ → Option ℕ → Bool
+same_place None None = true
+same_place (Some n) (Some m) = n == m
+same_place p q = false
 
 abbrev pub same_numbers : List ℕ → List ℕ → Bool
 same_numbers [] [] = true
@@ -56,7 +66,32 @@ abbrev pub are_counted : List ℕ → Option (List ℕ) → Bool
 are_counted types None = false
 are_counted types (Some ts) = same_numbers types ts
 
+-- numbers from 0 on, in order
+abbrev pub counts : List ℕ → Bool
+counts ns = same_numbers ns (range_with_len 0 (length ns))
+
+abbrev pub tuple_numbers : List Definition → List ℕ
+tuple_numbers [] = []
+tuple_numbers (definition.Tuple fields n ∷ ds) = n ∷ tuple_numbers ds
+tuple_numbers (definition.Accums kind accums ∷ ds) = tuple_numbers ds
+
+abbrev pub slot_numbers : List Definition → List ℕ
+slot_numbers [] = []
+slot_numbers (definition.Tuple fields n ∷ ds) = slot_numbers ds
+slot_numbers (definition.Accums kind accums ∷ ds) = map (λ (a : code.Accum). a.slot) accums ++ slot_numbers ds
+
 module _ (setting : Setting Reference) where
+  -- the tables of a field say of each type of the graph, and of each tuple type, what its name says
+  abbrev pub is_field : Field → Bool
+  is_field field.Type = true
+  is_field (field.Named c) =
+      list_all (λ t. stands c (OfVertexType t) (names_of (vertex_fields setting.sorts t))) setting.sorts.own_vertices
+      && (list_all (λ t. stands c (OfEdgeType t) (names_of (edge_fields setting.sorts t))) setting.sorts.own_edges
+      && list_all (λ t. stands c (OfTupleType t) (names_of (tuple_fields setting t))) (range_with_len 0 (length setting.tuples)))
+    where
+      stands : FieldPlaces → Owner → List (List ℕ) → Bool
+      stands c owner names = same_place (place_in c owner names) (place_of names c.name)
+
   abbrev pub is_function : Function → Bool
   is_function (function.Tuple n fields) = same_bases (bases (map base_of fields)) (bases (bases_of (tuple_fields setting n)))
   is_function f = true
@@ -76,6 +111,7 @@ module _ (setting : Setting Reference) where
   expr_step e = true
 
   abbrev pub behind_step : Behind-F Bool Bool → Bool
+  behind_step (Behind-F.Field f) = is_field f
   behind_step (Behind-F.Method m arguments) = all arguments
   behind_step (Behind-F.Degree e types) = are_counted types (counted_types setting.sorts e)
   behind_step p = true
@@ -146,4 +182,6 @@ module _ (setting : Setting Reference) where
   is_settled_definition (definition.Accums kind accums) = list_all is_settled_accum accums
 
   abbrev pub is_settled_plan : Plan → Bool
-  is_settled_plan p = list_all is_settled_definition p.definitions && list_all is_settled_step p.steps
+  is_settled_plan p =
+      list_all is_settled_definition p.definitions && (list_all is_settled_step p.steps
+      && (counts (tuple_numbers p.definitions) && counts (slot_numbers p.definitions)))

@@ -27,7 +27,7 @@ pub enum Change {
 #[cycle(act)]
 #[derive(Drop)]
 pub enum Act {
-    /// A change of the accumulator in a slot, at the alias of a place.
+    /// At the alias of a place, a change of the accumulator in a slot.
     Attached(u32, u32, Change),
 
     /// A change of the global accumulator in a slot.

@@ -55,13 +55,13 @@ pub enum Behind {
 pub enum Field {
     /// The name of a vertex's or an edge's type.
     Type,
-    Columns(Columns),
+    Named(FieldPlaces),
 }
 
-/// Where the attribute, the field or the part of one name stands among those of each type, by the type's number. A table ends with
-/// the last type that has the name.
+/// Where the attribute or the field of one name stands among those of each type, by the type's number. A type past the end of its
+/// table is looked at by the name.
 #[derive(Drop)]
-pub struct Columns {
+pub struct FieldPlaces {
     /// A group's part is found by it.
     pub name: Txt,
     pub vertices: List<Option<u32>>,

@@ -12,7 +12,7 @@ mod plan;
 mod step;
 
 pub use block::{Act, Block, Change, Feed, Hop, PathStep, Source, Types, Walk};
-pub use expr::{Behind, Columns, Expr, Field, Function, Method};
+pub use expr::{Behind, Expr, Field, FieldPlaces, Function, Method};
 pub use laws::references_mean_what_names_do;
-pub use plan::{Accum, Declared, Definition, Parameter, Plan};
+pub use plan::{Accum, Declared, Definition, Held, Parameter, Plan};
 pub use step::{Item, Over, Right, Seed, SetTerm, SetTypes, Sets, Step};

@@ -2,7 +2,7 @@
 use crate::expr::Expr;
 use crate::step::Step;
 use gq_list::List;
-use gq_value::{Kind, Txt};
+use gq_value::{BaseType, Kind, Numbers, Txt};
 
 /// A type that a variable, a parameter or a tuple's field is declared with.
 #[derive(Clone, Copy, Debug, PartialEq, Eq)]
@@ -31,6 +31,9 @@ pub struct Parameter {
 pub struct Accum {
     pub attached: bool,
     pub slot: u32,
+
+    /// Its name, with its `@` or `@@`: a vertex that is printed whole shows its accumulators under it.
+    pub name: Txt,
     pub opening: Option<Expr>,
 }
 
@@ -42,7 +45,19 @@ pub enum Definition {
     Accums(Kind, List<Accum>),
 }
 
-/// A query with numbers for names.
+/// What stands at a place of the frame.
+#[derive(Drop)]
+pub enum Held {
+    /// A value of a type.
+    Variable(BaseType),
+
+    /// A set, a vertex, an edge, each with its types.
+    Set(Numbers),
+    Alias(Numbers),
+    EdgeAlias(Numbers),
+}
+
+/// A query with numbers for names. It is made for a catalog and a graph, and made anew where the catalog has grown.
 #[derive(Drop)]
 pub struct Plan {
     pub parameters: List<Parameter>,
@@ -51,6 +66,9 @@ pub struct Plan {
     pub with_paths: bool,
     pub definitions: List<Definition>,
     pub steps: List<Step>,
+
+    /// What stands at each place of the frame.
+    pub places: List<Held>,
 
     /// The vertex and the edge types of its graph, by their numbers.
     pub vertices: List<u32>,

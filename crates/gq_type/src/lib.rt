@@ -15,8 +15,6 @@ mod kinds;
 mod names;
 mod operators;
 mod rules;
-#[cfg(test)]
-mod tests;
 mod trees;
 mod typed;
 mod wanted;
