@@ -1,0 +1,136 @@
+-- Records one by one.
+use Rattle.std.proofs.Common.{zero, suc, cond, get_or, ◌≡◌, ℕ, ◌<◌, List, [], ◌∷◌, ◌++◌, length, drop, map, Option, Some, None, true, refl, sym, ap, subst, ◌∙◌, arith}
+use Rattle.std.specs.Prelude.{Result, Err}
+use Rattle.std.proofs.lemmas.List.{append_assoc, append-nil, map-append}
+use Rattle.std.proofs.lemmas.Grind.{flat_map-append}
+use Rattle.gq_value.specs.Catalog.{Schema}
+use Rattle.gq_value.specs.declared.store.StoreFault.{StoreFault}
+use Rattle.gq_index.specs.declared.store.Store.{Store}
+use Rattle.gq_field.specs.Fields.{TellsTimes}
+use Rattle.gq_put.specs.Steps.{Step, Done, Begun, Puts}
+use Rattle.gq_put.proofs.StepLemmas.{done_more, err_before, err_more, begun_all}
+use Rattle.gq_row.specs.declared.route.Route.{Route}
+use Rattle.gq_row.specs.declared.record.Verdict.{Verdict}
+use Rattle.csv.specs.Machine.{next_record}
+use Rattle.csv.specs.Reading.{records_from, strip_bom}
+use Rattle.gq_records.specs.Records.{records_of}
+use Rattle.gq_job.specs.declared.job.LoadInto.{LoadInto}
+use Rattle.gq_job.specs.declared.job.LoadLine.{LoadLine}
+use Rattle.gq_job.specs.Fits.{IntoFits}
+use Rattle.gq_row.specs.declared.fault.LoadFault.{LoadFault}
+use Rattle.gq_row.specs.Routes.{route_of}
+use Rattle.gq_row.specs.Columns.{Fields}
+use Rattle.gq_row.specs.Records.{Judged, judged, steps_from, verdict_of, IsThere}
+use Rattle.gq_row.proofs.RowLemmas.{Reading}
+use Rattle.gq_load.specs.declared.report.Report.{Report}
+use Rattle.gq_load.specs.Reports.{report_of}
+use Rattle.gq_load.specs.Loads.{all_steps, IsLoaded, LoadsBy, Loads, header_of, loaded_of, first_of}
+
+-- some records, from the first one on, were loaded; these are left
+pub record IsUnderWay (schema : Schema) (routes : List Route) (records : List Fields) (before : Store) (left : List Fields) (now : Store) (report : Report) : Type 0 where
+  pub behind : List Fields
+  pub split : records ≡ behind ++ left
+  pub each : (read : Reading) → TellsTimes read → IsLoaded read schema routes behind before now report
+
+pub starts : (schema : Schema) (routes : List Route) (records : List Fields) (before : Store) → IsUnderWay schema routes records before records before (report_of [])
+starts schema routes records before = record {
+  behind = [];
+  split = refl;
+  each = λ read tells. record { done = record { taken = tt; leads = refl }; counted = refl };
+}
+
+-- the steps of the records up to one, and of that one
+steps_last : (read : Reading) (schema : Schema) (routes : List Route) (behind : List Fields) (fields : Fields)
+    → all_steps read schema routes (behind ++ fields ∷ []) ≡ all_steps read schema routes behind ++ steps_from (judged read schema routes fields)
+steps_last read schema routes behind fields =
+    flat_map-append (λ f. steps_from (judged read schema routes f)) behind (fields ∷ [])
+    ∙ ap (λ (s : List Step). all_steps read schema routes behind ++ s) (append-nil (steps_from (judged read schema routes fields)))
+
+split_more : (records behind left rest : List Fields) (fields : Fields) → records ≡ behind ++ left → left ≡ fields ∷ rest → records ≡ (behind ++ fields ∷ []) ++ rest
+split_more records behind left rest fields split next = split ∙ ap (λ ls. behind ++ ls) next ∙ sym (append_assoc behind (fields ∷ []) rest)
+
+pub goes_on : (schema : Schema) (routes : List Route) (records : List Fields) (before : Store) (left rest : List Fields) (now later : Store) (report more : Report) (fields : Fields) (verdict : Verdict)
+    → IsUnderWay schema routes records before left now report → left ≡ fields ∷ rest
+    → ((read : Reading) → TellsTimes read → Done now (steps_from (judged read schema routes fields)) later)
+    → ((read : Reading) → TellsTimes read → verdict ≡ verdict_of (judged read schema routes fields))
+    → ((js : List Judged) (j : Judged) → report ≡ report_of js → verdict ≡ verdict_of j → more ≡ report_of (js ++ j ∷ []))
+    → IsUnderWay schema routes records before rest later more
+goes_on schema routes records before left rest now later report more fields verdict way next put told count = record {
+  behind = way.behind ++ fields ∷ [];
+  split = split_more records way.behind left rest fields way.split next;
+  each = λ read tells. record {
+    done = subst (λ (s : List Step). Done before s later) (sym (steps_last read schema routes way.behind fields))
+        (done_more before now later (all_steps read schema routes way.behind) (steps_from (judged read schema routes fields)) (way.each read tells).done (put read tells));
+    counted = count (map (judged read schema routes) way.behind) (judged read schema routes fields) (way.each read tells).counted (told read tells)
+        ∙ ap report_of (sym (map-append (judged read schema routes) way.behind (fields ∷ [])));
+  };
+}
+
+pub ends : (read : Reading) (schema : Schema) (routes : List Route) (records : List Fields) (before : Store) (left : List Fields) (now : Store) (report : Report)
+    → TellsTimes read → IsUnderWay schema routes records before left now report → left ≡ [] → IsLoaded read schema routes records before now report
+ends read schema routes records before left now report tells way none =
+    subst (λ (rs : List Fields). IsLoaded read schema routes rs before now report) (sym (way.split ∙ ap (λ ls. way.behind ++ ls) none ∙ append-nil way.behind)) (way.each read tells)
+
+-- the steps of all records are those of the records behind and of those left
+steps_split : (read : Reading) (schema : Schema) (routes : List Route) (records behind left : List Fields) → records ≡ behind ++ left
+    → all_steps read schema routes records ≡ all_steps read schema routes behind ++ all_steps read schema routes left
+steps_split read schema routes records behind left split =
+    ap (all_steps read schema routes) split ∙ flat_map-append (λ f. steps_from (judged read schema routes f)) behind left
+
+pub wants_memory : (read : Reading) (schema : Schema) (routes : List Route) (records : List Fields) (before : Store) (left : List Fields) (now : Store) (report : Report)
+    → TellsTimes read → IsUnderWay schema routes records before left now report → Begun before (all_steps read schema routes records) now
+wants_memory read schema routes records before left now report tells way =
+    subst (λ (s : List Step). Begun before s now) (sym (steps_split read schema routes records way.behind left way.split))
+    (begun_all before now (all_steps read schema routes way.behind) (all_steps read schema routes left) (way.each read tells).done)
+
+-- want of memory behind a record that was put
+pub wants_memory_behind : (read : Reading) (schema : Schema) (routes : List Route) (records : List Fields) (before : Store) (left rest : List Fields) (now later : Store) (report : Report) (fields : Fields)
+    → TellsTimes read → IsUnderWay schema routes records before left now report → left ≡ fields ∷ rest
+    → Done now (steps_from (judged read schema routes fields)) later → Begun before (all_steps read schema routes records) later
+wants_memory_behind read schema routes records before left rest now later report fields tells way next put =
+    subst (λ (s : List Step). Begun before s later)
+    (sym (steps_split read schema routes records (way.behind ++ fields ∷ []) rest (split_more records way.behind left rest fields way.split next)))
+    (begun_all before later (all_steps read schema routes (way.behind ++ fields ∷ [])) (all_steps read schema routes rest)
+    (subst (λ (s : List Step). Done before s later) (sym (steps_last read schema routes way.behind fields))
+    (done_more before now later (all_steps read schema routes way.behind) (steps_from (judged read schema routes fields)) (way.each read tells).done put)))
+
+pub stops : (A : Type 0) (read : Reading) (schema : Schema) (routes : List Route) (records : List Fields) (before : Store) (left rest : List Fields) (now later : Store) (report : Report) (fields : Fields) (f : StoreFault)
+    → TellsTimes read → IsUnderWay schema routes records before left now report → left ≡ fields ∷ rest
+    → Puts {A = A} now (steps_from (judged read schema routes fields)) later (Err f) → Puts {A = Report} before (all_steps read schema routes records) later (Err f)
+stops A read schema routes records before left rest now later report fields f tells way next put =
+    subst (λ (s : List Step). Puts {A = Report} before s later (Err f))
+    (ap (λ (s : List Step). s ++ all_steps read schema routes rest) (sym (steps_last read schema routes way.behind fields))
+    ∙ sym (steps_split read schema routes records (way.behind ++ fields ∷ []) rest (split_more records way.behind left rest fields way.split next)))
+    (err_before A Report before later (all_steps read schema routes way.behind ++ steps_from (judged read schema routes fields)) (all_steps read schema routes rest) f
+    (err_more A A before now later (all_steps read schema routes way.behind) (steps_from (judged read schema routes fields)) f (way.each read tells).done put))
+
+-- ---- a line
+
+-- the types of a line's routes are there
+pub all_there : (schema : Schema) (header : Option Fields) (destinations : List LoadInto) → ((k : ℕ) (d : LoadInto) → k < length destinations → IntoFits schema (get_or destinations k d))
+    → (k : ℕ) (r : Route) → k < length (map (route_of schema header) destinations) → IsThere schema (get_or (map (route_of schema header) destinations) k r)
+all_there schema header [] fits k r low = absurd (omega arith)
+all_there schema header (d ∷ ds) fits zero r low = (fits 0 d (omega arith)).there
+all_there schema header (d ∷ ds) fits (suc k) r low = all_there schema header ds (λ j e below. fits (suc j) e (omega arith)) k r (omega arith)
+
+-- a load by the header that the records begin with
+pub with_header : (read : Reading) (schema : Schema) (line : LoadLine) (records rest : List Fields) (header : Fields) (before later : Store) (result : Result Report LoadFault)
+    → line.header ≡ true → records ≡ header ∷ rest → LoadsBy read schema line (Some header) rest before later result → Loads read schema line records before later result
+with_header read schema line records rest header before later result has is loads =
+    let h : header_of line records ≡ Some header = ap (λ b. cond b (first_of records) None) has ∙ ap first_of is in
+    let r : loaded_of line records ≡ rest = ap (λ b. cond b (drop 1 records) records) has ∙ ap (drop 1) is in
+    subst (λ (o : Option Fields). LoadsBy read schema line o (loaded_of line records) before later result) (sym h)
+    (subst (λ (rs : List Fields). LoadsBy read schema line (Some header) rs before later result) (sym r) loads)
+
+pub with_no_header : (read : Reading) (schema : Schema) (line : LoadLine) (records none : List Fields) (before later : Store) (result : Result Report LoadFault)
+    → line.header ≡ true → records ≡ [] → none ≡ [] → LoadsBy read schema line None none before later result → Loads read schema line records before later result
+with_no_header read schema line records none before later result has is nothing loads =
+    let h : header_of line records ≡ None = ap (λ b. cond b (first_of records) None) has ∙ ap first_of is in
+    let r : loaded_of line records ≡ none = ap (λ b. cond b (drop 1 records) records) has ∙ ap (drop 1) is ∙ sym nothing in
+    subst (λ (o : Option Fields). LoadsBy read schema line o (loaded_of line records) before later result) (sym h)
+    (subst (λ (rs : List Fields). LoadsBy read schema line None rs before later result) (sym r) loads)
+
+-- a file of no bytes has no records
+pub no_records : (separator : ℕ) (quote : Option ℕ) → records_of separator quote [] ≡ []
+unfolding records_from next_record strip_bom
+no_records separator quote = refl

@@ -1,0 +1,15 @@
+use Rattle.std.proofs.Common.{◌≡◌, length}
+use Rattle.gq_job.specs.Targets.{edge_type_at}
+use Rattle.gq_put.specs.Namings.{AreNamedBy}
+use Rattle.gq_load.proofs.LoadLemmas.{IsUnderWay}
+use Rattle.gq_load.proofs.loading.load_records.Given as goal
+
+abbrev pub invariant-reading : goal.invariant-reading
+invariant-reading l = record {
+  way : IsUnderWay l.catalog l.routes l.fn.records l.fn.store l.records l.store l.report;
+  named : AreNamedBy (edge_type_at l.catalog) l.store.edges.namings;
+  count : length l.drafts.items ≡ length l.routes;
+}
+
+abbrev pub decreases-reading : goal.decreases-reading
+decreases-reading l = length l.records

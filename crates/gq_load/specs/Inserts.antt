@@ -1,0 +1,43 @@
+-- Inserts: what an INSERT puts into a store.
+use Rattle.std.specs.Prelude.{◌≡◌, ◌≤◌, List, [], ◌∷◌, length, Result, Ok, Err}
+use Rattle.gq_value.specs.declared.store.StoreFault.{StoreFault}
+use Rattle.gq_value.specs.declared.store.StoreFault.TheVariants as fault
+use Rattle.gq_value.specs.declared.store.VertexRow.{VertexRow}
+use Rattle.gq_value.specs.Edges.{naming_with, Agrees}
+use Rattle.gq_index.specs.declared.store.Store.{Store}
+use Rattle.gq_job.specs.declared.insert.End.{End}
+use Rattle.gq_job.specs.declared.insert.Insert.{Insert}
+use Rattle.gq_job.specs.declared.insert.Insert.TheVariants as insert
+use Rattle.gq_put.specs.Steps.{Step, Vertex, Done, Refused}
+use Rattle.gq_put.specs.Ends.{edge_steps}
+
+-- the row of an end that isn't there yet
+abbrev pub end_row : End → VertexRow
+end_row end = record { kind = end.kind; id = end.id; attributes = end.missing }
+
+-- the upserts of an insert: an edge puts those of its ends that aren't there before it
+abbrev pub steps_of_insert : Insert → List Step
+steps_of_insert (insert.Vertex kind id attributes) = Vertex (record { kind = kind; id = id; attributes = attributes }) ∷ []
+steps_of_insert (insert.Edge kind directed key from to attributes) =
+    edge_steps (naming_with kind directed key) (end_row from) (end_row to) attributes
+
+-- an edge's key is among its attributes, and edges of its type that are there are named as it is
+abbrev pub IsNamedAs : Store → Insert → Type 0
+IsNamedAs store (insert.Vertex kind id attributes) = Unit {0}
+IsNamedAs store (insert.Edge kind directed key from to attributes) =
+    (key ≤ length attributes) × Agrees store.edges.namings (naming_with kind directed key)
+
+-- upserts are refused where one of them is
+pub record AreRefused (before : Store) (steps : List Step) : Type 0 where
+  pub later : Store
+  pub refused : Refused before steps later
+
+-- what an answer says of upserts that are put together: after a refusal the store is as it was
+abbrev pub PutsAll : {A : Type 0} → Store → List Step → Store → Result A StoreFault → Type 0
+PutsAll before steps later (Ok a) = Done before steps later
+PutsAll before steps later (Err fault.Full) = (later ≡ before) × AreRefused before steps
+PutsAll before steps later (Err fault.Memory) = later ≡ before
+
+-- and of an insert
+abbrev pub Inserts : {A : Type 0} → Store → Insert → Store → Result A StoreFault → Type 0
+Inserts before insert later result = PutsAll before (steps_of_insert insert) later result

@@ -1,0 +1,99 @@
+// Rows inserted into a store.
+ghost use Rattle.std.specs.Prelude.{◌≡◌, ◌≤◌, [], ◌∷◌, length};
+ghost use Rattle.gq_value.specs.Edges.{Agrees};
+ghost use Rattle.gq_put.specs.Steps as step;
+ghost use Rattle.gq_put.specs.Ends.{edge_steps, row_of};
+ghost use Rattle.gq_load.specs.Inserts.{IsNamedAs, Inserts, PutsAll, end_row};
+
+use gq_index::Store;
+use gq_job::{End, Insert};
+use gq_put::{put_edge, put_vertex};
+use gq_value::{Memory, Naming, StoreFault, Value, duplicate_row};
+use std::alloc::Global;
+
+/// Puts a row into the store, and before an edge those of its ends that aren't there. Unchanged after a refusal.
+///
+/// Edges of the row's type that are there are named as it is, as they are where both are of one catalog's types.
+pub fn insert(alloc: Global, row: &Insert, store: &mut Store) -> Result<(), StoreFault>
+    requires { IsNamedAs store.old row.now }
+    ensures { Inserts store.old row.now store.new result }
+{
+    match row {
+        Insert::Vertex {
+            kind,
+            id,
+            attributes,
+        } => insert_vertex(alloc, store, *kind, id.as_str(), attributes.as_slice()),
+        Insert::Edge {
+            kind,
+            directed,
+            key,
+            from,
+            to,
+            attributes,
+        } => {
+            let naming = Naming {
+                kind: *kind,
+                directed: *directed,
+                key: *key,
+            };
+            insert_edge(alloc, store, naming, from, to, attributes.as_slice())
+        }
+    }
+}
+
+fn insert_vertex(
+    alloc: Global,
+    store: &mut Store,
+    kind: u32,
+    id: &str,
+    attributes: &[Value],
+) -> Result<(), StoreFault>
+    ensures { PutsAll store.old (step.Vertex (record { kind = kind; id = id.now; attributes = attributes.now }) ∷ []) store.new result }
+{
+    let attributes = match duplicate_row(alloc, attributes) {
+        Ok(attributes) => attributes,
+        Err(Memory) => return Err(StoreFault::Memory),
+    };
+    match put_vertex(store, kind, id, attributes) {
+        Ok(()) => Ok(()),
+        Err(fault) => Err(fault),
+    }
+}
+
+fn insert_edge(
+    alloc: Global,
+    store: &mut Store,
+    naming: Naming,
+    from: &End,
+    to: &End,
+    attributes: &[Value],
+) -> Result<(), StoreFault>
+    requires within { naming.key ≤ length attributes.now }
+    requires agrees { Agrees store.old.edges.namings naming }
+    ensures { PutsAll store.old (edge_steps naming (end_row from.now) (end_row to.now) attributes.now) store.new result }
+{
+    let count = store.vertices.len();
+    let attributes = match duplicate_row(alloc, attributes) {
+        Ok(attributes) => attributes,
+        Err(Memory) => return Err(StoreFault::Memory),
+    };
+    match put_edge(alloc, store, naming, lent(from), lent(to), attributes) {
+        Ok(()) => Ok(()),
+        Err(fault) => {
+            store.vertices.cut(count);
+            Err(fault)
+        }
+    }
+}
+
+/// An end as it is put.
+fn lent(end: &End) -> gq_put::End<'_>
+    ensures { row_of result ≡ end_row end.now }
+{
+    gq_put::End {
+        kind: end.kind,
+        id: end.id.as_str(),
+        missing: end.missing.as_slice(),
+    }
+}

@@ -1,0 +1,118 @@
+// Files loaded into a store.
+ghost use Rattle.std.specs.Prelude.{◌≡◌, ℕ, ℤ, List, Option, All};
+ghost use Rattle.std.specs.Option.{option_copied};
+ghost use Rattle.gq_field.specs.Fields.{TellsTimes};
+ghost use Rattle.gq_job.specs.Fits.{LineFits};
+ghost use Rattle.gq_job.specs.Targets.{edge_type_at};
+ghost use Rattle.gq_put.specs.Namings.{AreNamedBy};
+ghost use Rattle.gq_row.specs.Columns.{header_in};
+ghost use Rattle.gq_row.specs.Records.{AllHaveEnds, IsThere};
+ghost use Rattle.gq_load.specs.Loads.{Loads, LoadsBy, LoadsAlong, records_in};
+
+use crate::report::{Report, with_record};
+use csv::ByteRecord;
+use gq_index::Store;
+use gq_job::LoadLine;
+use gq_records::Records;
+use gq_row::{LoadFault, Route, drafts, put_record, routes};
+use gq_schema::Catalog;
+use gq_value::{Memory, StoreFault};
+use std::alloc::Global;
+
+/// Loads a file of these bytes into the store, as the line says, and tells what became of its records.
+///
+/// The catalog is one that the line was checked for, or one that has grown out of it, and the store's edges are named as its
+/// types say. `NoColumn` leaves the store as it was. After `Full` and `Memory` the upserts before stay.
+pub fn load(
+    alloc: Global,
+    catalog: &Catalog,
+    line: &LoadLine,
+    bytes: &[u8],
+    store: &mut Store,
+) -> Result<Report, LoadFault>
+    requires fits { LineFits catalog.now line.now }
+    requires ends { AllHaveEnds catalog.now }
+    requires named { AreNamedBy (edge_type_at catalog.now) store.old.edges.namings }
+    ensures loads { (read : List ℕ → Option ℤ) → TellsTimes read →
+        Loads read catalog.now line.now (records_in line.now bytes.now) store.old store.new result }
+    ensures named { AreNamedBy (edge_type_at catalog.now) store.new.edges.namings }
+{
+    let mut records = Records::open(alloc, line.separator, line.quote, bytes);
+    if !line.header {
+        return load_by(alloc, catalog, line, None, &mut records, store);
+    }
+    let mut header = ByteRecord::new(alloc);
+    match records.next(&mut header) {
+        Ok(true) => load_by(alloc, catalog, line, Some(&header), &mut records, store),
+        Ok(false) => {
+            let mut none = Records::open(alloc, line.separator, line.quote, &[]);
+            load_by(alloc, catalog, line, None, &mut none, store)
+        }
+        Err(Memory) => Err(LoadFault::Memory),
+    }
+}
+
+/// Loads the records behind a header.
+fn load_by(
+    alloc: Global,
+    catalog: &Catalog,
+    line: &LoadLine,
+    header: Option<&ByteRecord>,
+    records: &mut Records<'_>,
+    store: &mut Store,
+) -> Result<Report, LoadFault>
+    requires fits { LineFits catalog.now line.now }
+    requires ends { AllHaveEnds catalog.now }
+    requires named { AreNamedBy (edge_type_at catalog.now) store.old.edges.namings }
+    ensures loads { (read : List ℕ → Option ℤ) → TellsTimes read →
+        LoadsBy read catalog.now line.now (header_in (option_copied header.entry)) records.old store.old store.new result }
+    ensures named { AreNamedBy (edge_type_at catalog.now) store.new.edges.namings }
+{
+    let routes = match routes(alloc, catalog, header, line.destinations.as_slice()) {
+        Ok(routes) => routes,
+        Err(fault) => return Err(fault),
+    };
+    match load_records(alloc, catalog, &routes, records, store) {
+        Ok(report) => Ok(report),
+        Err(StoreFault::Full) => Err(LoadFault::Full),
+        Err(StoreFault::Memory) => Err(LoadFault::Memory),
+    }
+}
+
+/// Loads records along routes.
+fn load_records(
+    alloc: Global,
+    catalog: &Catalog,
+    routes: &[Route],
+    records: &mut Records<'_>,
+    store: &mut Store,
+) -> Result<Report, StoreFault>
+    requires there { All (IsThere catalog.now) routes.now }
+    requires ends { AllHaveEnds catalog.now }
+    requires named { AreNamedBy (edge_type_at catalog.now) store.old.edges.namings }
+    ensures loads { (read : List ℕ → Option ℤ) → TellsTimes read →
+        LoadsAlong read catalog.now routes.now records.old store.old store.new result }
+    ensures named { AreNamedBy (edge_type_at catalog.now) store.new.edges.namings }
+{
+    let mut drafts = match drafts(alloc, routes.len()) {
+        Ok(drafts) => drafts,
+        Err(Memory) => return Err(StoreFault::Memory),
+    };
+    let mut row = ByteRecord::new(alloc);
+    let mut report = Report::none();
+    'reading: loop {
+        match records.next(&mut row) {
+            Ok(true) => {}
+            Ok(false) => return Ok(report),
+            Err(Memory) => return Err(StoreFault::Memory),
+        }
+        let verdict = match put_record(alloc, catalog, routes, &mut drafts, &row, store) {
+            Ok(verdict) => verdict,
+            Err(fault) => return Err(fault),
+        };
+        report = match with_record(report, verdict) {
+            Ok(report) => report,
+            Err(Memory) => return Err(StoreFault::Memory),
+        };
+    }
+}
