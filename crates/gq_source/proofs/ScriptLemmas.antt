@@ -5,12 +5,9 @@ use Rattle.gq_token.specs.declared.token.Token.{Token}
 use Rattle.gq_token.specs.declared.fault.LexFault.{LexFault}
 use Rattle.gq_token.specs.Cut.{HasTokens}
 use Rattle.gq_token.specs.Faults as lex
-use Rattle.gq_token.specs.Nesting.{IsShallow, IsTooDeepAt}
 use Rattle.gq_tree.specs.declared.statement.Placed.{Placed}
-use Rattle.gq_tree.specs.Cutting.{IsScript, FailsAt}
 use Rattle.gq_stmt_read.specs.declared.fault.ScriptFault.{ScriptFault}
-use Rattle.gq_stmt_read.specs.declared.fault.ScriptFault.TheVariants.{Syntax, TooDeep, Memory}
-use Rattle.gq_stmt_read.specs.Outcomes.{HasFault}
+use Rattle.gq_stmt_read.specs.Outcomes.{IsRead, HasFault}
 use Rattle.gq_args.specs.Objects.{IsObject}
 use Rattle.gq_outcome.specs.declared.status.Status.{Status}
 use Rattle.gq_outcome.specs.Outcome.{Outcome, KeepsTo, refused_with}
@@ -43,25 +40,20 @@ module _ (bytes : List ℕ) (known : Known) (status : Status) (old new : Option 
   -- ---- tokens
 
   module _ (arguments : Option (List ℕ)) (tokens : List Token) where
-    no_fault : ((number at : ℕ) → FailsAt bytes tokens number at → ⊥) → ((at : ℕ) → IsTooDeepAt bytes tokens at → ⊥) → (fault : ScriptFault) → HasFault bytes tokens fault → ⊥
-    no_fault reads shallow (Syntax number at) has = reads number at has.1
-    no_fault reads shallow (TooDeep at) has = shallow at has
-    no_fault reads shallow Memory has = has
-
-    pub keeps_statements : (statements : List Placed) → ((others : List Placed) → IsScript bytes tokens others → others ≡ statements)
-        → ((number at : ℕ) → FailsAt bytes tokens number at → ⊥) → ((at : ℕ) → IsTooDeepAt bytes tokens at → ⊥)
+    pub keeps_statements : (statements : List Placed) → ((others : List Placed) → IsRead bytes tokens others → others ≡ statements)
+        → ((fault : ScriptFault) → HasFault bytes tokens fault → ⊥)
         → ((outcome : Outcome) → ArgumentsMean bytes known arguments statements outcome → Keeps outcome)
         → (outcome : Outcome) → TokensMean bytes known arguments tokens outcome → Keeps outcome
-    keeps_statements statements only reads shallow keeps outcome (inl (fault, has, same)) = absurd (no_fault reads shallow fault has)
-    keeps_statements statements only reads shallow keeps outcome (inr (others, deep, is, mean)) =
-        keeps outcome (subst (λ ps. ArgumentsMean bytes known arguments ps outcome) (only others is) mean)
+    keeps_statements statements only none keeps outcome (inl (fault, has, same)) = absurd (none fault has)
+    keeps_statements statements only none keeps outcome (inr (others, deep, is, mean)) =
+        keeps outcome (subst (λ ps. ArgumentsMean bytes known arguments ps outcome) (only others (deep, is)) mean)
 
     pub keeps_fault : (fault : ScriptFault) → ((other : ScriptFault) → HasFault bytes tokens other → other ≡ fault)
-        → ((statements : List Placed) → IsShallow bytes tokens → IsScript bytes tokens statements → ⊥) → Keeps (refused_with (fault_message bytes fault))
+        → ((statements : List Placed) → IsRead bytes tokens statements → ⊥) → Keeps (refused_with (fault_message bytes fault))
         → (outcome : Outcome) → TokensMean bytes known arguments tokens outcome → Keeps outcome
     keeps_fault fault only none keeps outcome (inl (other, has, same)) =
         keeps_refusal (fault_message bytes fault) outcome keeps (same ∙ ap (λ f. refused_with (fault_message bytes f)) (only other has))
-    keeps_fault fault only none keeps outcome (inr (statements, shallow, is, mean)) = absurd (none statements shallow is)
+    keeps_fault fault only none keeps outcome (inr (statements, shallow, is, mean)) = absurd (none statements (shallow, is))
 
   -- ---- whole scripts
 

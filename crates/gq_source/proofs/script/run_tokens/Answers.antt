@@ -12,7 +12,7 @@ use Rattle.gq_source.proofs.script.run_tokens.Goals as goal
 pub run_read-requires : goal.run_read-requires
 run_read-requires g c =
     script_within c.args.bytes.now c.args.tokens.now c.requires.tokens c.deref.result.now
-    (subst (IsScript c.args.bytes.now c.args.tokens.now) (sym c.deref.ensures.value) c.in-Ok.ensures.script)
+    (subst (IsScript c.args.bytes.now c.args.tokens.now) (sym c.deref.ensures.value) c.in-Ok.ensures.script.1)
 
 pub refuse_syntax-requires : goal.refuse_syntax-requires
 refuse_syntax-requires g c =
@@ -27,14 +27,14 @@ refuse_at-requires g c =
 pub returns-in-Ok-clause-keeps : goal.returns-in-Ok-clause-keeps
 returns-in-Ok-clause-keeps g c = λ pairs is outcome mean.
     keeps_statements c.args.bytes.now (Told pairs) _ _ _ _ _ _ c.args.tokens.now c.deref.result.now
-    (λ others script. c.in-Ok.ensures.only others script ∙ sym c.deref.ensures.value) c.in-Ok.ensures.no_fault
-    (λ at deep. let never = c.in-Ok.ensures.too_deep at deep in cc never) (λ o m. c.run_read.ensures.keeps pairs is o m) outcome mean
+    (λ others read. c.in-Ok.ensures.only others read ∙ sym c.deref.ensures.value) c.in-Ok.ensures.no_fault
+    (λ o m. c.run_read.ensures.keeps pairs is o m) outcome mean
 
 pub returns-in-Ok-clause-is_meant : goal.returns-in-Ok-clause-is_meant
 returns-in-Ok-clause-is_meant g c = λ final before low.
     let meant = c.run_read.ensures.is_meant final before low in (
       meant.0,
-      inr (c.deref.result.now, c.in-Ok.ensures.shallow, subst (IsScript c.args.bytes.now c.args.tokens.now) (sym c.deref.ensures.value) c.in-Ok.ensures.script, meant.1),
+      inr (c.deref.result.now, c.in-Ok.ensures.script.0, subst (IsScript c.args.bytes.now c.args.tokens.now) (sym c.deref.ensures.value) c.in-Ok.ensures.script.1, meant.1),
       meant.2,
     )
 
