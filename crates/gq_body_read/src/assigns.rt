@@ -1,0 +1,154 @@
+// Assignments, new variables, and changes of global accumulators.
+ghost use Rattle.std.specs.Prelude.{◌≤◌, length, IfOk, Some};
+ghost use Rattle.gq_tree.specs.declared.body.Right.TheVariants as tree;
+ghost use Rattle.gq_tree.specs.declared.body.SetTypes.TheVariants as tree_types;
+ghost use Rattle.gq_grammar.specs.Lexemes as lexemes;
+ghost use Rattle.gq_grammar.specs.Parsers.{Found, ◌or◌, made, maybe, stands, token};
+ghost use Rattle.gq_grammar.specs.Series.{chain};
+ghost use Rattle.gq_kind_read.specs.Kinds as kinds;
+ghost use Rattle.gq_part_read.specs.Expression as part;
+ghost use Rattle.gq_body_read.specs.Bodies as spec;
+
+use crate::sets::{name_chain, seeds_chain};
+use gq_block_read::{change, select};
+use gq_grammar::Source;
+use gq_kind_read::{base, value};
+use gq_list::{List, Memory};
+use gq_part_read::{Read, expression, global, list, name, need};
+use gq_tree::{Node, Right, SetTypes, Stmt};
+use gq_value::Txt;
+use std::alloc::Global;
+
+// Name SetOp SetTerm { SetOp SetTerm } | Expr
+fn name_chain_or_value(alloc: Global, source: &Source<'_>, at: usize) -> Read<Right>
+    requires { at ≤ length source.now }
+    ensures { IfOk result (Found (made tree.Sets spec.name_chain_parser or made tree.Value part.expression) source.now at) }
+{
+    match name_chain(alloc, source, at)? {
+        Some((sets, next)) => Ok(Some((Right::Sets(sets), next))),
+        None => {
+            let (value, next) = need!(expression(alloc, source, at)?);
+            Ok(Some((Right::Value(value), next)))
+        }
+    }
+}
+
+// Select | Seeds | SetTerm SetOp SetTerm { SetOp SetTerm } | Expr
+#[tactic(auto, unfolding(crate::specs::Bodies::right_parser))]
+fn right(alloc: Global, source: &Source<'_>, at: usize) -> Read<Right>
+    requires { at ≤ length source.now }
+    ensures { IfOk result (Found spec.right_parser source.now at) }
+{
+    match select(alloc, source, at)? {
+        Some((select, next)) => return Ok(Some((Right::Select(select), next))),
+        None => {}
+    }
+    match seeds_chain(alloc, source, at)? {
+        Some((sets, next)) => return Ok(Some((Right::Sets(sets), next))),
+        None => {}
+    }
+    name_chain_or_value(alloc, source, at)
+}
+
+// Name | ANY
+#[tactic(auto, unfolding(gq_grammar::specs::Parsers::stands))]
+fn set_type(alloc: Global, source: &Source<'_>, at: usize) -> Read<SetTypes>
+    requires { at ≤ length source.now }
+    ensures { IfOk result (Found (made tree_types.Of (token lexemes.Name lexemes.spelling) or stands tree_types.Any (lexemes.word "ANY")) source.now at) }
+{
+    match name(alloc, source, at)? {
+        Some((name, next)) => Ok(Some((SetTypes::Of(name), next))),
+        None => {
+            let next = need!(source.keyword(at, "ANY"));
+            Ok(Some((SetTypes::Any, next)))
+        }
+    }
+}
+
+// "(" ( Name | ANY ) ")"
+#[tactic(auto, unfolding(crate::specs::Bodies::set_types_parser, gq_grammar::specs::Parsers::enclosed))]
+fn set_types(alloc: Global, source: &Source<'_>, at: usize) -> Read<SetTypes>
+    requires { at ≤ length source.now }
+    ensures { IfOk result (Found spec.set_types_parser source.now at) }
+{
+    let at = need!(source.sign(at, "("));
+    let (types, at) = need!(set_type(alloc, source, at)?);
+    let at = need!(source.sign(at, ")"));
+    Ok(Some((types, at)))
+}
+
+// [ "(" ( Name | ANY ) ")" ]
+fn some_set_types(
+    alloc: Global,
+    source: &Source<'_>,
+    at: usize,
+) -> Result<(Option<SetTypes>, usize), Memory>
+    requires { at ≤ length source.now }
+    ensures { IfOk result (λ read. Found (maybe spec.set_types_parser) source.now at (Some read)) }
+{
+    let (types, end) = need!(set_types(alloc, source, at)?, else (None, at));
+    Ok((Some(types), end))
+}
+
+/// `Name [ "(" ( Name | ANY ) ")" ] "=" ( Select | SetRhs | Expr )`.
+#[tactic(auto, unfolding(crate::specs::Bodies::assign_parser, gq_grammar::specs::Parsers::after))]
+pub fn assign(alloc: Global, source: &Source<'_>, at: usize) -> Read<Stmt>
+    requires { at ≤ length source.now }
+    ensures { IfOk result (Found spec.assign_parser source.now at) }
+{
+    let (name, at) = need!(name(alloc, source, at)?);
+    let (types, at) = some_set_types(alloc, source, at)?;
+    let at = need!(source.sign(at, "="));
+    let (right, at) = need!(right(alloc, source, at)?);
+    Ok(Some((Stmt::Assign(name, types, right), at)))
+}
+
+// [ "=" Expr ]
+fn opening(alloc: Global, source: &Source<'_>, at: usize) -> Result<(Option<Node>, usize), Memory>
+    requires { at ≤ length source.now }
+    ensures { IfOk result (λ read. Found (maybe kinds.value_parser) source.now at (Some read)) }
+{
+    let (value, end) = need!(value(alloc, source, at)?, else (None, at));
+    Ok((Some(value), end))
+}
+
+// Name [ "=" Expr ]
+#[tactic(auto, unfolding(crate::specs::Bodies::new_name_parser))]
+fn new_name(alloc: Global, source: &Source<'_>, at: usize) -> Read<(Txt, Option<Node>)>
+    requires { at ≤ length source.now }
+    ensures { IfOk result (Found spec.new_name_parser source.now at) }
+{
+    let (name, at) = need!(name(alloc, source, at)?);
+    let (value, at) = opening(alloc, source, at)?;
+    Ok(Some(((name, value), at)))
+}
+
+// Name [ "=" Expr ] { "," Name [ "=" Expr ] }
+fn new_names(alloc: Global, source: &Source<'_>, at: usize) -> Read<List<(Txt, Option<Node>)>>
+    requires { at ≤ length source.now }
+    ensures { IfOk result (Found (chain (lexemes.sign ",") spec.new_name_parser) source.now at) }
+{
+    list(alloc, source, at, new_name)
+}
+
+/// `Base Name [ "=" Expr ] { "," Name [ "=" Expr ] }`.
+#[tactic(auto, unfolding(crate::specs::Bodies::local_parser))]
+pub fn local(alloc: Global, source: &Source<'_>, at: usize) -> Read<Stmt>
+    requires { at ≤ length source.now }
+    ensures { IfOk result (Found spec.local_parser source.now at) }
+{
+    let (base, at) = need!(base(alloc, source, at)?);
+    let (names, at) = need!(new_names(alloc, source, at)?);
+    Ok(Some((Stmt::Local(base, names), at)))
+}
+
+/// `Global "=" Expr | Global "+=" In`.
+#[tactic(auto, unfolding(crate::specs::Bodies::global_parser))]
+pub fn global_change(alloc: Global, source: &Source<'_>, at: usize) -> Read<Stmt>
+    requires { at ≤ length source.now }
+    ensures { IfOk result (Found spec.global_parser source.now at) }
+{
+    let (name, at) = need!(global(alloc, source, at)?);
+    let (change, at) = need!(change(alloc, source, at)?);
+    Ok(Some((Stmt::Global(name, change), at)))
+}

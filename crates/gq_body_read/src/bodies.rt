@@ -1,0 +1,76 @@
+// The body of a query.
+ghost use Rattle.std.specs.Prelude.{◌≤◌, length, IfOk, Some};
+ghost use Rattle.gq_grammar.specs.Lexemes as lexemes;
+ghost use Rattle.gq_grammar.specs.Parsers.{Found, many};
+ghost use Rattle.gq_grammar.specs.Series.{ended};
+ghost use Rattle.gq_kind_read.specs.Kinds as kinds;
+ghost use Rattle.gq_body_read.specs.Bodies as spec;
+
+use crate::items::closed;
+use crate::levels::statement;
+use gq_grammar::Source;
+use gq_kind_read::definition;
+use gq_list::{List, Memory};
+use gq_part_read::{Read, need, run};
+use gq_tree::{Body, Definition, Stmt};
+use std::alloc::Global;
+
+// Def ";"
+#[tactic(auto, unfolding(gq_grammar::specs::Series::ended))]
+fn ended_definition(alloc: Global, source: &Source<'_>, at: usize) -> Read<Definition>
+    requires { at ≤ length source.now }
+    ensures { IfOk result (Found (ended (lexemes.sign ";") kinds.definition_parser) source.now at) }
+{
+    let (definition, at) = need!(definition(alloc, source, at)?);
+    let at = need!(source.sign(at, ";"));
+    Ok(Some((definition, at)))
+}
+
+// { Def ";" }
+fn definitions(
+    alloc: Global,
+    source: &Source<'_>,
+    at: usize,
+) -> Result<(Vec<Definition>, usize), Memory>
+    requires { at ≤ length source.now }
+    ensures { IfOk result (λ read. Found (many (ended (lexemes.sign ";") kinds.definition_parser)) source.now at (Some (read.0.items, read.1))) }
+{
+    run(alloc, source, at, ended_definition)
+}
+
+// Stmt ";"
+fn ended_statement(alloc: Global, source: &Source<'_>, at: usize) -> Read<Stmt>
+    requires { at ≤ length source.now }
+    ensures { IfOk result (Found (ended (lexemes.sign ";") spec.statement_parser) source.now at) }
+{
+    closed(source, statement(alloc, source, at), ";")
+}
+
+// { Stmt ";" }
+fn statements(alloc: Global, source: &Source<'_>, at: usize) -> Result<(Vec<Stmt>, usize), Memory>
+    requires { at ≤ length source.now }
+    ensures { IfOk result (λ read. Found (many (ended (lexemes.sign ";") spec.statement_parser)) source.now at (Some (read.0.items, read.1))) }
+{
+    run(alloc, source, at, ended_statement)
+}
+
+/// `Body = "{" { Def ";" } { Stmt ";" } "}"`.
+///
+/// Each level of statements and of parentheses takes some frames of the stack.
+#[tactic(auto, unfolding(crate::specs::Bodies::body_parser, crate::specs::Bodies::body_stmts_parser, gq_grammar::specs::Parsers::after, gq_grammar::specs::Series::ended))]
+pub fn body(alloc: Global, source: &Source<'_>, at: usize) -> Read<Body>
+    requires { at ≤ length source.now }
+    ensures { IfOk result (Found spec.body_parser source.now at) }
+{
+    let at = need!(source.sign(at, "{"));
+    let (definitions, at) = definitions(alloc, source, at)?;
+    let (statements, at) = statements(alloc, source, at)?;
+    let at = need!(source.sign(at, "}"));
+    Ok(Some((
+        Body {
+            definitions: List::from_vec(definitions),
+            statements: List::from_vec(statements),
+        },
+        at,
+    )))
+}

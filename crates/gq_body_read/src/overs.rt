@@ -1,0 +1,60 @@
+// What FOREACH goes over, and the LIMIT of WHILE.
+ghost use Rattle.std.specs.Prelude.{◌≤◌, length, IfOk, Some};
+ghost use Rattle.gq_grammar.specs.Parsers.{Found, maybe};
+ghost use Rattle.gq_body_read.specs.Bodies as spec;
+
+use gq_grammar::Source;
+use gq_list::Memory;
+use gq_part_read::{Read, expression, need};
+use gq_tree::{Node, Over};
+use std::alloc::Global;
+
+// LIMIT Expr
+#[tactic(auto, unfolding(crate::specs::Bodies::limit_parser, gq_grammar::specs::Parsers::after))]
+fn limit(alloc: Global, source: &Source<'_>, at: usize) -> Read<Node>
+    requires { at ≤ length source.now }
+    ensures { IfOk result (Found spec.limit_parser source.now at) }
+{
+    let at = need!(source.keyword(at, "LIMIT"));
+    expression(alloc, source, at)
+}
+
+/// `[ LIMIT Expr ]`.
+pub fn some_limit(
+    alloc: Global,
+    source: &Source<'_>,
+    at: usize,
+) -> Result<(Option<Node>, usize), Memory>
+    requires { at ≤ length source.now }
+    ensures { IfOk result (λ read. Found (maybe spec.limit_parser) source.now at (Some read)) }
+{
+    let (limit, end) = need!(limit(alloc, source, at)?, else (None, at));
+    Ok((Some(limit), end))
+}
+
+// RANGE "[" Expr "," Expr "]"
+#[tactic(auto, unfolding(crate::specs::Bodies::range_parser, gq_grammar::specs::Parsers::after, gq_grammar::specs::Series::ended))]
+fn range(alloc: Global, source: &Source<'_>, at: usize) -> Read<Over>
+    requires { at ≤ length source.now }
+    ensures { IfOk result (Found spec.range_parser source.now at) }
+{
+    let at = need!(source.keyword(at, "RANGE"));
+    let at = need!(source.sign(at, "["));
+    let (first, at) = need!(expression(alloc, source, at)?);
+    let at = need!(source.sign(at, ","));
+    let (last, at) = need!(expression(alloc, source, at)?);
+    let at = need!(source.sign(at, "]"));
+    Ok(Some((Over::Range(first, last), at)))
+}
+
+/// `Expr | RANGE "[" Expr "," Expr "]"`.
+#[tactic(auto, unfolding(crate::specs::Bodies::over_parser))]
+pub fn over(alloc: Global, source: &Source<'_>, at: usize) -> Read<Over>
+    requires { at ≤ length source.now }
+    ensures { IfOk result (Found spec.over_parser source.now at) }
+{
+    match expression(alloc, source, at)? {
+        Some((elements, next)) => Ok(Some((Over::Elements(elements), next))),
+        None => range(alloc, source, at),
+    }
+}
