@@ -37,7 +37,7 @@ fn a_select_ends_where_the_grammar_says(rt: HostRuntime) -> Result<(), Fail> {
     let table: [(&[u8], Option<usize>); 8] = [
         (b"SELECT t FROM s", Some(4)),
         (b"select t from s:a order limit 3", Some(6)),
-        (b"SELECT t FROM s -(:e)-> LIMIT 2", Some(11)),
+        (b"SELECT t FROM s -(:e)-> LIMIT 2", Some(12)),
         (b"SELECT t FROM s -(A)- LIMIT 2", Some(4)),
         (b"SELECT t FROM s POST_ACCUM @@a = 1, @@b", Some(8)),
         (
