@@ -1,20 +1,18 @@
 //! The program `gsql`: runs a GSQL script and prints one JSON line a statement.
 //!
-//! The one call that matters is `run`, in `run.rt`: its clauses are the promise of the whole program. A script goes
-//! through `words.rt`, which names its file, the crate `gq_token`, which cuts it, `read.rt`, which reads its queries,
-//! and `run.rt`, which prints their lines. `specs/Meaning.antt` says what a command line means over files.
+//! The one call that matters is `run` of `gq_run`: its clauses are the promise of the whole program. Here it is given the words, the
+//! host's files and its standard output, and the program ends with the number of its answer.
 #![tactic(auto)]
 
-mod read;
-mod reserved;
-mod run;
-mod status;
-mod tree;
-mod words;
+ghost use Rattle.std.specs.Prelude.{◌≡◌, ◌≢◌};
+ghost use Rattle.std.specs.Process.{exit_status};
+ghost use Rattle.std.specs.IoError.{error_kind};
+ghost use Rattle.gq_outcome.specs.Codes.{code_of};
 
 use gq_io::{HostFiles, HostSink, OpenGate};
-use run::run;
-use status::Status;
+use gq_outcome::Status;
+use gq_run::run;
+use std::io::ErrorKind;
 use std::process::ExitCode;
 use std::{env, io};
 
@@ -42,7 +40,9 @@ fn read_words(rt: &HostRuntime, words: &mut Vec<String>) -> io::Result<()> {
 }
 
 // Ends with this status, after a word on standard error where standard output has none.
-fn end(rt: &impl Eprint, status: Status) -> ExitCode {
+fn end(rt: &impl Eprint, status: Status) -> ExitCode
+    ensures { exit_status result ≡ code_of status }
+{
     if let Some(message) = status.message() {
         let _ = rt.eprintln(message);
     }
@@ -50,13 +50,13 @@ fn end(rt: &impl Eprint, status: Status) -> ExitCode {
 }
 
 // The run has no words: memory was wanting, or the system didn't give them.
-fn end_without_words(rt: &impl Eprint, error: &io::Error) -> ExitCode {
-    if error.kind() == io::ErrorKind::OutOfMemory {
+fn end_without_words(rt: &impl Eprint, error: &io::Error) -> ExitCode
+    ensures memory { error_kind error.now ≡ ErrorKind.OutOfMemory → exit_status result ≡ code_of Status.Memory }
+    ensures other { error_kind error.now ≢ ErrorKind.OutOfMemory → exit_status result ≡ 6 }
+{
+    if error.kind() == ErrorKind::OutOfMemory {
         return end(rt, Status::Memory);
     }
     let _ = rt.eprintln("gsql: the words could not be read");
     ExitCode::from(6)
 }
-
-#[cfg(test)]
-mod tests;

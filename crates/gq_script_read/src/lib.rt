@@ -3,6 +3,8 @@
 
 mod bodies;
 mod script;
+#[cfg(test)]
+mod tests;
 
 pub use bodies::QueryBodies;
 pub use script::read_script;

@@ -1,10 +1,15 @@
--- Statements: what each statement of a script does to a session, and what it prints.
-use Rattle.std.specs.Prelude.{◌≡◌, ℕ, List, [], ◌∷◌, length, Option, Some, None, Result, Ok, Err}
+-- Statements: what each statement of a script does to a session, what it prints, and what it leaves where it doesn't run to its end.
+use Rattle.std.specs.Prelude.{◌≡◌, ℕ, Bool, List, [], ◌∷◌, length, Option, Some, None, Result, Ok, Err}
 use Rattle.gq_value.specs.Catalog.{Schema, graph_of}
+use Rattle.gq_index.specs.declared.store.Store.{Store}
 use Rattle.gq_tree.specs.declared.schema.VertexTree.{VertexTree}
 use Rattle.gq_tree.specs.declared.schema.EdgeTree.{EdgeTree}
 use Rattle.gq_tree.specs.declared.schema.GraphTree.{GraphTree}
+use Rattle.gq_tree.specs.declared.schema.InsertTree.{InsertTree}
+use Rattle.gq_tree.specs.declared.job.JobTree.{JobTree}
+use Rattle.gq_tree.specs.declared.job.RunJobTree.{RunJobTree}
 use Rattle.gq_tree.specs.declared.query.QueryTree.{QueryTree}
+use Rattle.gq_tree.specs.declared.query.Installed.{Installed}
 use Rattle.gq_tree.specs.declared.statement.Statement.{Statement}
 use Rattle.gq_tree.specs.declared.statement.Statement.TheVariants as top
 use Rattle.gq_refusal.specs.declared.refusal.Refusal.{Refusal}
@@ -12,17 +17,29 @@ use Rattle.gq_refusal.specs.declared.refusal.Refusal.TheVariants as refusal
 use Rattle.gq_refusal.specs.Messages.{message_of}
 use Rattle.gq_define.specs.Declarations.{vertex_created, edge_created, graph_created}
 use Rattle.gq_plain.specs.Plain.{plain_text}
+use Rattle.gq_jobs.specs.declared.named.NamedJob.{NamedJob}
+use Rattle.gq_jobs.specs.Jobs.{job_created}
+use Rattle.gq_kept.specs.Keeping.{no_rows}
+use Rattle.gq_loads.specs.JobRuns.{JobDoes, JobLeaves}
+use Rattle.gq_inserts.specs.Inserting.{row_inserted}
+use Rattle.gq_queries.specs.declared.stored.Stored.{Stored}
+use Rattle.gq_queries.specs.Judging.{interpret_refusal}
+use Rattle.gq_queries.specs.Queries.{query_created, query_installed}
 use Rattle.gq_script.specs.Known.{Known}
 use Rattle.gq_script.specs.Effects.{Effect, Becomes, Refused}
 
--- what one statement leaves to the next: the catalog, and the number of the graph in use
+-- what one statement leaves to the next: the catalog, the number of the graph in use, loading jobs and queries by their names, and the
+-- store
 pub record State : Type 0 where
   pub schema : Schema
   pub in_use : Option ℕ
+  pub jobs : List NamedJob
+  pub queries : List Stored
+  pub store : Store
 
--- no types, no graphs, and none in use
+-- no types, no graphs and none in use, no jobs, no queries, and no rows
 abbrev pub opening : State
-opening = record { schema = record { vertex_types = []; edge_types = []; graphs = [] }; in_use = None }
+opening = record { schema = record { vertex_types = []; edge_types = []; graphs = [] }; in_use = None; jobs = []; queries = []; store = no_rows }
 
 -- ---- types and graphs
 
@@ -53,6 +70,47 @@ in_use_or s name None = Err (refusal.UnknownName name)
 abbrev pub graph_used : State → List ℕ → Result State Refusal
 graph_used s name = in_use_or s name (graph_of s.schema name)
 
+-- ---- loading jobs and rows
+
+abbrev pub with_jobs : State → Result (List NamedJob) Refusal → Result State Refusal
+with_jobs s (Ok jobs) = Ok (record s { jobs = jobs })
+with_jobs s (Err r) = Err r
+
+-- CREATE LOADING JOB
+abbrev pub job_made : State → JobTree → Result State Refusal
+job_made s tree = with_jobs s (job_created s.schema s.jobs tree)
+
+abbrev pub with_rows : State → Result Store Refusal → Result State Refusal
+with_rows s (Ok store) = Ok (record s { store = store })
+with_rows s (Err r) = Err r
+
+-- INSERT INTO
+abbrev pub row_made : State → InsertTree → Result State Refusal
+row_made s tree = with_rows s (row_inserted s.schema s.store tree)
+
+-- what is done to the store, as what is done to the session
+abbrev pub store_done : State → Effect Store → Effect State
+store_done s (Becomes store lines) = Becomes (record s { store = store }) lines
+store_done s (Refused message) = Refused message
+
+-- RUN LOADING JOB
+abbrev pub RunsJob : Known → State → RunJobTree → Effect State → Type 0
+RunsJob known s tree effect = (e : Effect Store) × JobDoes known s.schema s.jobs s.store tree e × (effect ≡ store_done s e)
+
+-- ---- queries
+
+abbrev pub with_queries : State → Result (List Stored) Refusal → Result State Refusal
+with_queries s (Ok queries) = Ok (record s { queries = queries })
+with_queries s (Err r) = Err r
+
+-- CREATE QUERY, where true means OR REPLACE
+abbrev pub query_made : State → Bool → List ℕ → QueryTree → Result State Refusal
+query_made s replace name tree = with_queries s (query_created s.schema s.in_use s.queries replace name tree)
+
+-- INSTALL QUERY
+abbrev pub install_made : State → Installed → Result State Refusal
+install_made s which = with_queries s (query_installed s.queries which)
+
 -- ---- statements
 
 -- a statement that prints nothing
@@ -69,22 +127,49 @@ abbrev pub printed : State → ℕ → Option (List ℕ) → Effect State
 printed s number (Some line) = Becomes s (line ∷ [])
 printed s number None = unsupported number
 
--- what the statement of this number does
-abbrev pub step : State → ℕ → Statement → Effect State
-step s number (top.Vertex tree) = effect_of (vertex_made s tree)
-step s number (top.Edge tree) = effect_of (edge_made s tree)
-step s number (top.Graph tree) = effect_of (graph_made s tree)
-step s number (top.Use name) = effect_of (graph_used s name)
-step s number (top.Job tree) = unsupported number
-step s number (top.RunJob tree) = unsupported number
-step s number (top.Query replace name tree) = unsupported number
-step s number (top.Install names) = unsupported number
-step s number (top.Run tree) = unsupported number
-step s number (top.Interpret tree) = printed s number (plain_text tree)
-step s number (top.Insert tree) = unsupported number
-step s number top.Begin = Becomes s []
-step s number top.End = Becomes s []
+-- the same of a query that isn't refused
+abbrev pub unless_due : State → ℕ → Option Refusal → Option (List ℕ) → Effect State
+unless_due s number (Some due) line = Refused (message_of due)
+unless_due s number None line = printed s number line
 
--- the same, over whatever files
+-- INTERPRET QUERY
+abbrev pub interpreted : State → ℕ → QueryTree → Effect State
+interpreted s number tree = unless_due s number (interpret_refusal s.schema s.in_use tree) (plain_text tree)
+
+-- what the statement of this number does, by what is known of the files
 abbrev pub Does : Known → State → ℕ → Statement → Effect State → Type 0
-Does known s number statement effect = effect ≡ step s number statement
+Does known s number (top.Vertex tree) effect = effect ≡ effect_of (vertex_made s tree)
+Does known s number (top.Edge tree) effect = effect ≡ effect_of (edge_made s tree)
+Does known s number (top.Graph tree) effect = effect ≡ effect_of (graph_made s tree)
+Does known s number (top.Use name) effect = effect ≡ effect_of (graph_used s name)
+Does known s number (top.Job tree) effect = effect ≡ effect_of (job_made s tree)
+Does known s number (top.RunJob tree) effect = RunsJob known s tree effect
+Does known s number (top.Query replace name tree) effect = effect ≡ effect_of (query_made s replace name tree)
+Does known s number (top.Install which) effect = effect ≡ effect_of (install_made s which)
+Does known s number (top.Run tree) effect = effect ≡ unsupported number
+Does known s number (top.Interpret tree) effect = effect ≡ interpreted s number tree
+Does known s number (top.Insert tree) effect = effect ≡ effect_of (row_made s tree)
+Does known s number top.Begin effect = effect ≡ Becomes s []
+Does known s number top.End effect = effect ≡ Becomes s []
+
+-- ---- what is left
+
+-- a loading job that doesn't run to its end leaves upserts in the store, and all else as it was
+abbrev pub JobLeft : State → RunJobTree → State → Type 0
+JobLeft s tree t = (store : Store) × JobLeaves s.schema s.jobs s.store tree store × (t ≡ record s { store = store })
+
+-- where a statement doesn't run to its end, the session is as it was, the store of a loading job apart
+abbrev pub Leaves : State → Statement → State → Type 0
+Leaves s (top.Vertex tree) t = t ≡ s
+Leaves s (top.Edge tree) t = t ≡ s
+Leaves s (top.Graph tree) t = t ≡ s
+Leaves s (top.Use name) t = t ≡ s
+Leaves s (top.Job tree) t = t ≡ s
+Leaves s (top.RunJob tree) t = JobLeft s tree t
+Leaves s (top.Query replace name tree) t = t ≡ s
+Leaves s (top.Install which) t = t ≡ s
+Leaves s (top.Run tree) t = t ≡ s
+Leaves s (top.Interpret tree) t = t ≡ s
+Leaves s (top.Insert tree) t = t ≡ s
+Leaves s top.Begin t = t ≡ s
+Leaves s top.End t = t ≡ s

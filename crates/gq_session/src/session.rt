@@ -1,29 +1,46 @@
 // The session, and what each statement does to it.
-ghost use Rattle.std.specs.Prelude.{◌≡◌, ℕ, IfOk, IfErr, OnErr, Err, Result};
+ghost use Rattle.std.specs.Prelude.{◌≡◌, ◌≤◌, ℕ, IfOk, IfErr, IfSome, IsSome, OnErr, IsErrOf, Err, Result};
+ghost use Rattle.gq_io.specs.Counts.{Rose};
 ghost use Rattle.gq_refusal.specs.declared.refusal.Refusal.{Refusal};
 ghost use Rattle.gq_refusal.specs.Answers.{Answers};
 ghost use Rattle.gq_refusal.specs.Messages.{message_of};
 ghost use Rattle.gq_script.specs.Effects.{Becomes, Refused, lines_of};
+ghost use Rattle.gq_script.specs.Known.{known_of};
 ghost use Rattle.gq_plain.specs.Plain.{plain_text};
-ghost use Rattle.gq_session.specs.Statements.{State, edge_made, effect_of, graph_made, graph_used, opening, printed, step, vertex_made};
+ghost use Rattle.gq_kept.specs.Keeping.{no_rows as rows_of_none};
+ghost use Rattle.gq_session.specs.Statements.{Does, JobLeft, Leaves, RunsJob, State, edge_made, effect_of, graph_made, graph_used, install_made, interpreted, job_made, opening, printed, query_made, row_made, vertex_made};
 
 use gq_define::{create_edge, create_graph, create_vertex};
+use gq_edge::Edges;
+use gq_index::Store;
+use gq_inserts::insert_row;
 use gq_io::Files;
+use gq_jobs::{NamedJob, create_job};
+use gq_list::List;
+use gq_loads::run_job;
 use gq_plain::plain_line;
+use gq_queries::{Stored, create_query, install_queries, judge_interpreted};
 use gq_refusal::{Refusal, StatementFault};
 use gq_schema::Catalog;
 use gq_script::Machine;
-use gq_tree::{EdgeTree, GraphTree, QueryTree, Statement, VertexTree};
+use gq_tree::{
+    EdgeTree, GraphTree, InsertTree, Installed, JobTree, QueryTree, RunJobTree, Statement, VertexTree,
+};
 use gq_value::{Memory, Txt};
+use gq_vertex::Vertices;
 use std::alloc::Global;
 use std::marker::Model;
 
-/// What the statements of a script leave to one another: the catalog, and the graph in use.
+/// What the statements of a script leave to one another: the catalog, the graph in use, the loading jobs, the queries,
+/// and the store.
 #[derive(Drop)]
 pub struct Session {
     alloc: Global,
     catalog: Catalog,
     in_use: Option<u32>,
+    jobs: List<NamedJob>,
+    queries: List<Stored>,
+    store: Store,
 }
 
 impl Model for Session {
@@ -31,16 +48,19 @@ impl Model for Session {
     ghost use Rattle.gq_value.specs.contracts.value.Value as value;
     ghost use Rattle.gq_value.specs.contracts.kind.BaseType as base;
     ghost use Rattle.gq_session.specs.Statements.{State};
+    ghost use Rattle.gq_session.specs.Keeping.{SessionFits};
 
     ghost Value = { State };
 
     ghost coded = { Prim.hlevel (codes, value.the_row.coded, base.the_row.coded) };
 
-    ghost view = { λ s. record { schema = s.catalog; in_use = s.in_use } };
+    ghost view = { λ s. record { schema = s.catalog; in_use = s.in_use; jobs = s.jobs; queries = s.queries; store = s.store } };
+
+    ghost invariant = { λ s. SessionFits s.catalog s.in_use s.jobs s.store };
 }
 
 impl Session {
-    /// A session without types and graphs.
+    /// A session without types, graphs, jobs, queries and rows.
     pub fn new(alloc: Global) -> Session
         ensures { result ≡ opening }
     {
@@ -48,32 +68,47 @@ impl Session {
             alloc,
             catalog: Catalog::new(alloc),
             in_use: None,
+            jobs: List::new(alloc),
+            queries: List::new(alloc),
+            store: no_rows(alloc),
         }
     }
 
-    /// Runs the statement of this number, and gives the line that it prints, if any. Unchanged after a refusal.
-    pub fn run(
+    /// Runs the statement of this number, and gives the line that it prints, if any.
+    ///
+    /// Where it doesn't run to its end the session is as it was. Only RUN LOADING JOB leaves upserts in the store.
+    pub fn run<F: Files>(
         &mut self,
+        files: &mut F,
         number: u64,
         statement: &Statement,
     ) -> Result<Option<Vec<u8>>, StatementFault>
-        ensures done { IfOk result (λ line. Becomes self.new (lines_of line) ≡ step self.old number statement.now) }
-        ensures refused { (refusal : Refusal) → result ≡ Err (StatementFault.Refused refusal)
-            → Refused (message_of refusal) ≡ step self.old number statement.now }
-        ensures read_fault { result ≡ Err StatementFault.ReadFault → ⊥ }
-        ensures kept { OnErr result (self.new ≡ self.old) }
+        // A statement that runs got bytes for each file that it asked for, so that no count is needed.
+        ensures done { (before now met : ℕ) → IfOk result (λ line.
+            Does (known_of (F.held files.old) before now met) self.old number statement.now (Becomes self.new (lines_of line))) }
+        ensures refused { (refusal : Refusal) → result ≡ Err (StatementFault.Refused refusal) → (before : ℕ) → before ≤ F.absences files.old
+            → Does (known_of (F.held files.old) before (F.absences files.new) (F.length_met files.new)) self.old number statement.now (Refused (message_of refusal)) }
+        ensures left { OnErr result (Leaves self.old statement.now self.new) }
+        ensures read_fault { IsErrOf result StatementFault.ReadFault → Rose (F.faults files.old) (F.faults files.new) }
+        ensures held { F.held files.new ≡ F.held files.old }
+        ensures faults_stay { F.faults files.old ≤ F.faults files.new }
+        ensures absences_stay { F.absences files.old ≤ F.absences files.new }
     {
         match statement {
             Statement::Vertex(tree) => silent(self.make_vertex(tree)),
             Statement::Edge(tree) => silent(self.make_edge(tree)),
             Statement::Graph(tree) => silent(self.make_graph(tree)),
             Statement::Use(name) => silent(self.use_graph(name)),
-            Statement::Interpret(query) => interpret(self.alloc, number, query),
-            Statement::Begin | Statement::End => Ok(None),
-            Statement::Job(_) | Statement::RunJob(_) | Statement::Insert(_) => unsupported(number),
-            Statement::Query(_, _, _) | Statement::Install(_) | Statement::Run(_) => unsupported(
-                number,
+            Statement::Job(tree) => silent(self.make_job(tree)),
+            Statement::RunJob(tree) => self.run_job(files, tree),
+            Statement::Query(replace, name, tree) => silent(
+                self.make_query(*replace, name, tree),
             ),
+            Statement::Install(which) => silent(self.install(which)),
+            Statement::Interpret(tree) => self.interpret(number, tree),
+            Statement::Insert(tree) => silent(self.insert(tree)),
+            Statement::Begin | Statement::End => Ok(None),
+            Statement::Run(_) => unsupported(number),
         }
     }
 
@@ -115,24 +150,112 @@ impl Session {
             },
         }
     }
+
+    fn make_job(&mut self, tree: &JobTree) -> Result<(), StatementFault>
+        ensures { Answers (job_made self.old tree.now) self.old self.new result }
+    {
+        create_job(self.alloc, &self.catalog, &mut self.jobs, tree)
+    }
+
+    fn make_query(
+        &mut self,
+        replace: bool,
+        name: &Txt,
+        tree: &QueryTree,
+    ) -> Result<(), StatementFault>
+        ensures { Answers (query_made self.old replace name.now tree.now) self.old self.new result }
+    {
+        let (alloc, name) = (self.alloc, name.as_str());
+        create_query(
+            alloc,
+            &self.catalog,
+            self.in_use,
+            &mut self.queries,
+            replace,
+            name,
+            tree,
+        )
+    }
+
+    fn install(&mut self, which: &Installed) -> Result<(), StatementFault>
+        ensures { Answers (install_made self.old which.now) self.old self.new result }
+    {
+        install_queries(self.alloc, &mut self.queries, which)
+    }
+
+    fn interpret(
+        &self,
+        number: u64,
+        tree: &QueryTree,
+    ) -> Result<Option<Vec<u8>>, StatementFault>
+        ensures done { IfOk result (λ line. Becomes self.now (lines_of line) ≡ interpreted self.now number tree.now) }
+        ensures refused { (refusal : Refusal) → result ≡ Err (StatementFault.Refused refusal) → Refused (message_of refusal) ≡ interpreted self.now number tree.now }
+        ensures read_fault { result ≡ Err StatementFault.ReadFault → ⊥ }
+    {
+        match judge_interpreted(self.alloc, &self.catalog, self.in_use, tree) {
+            Ok(()) => print_plain(self.alloc, number, tree),
+            Err(fault) => Err(fault),
+        }
+    }
+
+    fn insert(&mut self, tree: &InsertTree) -> Result<(), StatementFault>
+        ensures { Answers (row_made self.old tree.now) self.old self.new result }
+    {
+        insert_row(self.alloc, &self.catalog, &mut self.store, tree)
+    }
+
+    fn run_job<F: Files>(
+        &mut self,
+        files: &mut F,
+        tree: &RunJobTree,
+    ) -> Result<Option<Vec<u8>>, StatementFault>
+        ensures done { (before now met : ℕ) → IfOk result (λ line.
+            RunsJob (known_of (F.held files.old) before now met) self.old tree.now (Becomes self.new (lines_of line))) }
+        ensures refused { (refusal : Refusal) → result ≡ Err (StatementFault.Refused refusal) → (before : ℕ) → before ≤ F.absences files.old
+            → RunsJob (known_of (F.held files.old) before (F.absences files.new) (F.length_met files.new)) self.old tree.now (Refused (message_of refusal)) }
+        ensures left { OnErr result (JobLeft self.old tree.now self.new) }
+        ensures read_fault { IsErrOf result StatementFault.ReadFault → Rose (F.faults files.old) (F.faults files.new) }
+        ensures held { F.held files.new ≡ F.held files.old }
+        ensures faults_stay { F.faults files.old ≤ F.faults files.new }
+        ensures absences_stay { F.absences files.old ≤ F.absences files.new }
+    {
+        let jobs = self.jobs.as_slice();
+        with_line(run_job(
+            self.alloc,
+            &self.catalog,
+            jobs,
+            &mut self.store,
+            files,
+            tree,
+        ))
+    }
 }
 
 impl Machine for Session {
-    ghost use Rattle.std.proofs.Common.{sym, ◌∙◌};
     ghost use Rattle.gq_session.specs.Statements.{Does};
+    ghost use Rattle.gq_session.specs.StatementLaws.{does_one};
 
     ghost does = { Does };
 
     fn run_statement<F: Files>(
         &mut self,
-        _files: &mut F,
+        files: &mut F,
         number: u64,
         statement: &Statement,
     ) -> Result<Option<Vec<u8>>, StatementFault> {
-        self.run(number, statement)
+        self.run(files, number, statement)
     }
 
-    ghost determined = { λ pairs s number statement e f one other. one ∙ sym other };
+    ghost determined = { does_one };
+}
+
+fn no_rows(alloc: Global) -> Store
+    ensures { result ≡ rows_of_none }
+{
+    Store {
+        vertices: Vertices::new(alloc),
+        edges: Edges::new(alloc),
+    }
 }
 
 // The answer of a statement that prints nothing.
@@ -147,7 +270,20 @@ fn silent(answer: Result<(), StatementFault>) -> Result<Option<Vec<u8>>, Stateme
     }
 }
 
-fn interpret(
+// The answer of a statement that prints a line.
+fn with_line(answer: Result<Vec<u8>, StatementFault>) -> Result<Option<Vec<u8>>, StatementFault>
+    ensures done { IfOk result (λ printed. IfSome printed (λ line. answer ≡ Ok line)) }
+    ensures printed { IfOk result IsSome }
+    ensures same { IfErr result (λ fault. answer ≡ Err fault) }
+{
+    match answer {
+        Ok(line) => Ok(Some(line)),
+        Err(fault) => Err(fault),
+    }
+}
+
+// The line of a query that prints numbers alone.
+fn print_plain(
     alloc: Global,
     number: u64,
     query: &QueryTree,

@@ -33,13 +33,14 @@ fields_written s most names (f ∷ fs) = base_written s f.0 >>= λ b. own_name m
 
 -- ---- elements
 
+-- the number of the first of these tuple types with this name, where the first of all has the number n
+abbrev pub tuple_from : {N : Type 0} → (N → N → Bool) → N → ℕ → List (N × Fields) → Option ℕ
+tuple_from same x n [] = None
+tuple_from same x n (t ∷ ts) = if same t.0 x then Some n else tuple_from same x (suc n) ts
+
 -- the number of a tuple type
 abbrev pub tuple_named : {N : Type 0} → Setting N → N → Option ℕ
-tuple_named {N = N} setting x = place_from 0 setting.tuples
-  where
-    place_from : ℕ → List (N × Fields) → Option ℕ
-    place_from n [] = None
-    place_from n (t ∷ ts) = if setting.words.same t.0 x then Some n else place_from (suc n) ts
+tuple_named setting x = tuple_from setting.words.same x 0 setting.tuples
 
 abbrev pub tuple_base : {N : Type 0} → Setting N → ℕ → Base
 tuple_base setting n = TUPLE n (bases (bases_of (tuple_fields setting n)))

@@ -215,3 +215,42 @@ fn there_are_256_types_at_most(rt: HostRuntime) -> Result<(), Fail> {
     assert!(rt; refuses_edge(&mut catalog, alloc, "v0", None, 5, ""));
     Ok(())
 }
+
+fn is_vertex_added(catalog: &mut Catalog, alloc: Global, name: &str) -> bool {
+    bare_vertex(catalog, alloc, name).is_ok()
+}
+
+// Adds a vertex type; where a growth is refused, the catalog has to be as it was, and takes the type then.
+fn adds_or_stays(catalog: &mut Catalog, alloc: Global, name: &str) -> bool {
+    let before = catalog.type_count();
+    if is_vertex_added(catalog, alloc, name) {
+        return catalog.type_count() == before + 1;
+    }
+    let kept = catalog.type_count() == before && catalog.vertex_type(name).is_none();
+    let again = is_vertex_added(catalog, alloc, name);
+    kept && again && catalog.type_count() == before + 1
+}
+
+fn is_pair_added(catalog: &mut Catalog, alloc: Global) -> bool {
+    edge(catalog, alloc, "knows", "person", Some("known_by")).is_ok()
+}
+
+// The same for an edge type with its reverse type.
+fn adds_pair_or_stays(catalog: &mut Catalog, alloc: Global) -> bool {
+    if is_pair_added(catalog, alloc) {
+        return catalog.edge_type("known_by") == Some(1);
+    }
+    let kept = catalog.edge_type("knows").is_none() && catalog.edge_type("known_by").is_none();
+    kept && is_pair_added(catalog, alloc)
+}
+
+#[test]
+fn a_refused_growth_leaves_the_catalog_as_it_was(rt: HostRuntime) -> Result<(), Fail> {
+    let alloc = rt.alloc();
+    let mut catalog = Catalog::new(alloc);
+    assert!(rt; adds_or_stays(&mut catalog, alloc, "person"));
+    assert!(rt; adds_or_stays(&mut catalog, alloc, "town"));
+    assert!(rt; adds_pair_or_stays(&mut catalog, alloc));
+    assert_eq!(rt; catalog.type_count(), 4);
+    Ok(())
+}

@@ -75,3 +75,26 @@ fn a_cut_frees_the_names_of_the_last_vertices(rt: HostRuntime) -> Result<(), Fai
     assert_eq!(rt; copy.find(0, "v30"), Some(30));
     Ok(())
 }
+
+// Adds a vertex; where a growth is refused, the table has to be as it was, and takes the vertex then.
+fn adds_or_stays(vertices: &mut Vertices, alloc: Global, id: &str) -> Result<bool, Fail> {
+    let (before, first, second) = (vertices.len(), row(alloc, 1)?, row(alloc, 1)?);
+    let added = vertices.upsert(0, id, first);
+    if added.is_ok() {
+        return Ok(vertices.len() == before + 1 && vertices.find(0, id) == Some(before));
+    }
+    let kept = vertices.len() == before && vertices.find(0, id).is_none();
+    let number = vertices.upsert(0, id, second)?;
+    Ok(kept && number == before)
+}
+
+#[test]
+fn a_refused_growth_leaves_the_table_as_it_was(rt: HostRuntime) -> Result<(), Fail> {
+    let alloc = rt.alloc();
+    let mut vertices = Vertices::new(alloc);
+    for id in ["a", "b", "c", "d", "e"] {
+        assert!(rt; adds_or_stays(&mut vertices, alloc, id)?);
+    }
+    assert_eq!(rt; vertices.find(0, "c"), Some(2));
+    Ok(())
+}

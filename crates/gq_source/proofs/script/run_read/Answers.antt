@@ -14,3 +14,9 @@ returns-in-Some-clause-is_meant g c = λ final before low.
     let meant = c.run_with_file.ensures.is_meant final before low in
     let known = known_of (g.F.Files.held c.args.files.now) before (g.F.Files.absences c.run_with_file.new.files) (g.F.Files.length_met c.run_with_file.new.files) in
     (meant.0, subst (λ a. ArgumentsMean c.args.bytes.now known a c.args.statements.now meant.0) (sym (ap option_copied c.in-Some.is)) meant.1, meant.2)
+
+pub returns-in-None-clause-is_meant : goal.returns-in-None-clause-is_meant
+returns-in-None-clause-is_meant g c = λ final before low.
+    let meant = c.run_opened.ensures.is_meant final before low in
+    let known = known_of (g.F.Files.held c.args.files.now) before (g.F.Files.absences c.run_opened.new.files) (g.F.Files.length_met c.run_opened.new.files) in
+    (meant.0, subst (λ a. ArgumentsMean c.args.bytes.now known a c.args.statements.now meant.0) (sym (ap option_copied c.in-None.is)) meant.1, meant.2)

@@ -1,0 +1,3 @@
+pub mod TreeLemmas
+pub mod InputLemmas
+pub mod PlaceLemmas

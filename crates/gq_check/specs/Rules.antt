@@ -1,0 +1,67 @@
+-- Rules: rules of gq_typing on statements in the pieces in which the code has them.
+use Rattle.std.specs.Prelude.{Bool, true, false, if◌then◌else◌, List, [], Option, Ok}
+use Rattle.std.specs.Option.{unwrap_or}
+use Rattle.gq_value.specs.Accums.{Base, UINT}
+use Rattle.gq_tree.specs.Tree.{Tree, Name}
+use Rattle.gq_typing.specs.Statements.{Bytes, KindTree, Item, Over, Stmts, Definition, Parameter}
+use Rattle.gq_typing.specs.Judging.{Typed, SetOf, Judged, Mismatch, NotAllowedHere, ◌>>=◌, ◌>>◌, unless, or_fault, through_judged}
+use Rattle.gq_typing.specs.Types.{printable}
+use Rattle.gq_typing.specs.ExpressionTypes.{Names, typing, number, converting}
+use Rattle.gq_typing.specs.Scopes.{Scope, Variable, InSelection, entry, with_entry, new_name, names_at}
+use Rattle.gq_typing.specs.SelectTypes.{optional}
+use Rattle.gq_typing.specs.SetTypes.{here, is_set, set_types}
+use Rattle.gq_typing.specs.StatementTypes.{typing_item, typing_stmts, variable_type}
+use Rattle.gq_typing.specs.KindTypes.{kind_written}
+use Rattle.gq_typing.specs.QueryTypes.{typing_parameter, typing_definition}
+
+abbrev pub allowed : Bool → Judged Bool
+allowed test = unless NotAllowedHere test
+
+-- the value of a local
+abbrev pub own_value : Scope Bytes → Base → Option (Tree Bytes) → Judged Bool
+own_value s b t = optional (converting (here s) b) t
+
+-- the LIMIT of a WHILE
+abbrev pub limit : Scope Bytes → Option (Tree Bytes) → Judged Bool
+limit s t = optional (number (here s)) t
+
+-- ---- PRINT
+
+-- without AS a selection is keyed by its set
+abbrev pub selection_key : Bytes → Option Bytes → Bytes
+selection_key set name = unwrap_or name set
+
+-- a name alone, which may be a set's
+abbrev pub whole_name : Scope Bytes → Bytes → Judged Typed
+whole_name s x = if is_set (entry s x) then Ok (SetOf []) else typing (here s) (Name x)
+
+-- an expression that is printed
+abbrev pub whole_value : Names Bytes → Tree Bytes → Judged Typed
+whole_value names t = typing names t >>= printable
+
+-- columns, each under a key of its own
+abbrev pub columns : Names Bytes → List (Item Bytes) → Judged (List Bytes)
+columns names items = through_judged (typing_item names) [] items
+
+abbrev pub selection : Scope Bytes → Bytes → List (Item Bytes) → Judged (List Bytes)
+selection s x items = set_types s x >> columns (names_at s (InSelection x)) items
+
+-- ---- FOREACH
+
+-- its variable is a new name
+abbrev pub loop_variable : Scope Bytes → Bytes → Over Bytes → Judged (Scope Bytes)
+loop_variable s x over = new_name s x >> variable_type (here s) over >>= λ b. Ok (with_entry x (Variable b) s)
+
+-- the type of an element, where there is one
+abbrev pub elements : Option Base → Judged Base
+elements o = or_fault Mismatch o
+
+abbrev pub is_uint : Base → Bool
+is_uint UINT = true
+is_uint b = false
+
+-- ---- queries
+
+-- parameters, definitions and statements from a scope on
+abbrev pub query : Scope Bytes → List (Parameter Bytes) → List (Definition Bytes (KindTree Bytes)) → Stmts Bytes → Judged (Scope Bytes)
+query s parameters definitions stmts = through_judged typing_parameter s parameters >>= λ s₁. through_judged (typing_definition kind_written) s₁ definitions >>= λ s₂. typing_stmts s₂ stmts

@@ -1,0 +1,81 @@
+// Statements, one after another. What a body declares ends with it.
+ghost use Rattle.std.specs.Prelude.{◌≡◌, IfOk};
+ghost use Rattle.gq_typing.specs.Scopes as typing;
+ghost use Rattle.gq_typing.specs.StatementTypes as rules;
+ghost use Rattle.gq_typing.specs.StatementViews.{view_stmt, view_stmts};
+ghost use Rattle.gq_scope.specs.Held.{scope_in};
+ghost use Rattle.gq_fault.specs.Faults.{Judges, Grows};
+
+use crate::locals::{change_global, locals};
+use crate::looping::{limited, loop_variable, tested};
+use crate::printing::printed;
+use gq_fault::CheckFault;
+use gq_scope::Scope;
+use gq_select_check::assignment;
+use gq_tree::Stmt;
+use std::alloc::Global;
+
+/// Statements, one after another; what they declare stays in view.
+#[cycle(statements)]
+#[tactic(auto, using(gq_typing::proofs::ViewLaws::statement_laws, gq_fault::proofs::GrowLemmas::grow_laws))]
+pub(crate) fn statements<'q>(
+    trees: &'q [Stmt],
+    alloc: Global,
+    scope: &mut Scope<'q>,
+) -> Result<(), CheckFault>
+    requires { scope.old.place ≡ typing.InStatement }
+    ensures judged { Judges (λ _. scope_in scope.new) (rules.typing_stmts (scope_in scope.old) (view_stmts trees.now)) result }
+    ensures grows { IfOk result (λ _. Grows scope.old scope.new) }
+{
+    for tree in trees {
+        statement(tree, alloc, scope)?;
+    }
+    Ok(())
+}
+
+/// A statement. What its bodies declare ends with each.
+#[cycle(statements)]
+#[tactic(auto, using(gq_typing::proofs::ViewLaws::statement_laws, gq_fault::proofs::GrowLemmas::grow_laws, crate::proofs::RuleLemmas::foreach_laws))]
+fn statement<'q>(tree: &'q Stmt, alloc: Global, scope: &mut Scope<'q>) -> Result<(), CheckFault>
+    requires { scope.old.place ≡ typing.InStatement }
+    ensures judged { Judges (λ _. scope_in scope.new) (rules.typing_stmt (scope_in scope.old) (view_stmt tree.now)) result }
+    ensures grows { IfOk result (λ _. Grows scope.old scope.new) }
+{
+    let before = scope.len();
+    match tree {
+        Stmt::Local(base, trees) => locals(alloc, scope, base, trees.as_slice()),
+        Stmt::Assign(name, types, right) => {
+            assignment(alloc, scope, name.as_str(), types.as_ref(), right)
+        }
+        Stmt::Global(name, change) => change_global(alloc, scope, name.as_str(), change),
+        Stmt::If(branches, others) => {
+            for branch in branches.as_slice() {
+                tested(alloc, scope, &branch.0)?;
+                statements(branch.1.as_slice(), alloc, scope)?;
+                scope.cut(before);
+            }
+            match others {
+                None => Ok(()),
+                Some(body) => {
+                    statements(body.as_slice(), alloc, scope)?;
+                    scope.cut(before);
+                    Ok(())
+                }
+            }
+        }
+        Stmt::While(test, limit, body) => {
+            tested(alloc, scope, test)?;
+            limited(alloc, scope, limit.as_ref())?;
+            statements(body.as_slice(), alloc, scope)?;
+            scope.cut(before);
+            Ok(())
+        }
+        Stmt::Foreach(name, over, body) => {
+            loop_variable(alloc, scope, name.as_str(), over)?;
+            statements(body.as_slice(), alloc, scope)?;
+            scope.cut(before);
+            Ok(())
+        }
+        Stmt::Print(items) => printed(alloc, scope, items.as_slice()),
+    }
+}

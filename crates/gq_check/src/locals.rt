@@ -1,0 +1,159 @@
+// Locals, and changes of global accumulators.
+ghost use Rattle.std.specs.Prelude.{◌≡◌, true, IfOk, is_some};
+ghost use Rattle.std.specs.Option.{option_map, option_copied};
+ghost use Rattle.gq_value.specs.AccumViews.{base_of, accum_of};
+ghost use Rattle.gq_tree.specs.View.{view};
+ghost use Rattle.gq_typing.specs.Statements.{Local, ChangeGlobal};
+ghost use Rattle.gq_typing.specs.Judging.{through_judged};
+ghost use Rattle.gq_typing.specs.ExpressionTypes as forms;
+ghost use Rattle.gq_typing.specs.Scopes as typing;
+ghost use Rattle.gq_typing.specs.SetTypes.{here};
+ghost use Rattle.gq_typing.specs.StatementTypes.{typing_stmt, typing_local, typing_change, may_lack_value};
+ghost use Rattle.gq_typing.specs.SelectViews.{view_change};
+ghost use Rattle.gq_typing.specs.StatementViews.{view_base, view_locals};
+ghost use Rattle.gq_scope.specs.Held.{scope_in};
+ghost use Rattle.gq_fault.specs.Faults.{Judges, Grows};
+ghost use Rattle.gq_check.specs.Rules as spec;
+
+use gq_act_check::{input, settable};
+use gq_fault::{CheckFault, add, new_name};
+use gq_kind_check::base_written;
+use gq_scope::{Entry, Scope};
+use gq_tree::{BaseTree, Change, Node};
+use gq_type::{Base, converting, declared_kind, is_vertex};
+use gq_value::{BaseType, Kind, Txt};
+use std::alloc::Global;
+
+/// Locals of one type.
+pub(crate) fn locals(
+    alloc: Global,
+    scope: &mut Scope<'_>,
+    tree: &BaseTree,
+    trees: &[(Txt, Option<Node>)],
+) -> Result<(), CheckFault>
+    requires { scope.old.place ≡ typing.InStatement }
+    ensures judged { Judges (λ _. scope_in scope.new)
+        (typing_stmt (scope_in scope.old) (Local (view_base tree.now) (view_locals trees.now))) result }
+    ensures grows { IfOk result (λ _. Grows scope.old scope.new) }
+{
+    let base = base_written(alloc, scope, tree)?;
+    all_locals(alloc, scope, &base, trees)
+}
+
+#[tactic(auto, using(gq_fault::proofs::GrowLemmas::grow_laws))]
+fn all_locals(
+    alloc: Global,
+    scope: &mut Scope<'_>,
+    base: &BaseType,
+    trees: &[(Txt, Option<Node>)],
+) -> Result<(), CheckFault>
+    requires { scope.old.place ≡ typing.InStatement }
+    ensures judged { Judges (λ _. scope_in scope.new)
+        (through_judged (typing_local (base_of base.now)) (scope_in scope.old) (view_locals trees.now)) result }
+    ensures grows { IfOk result (λ _. Grows scope.old scope.new) }
+{
+    for local in trees {
+        one_local(alloc, scope, base, local.0.as_str(), local.1.as_ref())?;
+    }
+    Ok(())
+}
+
+/// A local; it comes into view behind its own value. A vertex has no default.
+fn one_local(
+    alloc: Global,
+    scope: &mut Scope<'_>,
+    base: &BaseType,
+    name: &str,
+    value: Option<&Node>,
+) -> Result<(), CheckFault>
+    requires { scope.old.place ≡ typing.InStatement }
+    ensures judged { Judges (λ _. scope_in scope.new) (typing_local (base_of base.now) (scope_in scope.old)
+        (name.now, option_map view (option_copied value.entry))) result }
+    ensures grows { IfOk result (λ _. Grows scope.old scope.new) }
+{
+    allowed(lacks_nothing(base, value.is_some()))?;
+    new_name(alloc, scope, name)?;
+    own_value(alloc, scope, base, value)?;
+    add(scope, name, Entry::Variable(base.duplicate(alloc)?))?;
+    Ok(())
+}
+
+/// Not allowed here, where a test fails.
+fn allowed(test: bool) -> Result<(), CheckFault>
+    ensures { Judges (λ _. true) (spec.allowed test) result }
+{
+    match test {
+        true => Ok(()),
+        false => Err(CheckFault::NotAllowedHere),
+    }
+}
+
+fn lacks_nothing(base: &BaseType, has_value: bool) -> bool
+    ensures { result ≡ may_lack_value (base_of base.now) has_value }
+{
+    if has_value {
+        true
+    } else {
+        !is_vertex(Base::of(base))
+    }
+}
+
+fn own_value(
+    alloc: Global,
+    scope: &Scope<'_>,
+    base: &BaseType,
+    value: Option<&Node>,
+) -> Result<(), CheckFault>
+    requires { scope.now.place ≡ typing.InStatement }
+    ensures { Judges (λ _. true) (spec.own_value (scope_in scope.now) (base_of base.now) (option_map view (option_copied value.entry))) result }
+{
+    match value {
+        None => Ok(()),
+        Some(node) => {
+            valued(alloc, scope, base, node)?;
+            Ok(())
+        }
+    }
+}
+
+/// A value of a type.
+#[tactic(auto, using(crate::proofs::PlaceLemmas::here_laws))]
+fn valued(alloc: Global, scope: &Scope<'_>, base: &BaseType, node: &Node) -> Result<(), CheckFault>
+    requires { scope.now.place ≡ typing.InStatement }
+    ensures { Judges (λ _. true) (forms.converting (here (scope_in scope.now)) (base_of base.now) (view node.now)) result }
+{
+    converting(alloc, scope, Base::of(base), node)?;
+    Ok(())
+}
+
+/// A change of the global accumulator of a name.
+pub(crate) fn change_global(
+    alloc: Global,
+    scope: &Scope<'_>,
+    name: &str,
+    change: &Change,
+) -> Result<(), CheckFault>
+    requires { scope.now.place ≡ typing.InStatement }
+    ensures { Judges (λ _. scope_in scope.now)
+        (typing_stmt (scope_in scope.now) (ChangeGlobal name.now (view_change change.now))) result }
+{
+    let kind = declared_kind(alloc, scope, false, name)?;
+    changed(alloc, scope, kind, change)?;
+    Ok(())
+}
+
+/// A change of an accumulator of a kind.
+#[tactic(auto, using(crate::proofs::PlaceLemmas::here_laws))]
+fn changed(alloc: Global, scope: &Scope<'_>, kind: &Kind, change: &Change) -> Result<(), CheckFault>
+    requires { scope.now.place ≡ typing.InStatement }
+    ensures { Judges (λ _. true) (typing_change (scope_in scope.now) (accum_of kind.now) (view_change change.now)) result }
+{
+    match change {
+        Change::Feed(tree) => input(tree, alloc, scope, Some(kind)),
+        Change::Set(node) => {
+            let base = settable(kind)?;
+            converting(alloc, scope, base, node)?;
+            Ok(())
+        }
+    }
+}

@@ -1,0 +1,139 @@
+// What WHILE and FOREACH go by.
+ghost use Rattle.std.specs.Prelude.{◌≡◌, true, IfOk};
+ghost use Rattle.std.specs.Option.{option_map, option_copied};
+ghost use Rattle.gq_value.specs.AccumViews.{base_of};
+ghost use Rattle.gq_tree.specs.View.{view};
+ghost use Rattle.gq_typing.specs.Types as types;
+ghost use Rattle.gq_typing.specs.ExpressionTypes as forms;
+ghost use Rattle.gq_typing.specs.Scopes as typing;
+ghost use Rattle.gq_typing.specs.SetTypes.{here};
+ghost use Rattle.gq_typing.specs.StatementTypes as rules;
+ghost use Rattle.gq_typing.specs.StatementViews.{view_over};
+ghost use Rattle.gq_scope.specs.Held.{scope_in, names_in};
+ghost use Rattle.gq_type.specs.Views.{base_is, typed_is};
+ghost use Rattle.gq_fault.specs.Faults.{Judges, Grows};
+ghost use Rattle.gq_check.specs.Rules as spec;
+
+use gq_fault::{CheckFault, add, new_name};
+use gq_scope::{Entry, Scope};
+use gq_tree::{Node, Over};
+use gq_type::{Base, Typed, condition, element_type, number, type_of};
+use gq_value::BaseType;
+use std::alloc::Global;
+
+/// A condition.
+#[tactic(auto, using(crate::proofs::PlaceLemmas::here_laws))]
+pub(crate) fn tested(alloc: Global, scope: &Scope<'_>, node: &Node) -> Result<(), CheckFault>
+    requires { scope.now.place ≡ typing.InStatement }
+    ensures { Judges (λ _. true) (forms.condition (here (scope_in scope.now)) (view node.now)) result }
+{
+    condition(alloc, scope, node)?;
+    Ok(())
+}
+
+/// The LIMIT of a WHILE.
+pub(crate) fn limited(
+    alloc: Global,
+    scope: &Scope<'_>,
+    limit: Option<&Node>,
+) -> Result<(), CheckFault>
+    requires { scope.now.place ≡ typing.InStatement }
+    ensures { Judges (λ _. true) (spec.limit (scope_in scope.now) (option_map view (option_copied limit.entry))) result }
+{
+    match limit {
+        None => Ok(()),
+        Some(node) => {
+            counted(alloc, scope, node)?;
+            Ok(())
+        }
+    }
+}
+
+/// A number; its type.
+#[tactic(auto, using(crate::proofs::PlaceLemmas::here_laws))]
+fn counted<'s>(alloc: Global, scope: &'s Scope<'_>, node: &Node) -> Result<Base<'s>, CheckFault>
+    requires { scope.now.place ≡ typing.InStatement }
+    ensures { Judges base_is (forms.number (here (scope_in scope.now)) (view node.now)) result }
+{
+    let base = number(alloc, scope, node)?;
+    Ok(base)
+}
+
+/// The variable of a FOREACH comes into view.
+#[tactic(auto, using(crate::proofs::PlaceLemmas::here_laws))]
+pub(crate) fn loop_variable(
+    alloc: Global,
+    scope: &mut Scope<'_>,
+    name: &str,
+    over: &Over,
+) -> Result<(), CheckFault>
+    requires { scope.old.place ≡ typing.InStatement }
+    ensures judged { Judges (λ _. scope_in scope.new) (spec.loop_variable (scope_in scope.old) name.now (view_over over.now)) result }
+    ensures grows { IfOk result (λ _. Grows scope.old scope.new) }
+{
+    new_name(alloc, scope, name)?;
+    let base = variable_type(alloc, scope, over)?;
+    add(scope, name, Entry::Variable(base))?;
+    Ok(())
+}
+
+/// The type of an element, or of both ends of a range.
+fn variable_type(alloc: Global, scope: &Scope<'_>, over: &Over) -> Result<BaseType, CheckFault>
+    ensures { Judges base_of (rules.variable_type (names_in scope.now) (view_over over.now)) result }
+{
+    match over {
+        Over::Elements(node) => {
+            let x = type_of(alloc, scope, node)?;
+            let base = element_of(x)?;
+            Ok(base.keep(alloc)?)
+        }
+        Over::Range(from, to) => {
+            let low = number(alloc, scope, from)?;
+            let high = number(alloc, scope, to)?;
+            Ok(number_of_both(low, high))
+        }
+    }
+}
+
+/// The type of an element, of a collection in an order of its own.
+fn element_of(x: Typed<'_>) -> Result<Base<'_>, CheckFault>
+    ensures { Judges base_is (rules.element_of (typed_is x.entry)) result }
+{
+    match x {
+        Typed::Whole(kind) => elements(element_type(kind)),
+        Typed::Of(_) | Typed::Average | Typed::GroupRow(_) => Err(CheckFault::Mismatch),
+        Typed::AliasOf(_) | Typed::EdgeOf(_) => Err(CheckFault::Mismatch),
+        Typed::SetOf(_) | Typed::MemberOf(_) => Err(CheckFault::Mismatch),
+    }
+}
+
+fn elements(base: Option<Base<'_>>) -> Result<Base<'_>, CheckFault>
+    ensures { Judges base_is (spec.elements (option_map base_is base.entry)) result }
+{
+    match base {
+        None => Err(CheckFault::Mismatch),
+        Some(base) => Ok(base),
+    }
+}
+
+/// Two UINT give UINT, other numbers INT.
+#[tactic(auto, using(gq_type::proofs::BaseLemmas::base_laws, crate::proofs::RuleLemmas::both_laws))]
+fn number_of_both(low: Base<'_>, high: Base<'_>) -> BaseType
+    ensures { base_of result ≡ types.number_of_both (base_is low.entry) (base_is high.entry) }
+{
+    if is_uint(low) && is_uint(high) {
+        BaseType::UInt
+    } else {
+        BaseType::Int
+    }
+}
+
+fn is_uint(base: Base<'_>) -> bool
+    ensures { result ≡ spec.is_uint (base_is base.entry) }
+{
+    match base {
+        Base::UInt => true,
+        Base::Int | Base::Bool | Base::Text | Base::Time => false,
+        Base::AnyVertex | Base::VertexOf(_) | Base::Tuple(_, _) => false,
+    }
+}

@@ -1,0 +1,72 @@
+// Whole queries.
+ghost use Rattle.std.specs.Prelude.{◌≡◌, ◌<◌, length, map};
+ghost use Rattle.std.specs.Option.{ForSome};
+ghost use Rattle.std.specs.List.{list_any};
+ghost use Rattle.gq_typing.specs.Sorts.{sorts_of};
+ghost use Rattle.gq_typing.specs.Scopes as typing;
+ghost use Rattle.gq_typing.specs.QueryTypes.{typing_query};
+ghost use Rattle.gq_typing.specs.StatementViews.{is_v2, view_parameter, view_definition, view_stmts, view_query};
+ghost use Rattle.gq_scope.specs.Held.{graph_in, scope_in};
+ghost use Rattle.gq_fault.specs.Faults.{Judges};
+ghost use Rattle.gq_kind_check.specs.Counts.{accum_count};
+ghost use Rattle.gq_check.specs.Checks.{Checks};
+ghost use Rattle.gq_check.specs.Rules as spec;
+
+use crate::bodies::statements;
+use gq_fault::CheckFault;
+use gq_kind_check::{definitions, parameters};
+use gq_schema::Catalog;
+use gq_scope::Scope;
+use gq_tree::{Mode, QueryTree};
+use std::alloc::Global;
+
+/// Whether a query is well typed that sees the types of a graph of the catalog, by the graph's number; a query for no graph sees
+/// none. A fault is that of the first rule that fails in order of text. Memory may come at any time.
+pub fn check<'q>(
+    alloc: Global,
+    catalog: &'q Catalog,
+    graph: Option<u32>,
+    query: &'q QueryTree,
+) -> Result<(), CheckFault>
+    requires { ForSome graph (λ g. g < length catalog.now.graphs) }
+    ensures { Checks (typing_query (sorts_of catalog.now (graph_in catalog.now graph)) (view_query query.now)) result }
+{
+    let mut scope = Scope::new(alloc, catalog, graph);
+    scope.allow_paths(allows_paths(query.modes.as_slice()));
+    all_of(alloc, &mut scope, query)?;
+    Ok(())
+}
+
+/// Parameters, definitions and statements.
+#[tactic(auto, using(gq_fault::proofs::GrowLemmas::grow_laws))]
+fn all_of<'q>(alloc: Global, scope: &mut Scope<'q>, query: &'q QueryTree) -> Result<(), CheckFault>
+    requires place { scope.old.place ≡ typing.InStatement }
+    requires none { accum_count (scope_in scope.old) ≡ 0 }
+    ensures { Judges (λ _. scope_in scope.new) (spec.query (scope_in scope.old) (map view_parameter query.now.parameters)
+        (map view_definition query.now.body.definitions) (view_stmts query.now.body.statements)) result }
+{
+    parameters(alloc, scope, query.parameters.as_slice())?;
+    definitions(alloc, scope, query.body.definitions.as_slice())?;
+    statements(query.body.statements.as_slice(), alloc, scope)
+}
+
+/// Whether the query is in SYNTAX v2.
+fn allows_paths(modes: &[Mode]) -> bool
+    ensures { result ≡ list_any is_v2 modes.now }
+{
+    for mode in modes {
+        if is_second(mode) {
+            return true;
+        }
+    }
+    false
+}
+
+fn is_second(mode: &Mode) -> bool
+    ensures { result ≡ is_v2 mode.now }
+{
+    match mode {
+        Mode::Api(_) => false,
+        Mode::Syntax(name) => name.as_str().eq_ignore_ascii_case("v2"),
+    }
+}

@@ -1,0 +1,4 @@
+pub mod Deciding
+pub mod Numbers
+pub mod Moments
+pub mod Readings

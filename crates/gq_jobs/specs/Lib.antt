@@ -1,0 +1,4 @@
+pub mod Jobs
+pub mod Tells
+pub mod Fitting
+pub mod FittingLaws

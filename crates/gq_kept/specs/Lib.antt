@@ -1,0 +1,4 @@
+pub mod Puts
+pub mod PutLaws
+pub mod Keeping
+pub mod KeepingLaws

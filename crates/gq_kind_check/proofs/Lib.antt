@@ -1,0 +1,5 @@
+pub mod TupleLemmas
+pub mod FieldLemmas
+pub mod KindLemmas
+pub mod NumberLemmas
+pub mod HeadLemmas

@@ -1,0 +1,17 @@
+use Rattle.std.proofs.Common.{[], ◌∷◌, ◌∙◌, ap, subst, Option, IfOk}
+use Rattle.gq_job.specs.declared.job.Job.{Job}
+use Rattle.gq_script.specs.Effects.{Becomes}
+use Rattle.gq_script.specs.Known.{known_of}
+use Rattle.gq_jobs.specs.Jobs.{job_named}
+use Rattle.gq_loads.specs.JobRuns.{FoundDoes}
+use Rattle.gq_loads.proofs.run.run_job.Goals as goal
+
+pub run_found-requires-clause-lines : goal.run_found-requires-clause-lines
+run_found-requires-clause-lines g c = c.in-Some.ensures.fits c.args.catalog.now c.requires.jobs
+
+pub returns-in-Some-clause-done : goal.returns-in-Some-clause-done
+returns-in-Some-clause-done g c = λ before now met.
+    let known = known_of (g.F.Files.held c.args.files.now) before now met in
+    let P : Option Job → Type 0 =
+    λ o. IfOk c.run_found.result (λ line. FoundDoes known c.args.catalog.now c.args.store.now c.args.tree.now o (Becomes c.run_found.new.store (line.items ∷ []))) in
+    subst P (c.in-Some.ensures.found ∙ ap (job_named c.args.jobs.now) c.as_str.ensures) (c.run_found.ensures.done before now met)

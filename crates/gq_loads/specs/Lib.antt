@@ -1,0 +1,4 @@
+pub mod Loadings
+pub mod LoadingLaws
+pub mod JobRuns
+pub mod JobLaws

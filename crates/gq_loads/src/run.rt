@@ -1,0 +1,145 @@
+// RUN LOADING JOB.
+ghost use Rattle.std.specs.Prelude.{◌≡◌, ◌≤◌, ◌∷◌, [], ℕ, All, Some, Err, IfOk, OnErr, IsErrOf};
+ghost use Rattle.gq_io.specs.Counts.{Rose};
+ghost use Rattle.gq_refusal.specs.declared.refusal.Refusal.{Refusal};
+ghost use Rattle.gq_refusal.specs.Messages.{message_of};
+ghost use Rattle.gq_job.specs.Fits.{LineFits};
+ghost use Rattle.gq_row.specs.Records.{AllHaveEnds};
+ghost use Rattle.gq_script.specs.Effects.{Becomes, Refused};
+ghost use Rattle.gq_script.specs.Known.{known_of};
+ghost use Rattle.gq_kept.specs.Keeping.{StoreFits, no_rows};
+ghost use Rattle.gq_jobs.specs.Fitting.{JobsFit};
+ghost use Rattle.gq_jobs.specs.Tells.{Tells};
+ghost use Rattle.gq_loads.specs.Loadings.{run_of};
+ghost use Rattle.gq_loads.specs.JobRuns.{FoundDoes, FoundLeaves, JobDoes, JobLeaves, LoadsDo, LoadsLeave};
+
+use crate::loading::Loading;
+use gq_edge::Edges;
+use gq_index::Store;
+use gq_io::Files;
+use gq_job::Job;
+use gq_jobs::{NamedJob, find_job};
+use gq_loading::run_loads;
+use gq_paths::undefined;
+use gq_refusal::{Refusal, StatementFault};
+use gq_schema::Catalog;
+use gq_tree::RunJobTree;
+use gq_value::{Memory, Txt};
+use gq_vertex::Vertices;
+use std::alloc::Global;
+use std::mem;
+
+/// RUN LOADING JOB, and the line of its reports. The store gains the upserts of its LOADs, one after another.
+///
+/// Refused where no job has the name, else where the run gives a path for a name of which the job has no file, else by the first
+/// LOAD that is. After a refusal the store has the upserts of the LOADs that ended, and some of those of the one behind them.
+pub fn run_job<F: Files>(
+    alloc: Global,
+    catalog: &Catalog,
+    jobs: &[NamedJob],
+    store: &mut Store,
+    files: &mut F,
+    tree: &RunJobTree,
+) -> Result<Vec<u8>, StatementFault>
+    requires ends { AllHaveEnds catalog.now }
+    requires jobs { JobsFit catalog.now jobs.now }
+    requires store { StoreFits catalog.now store.old }
+    // A job that runs got bytes for each file that it asked for, so that no count is needed.
+    ensures done { (before now met : ℕ) → IfOk result (λ line.
+        JobDoes (known_of (F.held files.old) before now met) catalog.now jobs.now store.old tree.now (Becomes store.new (line.items ∷ []))) }
+    ensures refused { (refusal : Refusal) → result ≡ Err (StatementFault.Refused refusal) → (before : ℕ) → before ≤ F.absences files.old
+        → JobDoes (known_of (F.held files.old) before (F.absences files.new) (F.length_met files.new)) catalog.now jobs.now store.old tree.now (Refused (message_of refusal)) }
+    ensures left { OnErr result (JobLeaves catalog.now jobs.now store.old tree.now store.new) }
+    ensures fits { StoreFits catalog.now store.new }
+    ensures read_fault { IsErrOf result StatementFault.ReadFault → Rose (F.faults files.old) (F.faults files.new) }
+    ensures held { F.held files.new ≡ F.held files.old }
+    ensures faults_stay { F.faults files.old ≤ F.faults files.new }
+    ensures absences_stay { F.absences files.old ≤ F.absences files.new }
+{
+    match find_job(jobs, tree.name.as_str()) {
+        Some(job) => run_found(alloc, catalog, job, store, files, tree),
+        None => Err(unknown_name(alloc, tree.name.as_str())),
+    }
+}
+
+fn run_found<F: Files>(
+    alloc: Global,
+    catalog: &Catalog,
+    job: &Job,
+    store: &mut Store,
+    files: &mut F,
+    tree: &RunJobTree,
+) -> Result<Vec<u8>, StatementFault>
+    requires ends { AllHaveEnds catalog.now }
+    requires lines { All (LineFits catalog.now) job.now.lines }
+    requires store { StoreFits catalog.now store.old }
+    ensures done { (before now met : ℕ) → IfOk result (λ line.
+        FoundDoes (known_of (F.held files.old) before now met) catalog.now store.old tree.now (Some job.now) (Becomes store.new (line.items ∷ []))) }
+    ensures refused { (refusal : Refusal) → result ≡ Err (StatementFault.Refused refusal) → (before : ℕ) → before ≤ F.absences files.old
+        → FoundDoes (known_of (F.held files.old) before (F.absences files.new) (F.length_met files.new)) catalog.now store.old tree.now (Some job.now) (Refused (message_of refusal)) }
+    ensures left { OnErr result (FoundLeaves catalog.now store.old tree.now (Some job.now) store.new) }
+    ensures fits { StoreFits catalog.now store.new }
+    ensures read_fault { IsErrOf result StatementFault.ReadFault → Rose (F.faults files.old) (F.faults files.new) }
+    ensures held { F.held files.new ≡ F.held files.old }
+    ensures faults_stay { F.faults files.old ≤ F.faults files.new }
+    ensures absences_stay { F.absences files.old ≤ F.absences files.new }
+{
+    match undefined(job.files.as_slice(), tree.paths.as_slice()) {
+        Some(name) => Err(unknown_name(alloc, name)),
+        None => run_lines(alloc, catalog, job, tree.paths.as_slice(), store, files),
+    }
+}
+
+// Runs the LOADs of a job. The store is moved to whoever loads, and back.
+fn run_lines<F: Files>(
+    alloc: Global,
+    catalog: &Catalog,
+    job: &Job,
+    given: &[(Txt, Txt)],
+    store: &mut Store,
+    files: &mut F,
+) -> Result<Vec<u8>, StatementFault>
+    requires ends { AllHaveEnds catalog.now }
+    requires lines { All (LineFits catalog.now) job.now.lines }
+    requires store { StoreFits catalog.now store.old }
+    ensures done { (before now met : ℕ) → IfOk result (λ line.
+        LoadsDo (known_of (F.held files.old) before now met) (run_of catalog.now job.now given.now store.old) (Becomes store.new (line.items ∷ []))) }
+    ensures refused { (refusal : Refusal) → result ≡ Err (StatementFault.Refused refusal) → (before : ℕ) → before ≤ F.absences files.old
+        → LoadsDo (known_of (F.held files.old) before (F.absences files.new) (F.length_met files.new)) (run_of catalog.now job.now given.now store.old) (Refused (message_of refusal)) }
+    ensures left { OnErr result (LoadsLeave (run_of catalog.now job.now given.now store.old) store.new) }
+    ensures fits { StoreFits catalog.now store.new }
+    ensures read_fault { IsErrOf result StatementFault.ReadFault → Rose (F.faults files.old) (F.faults files.new) }
+    ensures held { F.held files.new ≡ F.held files.old }
+    ensures faults_stay { F.faults files.old ≤ F.faults files.new }
+    ensures absences_stay { F.absences files.old ≤ F.absences files.new }
+{
+    let mut loading = Loading {
+        alloc,
+        catalog,
+        job,
+        given,
+        store: mem::replace(store, no_rows(alloc)),
+    };
+    let answer = run_loads(alloc, job.lines.len(), &mut loading, files);
+    *store = loading.into_store();
+    answer
+}
+
+fn no_rows(alloc: Global) -> Store
+    ensures { result ≡ no_rows }
+{
+    Store {
+        vertices: Vertices::new(alloc),
+        edges: Edges::new(alloc),
+    }
+}
+
+// Nothing has the name, or memory for it is wanting.
+fn unknown_name(alloc: Global, name: &str) -> StatementFault
+    ensures { Tells (Refusal.UnknownName name.now) result }
+{
+    match Txt::of(alloc, name) {
+        Ok(name) => StatementFault::Refused(Refusal::UnknownName(name)),
+        Err(Memory) => StatementFault::Memory,
+    }
+}

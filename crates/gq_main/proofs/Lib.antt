@@ -1,6 +1,0 @@
-pub mod FormLemmas
-pub mod MeaningLemmas
-pub mod NameLemmas
-pub mod OutcomeLemmas
-pub mod ReadLemmas
-mod KeywordLemmas

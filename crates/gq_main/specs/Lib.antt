@@ -1,6 +1,0 @@
-pub mod Codes
-pub mod Form
-pub mod Meaning
-pub mod Messages
-pub mod Outcome
-pub mod Reserved

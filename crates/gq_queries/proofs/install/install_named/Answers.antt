@@ -1,0 +1,20 @@
+use Rattle.std.proofs.Common.{refl, ap, ◌∙◌, slice_index_or}
+use Rattle.std.specs.List.{list_any}
+use Rattle.std.specs.Str.{bytes_eq}
+use Rattle.gq_queries.specs.declared.stored.Stored.{Stored}
+use Rattle.gq_queries.specs.Queries.{installed_if}
+use Rattle.gq_queries.proofs.InstallLemmas.{changed_to, changed_all}
+use Rattle.gq_queries.proofs.install.install_named.Goals as goal
+
+pub loop-query-init : goal.loop-query-init
+loop-query-init c = refl
+
+pub loop-query-preserved : goal.loop-query-preserved
+loop-query-preserved c =
+    changed_to (λ (query : Stored). installed_if (list_any (bytes_eq query.name) c.args.names.now) query) c.loop-query.query-index c.args.queries.now c.loop-query.query-items
+    c.query-item.result _ c.loop-query-test.true c.loop-query.invariant
+    (ap (λ b. installed_if b (slice_index_or c.loop-query.query-items c.loop-query.query-index c.query-item.result))
+    (c.stands_in.ensures ∙ ap (λ name. list_any (bytes_eq name) c.args.names.now) c.as_str.ensures))
+
+pub returns : goal.returns
+returns c = c.loop-query.invariant ∙ changed_all (λ (query : Stored). installed_if (list_any (bytes_eq query.name) c.args.names.now) query) c.loop-query.query-index c.args.queries.now c.loop-query-test.false

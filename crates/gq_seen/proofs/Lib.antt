@@ -1,0 +1,4 @@
+pub mod OperatorLemmas
+pub mod CompareLemmas
+pub mod ContentLemmas
+pub mod ConvertLemmas

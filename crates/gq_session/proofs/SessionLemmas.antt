@@ -1,0 +1,123 @@
+-- What is true of a session stays so while its catalog grows; and what its answers say of a statement.
+use Rattle.std.proofs.Common.{◌≡◌, ℕ, List, [], ◌∷◌, Option, Some, None, Result, Ok, Err, IfOk, IfSome, refl, sym, subst, ◌<◌, ◌≤◌, length, take, arith}
+use Rattle.std.specs.Prelude.{IfErr, OnErr, IsSome, Vec}
+use Rattle.std.specs.Option.{ForSome}
+use Rattle.std.specs.declared.alloc.Global.{Global}
+use Rattle.gq_value.specs.Catalog.{Schema}
+use Rattle.gq_index.specs.declared.store.Store.{Store}
+use Rattle.gq_refusal.specs.declared.refusal.Refusal.{Refusal}
+use Rattle.gq_refusal.specs.declared.refusal.StatementFault.{StatementFault}
+use Rattle.gq_refusal.specs.declared.refusal.StatementFault.TheVariants as fault
+use Rattle.gq_refusal.specs.Answers.{Answers}
+use Rattle.gq_insert.specs.Fits.{IsSound}
+use Rattle.gq_row.specs.Records.{AllHaveEnds}
+use Rattle.gq_job.specs.Targets.{no_edge_type}
+use Rattle.gq_jobs.specs.declared.named.NamedJob.{NamedJob}
+use Rattle.gq_jobs.specs.FittingLaws.{jobs_stay}
+use Rattle.gq_kept.specs.KeepingLaws.{growth_fits}
+use Rattle.gq_tree.specs.declared.job.RunJobTree.{RunJobTree}
+use Rattle.gq_tree.specs.declared.query.QueryTree.{QueryTree}
+use Rattle.gq_plain.specs.Plain.{plain_text}
+use Rattle.gq_queries.specs.Judging.{interpret_refusal}
+use Rattle.gq_script.specs.Known.{Known}
+use Rattle.gq_script.specs.Effects.{Becomes, Refused, lines_of}
+use Rattle.gq_loads.specs.JobRuns.{JobDoes, JobLeaves}
+use Rattle.gq_session.specs.Statements.{State, RunsJob, JobLeft, printed, unless_due, interpreted}
+use Rattle.gq_session.specs.Keeping.{SessionFits}
+use Rattle.gq_session.proofs.GrowthLemmas.{Grown, not_grown}
+
+-- the ends of edge types are there
+pub ends_there : (schema : Schema) → IsSound schema → AllHaveEnds schema
+ends_there schema sound kind low =
+    let t = sound.edge_types kind no_edge_type low in
+    record { from = t.from; to = t.to; key = t.key }
+
+-- a list whose first items are these is as long as they are
+longer : {A : Type 0} (xs ys : List A) → take (length xs) ys ≡ xs → length xs ≤ length ys
+longer [] ys is = omega arith
+longer (x ∷ xs) [] is = absurd (cc)
+longer (x ∷ xs) (y ∷ ys) is = let rest : take (length xs) ys ≡ xs = cc in let more = longer xs ys rest in omega arith
+
+-- the graph in use stays there
+stays_there : (in_use : Option ℕ) (m n : ℕ) → m ≤ n → ForSome in_use (λ graph. graph < m) → ForSome in_use (λ graph. graph < n)
+stays_there in_use m n more low = λ graph is. let before = low graph is in omega arith
+
+pub session_grows : (before after : Schema) (in_use : Option ℕ) (jobs : List NamedJob) (store : Store) → Grown before after → SessionFits before in_use jobs store → SessionFits after in_use jobs store
+session_grows before after in_use jobs store more fits = record {
+  there = stays_there in_use (length before.graphs) (length after.graphs) (longer before.graphs after.graphs more.grown.graphs) fits.there;
+  sound = more.whole fits.sound;
+  each = jobs_stay before after jobs more.grown fits.each;
+  kept = growth_fits before after store more.grown fits.kept;
+}
+
+-- a new graph is in use
+pub session_uses : (before after : Schema) (in_use : Option ℕ) (graph : ℕ) (jobs : List NamedJob) (store : Store) → Grown before after → graph < length after.graphs
+    → SessionFits before in_use jobs store → SessionFits after (Some graph) jobs store
+session_uses before after in_use graph jobs store more low fits =
+    let grown = session_grows before after in_use jobs store more fits in
+    record { there = λ other is. let same : graph ≡ other = cc in omega arith; sound = grown.sound; each = grown.each; kept = grown.kept }
+
+-- a declaration lets the catalog grow, or leaves it as it was
+pub answers_grow : {R : Type 0} (meant : Result Schema Refusal) (before after : Schema) (r : Result R StatementFault) → ((new : Schema) → meant ≡ Ok new → Grown before new)
+    → Answers meant before after r → Grown before after
+answers_grow meant before after (Ok x) grows is = grows after is
+answers_grow meant before after (Err (fault.Refused refusal)) grows denies = subst (Grown before) (sym denies.1) (not_grown before)
+answers_grow meant before after (Err fault.ReadFault) grows denies = absurd denies
+answers_grow meant before after (Err fault.Memory) grows same = subst (Grown before) (sym same) (not_grown before)
+
+-- ---- queries
+
+-- a query that isn't refused prints what a query that prints numbers alone prints
+pub interprets : (s v : State) → v ≡ s → (number : ℕ) (tree : QueryTree) (r : Result (Option (Vec ℕ Global)) StatementFault) → interpret_refusal v.schema v.in_use tree ≡ None
+    → IfOk r (λ line. Becomes s (lines_of line) ≡ printed s number (plain_text tree)) → IfOk r (λ line. Becomes s (lines_of line) ≡ interpreted s number tree)
+interprets s v same number tree r none done =
+    let P : State → Type 0 = λ u. interpret_refusal u.schema u.in_use tree ≡ None in
+    let Q : Option Refusal → Type 0 = λ due. IfOk r (λ line. Becomes s (lines_of line) ≡ unless_due s number due (plain_text tree)) in
+    subst Q (sym (subst P same none)) done
+
+-- ---- loading jobs
+
+-- what a line that is there was made of
+abbrev pub IsLine : {A E : Type 0} → Result A E → Result (Option A) E → Type 0
+IsLine answer (Ok (Some line)) = answer ≡ Ok line
+IsLine answer (Ok None) = ⊥
+IsLine answer (Err fault) = answer ≡ Err fault
+
+pub is_line : {A E : Type 0} (answer : Result A E) (r : Result (Option A) E) → IfOk r (λ printed. IfSome printed (λ line. answer ≡ Ok line)) → IfOk r IsSome
+    → IfErr r (λ fault. answer ≡ Err fault) → IsLine answer r
+is_line answer (Ok (Some line)) done printed same = done
+is_line answer (Ok None) done printed same = absurd (cc)
+is_line answer (Err fault) done printed same = same
+
+module _ (s v : State) (same : v ≡ s) (tree : RunJobTree) where
+  job_done : (known : Known) (later : Store) (lines : List (List ℕ)) → JobDoes known v.schema v.jobs v.store tree (Becomes later lines)
+      → RunsJob known s tree (Becomes (record v { store = later }) lines)
+  job_done known later lines does =
+      let P : State → Type 0 = λ u. RunsJob known u tree (Becomes (record v { store = later }) lines) in
+      subst P same (Becomes later lines, does, refl)
+
+  pub job_printed : (known : Known) (later : Store) (answer : Result (Vec ℕ Global) StatementFault) (r : Result (Option (Vec ℕ Global)) StatementFault) → IsLine answer r
+      → IfOk answer (λ line. JobDoes known v.schema v.jobs v.store tree (Becomes later (line.items ∷ [])))
+      → IfOk r (λ line. RunsJob known s tree (Becomes (record v { store = later }) (lines_of line)))
+  job_printed known later answer (Ok (Some line)) is does =
+      let P : Result (Vec ℕ Global) StatementFault → Type 0 = λ a. IfOk a (λ l. JobDoes known v.schema v.jobs v.store tree (Becomes later (l.items ∷ []))) in
+      job_done known later (line.items ∷ []) (subst P is does)
+  job_printed known later answer (Ok None) is does = absurd is
+  job_printed known later answer (Err fault) is does = tt
+
+  pub job_refused : (known : Known) (message : List ℕ) → JobDoes known v.schema v.jobs v.store tree (Refused message) → RunsJob known s tree (Refused message)
+  job_refused known message does =
+      let P : State → Type 0 = λ u. RunsJob known u tree (Refused message) in
+      subst P same (Refused message, does, refl)
+
+  pub job_left : (later : Store) (answer : Result (Vec ℕ Global) StatementFault) (r : Result (Option (Vec ℕ Global)) StatementFault) → IsLine answer r
+      → OnErr answer (JobLeaves v.schema v.jobs v.store tree later) → OnErr r (JobLeft s tree (record v { store = later }))
+  job_left later answer (Ok line) is leaves = tt
+  job_left later answer (Err fault) is leaves =
+      let P : Result (Vec ℕ Global) StatementFault → Type 0 = λ a. OnErr a (JobLeaves v.schema v.jobs v.store tree later) in
+      let Q : State → Type 0 = λ u. JobLeft u tree (record v { store = later }) in
+      subst Q same (later, subst P is leaves, refl)
+
+-- the refusal of a statement is that of its call
+pub refused_back : {A E : Type 0} (answer : Result A E) (r : Result (Option A) E) (fault : E) → IsLine answer r → r ≡ Err fault → answer ≡ Err fault
+refused_back answer r fault is same = let P = λ (x : _). IsLine answer x in subst P same is

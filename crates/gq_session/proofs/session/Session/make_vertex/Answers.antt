@@ -1,0 +1,12 @@
+use Rattle.gq_define.specs.Declarations.{vertex_created}
+use Rattle.gq_session.proofs.GrowthLemmas.{vertex_grown}
+use Rattle.gq_session.proofs.SessionLemmas.{answers_grow, session_grows}
+use Rattle.gq_session.proofs.session.Session.make_vertex.Goals as goal
+
+pub invariant_of-self : goal.invariant_of-self
+invariant_of-self c =
+    let i = c.self.inside in
+    session_grows i.catalog c.create_vertex.new.catalog i.in_use i.jobs i.store
+    (answers_grow (vertex_created i.catalog c.args.tree.now) i.catalog c.create_vertex.new.catalog c.create_vertex.result
+    (λ new made. vertex_grown i.catalog new c.args.tree.now made) c.create_vertex.ensures)
+    c.self.invariant

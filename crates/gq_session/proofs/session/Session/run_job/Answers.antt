@@ -1,0 +1,41 @@
+use Rattle.std.proofs.Common.{List, [], ◌∷◌, IfOk, subst}
+use Rattle.std.specs.Prelude.{OnErr}
+use Rattle.gq_refusal.specs.Messages.{message_of}
+use Rattle.gq_refusal.specs.declared.refusal.StatementFault.TheVariants as fault
+use Rattle.gq_script.specs.Effects.{Becomes, Refused}
+use Rattle.gq_script.specs.Known.{known_of}
+use Rattle.gq_jobs.specs.declared.named.NamedJob.{NamedJob}
+use Rattle.gq_loads.specs.JobRuns.{JobDoes, JobLeaves}
+use Rattle.gq_session.specs.Statements.{State}
+use Rattle.gq_session.proofs.SessionLemmas.{is_line, job_printed, job_refused, job_left, refused_back}
+use Rattle.gq_session.proofs.session.Session.run_job.Goals as goal
+
+pub returns-clause-done : goal.returns-clause-done
+returns-clause-done g c = λ before now met.
+    let i = c.self.inside in
+    let v : State = record { schema = i.catalog; in_use = i.in_use; jobs = i.jobs; queries = i.queries; store = i.store } in
+    job_printed c.args.self.now v c.self.view_is c.args.tree.now (known_of (g.F.Files.held c.args.files.now) before now met) c.run_job.new.store c.run_job.result c.with_line.result
+    (is_line c.run_job.result c.with_line.result c.with_line.ensures.done c.with_line.ensures.printed c.with_line.ensures.same)
+    (let P : List NamedJob → Type 0 = λ jobs. IfOk c.run_job.result (λ line.
+    JobDoes (known_of (g.F.Files.held c.args.files.now) before now met) i.catalog jobs i.store c.args.tree.now (Becomes c.run_job.new.store (line.items ∷ []))) in
+    subst P c.as_slice-jobs.ensures (c.run_job.ensures.done before now met))
+
+pub returns-clause-refused : goal.returns-clause-refused
+returns-clause-refused g c = λ refusal same before low.
+    let i = c.self.inside in
+    let v : State = record { schema = i.catalog; in_use = i.in_use; jobs = i.jobs; queries = i.queries; store = i.store } in
+    job_refused c.args.self.now v c.self.view_is c.args.tree.now
+    (known_of (g.F.Files.held c.args.files.now) before (g.F.Files.absences c.run_job.new.files) (g.F.Files.length_met c.run_job.new.files)) (message_of refusal)
+    (let P : List NamedJob → Type 0 = λ jobs.
+    JobDoes (known_of (g.F.Files.held c.args.files.now) before (g.F.Files.absences c.run_job.new.files) (g.F.Files.length_met c.run_job.new.files)) i.catalog jobs i.store c.args.tree.now (Refused (message_of refusal)) in
+    let is = is_line c.run_job.result c.with_line.result c.with_line.ensures.done c.with_line.ensures.printed c.with_line.ensures.same in
+    subst P c.as_slice-jobs.ensures (c.run_job.ensures.refused refusal (refused_back c.run_job.result c.with_line.result (fault.Refused refusal) is same) before low))
+
+pub returns-clause-left : goal.returns-clause-left
+returns-clause-left g c =
+    let i = c.self.inside in
+    let v : State = record { schema = i.catalog; in_use = i.in_use; jobs = i.jobs; queries = i.queries; store = i.store } in
+    job_left c.args.self.now v c.self.view_is c.args.tree.now c.run_job.new.store c.run_job.result c.with_line.result
+    (is_line c.run_job.result c.with_line.result c.with_line.ensures.done c.with_line.ensures.printed c.with_line.ensures.same)
+    (let P : List NamedJob → Type 0 = λ jobs. OnErr c.run_job.result (JobLeaves i.catalog jobs i.store c.args.tree.now c.run_job.new.store) in
+    subst P c.as_slice-jobs.ensures c.run_job.ensures.left)

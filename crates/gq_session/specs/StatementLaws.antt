@@ -1,0 +1,29 @@
+-- StatementLaws: over files that are told a statement does one thing.
+use Rattle.std.proofs.Common.{◌≡◌, ℕ, sym, ap, ◌∙◌}
+use Rattle.gq_io.specs.Listing.{Listing}
+use Rattle.gq_tree.specs.declared.job.RunJobTree.{RunJobTree}
+use Rattle.gq_tree.specs.declared.statement.Statement.{Statement}
+use Rattle.gq_tree.specs.declared.statement.Statement.TheVariants as top
+use Rattle.gq_script.specs.Known.{Told}
+use Rattle.gq_script.specs.Effects.{Effect}
+use Rattle.gq_loads.specs.JobLaws.{job_determined}
+use Rattle.gq_session.specs.Statements.{State, RunsJob, store_done, Does}
+
+job_does_one : (pairs : Listing) (s : State) (tree : RunJobTree) (e f : Effect State) → RunsJob (Told pairs) s tree e → RunsJob (Told pairs) s tree f → e ≡ f
+job_does_one pairs s tree e f (x, does, is) (y, other, as_well) =
+    is ∙ ap (store_done s) (job_determined pairs s.schema s.jobs s.store tree x y does other) ∙ sym as_well
+
+pub does_one : (pairs : Listing) (s : State) (number : ℕ) (statement : Statement) (e f : Effect State) → Does (Told pairs) s number statement e → Does (Told pairs) s number statement f → e ≡ f
+does_one pairs s number (top.Vertex tree) e f one other = one ∙ sym other
+does_one pairs s number (top.Edge tree) e f one other = one ∙ sym other
+does_one pairs s number (top.Graph tree) e f one other = one ∙ sym other
+does_one pairs s number (top.Use name) e f one other = one ∙ sym other
+does_one pairs s number (top.Job tree) e f one other = one ∙ sym other
+does_one pairs s number (top.RunJob tree) e f one other = job_does_one pairs s tree e f one other
+does_one pairs s number (top.Query replace name tree) e f one other = one ∙ sym other
+does_one pairs s number (top.Install which) e f one other = one ∙ sym other
+does_one pairs s number (top.Run tree) e f one other = one ∙ sym other
+does_one pairs s number (top.Interpret tree) e f one other = one ∙ sym other
+does_one pairs s number (top.Insert tree) e f one other = one ∙ sym other
+does_one pairs s number top.Begin e f one other = one ∙ sym other
+does_one pairs s number top.End e f one other = one ∙ sym other

@@ -1,0 +1,4 @@
+pub mod NumberLemmas
+pub mod SortLemmas
+pub mod ScopeLemmas
+pub mod StepLemmas
