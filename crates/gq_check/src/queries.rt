@@ -9,7 +9,7 @@ ghost use Rattle.gq_typing.specs.StatementViews.{is_v2, view_parameter, view_def
 ghost use Rattle.gq_scope.specs.Held.{graph_in, scope_in};
 ghost use Rattle.gq_fault.specs.Faults.{Judges};
 ghost use Rattle.gq_kind_check.specs.Counts.{accum_count};
-ghost use Rattle.gq_check.specs.Checks.{Checks};
+ghost use Rattle.gq_check.specs.Checks.{Checks, ChecksQuery};
 ghost use Rattle.gq_check.specs.Rules as spec;
 
 use crate::bodies::statements;
@@ -22,7 +22,23 @@ use std::alloc::Global;
 
 /// Whether a query is well typed that sees the types of a graph of the catalog, by the graph's number; a query for no graph sees
 /// none. A fault is that of the first rule that fails in order of text. Memory may come at any time.
+///
+/// A query that is taken is never stuck over arguments of its parameters' types, in any store of the catalog or of one that it
+/// grows into: it prints something, or ends with a fault.
 pub fn check<'q>(
+    alloc: Global,
+    catalog: &'q Catalog,
+    graph: Option<u32>,
+    query: &'q QueryTree,
+) -> Result<(), CheckFault>
+    requires { ForSome graph (λ g. g < length catalog.now.graphs) }
+    ensures { ChecksQuery catalog.now (graph_in catalog.now graph) (view_query query.now) result }
+{
+    well_typed(alloc, catalog, graph, query)
+}
+
+/// The rules on a query, in order of text.
+fn well_typed<'q>(
     alloc: Global,
     catalog: &'q Catalog,
     graph: Option<u32>,

@@ -1,8 +1,11 @@
--- How a job comes from one LOAD to the next; and over files that are told it does one thing.
-use Rattle.std.proofs.Common.{◌≡◌, ℕ, zero, suc, ◌+◌, ◌-◌, ◌<◌, ◌≤◌, List, [], ◌∷◌, ◌++◌, Option, inl, inr, refl, ap, sym, ◌∙◌, subst, arith}
+-- How a job comes from one LOAD to the next, and what remains where it breaks off; and over files that are told it does one thing.
+use Rattle.std.proofs.Common.{◌≡◌, ℕ, zero, suc, ◌+◌, ◌-◌, ◌<◌, ◌≤◌, List, [], ◌∷◌, ◌++◌, ◌⊎◌, Option, inl, inr, refl, ap, sym, ◌∙◌, subst, arith}
+use Rattle.std.proofs.Math.Nat.{eq-or-lt_of_le}
 use Rattle.gq_io.specs.Listing.{Listing}
 use Rattle.gq_refusal.specs.declared.refusal.Refusal.{Refusal}
 use Rattle.gq_refusal.specs.declared.refusal.Refusal.TheVariants as refusal
+use Rattle.gq_refusal.specs.declared.refusal.StatementFault.{StatementFault}
+use Rattle.gq_refusal.specs.declared.refusal.StatementFault.TheVariants as fault
 use Rattle.gq_refusal.specs.Messages.{message_of}
 use Rattle.gq_report.specs.declared.lines.FileReport.{FileReport}
 use Rattle.gq_report.specs.Reports.{report_text}
@@ -11,7 +14,8 @@ use Rattle.gq_script.specs.Known.{Known, Told, Answer, Absent, TooLong, Bytes, M
 use Rattle.gq_loading.specs.declared.loader.Counts.{Counts}
 use Rattle.gq_loading.specs.declared.loader.Place.{Place}
 use Rattle.gq_loading.specs.declared.loader.Place.TheVariants.{At, Nowhere}
-use Rattle.gq_loading.specs.Loads.{Loaded, Loads, Fails, report_of, Continues, AnswerLoads, PlaceLoads, LoadsMean, Unended, Ended, LeavesBehind}
+use Rattle.gq_loading.specs.Loads.{Loaded, Loads, Fails, report_of, Continues, AnswerLoads, PlaceLoads, LoadsMean}
+use Rattle.gq_loading.specs.Remains.{Ends, LeadTo, BreaksOff, Remains}
 
 -- ---- over files that are told a job does one thing
 
@@ -68,20 +72,6 @@ module _ {S : Type 0} (place_of : S → ℕ → Place) (loaded_by : S → ℕ �
       unread path is (Bytes bytes) may effect
       (subst (λ l. Continues place_of loaded_by known path reports l (Rest effect) effect) (sym ends) rest)
 
--- ---- what is left
-
-module _ {S : Type 0} (loaded_by : S → ℕ → List ℕ → Loaded S) (Leaves : S → ℕ → List ℕ → S → Type 0) where
-  pub leaves_it : (s : S) (number left : ℕ) → LeavesBehind loaded_by Leaves s number left s
-  leaves_it s number zero = refl
-  leaves_it s number (suc left) = inl refl
-
-  pub leaves_unended : (s : S) (number left : ℕ) (bytes : List ℕ) (t : S) → Leaves s number bytes t → LeavesBehind loaded_by Leaves s number (suc left) t
-  leaves_unended s number left bytes t leaves = inr (inl (bytes, leaves))
-
-  pub leaves_later : (s : S) (number left : ℕ) (bytes : List ℕ) (u : S) (counts : Counts) → loaded_by s number bytes ≡ Loads u counts → (t : S)
-      → LeavesBehind loaded_by Leaves u (number + 1) left t → LeavesBehind loaded_by Leaves s number (suc left) t
-  leaves_later s number left bytes u counts ends t rest = inr (inr (u, (bytes, counts, ends), rest))
-
 -- ---- a part of the LOADs
 
 pub one_left : (count number : ℕ) → number < count → count - number ≡ suc (count - (number + 1))
@@ -90,35 +80,43 @@ one_left count number below = omega arith
 pub none_left : (count number : ℕ) → count ≤ number → count - number ≡ 0
 none_left count number end = omega arith
 
-module _ {S : Type 0} (place_of : S → ℕ → Place) (loaded_by : S → ℕ → List ℕ → Loaded S) (Leaves : S → ℕ → List ℕ → S → Type 0) (held : Option Listing) (first : S) (count : ℕ) where
-  -- before the LOAD of this number: how what the rest means and leaves belongs to the whole job
+module _ {S : Type 0} (place_of : S → ℕ → Place) (loaded_by : S → ℕ → List ℕ → Loaded S) (held : Option Listing) (first : S) (count : ℕ) where
+  -- before the LOAD of this number: how what the rest means belongs to the whole job, and that the LOADs before it ended
   pub record HasLoaded (number : ℕ) (s : S) (reports : List FileReport) : Type 0 where
     pub whole : (before now met : ℕ) (effect : Effect S)
         → LoadsMean place_of loaded_by (known_of held before now met) s number (count - number) reports effect
         → LoadsMean place_of loaded_by (known_of held before now met) first 0 count [] effect
-    pub leaves : (t : S) → LeavesBehind loaded_by Leaves s number (count - number) t → LeavesBehind loaded_by Leaves first 0 count t
+    pub ended : (before now met : ℕ) → LeadTo place_of loaded_by (known_of held before now met) first number s
 
   pub loaded_none : HasLoaded 0 first []
   loaded_none =
       let all : count - 0 ≡ count = omega arith in
       record {
         whole = λ before now met effect loads. subst (λ n. LoadsMean place_of loaded_by (known_of held before now met) first 0 n [] effect) all loads;
-        leaves = λ t behind. subst (λ n. LeavesBehind loaded_by Leaves first 0 n t) all behind;
+        ended = λ before now met. refl;
       }
 
   module _ (number : ℕ) (s : S) (reports : List FileReport) (come : HasLoaded number s reports) where
+    -- and the LOAD of this number ends
+    pub one_more : (t : S) (before now met : ℕ) → Ends place_of loaded_by (known_of held before now met) s number t
+        → LeadTo place_of loaded_by (known_of held before now met) first (number + 1) t
+    one_more t before now met ends =
+        let next : suc number ≡ number + 1 = omega arith in
+        let P : ℕ → Type 0 = λ n. LeadTo place_of loaded_by (known_of held before now met) first n t in
+        subst P next (s, come.ended before now met, ends)
+
     module _ (below : number < count) where
       pub loaded_next : (t : S) (report : FileReport)
           → ((before now met : ℕ) (left : ℕ) (more : List FileReport) (effect : Effect S)
           → LoadsMean place_of loaded_by (known_of held before now met) t (number + 1) left (more ++ report ∷ []) effect
           → LoadsMean place_of loaded_by (known_of held before now met) s number (suc left) more effect)
-          → ((left : ℕ) (u : S) → LeavesBehind loaded_by Leaves t (number + 1) left u → LeavesBehind loaded_by Leaves s number (suc left) u)
+          → ((before now met : ℕ) → Ends place_of loaded_by (known_of held before now met) s number t)
           → HasLoaded (number + 1) t (reports ++ report ∷ [])
-      loaded_next t report means leaves = record {
+      loaded_next t report means ends = record {
         whole = λ before now met effect loads.
             come.whole before now met effect (subst (λ n. LoadsMean place_of loaded_by (known_of held before now met) s number n reports effect) (sym (one_left count number below))
             (means before now met (count - (number + 1)) reports effect loads));
-        leaves = λ u behind. come.leaves u (subst (λ n. LeavesBehind loaded_by Leaves s number n u) (sym (one_left count number below)) (leaves (count - (number + 1)) u behind));
+        ended = λ before now met. one_more t before now met (ends before now met);
       }
 
       pub refused_here : (before now met : ℕ) (effect : Effect S)
@@ -127,15 +125,27 @@ module _ {S : Type 0} (place_of : S → ℕ → Place) (loaded_by : S → ℕ �
       refused_here before now met effect means =
           come.whole before now met effect (subst (λ n. LoadsMean place_of loaded_by (known_of held before now met) s number n reports effect) (sym (one_left count number below)) (means (count - (number + 1)) reports))
 
-      pub left_here : (t : S) → ((left : ℕ) → LeavesBehind loaded_by Leaves s number (suc left) t) → LeavesBehind loaded_by Leaves first 0 count t
-      left_here t behind = come.leaves t (subst (λ n. LeavesBehind loaded_by Leaves s number n t) (sym (one_left count number below)) (behind (count - (number + 1))))
-
-    pub left_as_it_is : LeavesBehind loaded_by Leaves first 0 count s
-    left_as_it_is = come.leaves s (leaves_it loaded_by Leaves s number (count - number))
-
     pub loaded_all : count ≤ number → (before now met : ℕ) (line : List ℕ) → line ≡ report_text reports
         → LoadsMean place_of loaded_by (known_of held before now met) first 0 count [] (Becomes s (line ∷ []))
     loaded_all end before now met line is =
         come.whole before now met (Becomes s (line ∷ []))
         (subst (λ n. LoadsMean place_of loaded_by (known_of held before now met) s number n reports (Becomes s (line ∷ []))) (sym (none_left count number end))
         (ap (λ l. Becomes s (l ∷ [])) is))
+
+-- ---- what remains
+
+module _ {S : Type 0} (place_of : S → ℕ → Place) (loaded_by : S → ℕ → List ℕ → Loaded S) (Leaves : S → ℕ → List ℕ → StatementFault → S → Type 0) (known : Known) (first : S) (count : ℕ) where
+  -- the LOAD of this number breaks the job off
+  pub broken_here : (number : ℕ) (s t : S) (f : StatementFault) → number < count → LeadTo place_of loaded_by known first number s
+      → BreaksOff place_of loaded_by Leaves known s number f t → Remains place_of loaded_by Leaves known first count f t
+  broken_here number s t (fault.Refused r) below ended breaks = (number, s, below, ended, breaks)
+  broken_here number s t fault.ReadFault below ended breaks = (number, s, below, ended, breaks)
+  broken_here number s t fault.Memory below ended breaks = inl (number, s, below, ended, breaks)
+
+  -- memory is wanting between two LOADs, or behind all of them
+  pub stands_here : (number : ℕ) (s : S) → number ≤ count → LeadTo place_of loaded_by known first number s → Remains place_of loaded_by Leaves known first count fault.Memory s
+  stands_here number s low ended = by (eq-or-lt_of_le low)
+    where
+      by : (number ≡ count) ⊎ (number < count) → Remains place_of loaded_by Leaves known first count fault.Memory s
+      by (inl same) = let P : ℕ → Type 0 = λ n. LeadTo place_of loaded_by known first n s in inr (subst P same ended)
+      by (inr below) = inl (number, s, below, ended, inl refl)

@@ -1,6 +1,5 @@
--- Loads: what the LOADs of a job do, one after another, by what each of them does with the bytes of its file, and what they leave
--- where one of them is refused.
-use Rattle.std.specs.Prelude.{◌≡◌, ◌⊎◌, ℕ, zero, suc, ◌+◌, List, [], ◌∷◌, ◌++◌}
+-- Loads: what the LOADs of a job do, one after another, by what each of them does with the bytes of its file.
+use Rattle.std.specs.Prelude.{◌≡◌, ℕ, zero, suc, ◌+◌, List, [], ◌∷◌, ◌++◌}
 use Rattle.gq_refusal.specs.declared.refusal.Refusal.{Refusal}
 use Rattle.gq_refusal.specs.declared.refusal.Refusal.TheVariants as refusal
 use Rattle.gq_refusal.specs.Messages.{message_of}
@@ -44,18 +43,3 @@ module _ {S : Type 0} (place_of : S → ℕ → Place) (loaded_by : S → ℕ �
   LoadsMean s number zero reports effect = effect ≡ Becomes s (report_text reports ∷ [])
   LoadsMean s number (suc left) reports effect =
       PlaceLoads s number reports (place_of s number) (λ t more. LoadsMean t (number + 1) left more effect) effect
-
--- a LOAD may leave this, where it doesn't end
-abbrev pub Unended : {S : Type 0} → (S → ℕ → List ℕ → S → Type 0) → S → ℕ → S → Type 0
-Unended Leaves s number t = (bytes : List ℕ) × Leaves s number bytes t
-
--- a LOAD ends in this state
-abbrev pub Ended : {S : Type 0} → (S → ℕ → List ℕ → Loaded S) → S → ℕ → S → Type 0
-Ended loaded_by s number t = (bytes : List ℕ) × (counts : Counts) × (loaded_by s number bytes ≡ Loads t counts)
-
-module _ {S : Type 0} (loaded_by : S → ℕ → List ℕ → Loaded S) (Leaves : S → ℕ → List ℕ → S → Type 0) where
-  -- what so many LOADs may leave where not all of them end: what those before one leave, and what that one leaves, if it began
-  abbrev pub LeavesBehind : S → ℕ → ℕ → S → Type 0
-  LeavesBehind s number zero t = t ≡ s
-  LeavesBehind s number (suc left) t =
-      (t ≡ s) ⊎ (Unended Leaves s number t ⊎ ((u : S) × Ended loaded_by s number u × LeavesBehind u (number + 1) left t))

@@ -1,12 +1,13 @@
 // One LOAD after another.
-ghost use Rattle.std.specs.Prelude.{◌≡◌, ◌≤◌, ◌++◌, ◌∷◌, [], ◌+◌, ◌-◌, ℕ, suc, List, Err, IfOk, OnErr, IsErrOf};
+ghost use Rattle.std.specs.Prelude.{◌≡◌, ◌≤◌, ◌++◌, ◌∷◌, [], ◌+◌, ◌-◌, ℕ, suc, List, Err, IfOk, IfErr, IsErrOf};
 ghost use Rattle.gq_io.specs.Counts.{Rose};
 ghost use Rattle.gq_refusal.specs.declared.refusal.Refusal.{Refusal};
 ghost use Rattle.gq_refusal.specs.Messages.{message_of};
 ghost use Rattle.gq_report.specs.declared.lines.FileReport.{FileReport};
 ghost use Rattle.gq_script.specs.Effects.{Effect, Becomes, Refused};
 ghost use Rattle.gq_script.specs.Known.{known_of};
-ghost use Rattle.gq_loading.specs.Loads.{LeavesBehind, LoadsMean};
+ghost use Rattle.gq_loading.specs.Loads.{LoadsMean};
+ghost use Rattle.gq_loading.specs.Remains.{BreaksOff, Ends, Remains};
 
 use crate::{Loader, Place};
 use gq_io::{FileFault, Files};
@@ -29,8 +30,9 @@ pub fn run_loads<L: Loader, F: Files>(
     ensures refused { (refusal : Refusal) → result ≡ Err (StatementFault.Refused refusal) → (before : ℕ) → before ≤ F.absences files.old
         → LoadsMean L.place_of L.loaded_by (known_of (F.held files.old) before (F.absences files.new) (F.length_met files.new)) loader.old 0 count [] (Refused (message_of refusal)) }
 
-    // What is left where not all LOADs end: those before one are as they were meant, and that one leaves what it may.
-    ensures left { OnErr result (LeavesBehind L.loaded_by L.leaves loader.old 0 count loader.new) }
+    // The LOADs that ended stay, and the one behind them leaves what it leaves by its fault: nothing is rolled back.
+    ensures left { (before : ℕ) → before ≤ F.absences files.old → IfErr result (λ fault.
+        Remains L.place_of L.loaded_by L.leaves (known_of (F.held files.old) before (F.absences files.new) (F.length_met files.new)) loader.old count fault loader.new) }
     ensures read_fault { IsErrOf result StatementFault.ReadFault → Rose (F.faults files.old) (F.faults files.new) }
     ensures held { F.held files.new ≡ F.held files.old }
     ensures faults_stay { F.faults files.old ≤ F.faults files.new }
@@ -65,9 +67,9 @@ fn load_one<L: Loader, F: Files>(
     ensures refused { (refusal : Refusal) → result ≡ Err (StatementFault.Refused refusal) → (before : ℕ) → before ≤ F.absences files.old
         → (left : ℕ) (reports : List FileReport)
         → LoadsMean L.place_of L.loaded_by (known_of (F.held files.old) before (F.absences files.new) (F.length_met files.new)) loader.old number (suc left) reports (Refused (message_of refusal)) }
-    ensures left { OnErr result ((left : ℕ) → LeavesBehind L.loaded_by L.leaves loader.old number (suc left) loader.new) }
-    ensures ended { IfOk result (λ _. (left : ℕ) (then : L) → LeavesBehind L.loaded_by L.leaves loader.new (number + 1) left then
-        → LeavesBehind L.loaded_by L.leaves loader.old number (suc left) then) }
+    ensures ended { (before now met : ℕ) → IfOk result (λ _. Ends L.place_of L.loaded_by (known_of (F.held files.old) before now met) loader.old number loader.new) }
+    ensures left { (before : ℕ) → before ≤ F.absences files.old → IfErr result (λ fault.
+        BreaksOff L.place_of L.loaded_by L.leaves (known_of (F.held files.old) before (F.absences files.new) (F.length_met files.new)) loader.old number fault loader.new) }
     ensures read_fault { IsErrOf result StatementFault.ReadFault → Rose (F.faults files.old) (F.faults files.new) }
     ensures held { F.held files.new ≡ F.held files.old }
     ensures faults_stay { F.faults files.old ≤ F.faults files.new }

@@ -1,6 +1,7 @@
 // What loads the files of a job.
-ghost use Rattle.std.specs.Prelude.{◌≡◌, ℕ, List, IfOk, OnErr, Err};
+ghost use Rattle.std.specs.Prelude.{◌≡◌, ℕ, List, IfOk, IfErr, Err};
 ghost use Rattle.gq_refusal.specs.declared.refusal.Refusal.{Refusal};
+ghost use Rattle.gq_refusal.specs.declared.refusal.StatementFault.{StatementFault};
 ghost use Rattle.gq_loading.specs.declared.loader.Place.{Place};
 ghost use Rattle.gq_loading.specs.Loads.{Loaded, Loads, Fails};
 
@@ -32,8 +33,8 @@ pub trait Loader {
     /// What a LOAD does with the bytes of its file.
     ghost loaded_by: { Self → ℕ → List ℕ → Loaded Self };
 
-    /// What a LOAD of these bytes may leave where it doesn't end.
-    ghost leaves: { Self → ℕ → List ℕ → Self → Type 0 };
+    /// What a LOAD of these bytes leaves where it ends by this fault.
+    ghost leaves: { Self → ℕ → List ℕ → StatementFault → Self → Type 0 };
 
     /// Where the LOAD of this number reads from.
     fn place(&self, alloc: Global, number: usize) -> Result<Place, Memory>
@@ -44,5 +45,5 @@ pub trait Loader {
         ensures done { IfOk result (λ counts. loaded_by self.old number bytes.now ≡ Loads self.new counts) }
         ensures refused { (refusal : Refusal) → result ≡ Err (StatementFault.Refused refusal) → loaded_by self.old number bytes.now ≡ Fails refusal }
         ensures read_fault { result ≡ Err StatementFault.ReadFault → ⊥ }
-        ensures left { OnErr result (leaves self.old number bytes.now self.new) };
+        ensures left { IfErr result (λ fault. leaves self.old number bytes.now fault self.new) };
 }

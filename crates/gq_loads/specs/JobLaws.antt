@@ -3,6 +3,9 @@ use Rattle.std.proofs.Common.{◌≡◌, ℕ, zero, suc, ◌+◌, List, [], leng
 use Rattle.gq_io.specs.Listing.{Listing}
 use Rattle.gq_value.specs.Catalog.{Schema}
 use Rattle.gq_tree.specs.declared.job.RunJobTree.{RunJobTree}
+use Rattle.gq_refusal.specs.declared.refusal.Refusal.{Refusal}
+use Rattle.gq_refusal.specs.declared.refusal.StatementFault.{StatementFault}
+use Rattle.gq_refusal.specs.declared.refusal.StatementFault.TheVariants as fault
 use Rattle.gq_index.specs.declared.store.Store.{Store}
 use Rattle.gq_job.specs.declared.job.Job.{Job}
 use Rattle.gq_paths.specs.Paths.{undefined_name}
@@ -12,7 +15,8 @@ use Rattle.gq_script.specs.Effects.{Effect, Becomes, Refused}
 use Rattle.gq_loading.specs.declared.loader.Counts.{Counts}
 use Rattle.gq_loading.specs.declared.loader.Place.{Place}
 use Rattle.gq_loading.specs.declared.loader.Place.TheVariants.{At, Nowhere}
-use Rattle.gq_loading.specs.Loads.{Loaded, Loads, Fails, Continues, AnswerLoads, PlaceLoads, LoadsMean, LeavesBehind}
+use Rattle.gq_loading.specs.Loads.{Loaded, Loads, Fails, Continues, AnswerLoads, PlaceLoads, LoadsMean}
+use Rattle.gq_loading.specs.Remains.{LeadTo, AnswerLeaves, PlaceLeaves, BreaksOff, EndEarly, Remains}
 use Rattle.gq_loading.proofs.LoadLemmas.{loads_determined}
 use Rattle.gq_jobs.specs.declared.named.NamedJob.{NamedJob}
 use Rattle.gq_jobs.specs.Jobs.{job_named}
@@ -76,8 +80,35 @@ module _ (known : Known) (t : JobRun) (lines : List (List ℕ)) where
       place_keeps l number reports (place_of l number) (λ u more. LoadsMean place_of loaded_by known u (number + 1) left more (Becomes t lines))
       (λ u more rest. means_keep left (number + 1) u more rest) means
 
-pub behind_keep : (left number : ℕ) (l t : JobRun) → LeavesBehind loaded_by Leaves l number left t → t.schema ≡ l.schema
-behind_keep zero number l t is = ap (λ (u : JobRun). u.schema) is
-behind_keep (suc left) number l t (inl is) = ap (λ (u : JobRun). u.schema) is
-behind_keep (suc left) number l t (inr (inl (bytes, (later, leaves, is)))) = ap (λ (u : JobRun). u.schema) is
-behind_keep (suc left) number l t (inr (inr (u, (bytes, counts, ends), rest))) = behind_keep left (number + 1) u t rest ∙ loaded_keeps l number bytes u counts ends
+keeps_it : (l t : JobRun) → t ≡ l → t.schema ≡ l.schema
+keeps_it l t is = ap (λ (u : JobRun). u.schema) is
+
+module _ (known : Known) (number : ℕ) (l t : JobRun) where
+  answer_leaves : (path : List ℕ) (answer : Answer) (r : Refusal) → AnswerLeaves place_of loaded_by Leaves known l number path answer r t → t.schema ≡ l.schema
+  answer_leaves path Absent r (due, is) = keeps_it l t is
+  answer_leaves path TooLong r (due, is) = keeps_it l t is
+  answer_leaves path (Bytes bytes) r (fails, (later, leaves, is)) = ap (λ (u : JobRun). u.schema) is
+
+  place_leaves : (place : Place) (r : Refusal) → PlaceLeaves place_of loaded_by Leaves known l number place r t → t.schema ≡ l.schema
+  place_leaves (Nowhere name) r (due, is) = keeps_it l t is
+  place_leaves (At path) r (answer, may, leaves) = answer_leaves path answer r leaves
+
+  breaks_keep : (f : StatementFault) → BreaksOff place_of loaded_by Leaves known l number f t → t.schema ≡ l.schema
+  breaks_keep (fault.Refused r) breaks = place_leaves (place_of l number) r breaks
+  breaks_keep fault.ReadFault (path, place, is) = keeps_it l t is
+  breaks_keep fault.Memory (inl is) = keeps_it l t is
+  breaks_keep fault.Memory (inr (bytes, reads, (later, leaves, is))) = ap (λ (u : JobRun). u.schema) is
+
+leads_keep : (known : Known) (number : ℕ) (l t : JobRun) → LeadTo place_of loaded_by known l number t → t.schema ≡ l.schema
+leads_keep known zero l t is = keeps_it l t is
+leads_keep known (suc number) l t (u, ended, (bytes, counts, reads, ends)) = loaded_keeps u number bytes t counts ends ∙ leads_keep known number l u ended
+
+early_keep : (known : Known) (count : ℕ) (l t : JobRun) (f : StatementFault) → EndEarly place_of loaded_by Leaves known l count f t → t.schema ≡ l.schema
+early_keep known count l t f (number, u, below, ended, breaks) = breaks_keep known number u t f breaks ∙ leads_keep known number l u ended
+
+-- and so does a job that breaks off
+pub remains_keep : (known : Known) (count : ℕ) (l t : JobRun) (f : StatementFault) → Remains place_of loaded_by Leaves known l count f t → t.schema ≡ l.schema
+remains_keep known count l t (fault.Refused r) remains = early_keep known count l t (fault.Refused r) remains
+remains_keep known count l t fault.ReadFault remains = early_keep known count l t fault.ReadFault remains
+remains_keep known count l t fault.Memory (inl early) = early_keep known count l t fault.Memory early
+remains_keep known count l t fault.Memory (inr ended) = leads_keep known count l t ended

@@ -1,15 +1,17 @@
--- JobRuns: what RUN LOADING JOB means, and what it leaves where it is refused.
+-- JobRuns: what RUN LOADING JOB means, and what it leaves where it doesn't run to its end.
 use Rattle.std.specs.Prelude.{◌≡◌, ℕ, List, [], length, Option, Some, None}
 use Rattle.gq_value.specs.Catalog.{Schema}
 use Rattle.gq_tree.specs.declared.job.RunJobTree.{RunJobTree}
 use Rattle.gq_refusal.specs.declared.refusal.Refusal.TheVariants as refusal
+use Rattle.gq_refusal.specs.declared.refusal.StatementFault.{StatementFault}
 use Rattle.gq_refusal.specs.Messages.{message_of}
 use Rattle.gq_index.specs.declared.store.Store.{Store}
 use Rattle.gq_job.specs.declared.job.Job.{Job}
 use Rattle.gq_paths.specs.Paths.{undefined_name}
 use Rattle.gq_script.specs.Known.{Known}
 use Rattle.gq_script.specs.Effects.{Effect, Becomes, Refused}
-use Rattle.gq_loading.specs.Loads.{LoadsMean, LeavesBehind}
+use Rattle.gq_loading.specs.Loads.{LoadsMean}
+use Rattle.gq_loading.specs.Remains.{Remains}
 use Rattle.gq_jobs.specs.declared.named.NamedJob.{NamedJob}
 use Rattle.gq_jobs.specs.Jobs.{job_named}
 use Rattle.gq_loads.specs.Loadings.{JobRun, run_of, place_of, loaded_by, Leaves}
@@ -42,18 +44,20 @@ JobDoes known schema jobs store tree effect = FoundDoes known schema store tree 
 
 -- ---- what is left
 
--- the upserts of the LOADs that ended, and what the one behind them leaves
-abbrev pub LoadsLeave : JobRun → Store → Type 0
-LoadsLeave l later = (t : JobRun) × LeavesBehind loaded_by Leaves l 0 (length l.lines) t × (later ≡ t.store)
+-- the store has the upserts of the LOADs that ended, and what the one behind them leaves by this fault
+abbrev pub LoadsLeave : Known → JobRun → StatementFault → Store → Type 0
+LoadsLeave known l fault later = (t : JobRun) × Remains place_of loaded_by Leaves known l (length l.lines) fault t × (later ≡ t.store)
 
-abbrev pub UsingLeaves : JobRun → Option (List ℕ) → Store → Type 0
-UsingLeaves l (Some name) later = later ≡ l.store
-UsingLeaves l None later = LoadsLeave l later
+-- or it is as it was, where no LOAD began
+abbrev pub UsingLeaves : Known → JobRun → Option (List ℕ) → StatementFault → Store → Type 0
+UsingLeaves known l (Some name) fault later = later ≡ l.store
+UsingLeaves known l None fault later = LoadsLeave known l fault later
 
-abbrev pub FoundLeaves : Schema → Store → RunJobTree → Option Job → Store → Type 0
-FoundLeaves schema store tree None later = later ≡ store
-FoundLeaves schema store tree (Some job) later = UsingLeaves (run_of schema job tree.paths store) (undefined_name job.files tree.paths) later
+abbrev pub FoundLeaves : Known → Schema → Store → RunJobTree → Option Job → StatementFault → Store → Type 0
+FoundLeaves known schema store tree None fault later = later ≡ store
+FoundLeaves known schema store tree (Some job) fault later =
+    UsingLeaves known (run_of schema job tree.paths store) (undefined_name job.files tree.paths) fault later
 
--- RUN LOADING JOB may leave this store, where it doesn't run to its end
-abbrev pub JobLeaves : Schema → List NamedJob → Store → RunJobTree → Store → Type 0
-JobLeaves schema jobs store tree later = FoundLeaves schema store tree (job_named jobs tree.name) later
+-- RUN LOADING JOB leaves this store where it ends by this fault
+abbrev pub JobLeaves : Known → Schema → List NamedJob → Store → RunJobTree → StatementFault → Store → Type 0
+JobLeaves known schema jobs store tree fault later = FoundLeaves known schema store tree (job_named jobs tree.name) fault later

@@ -1,4 +1,4 @@
--- LoadingLaws: what an answer of a load says, by the function of loads; and its upserts are of the catalog's types.
+-- LoadingLaws: what an answer of a load says, by the function of loads, and what it leaves; and its upserts are of the catalog's types.
 use Rattle.std.proofs.Common.{◌≡◌, ℕ, zero, suc, ◌<◌, ℤ, List, [], ◌∷◌, ◌++◌, length, map, All, Option, Some, None, Bool, true, false, cond, Result, Ok, Err, refl, sym, ap, subst, ◌∙◌, arith}
 use Rattle.std.specs.Prelude.{option_and_then}
 use Rattle.gq_value.specs.Catalog.{Schema}
@@ -27,7 +27,7 @@ use Rattle.gq_clock.specs.Readings.{reading}
 use Rattle.gq_kept.specs.PutLaws.{put_done, put_refused, done_begun, refused_begun}
 use Rattle.gq_kept.specs.Keeping.{StoreFits, AllOfTypes}
 use Rattle.gq_kept.specs.KeepingLaws.{begun_fits, types_join}
-use Rattle.gq_loads.specs.Loadings.{line_steps, line_counts, counts_of, stored_or, unless_missing, line_loaded}
+use Rattle.gq_loads.specs.Loadings.{line_steps, line_counts, counts_of, stored_or, unless_missing, line_loaded, RefusedLeaves}
 
 -- ---- answers
 
@@ -48,6 +48,17 @@ module _ (schema : Schema) (line : LoadLine) (records : List Fields) (before lat
   says_full says =
       ap (unless_missing schema line records before) says.found
       ∙ ap (stored_or (line_counts schema line records)) (put_refused before later (line_steps schema line records) says.refused)
+
+  abbrev MissingLeaves : Option (List ℕ) → Type 0
+  MissingLeaves missing = RefusedLeaves missing (line_steps schema line records) before later
+
+  -- where a column is missing nothing was loaded
+  pub missing_leaves : (name : List ℕ) → Says (Err (fault.NoColumn name)) → MissingLeaves (load.missing_of line (load.header_of line records))
+  missing_leaves name says = subst MissingLeaves (sym says.missing) says.same
+
+  -- in a full store the upserts before the refused one stay
+  pub full_leaves : Says (Err fault.Full) → MissingLeaves (load.missing_of line (load.header_of line records))
+  full_leaves says = subst MissingLeaves (sym says.found) says.refused
 
   -- whatever the answer, some of the upserts were taken, from the first one on
   pub says_begun : (result : Result Report LoadFault) → Says result → Begun before (line_steps schema line records) later

@@ -2,13 +2,15 @@
 use Rattle.std.specs.Prelude.{◌≡◌, ℕ, List, [], Option, Some, None, slice_get, All}
 use Rattle.gq_value.specs.Catalog.{Schema}
 use Rattle.gq_refusal.specs.declared.refusal.Refusal.TheVariants as refusal
+use Rattle.gq_refusal.specs.declared.refusal.StatementFault.{StatementFault}
+use Rattle.gq_refusal.specs.declared.refusal.StatementFault.TheVariants as fault
 use Rattle.gq_index.specs.declared.store.Store.{Store}
 use Rattle.gq_job.specs.declared.job.FileName.{FileName}
 use Rattle.gq_job.specs.declared.job.FileName.TheVariants as names
 use Rattle.gq_job.specs.declared.job.LoadLine.{LoadLine}
 use Rattle.gq_job.specs.declared.job.Job.{Job}
 use Rattle.gq_job.specs.Fits.{LineFits}
-use Rattle.gq_put.specs.Steps.{Step, Begun}
+use Rattle.gq_put.specs.Steps.{Step, Begun, Refused}
 use Rattle.gq_row.specs.Columns.{Fields}
 use Rattle.gq_row.specs.Records.{AllHaveEnds}
 use Rattle.gq_load.specs.declared.report.Report.{Report}
@@ -101,14 +103,26 @@ loaded_by l number bytes = lifted l (one_loaded l.schema (slice_get l.lines numb
 
 -- ---- what is left
 
--- a LOAD that doesn't end leaves some of its upserts, from the first one on
-abbrev pub OneLeaves : Schema → Option LoadLine → List ℕ → Store → Store → Type 0
-OneLeaves schema (Some line) bytes store later = Begun store (line_steps schema line (records_in line bytes)) later
-OneLeaves schema None bytes store later = later ≡ store
+-- a refused LOAD leaves the store as it was, where a column has a name that the header lacks; else the upserts before the one that
+-- found no room
+abbrev pub RefusedLeaves : Option (List ℕ) → List Step → Store → Store → Type 0
+RefusedLeaves (Some name) steps store later = later ≡ store
+RefusedLeaves None steps store later = Refused store steps later
 
--- the LOAD of this number may leave this
-abbrev pub Leaves : JobRun → ℕ → List ℕ → JobRun → Type 0
-Leaves l number bytes t = (later : Store) × OneLeaves l.schema (slice_get l.lines number) bytes l.store later × (t ≡ with_store l later)
+-- a LOAD of a file's records leaves this store by this fault; for want of memory it has some of the upserts, from the first one on
+abbrev pub LineLeaves : Schema → LoadLine → List Fields → Store → StatementFault → Store → Type 0
+LineLeaves schema line records store (fault.Refused r) later = RefusedLeaves (missing_of line (header_of line records)) (line_steps schema line records) store later
+LineLeaves schema line records store fault.ReadFault later = ⊥
+LineLeaves schema line records store fault.Memory later = Begun store (line_steps schema line records) later
+
+-- the same for the LOAD of a number; where there is none, nothing fails
+abbrev pub OneLeaves : Schema → Option LoadLine → List ℕ → Store → StatementFault → Store → Type 0
+OneLeaves schema (Some line) bytes store f later = LineLeaves schema line (records_in line bytes) store f later
+OneLeaves schema None bytes store f later = ⊥
+
+-- the LOAD of this number leaves this run by this fault
+abbrev pub Leaves : JobRun → ℕ → List ℕ → StatementFault → JobRun → Type 0
+Leaves l number bytes f t = (later : Store) × OneLeaves l.schema (slice_get l.lines number) bytes l.store f later × (t ≡ with_store l later)
 
 -- ---- catalogs
 

@@ -1,13 +1,12 @@
 // One LOAD.
-ghost use Rattle.std.specs.Prelude.{◌≡◌, Err, IfOk, OnErr};
+ghost use Rattle.std.specs.Prelude.{◌≡◌, Err, IfOk, IfErr};
 ghost use Rattle.gq_refusal.specs.declared.refusal.Refusal.{Refusal};
 ghost use Rattle.gq_job.specs.Fits.{LineFits};
-ghost use Rattle.gq_put.specs.Steps.{Begun};
 ghost use Rattle.gq_row.specs.Records.{AllHaveEnds};
 ghost use Rattle.gq_load.specs.Loads.{records_in};
 ghost use Rattle.gq_loading.specs.Loads.{Fails, Loads};
 ghost use Rattle.gq_kept.specs.Keeping.{StoreFits};
-ghost use Rattle.gq_loads.specs.Loadings.{line_loaded, line_steps, counts_of};
+ghost use Rattle.gq_loads.specs.Loadings.{LineLeaves, line_loaded, counts_of};
 
 use gq_index::Store;
 use gq_job::LoadLine;
@@ -32,7 +31,7 @@ pub(crate) fn load_line(
     ensures refused { (refusal : Refusal) → result ≡ Err (StatementFault.Refused refusal)
         → line_loaded catalog.now line.now (records_in line.now bytes.now) store.old ≡ Fails refusal }
     ensures read_fault { result ≡ Err StatementFault.ReadFault → ⊥ }
-    ensures left { OnErr result (Begun store.old (line_steps catalog.now line.now (records_in line.now bytes.now)) store.new) }
+    ensures left { IfErr result (λ fault. LineLeaves catalog.now line.now (records_in line.now bytes.now) store.old fault store.new) }
     ensures fits { StoreFits catalog.now store.new }
 {
     match load(alloc, catalog, line, bytes, store) {

@@ -1,5 +1,5 @@
 // RUN LOADING JOB.
-ghost use Rattle.std.specs.Prelude.{◌≡◌, ◌≤◌, ◌∷◌, [], ℕ, All, Some, Err, IfOk, OnErr, IsErrOf};
+ghost use Rattle.std.specs.Prelude.{◌≡◌, ◌≤◌, ◌∷◌, [], ℕ, All, Some, Err, IfOk, IfErr, IsErrOf};
 ghost use Rattle.gq_io.specs.Counts.{Rose};
 ghost use Rattle.gq_refusal.specs.declared.refusal.Refusal.{Refusal};
 ghost use Rattle.gq_refusal.specs.Messages.{message_of};
@@ -32,7 +32,8 @@ use std::mem;
 /// RUN LOADING JOB, and the line of its reports. The store gains the upserts of its LOADs, one after another.
 ///
 /// Refused where no job has the name, else where the run gives a path for a name of which the job has no file, else by the first
-/// LOAD that is. After a refusal the store has the upserts of the LOADs that ended, and some of those of the one behind them.
+/// LOAD that is. After a refusal the store has the upserts of the LOADs that ended, and of the refused one those before the upsert
+/// that found no room; a missing column loads nothing. Want of memory leaves some of a LOAD's upserts, from the first one on.
 pub fn run_job<F: Files>(
     alloc: Global,
     catalog: &Catalog,
@@ -49,7 +50,8 @@ pub fn run_job<F: Files>(
         JobDoes (known_of (F.held files.old) before now met) catalog.now jobs.now store.old tree.now (Becomes store.new (line.items ∷ []))) }
     ensures refused { (refusal : Refusal) → result ≡ Err (StatementFault.Refused refusal) → (before : ℕ) → before ≤ F.absences files.old
         → JobDoes (known_of (F.held files.old) before (F.absences files.new) (F.length_met files.new)) catalog.now jobs.now store.old tree.now (Refused (message_of refusal)) }
-    ensures left { OnErr result (JobLeaves catalog.now jobs.now store.old tree.now store.new) }
+    ensures left { (before : ℕ) → before ≤ F.absences files.old → IfErr result (λ fault.
+        JobLeaves (known_of (F.held files.old) before (F.absences files.new) (F.length_met files.new)) catalog.now jobs.now store.old tree.now fault store.new) }
     ensures fits { StoreFits catalog.now store.new }
     ensures read_fault { IsErrOf result StatementFault.ReadFault → Rose (F.faults files.old) (F.faults files.new) }
     ensures held { F.held files.new ≡ F.held files.old }
@@ -77,7 +79,8 @@ fn run_found<F: Files>(
         FoundDoes (known_of (F.held files.old) before now met) catalog.now store.old tree.now (Some job.now) (Becomes store.new (line.items ∷ []))) }
     ensures refused { (refusal : Refusal) → result ≡ Err (StatementFault.Refused refusal) → (before : ℕ) → before ≤ F.absences files.old
         → FoundDoes (known_of (F.held files.old) before (F.absences files.new) (F.length_met files.new)) catalog.now store.old tree.now (Some job.now) (Refused (message_of refusal)) }
-    ensures left { OnErr result (FoundLeaves catalog.now store.old tree.now (Some job.now) store.new) }
+    ensures left { (before : ℕ) → before ≤ F.absences files.old → IfErr result (λ fault.
+        FoundLeaves (known_of (F.held files.old) before (F.absences files.new) (F.length_met files.new)) catalog.now store.old tree.now (Some job.now) fault store.new) }
     ensures fits { StoreFits catalog.now store.new }
     ensures read_fault { IsErrOf result StatementFault.ReadFault → Rose (F.faults files.old) (F.faults files.new) }
     ensures held { F.held files.new ≡ F.held files.old }
@@ -106,7 +109,8 @@ fn run_lines<F: Files>(
         LoadsDo (known_of (F.held files.old) before now met) (run_of catalog.now job.now given.now store.old) (Becomes store.new (line.items ∷ []))) }
     ensures refused { (refusal : Refusal) → result ≡ Err (StatementFault.Refused refusal) → (before : ℕ) → before ≤ F.absences files.old
         → LoadsDo (known_of (F.held files.old) before (F.absences files.new) (F.length_met files.new)) (run_of catalog.now job.now given.now store.old) (Refused (message_of refusal)) }
-    ensures left { OnErr result (LoadsLeave (run_of catalog.now job.now given.now store.old) store.new) }
+    ensures left { (before : ℕ) → before ≤ F.absences files.old → IfErr result (λ fault.
+        LoadsLeave (known_of (F.held files.old) before (F.absences files.new) (F.length_met files.new)) (run_of catalog.now job.now given.now store.old) fault store.new) }
     ensures fits { StoreFits catalog.now store.new }
     ensures read_fault { IsErrOf result StatementFault.ReadFault → Rose (F.faults files.old) (F.faults files.new) }
     ensures held { F.held files.new ≡ F.held files.old }

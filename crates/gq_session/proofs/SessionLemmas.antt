@@ -1,6 +1,6 @@
 -- What is true of a session stays so while its catalog grows; and what its answers say of a statement.
 use Rattle.std.proofs.Common.{◌≡◌, ℕ, List, [], ◌∷◌, Option, Some, None, Result, Ok, Err, IfOk, IfSome, refl, sym, subst, ◌<◌, ◌≤◌, length, take, arith}
-use Rattle.std.specs.Prelude.{IfErr, OnErr, IsSome, Vec}
+use Rattle.std.specs.Prelude.{IfErr, IsSome, Vec}
 use Rattle.std.specs.Option.{ForSome}
 use Rattle.std.specs.declared.alloc.Global.{Global}
 use Rattle.gq_value.specs.Catalog.{Schema}
@@ -8,7 +8,7 @@ use Rattle.gq_index.specs.declared.store.Store.{Store}
 use Rattle.gq_refusal.specs.declared.refusal.Refusal.{Refusal}
 use Rattle.gq_refusal.specs.declared.refusal.StatementFault.{StatementFault}
 use Rattle.gq_refusal.specs.declared.refusal.StatementFault.TheVariants as fault
-use Rattle.gq_refusal.specs.Answers.{Answers}
+use Rattle.gq_refusal.specs.Answers.{Answers, Denies}
 use Rattle.gq_insert.specs.Fits.{IsSound}
 use Rattle.gq_row.specs.Records.{AllHaveEnds}
 use Rattle.gq_job.specs.Targets.{no_edge_type}
@@ -65,6 +65,26 @@ answers_grow meant before after (Err (fault.Refused refusal)) grows denies = sub
 answers_grow meant before after (Err fault.ReadFault) grows denies = absurd denies
 answers_grow meant before after (Err fault.Memory) grows same = subst (Grown before) (sym same) (not_grown before)
 
+-- ---- what is left
+
+denied_same : (meant : Result State Refusal) (s t : State) (f : StatementFault) → Denies meant s t f → t ≡ s
+denied_same meant s t (fault.Refused refusal) denies = denies.1
+denied_same meant s t fault.ReadFault never = absurd never
+denied_same meant s t fault.Memory same = same
+
+-- a statement that prints nothing leaves the session as it was, where it doesn't run to its end
+pub silent_left : {R A : Type 0} (meant : Result State Refusal) (s t : State) (answer : Result R StatementFault) (r : Result A StatementFault)
+    → Answers meant s t answer → IfErr r (λ f. answer ≡ Err f) → IfErr r (λ f. t ≡ s)
+silent_left meant s t answer (Ok a) answers same = tt
+silent_left {R} meant s t answer (Err f) answers same =
+    let P : Result R StatementFault → Type 0 = λ a. Answers meant s t a in
+    denied_same meant s t f (subst P same answers)
+
+-- and so does one that changes nothing
+pub left_same : {A : Type 0} (s : State) (r : Result A StatementFault) → IfErr r (λ f. s ≡ s)
+left_same s (Ok a) = tt
+left_same s (Err f) = refl
+
 -- ---- queries
 
 -- a query that isn't refused prints what a query that prints numbers alone prints
@@ -110,12 +130,12 @@ module _ (s v : State) (same : v ≡ s) (tree : RunJobTree) where
       let P : State → Type 0 = λ u. RunsJob known u tree (Refused message) in
       subst P same (Refused message, does, refl)
 
-  pub job_left : (later : Store) (answer : Result (Vec ℕ Global) StatementFault) (r : Result (Option (Vec ℕ Global)) StatementFault) → IsLine answer r
-      → OnErr answer (JobLeaves v.schema v.jobs v.store tree later) → OnErr r (JobLeft s tree (record v { store = later }))
-  job_left later answer (Ok line) is leaves = tt
-  job_left later answer (Err fault) is leaves =
-      let P : Result (Vec ℕ Global) StatementFault → Type 0 = λ a. OnErr a (JobLeaves v.schema v.jobs v.store tree later) in
-      let Q : State → Type 0 = λ u. JobLeft u tree (record v { store = later }) in
+  pub job_left : (known : Known) (later : Store) (answer : Result (Vec ℕ Global) StatementFault) (r : Result (Option (Vec ℕ Global)) StatementFault) → IsLine answer r
+      → IfErr answer (λ f. JobLeaves known v.schema v.jobs v.store tree f later) → IfErr r (λ f. JobLeft known s tree f (record v { store = later }))
+  job_left known later answer (Ok line) is leaves = tt
+  job_left known later answer (Err f) is leaves =
+      let P : Result (Vec ℕ Global) StatementFault → Type 0 = λ a. IfErr a (λ e. JobLeaves known v.schema v.jobs v.store tree e later) in
+      let Q : State → Type 0 = λ u. JobLeft known u tree f (record v { store = later }) in
       subst Q same (later, subst P is leaves, refl)
 
 -- the refusal of a statement is that of its call

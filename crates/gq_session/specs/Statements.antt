@@ -14,6 +14,7 @@ use Rattle.gq_tree.specs.declared.statement.Statement.{Statement}
 use Rattle.gq_tree.specs.declared.statement.Statement.TheVariants as top
 use Rattle.gq_refusal.specs.declared.refusal.Refusal.{Refusal}
 use Rattle.gq_refusal.specs.declared.refusal.Refusal.TheVariants as refusal
+use Rattle.gq_refusal.specs.declared.refusal.StatementFault.{StatementFault}
 use Rattle.gq_refusal.specs.Messages.{message_of}
 use Rattle.gq_define.specs.Declarations.{vertex_created, edge_created, graph_created}
 use Rattle.gq_plain.specs.Plain.{plain_text}
@@ -154,22 +155,22 @@ Does known s number top.End effect = effect ≡ Becomes s []
 
 -- ---- what is left
 
--- a loading job that doesn't run to its end leaves upserts in the store, and all else as it was
-abbrev pub JobLeft : State → RunJobTree → State → Type 0
-JobLeft s tree t = (store : Store) × JobLeaves s.schema s.jobs s.store tree store × (t ≡ record s { store = store })
+-- a loading job that ends by this fault leaves upserts in the store, and all else as it was
+abbrev pub JobLeft : Known → State → RunJobTree → StatementFault → State → Type 0
+JobLeft known s tree fault t = (store : Store) × JobLeaves known s.schema s.jobs s.store tree fault store × (t ≡ record s { store = store })
 
--- where a statement doesn't run to its end, the session is as it was, the store of a loading job apart
-abbrev pub Leaves : State → Statement → State → Type 0
-Leaves s (top.Vertex tree) t = t ≡ s
-Leaves s (top.Edge tree) t = t ≡ s
-Leaves s (top.Graph tree) t = t ≡ s
-Leaves s (top.Use name) t = t ≡ s
-Leaves s (top.Job tree) t = t ≡ s
-Leaves s (top.RunJob tree) t = JobLeft s tree t
-Leaves s (top.Query replace name tree) t = t ≡ s
-Leaves s (top.Install which) t = t ≡ s
-Leaves s (top.Run tree) t = t ≡ s
-Leaves s (top.Interpret tree) t = t ≡ s
-Leaves s (top.Insert tree) t = t ≡ s
-Leaves s top.Begin t = t ≡ s
-Leaves s top.End t = t ≡ s
+-- where a statement ends by this fault, the session is as it was, the store of a loading job apart
+abbrev pub Leaves : Known → State → Statement → StatementFault → State → Type 0
+Leaves known s (top.Vertex tree) fault t = t ≡ s
+Leaves known s (top.Edge tree) fault t = t ≡ s
+Leaves known s (top.Graph tree) fault t = t ≡ s
+Leaves known s (top.Use name) fault t = t ≡ s
+Leaves known s (top.Job tree) fault t = t ≡ s
+Leaves known s (top.RunJob tree) fault t = JobLeft known s tree fault t
+Leaves known s (top.Query replace name tree) fault t = t ≡ s
+Leaves known s (top.Install which) fault t = t ≡ s
+Leaves known s (top.Run tree) fault t = t ≡ s
+Leaves known s (top.Interpret tree) fault t = t ≡ s
+Leaves known s (top.Insert tree) fault t = t ≡ s
+Leaves known s top.Begin fault t = t ≡ s
+Leaves known s top.End fault t = t ≡ s

@@ -1,5 +1,5 @@
 // The session, and what each statement does to it.
-ghost use Rattle.std.specs.Prelude.{◌≡◌, ◌≤◌, ℕ, IfOk, IfErr, IfSome, IsSome, OnErr, IsErrOf, Err, Result};
+ghost use Rattle.std.specs.Prelude.{◌≡◌, ◌≤◌, ℕ, IfOk, IfErr, IfSome, IsSome, IsErrOf, Err, Result};
 ghost use Rattle.gq_io.specs.Counts.{Rose};
 ghost use Rattle.gq_refusal.specs.declared.refusal.Refusal.{Refusal};
 ghost use Rattle.gq_refusal.specs.Answers.{Answers};
@@ -24,7 +24,8 @@ use gq_refusal::{Refusal, StatementFault};
 use gq_schema::Catalog;
 use gq_script::Machine;
 use gq_tree::{
-    EdgeTree, GraphTree, InsertTree, Installed, JobTree, QueryTree, RunJobTree, Statement, VertexTree,
+    EdgeTree, GraphTree, InsertTree, Installed, JobTree, QueryTree, RunJobTree, Statement,
+    VertexTree,
 };
 use gq_value::{Memory, Txt};
 use gq_vertex::Vertices;
@@ -76,7 +77,8 @@ impl Session {
 
     /// Runs the statement of this number, and gives the line that it prints, if any.
     ///
-    /// Where it doesn't run to its end the session is as it was. Only RUN LOADING JOB leaves upserts in the store.
+    /// Where it doesn't run to its end the session is as it was. Only RUN LOADING JOB leaves upserts in the store: those of the LOADs
+    /// that ended, and of a LOAD that didn't those before the one that was refused, or some of them for want of memory.
     pub fn run<F: Files>(
         &mut self,
         files: &mut F,
@@ -88,7 +90,8 @@ impl Session {
             Does (known_of (F.held files.old) before now met) self.old number statement.now (Becomes self.new (lines_of line))) }
         ensures refused { (refusal : Refusal) → result ≡ Err (StatementFault.Refused refusal) → (before : ℕ) → before ≤ F.absences files.old
             → Does (known_of (F.held files.old) before (F.absences files.new) (F.length_met files.new)) self.old number statement.now (Refused (message_of refusal)) }
-        ensures left { OnErr result (Leaves self.old statement.now self.new) }
+        ensures left { (before : ℕ) → before ≤ F.absences files.old → IfErr result (λ fault.
+            Leaves (known_of (F.held files.old) before (F.absences files.new) (F.length_met files.new)) self.old statement.now fault self.new) }
         ensures read_fault { IsErrOf result StatementFault.ReadFault → Rose (F.faults files.old) (F.faults files.new) }
         ensures held { F.held files.new ≡ F.held files.old }
         ensures faults_stay { F.faults files.old ≤ F.faults files.new }
@@ -101,9 +104,7 @@ impl Session {
             Statement::Use(name) => silent(self.use_graph(name)),
             Statement::Job(tree) => silent(self.make_job(tree)),
             Statement::RunJob(tree) => self.run_job(files, tree),
-            Statement::Query(replace, name, tree) => silent(
-                self.make_query(*replace, name, tree),
-            ),
+            Statement::Query(replace, name, tree) => silent(self.make_query(*replace, name, tree)),
             Statement::Install(which) => silent(self.install(which)),
             Statement::Interpret(tree) => self.interpret(number, tree),
             Statement::Insert(tree) => silent(self.insert(tree)),
@@ -183,11 +184,7 @@ impl Session {
         install_queries(self.alloc, &mut self.queries, which)
     }
 
-    fn interpret(
-        &self,
-        number: u64,
-        tree: &QueryTree,
-    ) -> Result<Option<Vec<u8>>, StatementFault>
+    fn interpret(&self, number: u64, tree: &QueryTree) -> Result<Option<Vec<u8>>, StatementFault>
         ensures done { IfOk result (λ line. Becomes self.now (lines_of line) ≡ interpreted self.now number tree.now) }
         ensures refused { (refusal : Refusal) → result ≡ Err (StatementFault.Refused refusal) → Refused (message_of refusal) ≡ interpreted self.now number tree.now }
         ensures read_fault { result ≡ Err StatementFault.ReadFault → ⊥ }
@@ -213,7 +210,8 @@ impl Session {
             RunsJob (known_of (F.held files.old) before now met) self.old tree.now (Becomes self.new (lines_of line))) }
         ensures refused { (refusal : Refusal) → result ≡ Err (StatementFault.Refused refusal) → (before : ℕ) → before ≤ F.absences files.old
             → RunsJob (known_of (F.held files.old) before (F.absences files.new) (F.length_met files.new)) self.old tree.now (Refused (message_of refusal)) }
-        ensures left { OnErr result (JobLeft self.old tree.now self.new) }
+        ensures left { (before : ℕ) → before ≤ F.absences files.old → IfErr result (λ fault.
+            JobLeft (known_of (F.held files.old) before (F.absences files.new) (F.length_met files.new)) self.old tree.now fault self.new) }
         ensures read_fault { IsErrOf result StatementFault.ReadFault → Rose (F.faults files.old) (F.faults files.new) }
         ensures held { F.held files.new ≡ F.held files.old }
         ensures faults_stay { F.faults files.old ≤ F.faults files.new }

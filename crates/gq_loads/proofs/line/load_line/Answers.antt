@@ -2,7 +2,7 @@ use Rattle.std.proofs.Common.{ap, sym, ◌∙◌}
 use Rattle.gq_load.specs.Loads.{records_in}
 use Rattle.gq_loading.specs.Loads.{Loads, Fails}
 use Rattle.gq_clock.specs.Readings.{reading, reading_tells}
-use Rattle.gq_loads.specs.LoadingLaws.{says_loaded, says_missing, says_full, says_begun, says_fits}
+use Rattle.gq_loads.specs.LoadingLaws.{says_loaded, says_missing, says_full, missing_leaves, full_leaves, says_begun, says_fits}
 use Rattle.gq_loads.proofs.line.load_line.Goals as goal
 
 pub returns-in-Ok-clause-done : goal.returns-in-Ok-clause-done
@@ -22,7 +22,8 @@ returns-in-Err-NoColumn-clause-refused c = λ refusal same.
 
 pub returns-in-Err-NoColumn-clause-left : goal.returns-in-Err-NoColumn-clause-left
 returns-in-Err-NoColumn-clause-left c =
-    says_begun c.args.catalog.now c.args.line.now (records_in c.args.line.now c.args.bytes.now) c.args.store.now c.load.new.store c.load.result (c.load.ensures.loads reading reading_tells)
+    let says = c.in-Err-NoColumn.ensures.loads reading reading_tells in
+    missing_leaves c.args.catalog.now c.args.line.now (records_in c.args.line.now c.args.bytes.now) c.args.store.now c.load.new.store c.in-Err-NoColumn.name (rw c.in-Err-NoColumn.field-0-is at says)
 
 pub returns-in-Err-NoColumn-clause-fits : goal.returns-in-Err-NoColumn-clause-fits
 returns-in-Err-NoColumn-clause-fits c =
@@ -36,7 +37,8 @@ returns-in-Err-Full-clause-refused c = λ refusal same.
 
 pub returns-in-Err-Full-clause-left : goal.returns-in-Err-Full-clause-left
 returns-in-Err-Full-clause-left c =
-    says_begun c.args.catalog.now c.args.line.now (records_in c.args.line.now c.args.bytes.now) c.args.store.now c.load.new.store c.load.result (c.load.ensures.loads reading reading_tells)
+    let says = c.in-Err-Full.ensures.loads reading reading_tells in
+    full_leaves c.args.catalog.now c.args.line.now (records_in c.args.line.now c.args.bytes.now) c.args.store.now c.load.new.store (rw c.in-Err-Full.field-0-is at says)
 
 pub returns-in-Err-Full-clause-fits : goal.returns-in-Err-Full-clause-fits
 returns-in-Err-Full-clause-fits c =

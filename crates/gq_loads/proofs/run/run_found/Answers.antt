@@ -4,7 +4,7 @@ use Rattle.gq_script.specs.Effects.{Becomes, Refused}
 use Rattle.gq_script.specs.Known.{known_of}
 use Rattle.gq_loads.specs.Loadings.{run_of}
 use Rattle.gq_loads.specs.JobRuns.{FoundDoes, LoadsDo}
-use Rattle.gq_loads.proofs.RunLemmas.{if_ok, using_none}
+use Rattle.gq_loads.proofs.RunLemmas.{if_ok, using_left, using_none}
 use Rattle.gq_loads.proofs.run.run_found.Goals as goal
 
 pub returns-in-None-clause-done : goal.returns-in-None-clause-done
@@ -23,3 +23,9 @@ returns-in-None-clause-refused g c = λ refusal is before low.
     using_none (known_of (g.F.Files.held c.args.files.now) before (g.F.Files.absences c.run_lines.new.files) (g.F.Files.length_met c.run_lines.new.files))
     c.args.catalog.now c.args.job.now c.args.store.now c.args.tree.now c.as_slice.result.now c.as_slice-2.result.now c.as_slice-in-None.result.now (Refused (message_of refusal))
     c.as_slice.ensures c.as_slice-2.ensures c.as_slice-in-None.ensures c.in-None.ensures (c.run_lines.ensures.refused refusal is before low)
+
+pub returns-in-None-clause-left : goal.returns-in-None-clause-left
+returns-in-None-clause-left g c = λ before low.
+    using_left (known_of (g.F.Files.held c.args.files.now) before (g.F.Files.absences c.run_lines.new.files) (g.F.Files.length_met c.run_lines.new.files))
+    c.args.catalog.now c.args.job.now c.args.store.now c.run_lines.new.store c.args.tree.now c.as_slice.result.now c.as_slice-2.result.now c.as_slice-in-None.result.now
+    c.as_slice.ensures c.as_slice-2.ensures c.as_slice-in-None.ensures c.in-None.ensures c.run_lines.result (c.run_lines.ensures.left before low)

@@ -1,8 +1,10 @@
 use Rattle.std.proofs.Common.{IfOk, sym, subst}
+use Rattle.std.specs.Prelude.{IfErr}
 use Rattle.gq_script.specs.Effects.{Becomes, lines_of}
 use Rattle.gq_script.specs.Known.{known_of}
 use Rattle.gq_tree.specs.declared.statement.Statement.{Statement}
-use Rattle.gq_session.specs.Statements.{Does}
+use Rattle.gq_session.specs.Statements.{Does, Leaves}
+use Rattle.gq_session.proofs.SessionLemmas.{left_same, silent_left}
 use Rattle.gq_session.proofs.session.Session.run.Goals as goal
 
 pub returns-in-Vertex-clause-done : goal.returns-in-Vertex-clause-done
@@ -64,3 +66,63 @@ returns-in-Install-clause-done g c = λ before now met.
     let known = known_of (g.F.Files.held c.args.files.now) before now met in
     let P : Statement → Type 0 = λ statement. IfOk c.silent-in-Install.result (λ line. Does known c.args.self.now c.args.number statement (Becomes c.install.new.self (lines_of line))) in
     subst P (sym c.in-Install.is) (c.silent-in-Install.ensures.done _ _ _ c.install.ensures)
+
+pub returns-in-Vertex-clause-left : goal.returns-in-Vertex-clause-left
+returns-in-Vertex-clause-left g c = λ before low.
+    let known = known_of (g.F.Files.held c.args.files.now) before (g.F.Files.absences c.args.files.now) (g.F.Files.length_met c.args.files.now) in
+    let P : Statement → Type 0 = λ statement. IfErr c.silent.result (λ f. Leaves known c.args.self.now statement f c.make_vertex.new.self) in
+    subst P (sym c.in-Vertex.is) (silent_left _ c.args.self.now c.make_vertex.new.self c.make_vertex.result c.silent.result c.make_vertex.ensures c.silent.ensures.same)
+
+pub returns-in-Edge-clause-left : goal.returns-in-Edge-clause-left
+returns-in-Edge-clause-left g c = λ before low.
+    let known = known_of (g.F.Files.held c.args.files.now) before (g.F.Files.absences c.args.files.now) (g.F.Files.length_met c.args.files.now) in
+    let P : Statement → Type 0 = λ statement. IfErr c.silent-in-Edge.result (λ f. Leaves known c.args.self.now statement f c.make_edge.new.self) in
+    subst P (sym c.in-Edge.is) (silent_left _ c.args.self.now c.make_edge.new.self c.make_edge.result c.silent-in-Edge.result c.make_edge.ensures c.silent-in-Edge.ensures.same)
+
+pub returns-in-Graph-clause-left : goal.returns-in-Graph-clause-left
+returns-in-Graph-clause-left g c = λ before low.
+    let known = known_of (g.F.Files.held c.args.files.now) before (g.F.Files.absences c.args.files.now) (g.F.Files.length_met c.args.files.now) in
+    let P : Statement → Type 0 = λ statement. IfErr c.silent-in-Graph.result (λ f. Leaves known c.args.self.now statement f c.make_graph.new.self) in
+    subst P (sym c.in-Graph.is) (silent_left _ c.args.self.now c.make_graph.new.self c.make_graph.result c.silent-in-Graph.result c.make_graph.ensures c.silent-in-Graph.ensures.same)
+
+pub returns-in-Use-clause-left : goal.returns-in-Use-clause-left
+returns-in-Use-clause-left g c = λ before low.
+    let known = known_of (g.F.Files.held c.args.files.now) before (g.F.Files.absences c.args.files.now) (g.F.Files.length_met c.args.files.now) in
+    let P : Statement → Type 0 = λ statement. IfErr c.silent-in-Use.result (λ f. Leaves known c.args.self.now statement f c.use_graph.new.self) in
+    subst P (sym c.in-Use.is) (silent_left _ c.args.self.now c.use_graph.new.self c.use_graph.result c.silent-in-Use.result c.use_graph.ensures c.silent-in-Use.ensures.same)
+
+pub returns-in-Job-clause-left : goal.returns-in-Job-clause-left
+returns-in-Job-clause-left g c = λ before low.
+    let known = known_of (g.F.Files.held c.args.files.now) before (g.F.Files.absences c.args.files.now) (g.F.Files.length_met c.args.files.now) in
+    let P : Statement → Type 0 = λ statement. IfErr c.silent-in-Job.result (λ f. Leaves known c.args.self.now statement f c.make_job.new.self) in
+    subst P (sym c.in-Job.is) (silent_left _ c.args.self.now c.make_job.new.self c.make_job.result c.silent-in-Job.result c.make_job.ensures c.silent-in-Job.ensures.same)
+
+pub returns-in-Insert-clause-left : goal.returns-in-Insert-clause-left
+returns-in-Insert-clause-left g c = λ before low.
+    let known = known_of (g.F.Files.held c.args.files.now) before (g.F.Files.absences c.args.files.now) (g.F.Files.length_met c.args.files.now) in
+    let P : Statement → Type 0 = λ statement. IfErr c.silent-in-Insert.result (λ f. Leaves known c.args.self.now statement f c.insert.new.self) in
+    subst P (sym c.in-Insert.is) (silent_left _ c.args.self.now c.insert.new.self c.insert.result c.silent-in-Insert.result c.insert.ensures c.silent-in-Insert.ensures.same)
+
+pub returns-in-Query-clause-left : goal.returns-in-Query-clause-left
+returns-in-Query-clause-left g c = λ before low.
+    let known = known_of (g.F.Files.held c.args.files.now) before (g.F.Files.absences c.args.files.now) (g.F.Files.length_met c.args.files.now) in
+    let P : Statement → Type 0 = λ statement. IfErr c.silent-in-Query.result (λ f. Leaves known c.args.self.now statement f c.make_query.new.self) in
+    subst P (sym c.in-Query.is) (silent_left _ c.args.self.now c.make_query.new.self c.make_query.result c.silent-in-Query.result c.make_query.ensures c.silent-in-Query.ensures.same)
+
+pub returns-in-Install-clause-left : goal.returns-in-Install-clause-left
+returns-in-Install-clause-left g c = λ before low.
+    let known = known_of (g.F.Files.held c.args.files.now) before (g.F.Files.absences c.args.files.now) (g.F.Files.length_met c.args.files.now) in
+    let P : Statement → Type 0 = λ statement. IfErr c.silent-in-Install.result (λ f. Leaves known c.args.self.now statement f c.install.new.self) in
+    subst P (sym c.in-Install.is) (silent_left _ c.args.self.now c.install.new.self c.install.result c.silent-in-Install.result c.install.ensures c.silent-in-Install.ensures.same)
+
+pub returns-in-RunJob-clause-left : goal.returns-in-RunJob-clause-left
+returns-in-RunJob-clause-left g c = λ before low.
+    let known = known_of (g.F.Files.held c.args.files.now) before (g.F.Files.absences c.run_job.new.files) (g.F.Files.length_met c.run_job.new.files) in
+    let P : Statement → Type 0 = λ statement. IfErr c.run_job.result (λ f. Leaves known c.args.self.now statement f c.run_job.new.self) in
+    subst P (sym c.in-RunJob.is) (c.run_job.ensures.left before low)
+
+pub returns-in-Interpret-clause-left : goal.returns-in-Interpret-clause-left
+returns-in-Interpret-clause-left g c = λ before low.
+    let known = known_of (g.F.Files.held c.args.files.now) before (g.F.Files.absences c.args.files.now) (g.F.Files.length_met c.args.files.now) in
+    let P : Statement → Type 0 = λ statement. IfErr c.interpret.result (λ f. Leaves known c.args.self.now statement f c.args.self.now) in
+    subst P (sym c.in-Interpret.is) (left_same c.args.self.now c.interpret.result)

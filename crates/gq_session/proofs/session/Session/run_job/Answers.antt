@@ -1,5 +1,5 @@
 use Rattle.std.proofs.Common.{List, [], ◌∷◌, IfOk, subst}
-use Rattle.std.specs.Prelude.{OnErr}
+use Rattle.std.specs.Prelude.{IfErr}
 use Rattle.gq_refusal.specs.Messages.{message_of}
 use Rattle.gq_refusal.specs.declared.refusal.StatementFault.TheVariants as fault
 use Rattle.gq_script.specs.Effects.{Becomes, Refused}
@@ -32,10 +32,11 @@ returns-clause-refused g c = λ refusal same before low.
     subst P c.as_slice-jobs.ensures (c.run_job.ensures.refused refusal (refused_back c.run_job.result c.with_line.result (fault.Refused refusal) is same) before low))
 
 pub returns-clause-left : goal.returns-clause-left
-returns-clause-left g c =
+returns-clause-left g c = λ before low.
     let i = c.self.inside in
     let v : State = record { schema = i.catalog; in_use = i.in_use; jobs = i.jobs; queries = i.queries; store = i.store } in
-    job_left c.args.self.now v c.self.view_is c.args.tree.now c.run_job.new.store c.run_job.result c.with_line.result
+    let known = known_of (g.F.Files.held c.args.files.now) before (g.F.Files.absences c.run_job.new.files) (g.F.Files.length_met c.run_job.new.files) in
+    job_left c.args.self.now v c.self.view_is c.args.tree.now known c.run_job.new.store c.run_job.result c.with_line.result
     (is_line c.run_job.result c.with_line.result c.with_line.ensures.done c.with_line.ensures.printed c.with_line.ensures.same)
-    (let P : List NamedJob → Type 0 = λ jobs. OnErr c.run_job.result (JobLeaves i.catalog jobs i.store c.args.tree.now c.run_job.new.store) in
-    subst P c.as_slice-jobs.ensures c.run_job.ensures.left)
+    (let P : List NamedJob → Type 0 = λ jobs. IfErr c.run_job.result (λ f. JobLeaves known i.catalog jobs i.store c.args.tree.now f c.run_job.new.store) in
+    subst P c.as_slice-jobs.ensures (c.run_job.ensures.left before low))

@@ -1,0 +1,5 @@
+pub mod KindFits
+pub mod ValueFits
+pub mod StoreFits
+pub mod UpsertFits
+pub mod CatalogFits

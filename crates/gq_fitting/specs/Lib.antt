@@ -1,0 +1,4 @@
+pub mod Stores
+pub mod Values
+pub mod Upserts
+pub mod Catalogs

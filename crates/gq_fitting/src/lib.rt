@@ -1,0 +1,47 @@
+//! Stores and arguments whose values are of their types, as a query that was checked wants them: laws.
+//!
+//! The definitions stand in `specs/`: `Stores.antt` says when a catalog is whole and rows are of its types, `Upserts.antt` and `Catalogs.antt`
+//! what keeps them so, `Values.antt` what arguments are. Nothing here runs: each function below says that a law holds.
+#![tactic(auto)]
+
+ghost use Rattle.gq_fitting.specs.Stores.{StoreLaw};
+ghost use Rattle.gq_fitting.specs.Values.{OrderLaw, MemberLaw};
+ghost use Rattle.gq_fitting.specs.Upserts.{EmptyLaw, UpsertLaw, RowGrowthLaw};
+ghost use Rattle.gq_fitting.specs.Catalogs.{NoTypesLaw, VertexTypeLaw, EdgeTypeLaw, GraphTypeLaw, SeesLaw};
+
+/// Arguments of a script, in parentheses or as members of its file, are values of the parameters' types, where none of them is bad.
+#[tactic(auto, using(crate::proofs::ValueFits::order_law, crate::proofs::ValueFits::member_law))]
+pub fn arguments_fit()
+    ensures in_order { OrderLaw }
+    ensures by_members { MemberLaw }
+{}
+
+/// What a query reads of a store whose rows are of their types is of the catalog's types.
+#[tactic(auto, using(crate::proofs::StoreFits::store_law))]
+pub fn stores_fit()
+    ensures { StoreLaw }
+{}
+
+/// Rows stay of their types: there are none at first, upserts of rows of their types leave them so, and so does a catalog that
+/// grows.
+#[tactic(auto, using(crate::proofs::UpsertFits::empty_law, crate::proofs::UpsertFits::upsert_law, crate::proofs::UpsertFits::row_growth_law))]
+pub fn rows_stay_fit()
+    ensures empty { EmptyLaw }
+    ensures by_upserts { UpsertLaw }
+    ensures by_growth { RowGrowthLaw }
+{}
+
+/// A catalog is whole at first, and each declaration that isn't refused leaves it so.
+#[tactic(auto, using(crate::proofs::CatalogFits::no_types_law, crate::proofs::CatalogFits::vertex_type_law, crate::proofs::CatalogFits::edge_type_law, crate::proofs::CatalogFits::graph_type_law))]
+pub fn catalogs_stay_whole()
+    ensures empty { NoTypesLaw }
+    ensures by_vertex_type { VertexTypeLaw }
+    ensures by_edge_type { EdgeTypeLaw }
+    ensures by_graph { GraphTypeLaw }
+{}
+
+/// The graphs of a whole catalog have types of the catalog alone.
+#[tactic(auto, using(crate::proofs::CatalogFits::sees_law))]
+pub fn graphs_see_types()
+    ensures { SeesLaw }
+{}

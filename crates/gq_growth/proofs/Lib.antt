@@ -1,0 +1,10 @@
+pub mod Leads
+pub mod ScopeGrowth
+pub mod ExpressionGrowth
+pub mod ActGrowth
+pub mod WalkGrowth
+pub mod SetGrowth
+pub mod StatementGrowth
+pub mod QueryGrowth
+pub mod WordGrowth
+pub mod SafetyLaws
