@@ -27,7 +27,6 @@ pub fn queries_stay_safe()
 {}
 
 /// What is known of a query's safety in a catalog goes on holding while the catalog grows.
-#[tactic(auto, using(crate::proofs::SafetyLaws::goes_on_law))]
 pub fn safety_goes_on()
     ensures { GoesOnLaw }
 {}
