@@ -17,14 +17,13 @@ pub fn arguments_fit()
 {}
 
 /// What a query reads of a store whose rows are of their types is of the catalog's types.
-#[tactic(auto, using(crate::proofs::StoreFits::store_law))]
 pub fn stores_fit()
     ensures { StoreLaw }
 {}
 
 /// Rows stay of their types: there are none at first, upserts of rows of their types leave them so, and so does a catalog that
 /// grows.
-#[tactic(auto, using(crate::proofs::UpsertFits::empty_law, crate::proofs::UpsertFits::upsert_law, crate::proofs::UpsertFits::row_growth_law))]
+#[tactic(auto, using(crate::proofs::UpsertFits::empty_law, crate::proofs::UpsertFits::row_growth_law))]
 pub fn rows_stay_fit()
     ensures empty { EmptyLaw }
     ensures by_upserts { UpsertLaw }
@@ -32,7 +31,7 @@ pub fn rows_stay_fit()
 {}
 
 /// A catalog is whole at first, and each declaration that isn't refused leaves it so.
-#[tactic(auto, using(crate::proofs::CatalogFits::no_types_law, crate::proofs::CatalogFits::vertex_type_law, crate::proofs::CatalogFits::edge_type_law, crate::proofs::CatalogFits::graph_type_law))]
+#[tactic(auto, using(crate::proofs::CatalogFits::no_types_law))]
 pub fn catalogs_stay_whole()
     ensures empty { NoTypesLaw }
     ensures by_vertex_type { VertexTypeLaw }
