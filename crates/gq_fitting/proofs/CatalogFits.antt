@@ -1,6 +1,6 @@
 -- CatalogFits: declarations that aren't refused leave a catalog whole.
-use Rattle.std.proofs.Common.{◌≡◌, ℕ, zero, suc, ◌+◌, ◌<◌, ◌≤◌, ◌⊎◌, inl, inr, Bool, true, false, not, cond, List, [], ◌∷◌, ◌++◌, length, get_or, map, filter, All, Option, Some, None, refl, ap, ap₂, sym, ◌∙◌, subst, arith, eq-eqb, is_some, length-append}
-use Rattle.std.proofs.lemmas.Bool.{eqb-true, ltb-true, lt-ltb, cases_lt}
+use Rattle.std.proofs.Common.{◌≡◌, ℕ, zero, suc, ◌+◌, ◌<◌, ◌≤◌, ◌⊎◌, inl, inr, Bool, true, false, not, cond, List, [], ◌∷◌, ◌++◌, length, get_or, map, filter, Option, Some, None, refl, ap, ap₂, sym, ◌∙◌, subst, arith, eq-eqb, is_some, length-append}
+use Rattle.std.proofs.lemmas.Bool.{eqb-true, lt-ltb, cases_lt}
 use Rattle.std.proofs.lemmas.List.{map-append, get_or-append-add, get_or_append_left, length_push}
 use Rattle.std.proofs.lemmas.List.Elements.{All-push}
 use Rattle.std.proofs.lemmas.List.Folds.{list_any-append}
@@ -10,10 +10,9 @@ use Rattle.std.specs.Prelude.{◌==◌, ◌&&◌, ◌||◌, nat_lt, position, by
 use Rattle.std.specs.List.{list_any, list_all, range_with_len}
 use Rattle.std.specs.Option.{option_map, option_or, option_map_or}
 use Rattle.gq_value.specs.Candidates.{among}
-use Rattle.gq_value.specs.Catalog.{Schema, name_place, vertex_names, edge_names, vertex_type_of, edge_type_of, graph_of, with_vertex_type, with_edge_types, edge_type_with, edge_types_of, end_of, with_graph}
+use Rattle.gq_value.specs.Catalog.{Schema, name_place, vertex_names, edge_names, vertex_type_of, edge_type_of, with_edge_types, edge_types_of, end_of, with_graph}
 use Rattle.gq_value.specs.Defaults.{settled}
 use Rattle.gq_value.specs.declared.catalog.Attribute.{Attribute}
-use Rattle.gq_value.specs.declared.catalog.IdShape.{IdShape}
 use Rattle.gq_value.specs.declared.catalog.VertexType.{VertexType}
 use Rattle.gq_value.specs.declared.catalog.EdgeType.{EdgeType}
 use Rattle.gq_value.specs.declared.catalog.GraphType.{GraphType}
@@ -21,11 +20,11 @@ use Rattle.gq_job.specs.Targets.{edge_type_at, no_edge_type}
 use Rattle.gq_schema.specs.declared.fault.SchemaFault.{SchemaFault}
 use Rattle.gq_schema.specs.declared.fault.SchemaFault.TheVariants as fault
 use Rattle.gq_schema.specs.Members.{below, is_number, is_listed, has_vertex, names_edge, has_edge, has_ends, fits, misfit, graph_with}
-use Rattle.gq_schema.specs.Refusals.{is_type, taken, reverse_taken, vertex_refusal, edge_refusal, graph_taken, member_refusal, graph_refusal}
-use Rattle.gq_insert.specs.Fits.{EdgeTypeFits, IsSound}
+use Rattle.gq_schema.specs.Refusals.{is_type, taken, reverse_taken, graph_taken, member_refusal}
+use Rattle.gq_insert.specs.Fits.{IsSound}
 use Rattle.gq_growth.proofs.WordGrowth.{low_of, position_here, position_behind}
 use Rattle.gq_growth.proofs.SafetyLaws.{low_more}
-use Rattle.gq_fitting.specs.Stores.{OwnFits, Exchanges, PairsFit, NamesApart, IsWhole}
+use Rattle.gq_fitting.specs.Stores.{OwnFits, Exchanges, IsWhole}
 use Rattle.gq_fitting.specs.Catalogs.{NoTypesLaw, VertexTypeLaw, EdgeTypeLaw, GraphTypeLaw, SeesLaw}
 
 -- ---- truths

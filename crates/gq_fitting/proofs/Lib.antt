@@ -3,3 +3,4 @@ pub mod ValueFits
 pub mod StoreFits
 pub mod UpsertFits
 pub mod CatalogFits
+pub mod ClockFits

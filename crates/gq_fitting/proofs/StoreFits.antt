@@ -1,25 +1,24 @@
 -- StoreFits: what a query reads of a store whose rows are of their types.
-use Rattle.std.proofs.Common.{◌≡◌, ℕ, ◌<◌, Bool, true, false, List, [], ◌∷◌, length, get_or, ℤ, pos, negsuc, All, Option, Some, None, refl, ap, ap₂, sym, ◌∙◌, subst, arith}
-use Rattle.std.proofs.lemmas.Bool.{eqb-true, ltb-true}
+use Rattle.std.proofs.Common.{◌≡◌, ℕ, ◌<◌, Bool, true, false, List, [], ◌∷◌, length, ℤ, pos, negsuc, All, Option, Some, None, refl, ap, ap₂, sym, ◌∙◌, subst, arith}
+use Rattle.std.proofs.lemmas.Bool.{eqb-true}
 use Rattle.std.proofs.lemmas.Bool.Decides.{nat_tests}
 use Rattle.std.proofs.lemmas.List.{length-map}
 use Rattle.std.proofs.lemmas.Option.{slice_get-map, slice_get-get_or, slice_get_within, get_or_from_slice_get}
-use Rattle.std.specs.Prelude.{◌&&◌, ◌||◌, not, ◌==◌, if◌then◌else◌, map, slice_get, nat_lt, bytes_eq}
+use Rattle.std.specs.Prelude.{◌&&◌, not, ◌==◌, if◌then◌else◌, map, slice_get, nat_lt, bytes_eq}
 use Rattle.std.specs.List.{list_all}
 use Rattle.std.specs.Option.{option_map, unwrap_or, ForSome}
 use Rattle.gq_value.specs.Accums as bases
-use Rattle.gq_value.specs.Val.{Val, Int, UInt, Truth, Text, Vertex, Tuple, Fraction}
+use Rattle.gq_value.specs.Val.{Val, Int, UInt, Truth, Text}
 use Rattle.gq_value.specs.Views.{val}
 use Rattle.gq_value.specs.Typed.{in_calendar}
 use Rattle.gq_value.specs.AccumViews.{base_of}
 use Rattle.gq_value.specs.Candidates.{among}
 use Rattle.gq_value.specs.Catalog.{Schema}
-use Rattle.gq_value.specs.Defaults.{Sort, INT, UINT, BOOL, STRING, DATETIME, OTHER, sort_of, is_time}
+use Rattle.gq_value.specs.Defaults.{Sort, INT, UINT, BOOL, STRING, DATETIME, sort_of, is_time}
 use Rattle.gq_value.specs.declared.catalog.Attribute.{Attribute}
 use Rattle.gq_value.specs.declared.catalog.IdKind.{IdKind}
 use Rattle.gq_value.specs.declared.catalog.IdKind.TheVariants as id
 use Rattle.gq_value.specs.declared.catalog.IdShape.{IdShape}
-use Rattle.gq_value.specs.declared.catalog.VertexType.{VertexType}
 use Rattle.gq_value.specs.declared.catalog.EdgeType.{EdgeType}
 use Rattle.gq_value.specs.declared.catalog.GraphType.{GraphType}
 use Rattle.gq_value.specs.declared.store.VertexRow.{VertexRow}
@@ -29,8 +28,8 @@ use Rattle.gq_job.specs.Targets.{no_vertex_type, no_edge_type, vertex_type_at, e
 use Rattle.gq_insert.specs.Fits.{row_fits}
 use Rattle.gq_insert.specs.Fits as inserted
 use Rattle.gq_typing.specs.Statements.{Bytes}
-use Rattle.gq_typing.specs.Sorts.{Fields, VertexSort, EdgeSort, Sorts, bases_of, attribute_fields, id_base, with_id, vertex_sort, edge_sort, sorts_of}
-use Rattle.gq_typing.specs.Words.{Function, Makes, under, functions, by_name}
+use Rattle.gq_typing.specs.Sorts.{Fields, EdgeSort, Sorts, bases_of, attribute_fields, id_base, with_id, vertex_sort, edge_sort, sorts_of}
+use Rattle.gq_typing.specs.Words.{Function, Makes, under, functions}
 use Rattle.gq_meaning.specs.Calendars.{Calendar, StaysInRange}
 use Rattle.gq_meaning.specs.Expressions.{World}
 use Rattle.gq_meaning.specs.Graphs.{Graph, id_value, with_shown, values_in, graph_of}
@@ -41,7 +40,7 @@ use Rattle.gq_fitting.proofs.KindFits.{Has, sort_base}
 
 -- ---- values
 
-time_in : (z : ℤ) → is_time z ≡ true → in_calendar z ≡ true
+pub time_in : (z : ℤ) → is_time z ≡ true → in_calendar z ≡ true
 time_in (pos n) e = grind (arith, nat_tests, e)
 time_in (negsuc n) e = grind (arith, nat_tests, e)
 

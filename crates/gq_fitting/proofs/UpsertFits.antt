@@ -4,23 +4,21 @@ use Rattle.std.proofs.lemmas.Bool.{eqb-true}
 use Rattle.std.proofs.lemmas.List.{length-take}
 use Rattle.std.proofs.lemmas.List.Elements.{All-set, All-push}
 use Rattle.std.proofs.lemmas.List.Quantifiers.{position-Some}
-use Rattle.std.specs.Prelude.{◌==◌, ◌&&◌, slice_index_or}
+use Rattle.std.specs.Prelude.{◌==◌, ◌&&◌}
 use Rattle.gq_value.specs.Catalog.{Schema}
 use Rattle.gq_value.specs.Vertices.{vertex_number, vertex_put, upsert_vertex}
-use Rattle.gq_value.specs.Edges.{edge_with, edge_number, edge_put, edge_at, no_edge, is_edge}
+use Rattle.gq_value.specs.Edges.{edge_number, edge_put, edge_at, no_edge, is_edge}
 use Rattle.gq_value.specs.declared.catalog.VertexType.{VertexType}
 use Rattle.gq_value.specs.declared.catalog.EdgeType.{EdgeType}
 use Rattle.gq_value.specs.declared.store.Naming.{Naming}
 use Rattle.gq_value.specs.declared.store.VertexRow.{VertexRow}
 use Rattle.gq_value.specs.declared.store.EdgeRow.{EdgeRow}
-use Rattle.gq_value.specs.declared.value.Value.{Value}
 use Rattle.gq_index.specs.declared.store.Store.{Store}
-use Rattle.gq_job.specs.Fits.{HasGrown}
 use Rattle.gq_job.specs.GrowthLaws.{vertex_type_stays, edge_type_stays}
-use Rattle.gq_job.specs.Targets.{vertex_type_at, edge_type_at}
+use Rattle.gq_job.specs.Targets.{edge_type_at}
 use Rattle.gq_insert.specs.Fits.{row_fits}
-use Rattle.gq_put.specs.Steps.{Step, Vertex, End, Edge, Name, name_of, has_vertex, edge_between, after, after_all, Begun}
-use Rattle.gq_fitting.specs.Stores.{VertexRowFits, EdgeRowFits, RowsFit}
+use Rattle.gq_put.specs.Steps.{Step, Vertex, End, Edge, name_of, has_vertex, edge_between, after, after_all}
+use Rattle.gq_fitting.specs.Stores.{VertexRowFits, EdgeRowFits}
 use Rattle.gq_fitting.specs.Upserts.{StepFits, StepsFit, StoreRowsFit, EmptyLaw, UpsertLaw, RowGrowthLaw}
 
 -- ---- upserts

@@ -1,9 +1,9 @@
 -- ValueFits: arguments that stand for values stand for values of their parameters' types.
-use Rattle.std.proofs.Common.{◌≡◌, ℕ, Bool, true, false, List, [], ◌∷◌, length, get_or, ℤ, Option, Some, None, refl, ap, ap₂, sym, ◌∙◌, subst, eq-eqb}
+use Rattle.std.proofs.Common.{◌≡◌, ℕ, Bool, true, false, List, [], ◌∷◌, get_or, Option, Some, None, refl, ap, ap₂, sym, ◌∙◌, subst, eq-eqb}
 use Rattle.std.proofs.lemmas.Bool.{eqb-true}
 use Rattle.std.proofs.lemmas.List.Quantifiers.{position-Some}
 use Rattle.std.proofs.lemmas.Option.{slice_get-map, slice_get-get_or}
-use Rattle.std.specs.Prelude.{◌&&◌, ◌||◌, ◌==◌, if◌then◌else◌, map, slice_get, position, bytes_eq}
+use Rattle.std.specs.Prelude.{◌&&◌, ◌||◌, ◌==◌, if◌then◌else◌, map, slice_get}
 use Rattle.std.specs.Option.{option_map}
 use Rattle.gq_value.specs.declared.kind.Number.TheVariants as number
 use Rattle.gq_value.specs.Val.{Val, Int, UInt, Truth, Text, Vertex}
@@ -26,8 +26,8 @@ use Rattle.gq_meaning.specs.Expressions.{World}
 use Rattle.gq_meaning.specs.Graphs.{Graph, graph_of}
 use Rattle.gq_meaning.specs.Queries.{world_of}
 use Rattle.gq_meaning.specs.Statements.{base_of_tree}
-use Rattle.gq_meaning.specs.Fitting.{is_value, is_vertex_of}
-use Rattle.gq_meaning.specs.Arguments.{Argument, OfLiteral, OfVertex, Nothing, Member, a_vertex, vertex_in, number_id, if_fits, literal_value, argument_value, in_order, by_members, Values, AllValues, BadArgument, value_and, values_of}
+use Rattle.gq_meaning.specs.Fitting.{is_value}
+use Rattle.gq_meaning.specs.Arguments.{Argument, OfLiteral, OfVertex, a_vertex, vertex_in, number_id, if_fits, literal_value, argument_value, in_order, by_members, Values, AllValues, BadArgument, value_and, values_of}
 use Rattle.gq_safety.specs.Laws.{ArgumentsFit}
 use Rattle.gq_fitting.specs.Values.{OrderLaw, MemberLaw}
 

@@ -9,7 +9,7 @@ use Rattle.gq_value.specs.declared.store.VertexRow.{VertexRow}
 use Rattle.gq_value.specs.declared.store.EdgeRow.{EdgeRow}
 use Rattle.gq_job.specs.Targets.{vertex_type_at, edge_type_at}
 use Rattle.gq_insert.specs.Fits.{row_fits}
-use Rattle.gq_meaning.specs.Calendars.{Calendar, StaysInRange}
+use Rattle.gq_meaning.specs.Calendars.{Calendar, IsCalendar, StaysInRange}
 use Rattle.gq_growth.specs.Safety.{IsStoreOf}
 
 -- ---- catalogs
@@ -62,3 +62,7 @@ pub record RowsFit (schema : Schema) (vertex_rows : List VertexRow) (edge_rows :
 abbrev pub StoreLaw : Type 0
 StoreLaw = (schema : Schema) (own : Option GraphType) (vertices : List VertexRow) (edges : List EdgeRow) (clock : Calendar)
     → PairsFit schema → ForSome own (OwnFits schema) → RowsFit schema vertices edges → StaysInRange clock → IsStoreOf schema own vertices edges clock
+
+-- what a calendar reads and adds is a time
+abbrev pub CalendarLaw : Type 0
+CalendarLaw = (clock : Calendar) → IsCalendar clock → StaysInRange clock

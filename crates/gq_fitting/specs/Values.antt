@@ -1,5 +1,5 @@
 -- Values: arguments of a script, or of its file of arguments, are values of the parameters' types.
-use Rattle.std.specs.Prelude.{◌≡◌, ℕ, List, length, Option}
+use Rattle.std.specs.Prelude.{◌≡◌, List, Option}
 use Rattle.gq_value.specs.Val.{Val}
 use Rattle.gq_value.specs.Catalog.{Schema}
 use Rattle.gq_value.specs.declared.catalog.GraphType.{GraphType}
@@ -10,7 +10,7 @@ use Rattle.gq_typing.specs.Sorts.{sorts_of}
 use Rattle.gq_meaning.specs.Calendars.{Calendar}
 use Rattle.gq_meaning.specs.Graphs.{graph_of}
 use Rattle.gq_meaning.specs.Queries.{world_of}
-use Rattle.gq_meaning.specs.Arguments.{Argument, Member, Values, AllValues, in_order, by_members, values_of}
+use Rattle.gq_meaning.specs.Arguments.{Argument, Member, AllValues, in_order, by_members, values_of}
 use Rattle.gq_safety.specs.Laws.{ArgumentsFit}
 
 -- where none of them is bad, the values are of the parameters' types: those in parentheses

@@ -4,7 +4,7 @@
 //! what keeps them so, `Values.antt` what arguments are. Nothing here runs: each function below says that a law holds.
 #![tactic(auto)]
 
-ghost use Rattle.gq_fitting.specs.Stores.{StoreLaw};
+ghost use Rattle.gq_fitting.specs.Stores.{StoreLaw, CalendarLaw};
 ghost use Rattle.gq_fitting.specs.Values.{OrderLaw, MemberLaw};
 ghost use Rattle.gq_fitting.specs.Upserts.{EmptyLaw, UpsertLaw, RowGrowthLaw};
 ghost use Rattle.gq_fitting.specs.Catalogs.{NoTypesLaw, VertexTypeLaw, EdgeTypeLaw, GraphTypeLaw, SeesLaw};
@@ -43,4 +43,9 @@ pub fn catalogs_stay_whole()
 #[tactic(auto, using(crate::proofs::CatalogFits::sees_law))]
 pub fn graphs_see_types()
     ensures { SeesLaw }
+{}
+
+/// What a calendar reads and adds is a time.
+pub fn calendars_stay_in_range()
+    ensures { CalendarLaw }
 {}

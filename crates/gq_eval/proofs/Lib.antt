@@ -1,0 +1,5 @@
+pub mod RunLemmas
+pub mod CallSteps
+pub mod MethodSteps
+pub mod ListSteps
+pub mod SoundSteps

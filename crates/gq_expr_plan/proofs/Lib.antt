@@ -1,0 +1,5 @@
+pub mod ListLemmas
+pub mod MethodLemmas
+pub mod PlanLaws
+pub mod SettledLaws
+pub mod TypedLaws

@@ -1,0 +1,4 @@
+pub mod Known
+pub mod Resolved
+pub mod Called
+pub mod Laws

@@ -1,0 +1,13 @@
+pub mod ListLemmas
+pub mod RuleLemmas
+pub mod TurnLemmas
+pub mod LeaveLemmas
+pub mod CountLemmas
+pub mod SeatLemmas
+pub mod FeedLemmas
+pub mod StripeLemmas
+pub mod OpenLemmas
+pub mod OrderLemmas
+pub mod PutLemmas
+pub mod EndLemmas
+pub mod FitLemmas

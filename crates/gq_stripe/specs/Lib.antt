@@ -1,0 +1,11 @@
+pub mod Contents
+pub mod Ending
+pub mod Feeding
+pub mod Laid
+pub mod Opening
+pub mod Phases
+pub mod Rule
+pub mod Runs
+pub mod Seats
+pub mod Steps
+pub mod Turns
