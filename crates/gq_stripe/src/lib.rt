@@ -18,8 +18,6 @@ mod partials;
 mod rule;
 mod seat;
 mod stripe;
-#[cfg(test)]
-mod tests;
 mod turn;
 mod view;
 
