@@ -284,8 +284,8 @@ pub record AreTakenTo (rows now : List (List Content)) (k : ℕ) : Type 0 where
   pub count : length now ≡ length rows
   pub each : (j : ℕ) → k ≤ j → slice_get now j ≡ slice_get rows j
 
-pub none_taken : (rows : List (List Content)) → AreTakenTo rows rows 0
-none_taken rows = record { count = refl; each = λ j low. refl }
+pub none_taken : (whole : List (List Content)) → AreTakenTo whole whole 0
+none_taken whole = record { count = refl; each = λ j low. refl }
 
 pub one_taken : (rows now new : List (List Content)) (k : ℕ) → AreTakenTo rows now k → new ≡ set now k [] → AreTakenTo rows new (k + 1)
 one_taken rows now new k t is = record {
