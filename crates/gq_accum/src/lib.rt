@@ -9,8 +9,6 @@ mod folding;
 mod inputs;
 mod scalar;
 mod sums;
-#[cfg(test)]
-mod tests;
 
 pub use fold::Fold;
 pub use scalar::{Mean, OutOfRange, Scalar};

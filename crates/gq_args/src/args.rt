@@ -1,6 +1,8 @@
 // The arguments of a run.
-ghost use Rattle.std.specs.Prelude.{◌≡◌, MatchResult, Some, None};
+ghost use Rattle.std.specs.Prelude.{◌≡◌, MatchResult, Some, None, option_map, option_and_then};
 ghost use Rattle.serde_json.specs.Data.{Members, object};
+ghost use Rattle.serde_json.specs.Find.{get};
+ghost use Rattle.serde_json.specs.View.{view};
 ghost use Rattle.gq_args.specs.Objects.{IsObject};
 ghost use Rattle.gq_args.specs.Holds.{held};
 
@@ -54,6 +56,16 @@ impl Args {
             })
         } else {
             Err(ArgsFault::Unreadable)
+        }
+    }
+
+    /// What stands under the name of a query.
+    pub fn of_query(&self, query: &str) -> Option<&Value>
+        ensures { option_map (λ v. view v.now) result ≡ option_and_then (get query.now) (held self.now) }
+    {
+        match &self.object {
+            Some(object) => object.get(query),
+            None => None,
         }
     }
 }

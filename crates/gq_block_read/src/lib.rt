@@ -15,8 +15,6 @@ mod parts;
 mod paths;
 mod patterns;
 mod selects;
-#[cfg(test)]
-mod tests;
 
 pub use act::acts;
 pub use changes::change;

@@ -15,8 +15,6 @@ mod job;
 mod laws;
 mod machine;
 mod stripe;
-#[cfg(test)]
-mod tests;
 mod worker;
 
 pub use batches::Batches;

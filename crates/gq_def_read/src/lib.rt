@@ -12,8 +12,6 @@ mod inserts;
 mod jobs;
 mod laws;
 mod loads;
-#[cfg(test)]
-mod tests;
 mod vertices;
 
 pub use edges::edge;

@@ -228,6 +228,3 @@ fn replace(rows: &mut Vec<EdgeRow>, number: u32, edge: EdgeRow)
     let row = &mut rows[number as usize];
     row.attributes = edge.attributes;
 }
-
-#[cfg(test)]
-mod tests;

@@ -12,8 +12,6 @@ mod fault;
 mod laws;
 mod methods;
 mod resolves;
-#[cfg(test)]
-mod tests;
 
 pub use exprs::plan_expr;
 pub use fault::PlanFault;

@@ -13,8 +13,6 @@ mod logic;
 mod primary;
 mod read;
 mod sums;
-#[cfg(test)]
-mod tests;
 
 pub use fault::ReadFault;
 pub use laws::{levels_drop_out, one_tree};

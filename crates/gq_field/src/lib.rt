@@ -7,8 +7,6 @@
 mod blanks;
 mod id;
 mod numbers;
-#[cfg(test)]
-mod tests;
 mod value;
 
 pub use id::read_id;

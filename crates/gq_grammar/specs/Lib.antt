@@ -5,3 +5,4 @@ pub mod Signs
 pub mod Parsers
 pub mod Reading
 pub mod Series
+pub use Rattle.gq_token.specs.declared.token.Token

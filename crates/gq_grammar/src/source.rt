@@ -9,8 +9,7 @@ ghost use Rattle.gq_grammar.specs.Reading.{between};
 ghost use Rattle.gq_grammar.specs.Series.{joined};
 
 use crate::reserved::is_reserved;
-use gq_token::{Shape, Token};
-use gq_value::{Memory, Txt};
+use gq_token::{Memory, Shape, Token, Txt};
 use std::alloc::Global;
 use std::marker::Model;
 

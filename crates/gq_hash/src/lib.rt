@@ -9,8 +9,6 @@
 mod chains;
 mod hash;
 mod hashes;
-#[cfg(test)]
-mod tests;
 
 pub use hash::{mixed, text_hash, wide_hash};
 pub use hashes::Hashes;

@@ -14,8 +14,6 @@ mod marks;
 mod places;
 mod runs;
 mod store;
-#[cfg(test)]
-mod tests;
 mod vertex_list;
 mod walks;
 

@@ -25,6 +25,3 @@ pub use memory_files::{MemoryFiles, SureFiles};
 pub use memory_sink::{MemorySink, SureSink};
 pub use shape::Shape;
 pub use sink::{Sink, SinkFault, write_all};
-
-#[cfg(test)]
-mod tests;

@@ -11,8 +11,6 @@ mod job;
 mod laws;
 mod options;
 mod targets;
-#[cfg(test)]
-mod tests;
 
 pub use check::check_job;
 pub use fault::JobFault;

@@ -12,8 +12,6 @@ mod heaps;
 mod kind;
 mod kinds;
 mod laws;
-#[cfg(test)]
-mod tests;
 
 pub use accums::value;
 pub use bases::base;

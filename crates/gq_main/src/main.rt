@@ -1,7 +1,7 @@
 //! The program `gsql`: runs a GSQL script and prints one JSON line a statement.
 //!
-//! The one call that matters is `run` of `gq_run`: its clauses are the promise of the whole program. Here it is given the words, the
-//! host's files and its standard output, and the program ends with the number of its answer.
+//! The one call that matters is `run` of `gq_run`: its clauses are the promise of the whole program. Here it is given an engine
+//! for its queries, the words, the host's files and its standard output, and the program ends with the number of its answer.
 #![tactic(auto)]
 
 ghost use Rattle.std.specs.Prelude.{◌≡◌, ◌≢◌};
@@ -9,7 +9,8 @@ ghost use Rattle.std.specs.Process.{exit_status};
 ghost use Rattle.std.specs.IoError.{error_kind};
 ghost use Rattle.gq_outcome.specs.Codes.{code_of};
 
-use gq_io::{HostFiles, HostSink, OpenGate};
+use gq_engine::Engine;
+use gq_io::{HostFiles, HostSink};
 use gq_outcome::Status;
 use gq_run::run;
 use std::io::ErrorKind;
@@ -22,12 +23,11 @@ fn main(rt: HostRuntime) -> ExitCode {
         return end_without_words(&rt, &error);
     }
     let status = run(
-        &rt,
+        &Engine,
         rt.alloc(),
         &words,
         &mut HostFiles::new(&rt),
         &mut HostSink::new(&rt),
-        &OpenGate,
     );
     end(&rt, status)
 }

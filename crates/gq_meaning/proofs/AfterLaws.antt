@@ -8,10 +8,10 @@ use Rattle.std.specs.Ordering.{is_eq}
 use Rattle.gq_value.specs.Val.{Val}
 use Rattle.gq_value.specs.Order.{place}
 use Rattle.gq_value.specs.Accums.{Base, Accum, SumAccum, MinAccum, MaxAccum, OrAccum, AndAccum, BitwiseOrAccum, BitwiseAndAccum, AvgAccum, SetAccum, BagAccum, ListAccum, MapAccum, GroupByAccum, HeapAccum, Parts, no_part, part_and, Given, One, Keyed, Givens, no_given, given_and}
-use Rattle.gq_content.specs.Gather.{choose, twice, put, sorted, distinct}
-use Rattle.gq_content.specs.Holds.{Holds, HoldsEach, row_cmp, heap_cmp}
-use Rattle.gq_content.specs.Inputs.{value_of, values, rows_in, own, first, rest}
-use Rattle.gq_content.specs.After.{after, after_each}
+use Rattle.gq_typing.specs.Gather.{choose, twice, put, sorted, distinct}
+use Rattle.gq_typing.specs.Holds.{Holds, HoldsEach, row_cmp, heap_cmp}
+use Rattle.gq_typing.specs.Inputs.{value_of, values, rows_in, own, first, rest}
+use Rattle.gq_typing.specs.After.{after, after_each}
 use Rattle.gq_typing.specs.Statements.{Bytes}
 use Rattle.gq_typing.specs.Sorts.{bases_of}
 use Rattle.gq_meaning.specs.Expressions.{World}

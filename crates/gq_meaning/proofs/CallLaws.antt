@@ -1,14 +1,14 @@
 -- CallLaws: functions and methods of typed arguments are not stuck, and give what they are typed with.
 use Rattle.std.proofs.Common.{◌≡◌, ℕ, suc, Bool, true, false, List, [], ◌∷◌, map, length, ◌+◌, eq-eqb, arith, Option, Some, None, Ok, refl, ap, sym, ◌∙◌, subst}
 use Rattle.std.specs.Prelude.{◌&&◌, ◌==◌, if◌then◌else◌, slice_get}
-use Rattle.gq_tree.specs.Tree.{Trees}
+use Rattle.gq_typing.specs.Tree.{Trees}
 use Rattle.gq_value.specs.declared.value.Wrong.{Wrong}
 use Rattle.gq_value.specs.Val.{Val, vals_of}
 use Rattle.gq_value.specs.Accums.{Base, INT, UINT, BOOL, STRING, DATETIME, VERTEX, VERTEX_OF, TUPLE, Bases, no_base, base_and, Accum, SetAccum, BagAccum, ListAccum, MapAccum, GroupByAccum}
 use Rattle.gq_value.specs.AccumViews.{bases}
 use Rattle.gq_value.specs.Typed.{is_scalar}
-use Rattle.gq_content.specs.Gather.{among}
-use Rattle.gq_content.specs.Holds.{Holds, row_cmp}
+use Rattle.gq_typing.specs.Gather.{among}
+use Rattle.gq_typing.specs.Holds.{Holds, row_cmp}
 use Rattle.gq_typing.specs.Sorts.{Fields, bases_of}
 use Rattle.gq_typing.specs.Words.{Function, Makes, Abs, ToString, ToDatetime, EpochToDatetime, DatetimeToEpoch, DatetimeDiff, DatetimeAdd, PartOf, Method, Size, Contains, ContainsKey, Get, Outdegree, function_from, function_named}
 use Rattle.gq_typing.specs.Judging.{Typed, Of, Whole, ◌>>◌, unless, Mismatch}

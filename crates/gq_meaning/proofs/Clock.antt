@@ -2,9 +2,9 @@
 use Rattle.std.proofs.Common.{ℕ, zero, suc, ◌+◌, ◌*◌, ◌-◌, ◌/◌, ◌%◌, min, Bool, true, false, ◌&&◌, ◌||◌, ◌==◌, if◌then◌else◌, nat_lt, nat_le, List, [], ◌∷◌, ◌++◌, take, drop, length, ℤ, pos, negsuc, ◌+ℤ◌, ◌*ℤ◌, neg_ℤ, Option, Some, None}
 use Rattle.std.specs.List.{list_all}
 use Rattle.gq_value.specs.Typed.{in_calendar}
-use Rattle.gq_time.specs.declared.adding.Unit.{Unit}
-use Rattle.gq_time.specs.declared.adding.Unit.TheVariants as unit
-use Rattle.gq_time.specs.Reading.{trimmed}
+use Rattle.gq_typing.specs.Unit.{Unit}
+use Rattle.gq_typing.specs.Unit.TheVariants as unit
+use Rattle.gq_typing.specs.Reading.{trimmed}
 use Rattle.gq_typing.specs.Words.{PartOfTime, Year, Month, Day, Hour, Minute, Second}
 use Rattle.gq_meaning.specs.Calendars.{Calendar}
 

@@ -6,9 +6,9 @@ use Rattle.gq_value.specs.declared.kind.Number.TheVariants as number
 use Rattle.gq_value.specs.Val.{Val}
 use Rattle.gq_value.specs.Accums.{Base, Accum, SumAccum, MinAccum, MaxAccum, OrAccum, AndAccum, BitwiseOrAccum, BitwiseAndAccum, AvgAccum, SetAccum, BagAccum, ListAccum, MapAccum, GroupByAccum, HeapAccum, Parts, no_part, part_and}
 use Rattle.gq_value.specs.Typed.{is_scalar}
-use Rattle.gq_content.specs.Holds.{Holds}
-use Rattle.gq_content.specs.After.{fresh, fresh_each}
-use Rattle.gq_content.specs.Reads.{average}
+use Rattle.gq_typing.specs.Holds.{Holds}
+use Rattle.gq_typing.specs.After.{fresh, fresh_each}
+use Rattle.gq_typing.specs.Reads.{average}
 use Rattle.gq_typing.specs.Judging.{Average}
 use Rattle.gq_typing.specs.Kinds.{read_type}
 use Rattle.gq_meaning.specs.Answers.{Answer, Gives, found}

@@ -1,7 +1,7 @@
 -- ContributionLaws: what a match contributes is never stuck, and each input is one that its accumulator takes.
 use Rattle.std.proofs.Common.{◌≡◌, ℕ, Bool, true, false, List, [], ◌∷◌, ◌++◌, Option, Some, None, Ok, Err, refl, ap, sym, ◌∙◌, subst}
 use Rattle.std.specs.Prelude.{not, slice_get}
-use Rattle.gq_tree.specs.Tree.{Tree}
+use Rattle.gq_typing.specs.Tree.{Tree}
 use Rattle.gq_value.specs.Accums.{Accum}
 use Rattle.gq_typing.specs.Selecting.{Change, Adds, Puts, Act, AtAlias, AtGlobal, Choose, Acts, no_act, act_and, Choices, otherwise, when}
 use Rattle.gq_typing.specs.Statements.{Bytes}

@@ -6,7 +6,7 @@ use Rattle.gq_value.specs.Val.{Val, Vals, Tuple, list_of, none, more}
 use Rattle.gq_value.specs.Accums.{Base, STRING, TUPLE, Bases, Accum, Parts, no_part, part_and}
 use Rattle.gq_value.specs.AccumViews.{bases}
 use Rattle.gq_value.specs.Candidates.{among, is_target}
-use Rattle.gq_content.specs.Holds.{HoldsEach}
+use Rattle.gq_typing.specs.Holds.{HoldsEach}
 use Rattle.gq_typing.specs.Sorts.{Fields, VertexSort, EdgeSort, names_of, bases_of, vertex_fields, edge_fields}
 use Rattle.gq_typing.specs.Words.{OfVertexType, OfEdgeType, OfTupleType, OfParts, names_of_parts}
 use Rattle.gq_typing.specs.Judging.{Typed, Of, GroupRow, Judged, NoAttribute, or_fault}

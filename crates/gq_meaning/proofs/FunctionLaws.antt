@@ -1,7 +1,7 @@
 -- FunctionLaws: what functions give for arguments of their types.
 use Rattle.std.proofs.Common.{◌≡◌, ℕ, Bool, true, false, List, [], ◌∷◌, map, Option, Some, None, Ok, refl, sym, subst}
 use Rattle.std.specs.Prelude.{if◌then◌else◌, ℤ, pos, ◌-ℤ◌, unsigned_abs}
-use Rattle.gq_tree.specs.Tree.{Trees}
+use Rattle.gq_typing.specs.Tree.{Trees}
 use Rattle.gq_value.specs.declared.kind.Number.TheVariants as number
 use Rattle.gq_value.specs.Val.{Val, Int, UInt, Truth, Tuple, vals_of}
 use Rattle.gq_value.specs.Val as val

@@ -1,7 +1,7 @@
 -- InputLaws: a typed input is never stuck, and is one that its kind takes.
 use Rattle.std.proofs.Common.{◌≡◌, ℕ, Bool, true, false, not, List, [], ◌∷◌, map, length, arith, Option, Some, None, Ok, refl}
 use Rattle.std.specs.Prelude.{◌&&◌, ◌==◌}
-use Rattle.gq_tree.specs.Tree.{Tree}
+use Rattle.gq_typing.specs.Tree.{Tree}
 use Rattle.gq_value.specs.declared.value.Wrong.{Wrong}
 use Rattle.gq_value.specs.Val.{Val}
 use Rattle.gq_value.specs.Accums.{Base, Accum, MapAccum, GroupByAccum, Parts, no_part, part_and, One, Keyed, Givens, no_given, given_and}

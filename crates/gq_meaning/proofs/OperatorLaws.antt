@@ -1,9 +1,9 @@
 -- OperatorLaws: what signs, comparisons and conversions give.
 use Rattle.std.proofs.Common.{◌≡◌, ℕ, zero, suc, Bool, true, false, Ok, Err, inl, inr, ◌⊎◌, refl, sym, ◌∙◌, subst}
 use Rattle.std.specs.Prelude.{◌&&◌, ◌||◌, if◌then◌else◌, ◌++◌, ◌^◌, nat_lt, pos, neg_ℤ, ℤ, ◌+ℤ◌}
-use Rattle.gq_tree.specs.declared.expr.AddSign.{AddSign}
-use Rattle.gq_tree.specs.declared.expr.AddSign.TheVariants as sign
-use Rattle.gq_tree.specs.declared.expr.CmpSign.{CmpSign}
+use Rattle.gq_typing.specs.AddSign.{AddSign}
+use Rattle.gq_typing.specs.AddSign.TheVariants as sign
+use Rattle.gq_typing.specs.CmpSign.{CmpSign}
 use Rattle.gq_value.specs.declared.value.Wrong.{Wrong}
 use Rattle.gq_value.specs.declared.kind.Number as numbers
 use Rattle.gq_value.specs.declared.kind.Number.TheVariants as number

@@ -2,8 +2,8 @@
 use Rattle.std.proofs.Common.{◌≡◌, ℕ, Bool, true, false, List, [], ◌∷◌, Result, Ok, Err, refl, ap, sym, ◌∙◌, subst, arith}
 use Rattle.std.proofs.lemmas.Bool.Decides.{nat_tests}
 use Rattle.std.specs.Prelude.{◌&&◌, ◌==◌, ℤ, if◌then◌else◌}
-use Rattle.gq_tree.specs.declared.expr.MulSign.{MulSign}
-use Rattle.gq_tree.specs.declared.expr.MulSign.TheVariants as times
+use Rattle.gq_typing.specs.MulSign.{MulSign}
+use Rattle.gq_typing.specs.MulSign.TheVariants as times
 use Rattle.gq_value.specs.declared.value.Wrong.{Wrong}
 use Rattle.gq_value.specs.declared.value.Wrong.TheVariants as wrong
 use Rattle.gq_value.specs.declared.kind.Number as numbers

@@ -2,12 +2,12 @@
 use Rattle.std.proofs.Common.{◌≡◌, true, false, [], ◌∷◌, pos, negsuc, Some, None, refl}
 use Rattle.std.specs.Prelude.{codes}
 use Rattle.std.specs.Fmt.{digits}
-use Rattle.gq_tree.specs.declared.expr.AddSign.TheVariants as add
-use Rattle.gq_tree.specs.declared.expr.MulSign.TheVariants as times
-use Rattle.gq_tree.specs.declared.expr.CmpSign.TheVariants as cmp
-use Rattle.gq_tree.specs.declared.kind.Plain.TheVariants as plain
-use Rattle.gq_tree.specs.Tree.{Number, Text, Global, Name, Post, Mul, Sum, Cmp, Field, Method, Attached}
-use Rattle.gq_tree.specs.View.{trees_of, parts_of, factors_of, terms_of}
+use Rattle.gq_typing.specs.AddSign.TheVariants as add
+use Rattle.gq_typing.specs.MulSign.TheVariants as times
+use Rattle.gq_typing.specs.CmpSign.TheVariants as cmp
+use Rattle.gq_typing.specs.Plain.TheVariants as plain
+use Rattle.gq_typing.specs.Tree.{Number, Text, Global, Name, Post, Mul, Sum, Cmp, Field, Method, Attached}
+use Rattle.gq_typing.specs.View.{trees_of, parts_of, factors_of, terms_of}
 use Rattle.gq_typing.specs.Selecting.{Plain, Adds, AtAlias, AtGlobal, Choose, otherwise, when, Every, These, Nowhere}
 use Rattle.gq_typing.specs.Statements.{Ints, Strings, OfBase, OverElem, AllOf, Seeds, Selects, Sets, Whole, Selection, Assign, Print, Accums}
 use Rattle.gq_typing.proofs.Written.{acts, stmts, item, hop, selecting}

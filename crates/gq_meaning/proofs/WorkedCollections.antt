@@ -2,12 +2,12 @@
 use Rattle.std.proofs.Common.{◌≡◌, true, false, [], ◌∷◌, Some, None, refl}
 use Rattle.std.specs.Prelude.{codes}
 use Rattle.std.specs.Fmt.{digits}
-use Rattle.gq_tree.specs.declared.expr.MulSign.TheVariants as times
-use Rattle.gq_tree.specs.declared.expr.CmpSign.TheVariants as cmp
-use Rattle.gq_tree.specs.declared.kind.Plain.TheVariants as plain
-use Rattle.gq_tree.specs.declared.kind.Bits.TheVariants as bits
-use Rattle.gq_tree.specs.Tree.{Number, Text, Truth, Global, Name, Call, Post, Neg, Mul, Cmp, Field, Method}
-use Rattle.gq_tree.specs.View.{trees_of, parts_of, factors_of}
+use Rattle.gq_typing.specs.MulSign.TheVariants as times
+use Rattle.gq_typing.specs.CmpSign.TheVariants as cmp
+use Rattle.gq_typing.specs.Plain.TheVariants as plain
+use Rattle.gq_typing.specs.Bits.TheVariants as bits
+use Rattle.gq_typing.specs.Tree.{Number, Text, Truth, Global, Name, Call, Post, Neg, Mul, Cmp, Field, Method}
+use Rattle.gq_typing.specs.View.{trees_of, parts_of, factors_of}
 use Rattle.gq_typing.specs.Selecting.{Plain, Keys, Adds, Puts, AtGlobal, Nowhere}
 use Rattle.gq_typing.specs.Statements.{Ints, UInts, Bools, Strings, OfBase, OverElem, OverBits, Averaged, MapTo, MapToElem, Grouped, Heap, no_part_tree, part_tree_and, AllOf, Seeds, Selects, Sets, Whole, Assign, ChangeGlobal, Print, TupleType, Accums}
 use Rattle.gq_typing.proofs.Written.{inputs_of, acts, stmts, item, selecting}

@@ -2,12 +2,12 @@
 use Rattle.std.proofs.Common.{◌≡◌, true, false, [], ◌∷◌, Some, None, refl}
 use Rattle.std.specs.Prelude.{codes}
 use Rattle.std.specs.Fmt.{digits}
-use Rattle.gq_tree.specs.declared.expr.AddSign.TheVariants as add
-use Rattle.gq_tree.specs.declared.expr.MulSign.TheVariants as times
-use Rattle.gq_tree.specs.declared.expr.CmpSign.TheVariants as cmp
-use Rattle.gq_tree.specs.declared.kind.Plain.TheVariants as plain
-use Rattle.gq_tree.specs.Tree.{Number, Text, Truth, Global, Name, Neg, Mul, Sum, Cmp}
-use Rattle.gq_tree.specs.View.{factors_of, terms_of}
+use Rattle.gq_typing.specs.AddSign.TheVariants as add
+use Rattle.gq_typing.specs.MulSign.TheVariants as times
+use Rattle.gq_typing.specs.CmpSign.TheVariants as cmp
+use Rattle.gq_typing.specs.Plain.TheVariants as plain
+use Rattle.gq_typing.specs.Tree.{Number, Text, Truth, Global, Name, Neg, Mul, Sum, Cmp}
+use Rattle.gq_typing.specs.View.{factors_of, terms_of}
 use Rattle.gq_typing.specs.Selecting.{Plain, Adds}
 use Rattle.gq_typing.specs.Statements.{Ints, OfBase, OverElem, Expression, Whole, Elements, Range, Local, Assign, ChangeGlobal, If, While, Foreach, Print, else_, if_, Accums}
 use Rattle.gq_typing.proofs.Written.{stmts, item}

@@ -2,12 +2,12 @@
 use Rattle.std.proofs.Common.{◌≡◌, true, false, [], ◌∷◌, Some, None, refl}
 use Rattle.std.specs.Prelude.{codes}
 use Rattle.std.specs.Fmt.{digits}
-use Rattle.gq_tree.specs.declared.expr.AddSign.TheVariants as add
-use Rattle.gq_tree.specs.declared.expr.CmpSign.TheVariants as cmp
-use Rattle.gq_tree.specs.declared.select.Way.TheVariants as way
-use Rattle.gq_tree.specs.declared.kind.Plain.TheVariants as plain
-use Rattle.gq_tree.specs.Tree.{Number, Truth, Global, Name, Call, Post, Neg, Sum, Cmp, Field, Method, Attached, Before}
-use Rattle.gq_tree.specs.View.{trees_of, parts_of, terms_of}
+use Rattle.gq_typing.specs.AddSign.TheVariants as add
+use Rattle.gq_typing.specs.CmpSign.TheVariants as cmp
+use Rattle.gq_typing.specs.Way.TheVariants as way
+use Rattle.gq_typing.specs.Plain.TheVariants as plain
+use Rattle.gq_typing.specs.Tree.{Number, Truth, Global, Name, Call, Post, Neg, Sum, Cmp, Field, Method, Attached, Before}
+use Rattle.gq_typing.specs.View.{trees_of, parts_of, terms_of}
 use Rattle.gq_typing.specs.Selecting.{Plain, Keys, Adds, Puts, AtAlias, AtGlobal, Every, These, Nowhere, Path}
 use Rattle.gq_typing.specs.Statements.{Ints, UInts, Bools, VertexOf, OfBase, OfTuple, OverElem, MapTo, MapToElem, AllOf, Seeds, Selects, Sets, Whole, Selection, Range, Assign, ChangeGlobal, Foreach, Print, TupleType, Accums}
 use Rattle.gq_typing.proofs.Written.{inputs_of, acts, stmts, item, hop, selecting}

@@ -2,12 +2,12 @@
 use Rattle.std.proofs.Common.{◌≡◌, true, false, [], ◌∷◌, Some, None, refl}
 use Rattle.std.specs.Prelude.{codes}
 use Rattle.std.specs.Fmt.{digits}
-use Rattle.gq_tree.specs.declared.expr.AddSign.TheVariants as add
-use Rattle.gq_tree.specs.declared.expr.CmpSign.TheVariants as cmp
-use Rattle.gq_tree.specs.declared.kind.Plain.TheVariants as plain
-use Rattle.gq_tree.specs.declared.kind.Bits.TheVariants as bits
-use Rattle.gq_tree.specs.Tree.{Number, Truth, Global, Name, Post, Sum, Cmp, Not, Field, Method, Attached}
-use Rattle.gq_tree.specs.View.{trees_of, parts_of, terms_of}
+use Rattle.gq_typing.specs.AddSign.TheVariants as add
+use Rattle.gq_typing.specs.CmpSign.TheVariants as cmp
+use Rattle.gq_typing.specs.Plain.TheVariants as plain
+use Rattle.gq_typing.specs.Bits.TheVariants as bits
+use Rattle.gq_typing.specs.Tree.{Number, Truth, Global, Name, Post, Sum, Cmp, Not, Field, Method, Attached}
+use Rattle.gq_typing.specs.View.{trees_of, parts_of, terms_of}
 use Rattle.gq_value.specs.Val.{Vertex}
 use Rattle.gq_typing.specs.Selecting.{Plain, Adds, AtAlias, AtGlobal, Every, These, Nowhere}
 use Rattle.gq_typing.specs.Statements.{Bytes, Query, Ints, VertexOf, OfBase, OverElem, OverBits, Averaged, AllOf, OneVertex, Seeds, Selects, Sets, Expression, Whole, Selection, Local, Assign, While, Print, Accums}

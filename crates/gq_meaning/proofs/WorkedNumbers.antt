@@ -2,11 +2,11 @@
 use Rattle.std.proofs.Common.{◌≡◌, true, false, [], ◌∷◌, Some, refl}
 use Rattle.std.specs.Prelude.{codes}
 use Rattle.std.specs.Fmt.{digits}
-use Rattle.gq_tree.specs.declared.expr.AddSign.TheVariants as add
-use Rattle.gq_tree.specs.declared.expr.MulSign.TheVariants as times
-use Rattle.gq_tree.specs.declared.expr.CmpSign.TheVariants as cmp
-use Rattle.gq_tree.specs.Tree.{Number, Text, Truth, Name, Call, Neg, Mul, Sum, Cmp, Not, And, Or}
-use Rattle.gq_tree.specs.View.{trees_of, factors_of, terms_of}
+use Rattle.gq_typing.specs.AddSign.TheVariants as add
+use Rattle.gq_typing.specs.MulSign.TheVariants as times
+use Rattle.gq_typing.specs.CmpSign.TheVariants as cmp
+use Rattle.gq_typing.specs.Tree.{Number, Text, Truth, Name, Call, Neg, Mul, Sum, Cmp, Not, And, Or}
+use Rattle.gq_typing.specs.View.{trees_of, factors_of, terms_of}
 use Rattle.gq_typing.specs.Statements.{Ints, UInts, Whole, Local, Print, TupleType}
 use Rattle.gq_typing.proofs.Written.{stmts, item}
 use Rattle.gq_json.specs.Average.{fraction_text}

@@ -2,11 +2,11 @@
 use Rattle.std.proofs.Common.{◌≡◌, true, false, [], ◌∷◌, Some, None, refl}
 use Rattle.std.specs.Prelude.{codes}
 use Rattle.std.specs.Fmt.{digits}
-use Rattle.gq_tree.specs.declared.expr.CmpSign.TheVariants as cmp
-use Rattle.gq_tree.specs.declared.select.Way.TheVariants as way
-use Rattle.gq_tree.specs.declared.kind.Plain.TheVariants as plain
-use Rattle.gq_tree.specs.Tree.{Number, Global, Name, Post, Cmp, And, Field, Attached}
-use Rattle.gq_tree.specs.View.{trees_of, parts_of}
+use Rattle.gq_typing.specs.CmpSign.TheVariants as cmp
+use Rattle.gq_typing.specs.Way.TheVariants as way
+use Rattle.gq_typing.specs.Plain.TheVariants as plain
+use Rattle.gq_typing.specs.Tree.{Number, Global, Name, Post, Cmp, And, Field, Attached}
+use Rattle.gq_typing.specs.View.{trees_of, parts_of}
 use Rattle.gq_typing.specs.Selecting.{Plain, Adds, AtAlias, AtGlobal, These, Path}
 use Rattle.gq_typing.specs.Statements.{Ints, OfBase, OverElem, AllOf, Seeds, Selects, Sets, Whole, Selection, Assign, Print, Accums}
 use Rattle.gq_typing.proofs.Written.{acts, stmts, item, selecting}

@@ -2,17 +2,17 @@
 use Rattle.std.proofs.Common.{◌≡◌, true, false, List, [], ◌∷◌, pos, Some, None, refl}
 use Rattle.std.specs.Prelude.{codes}
 use Rattle.std.specs.Fmt.{digits}
-use Rattle.gq_tree.specs.declared.expr.AddSign.TheVariants as add
-use Rattle.gq_tree.specs.Tree.{Number, Text, Name, Post, Sum, Field, Method}
-use Rattle.gq_tree.specs.View.{trees_of, parts_of, terms_of}
+use Rattle.gq_typing.specs.AddSign.TheVariants as add
+use Rattle.gq_typing.specs.Tree.{Number, Text, Name, Post, Sum, Field, Method}
+use Rattle.gq_typing.specs.View.{trees_of, parts_of, terms_of}
 use Rattle.gq_typing.specs.Selecting.{Nowhere}
 use Rattle.gq_typing.specs.Statements.{Bytes, Query, Ints, VertexOf, AllOf, OneVertex, Seeds, Selects, Sets, Whole, Selection, Assign, Print}
 use Rattle.gq_typing.proofs.Written.{stmts, item, selecting}
 use Rattle.gq_json.specs.Average.{fraction_text}
 use Rattle.gq_json.specs.Json.{error_text}
 use Rattle.std.specs.Prelude.{ℕ, Bool, Option}
-use Rattle.gq_tree.specs.declared.query.Mode.{Mode}
-use Rattle.gq_tree.specs.declared.query.Mode.TheVariants as mode
+use Rattle.gq_typing.specs.Mode.{Mode}
+use Rattle.gq_typing.specs.Mode.TheVariants as mode
 use Rattle.gq_value.specs.declared.catalog.IdKind.TheVariants as id
 use Rattle.gq_typing.specs.Statements.{Signed, Quoted}
 use Rattle.gq_meaning.specs.Arguments.{Argument, OfLiteral, Member, NumberMember, TextMember}

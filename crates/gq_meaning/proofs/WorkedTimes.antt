@@ -2,9 +2,9 @@
 use Rattle.std.proofs.Common.{◌≡◌, [], ◌∷◌, Some, None, refl}
 use Rattle.std.specs.Prelude.{codes}
 use Rattle.std.specs.Fmt.{digits}
-use Rattle.gq_tree.specs.declared.expr.CmpSign.TheVariants as cmp
-use Rattle.gq_tree.specs.Tree.{Number, Text, Name, Call, Post, Cmp, Field, Method}
-use Rattle.gq_tree.specs.View.{trees_of, parts_of}
+use Rattle.gq_typing.specs.CmpSign.TheVariants as cmp
+use Rattle.gq_typing.specs.Tree.{Number, Text, Name, Call, Post, Cmp, Field, Method}
+use Rattle.gq_typing.specs.View.{trees_of, parts_of}
 use Rattle.gq_typing.specs.Selecting.{Nowhere}
 use Rattle.gq_typing.specs.Statements.{AllOf, Seeds, Selects, Sets, Whole, Assign, Print}
 use Rattle.gq_typing.proofs.Written.{stmts, item, selecting}

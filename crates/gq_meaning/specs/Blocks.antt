@@ -2,13 +2,13 @@
 -- The code feeds chunks of candidates, on many threads; here all inputs of a block are one list.
 use Rattle.std.specs.Prelude.{ℕ, suc, Bool, true, false, ◌&&◌, if◌then◌else◌, ◌==◌, List, [], ◌∷◌, ◌++◌, map, filter_map, Option, Some, None}
 use Rattle.std.specs.List.{flat_map, list_all}
-use Rattle.gq_tree.specs.Tree.{Tree}
+use Rattle.gq_typing.specs.Tree.{Tree}
 use Rattle.gq_value.specs.declared.value.Wrong.{Wrong}
 use Rattle.gq_value.specs.declared.store.Candidate.{Candidate}
 use Rattle.gq_value.specs.Accums.{Accum, Given, One, Keyed, Givens, no_given, given_and}
-use Rattle.gq_content.specs.Holds.{Holds}
-use Rattle.gq_content.specs.After.{after}
-use Rattle.gq_content.specs.Fits.{fits}
+use Rattle.gq_typing.specs.Holds.{Holds}
+use Rattle.gq_typing.specs.After.{after}
+use Rattle.gq_typing.specs.Fits.{fits}
 use Rattle.gq_typing.specs.Selecting.{Input, Plain, Keys, Inputs, no_input, input_and, Change, Adds, Puts, Act, AtAlias, AtGlobal, Choose, Acts, no_act, act_and, Choices, otherwise, when, Select}
 use Rattle.gq_typing.specs.Kinds.{input_type, key_types, part_kinds}
 use Rattle.gq_typing.specs.Patterns.{by_number}

@@ -2,12 +2,12 @@
 -- The code calls gq_time; a calendar gives the same answers.
 use Rattle.std.specs.Prelude.{◌≡◌, ℕ, true, List, ℤ, Option, Some}
 use Rattle.gq_value.specs.Typed.{in_calendar}
-use Rattle.gq_time.specs.declared.adding.Unit.{Unit}
-use Rattle.gq_time.specs.declared.shown.Parts.{Parts}
-use Rattle.gq_time.specs.Moments.{IsDatetime, HasParts}
-use Rattle.gq_time.specs.Texts.{IsWritten}
-use Rattle.gq_time.specs.Reading.{Reads}
-use Rattle.gq_time.specs.Adding.{IsAdded}
+use Rattle.gq_typing.specs.Unit.{Unit}
+use Rattle.gq_typing.specs.Parts.{Parts}
+use Rattle.gq_typing.specs.Moments.{IsDatetime, HasParts}
+use Rattle.gq_typing.specs.Texts.{IsWritten}
+use Rattle.gq_typing.specs.Reading.{Reads}
+use Rattle.gq_typing.specs.Adding.{IsAdded}
 use Rattle.gq_typing.specs.Words.{PartOfTime, Year, Month, Day, Hour, Minute, Second}
 
 pub record Calendar : Type 0 where

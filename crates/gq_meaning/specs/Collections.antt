@@ -5,9 +5,9 @@ use Rattle.std.specs.Ordering.{is_eq}
 use Rattle.gq_value.specs.Val.{Val}
 use Rattle.gq_value.specs.Order.{compare}
 use Rattle.gq_value.specs.Accums.{Accum, SetAccum, BagAccum, ListAccum, MapAccum, GroupByAccum, HeapAccum}
-use Rattle.gq_content.specs.Gather.{among}
-use Rattle.gq_content.specs.Holds.{Holds, row_cmp}
-use Rattle.gq_content.specs.After.{fresh, fresh_each}
+use Rattle.gq_typing.specs.Gather.{among}
+use Rattle.gq_typing.specs.Holds.{Holds, row_cmp}
+use Rattle.gq_typing.specs.After.{fresh, fresh_each}
 use Rattle.gq_meaning.specs.Meanings.{Meant, IsRow, read}
 
 -- the elements of a Set, Bag, List or Heap, in order

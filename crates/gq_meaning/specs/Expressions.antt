@@ -3,13 +3,13 @@
 use Rattle.std.specs.Prelude.{ℕ, zero, suc, Bool, true, false, not, ◌&&◌, ◌||◌, if◌then◌else◌, List, [], ◌∷◌, ℤ, Option, Some, None, Result, ◌==◌}
 use Rattle.std.specs.declared.cmp.Ordering.{Ordering}
 use Rattle.std.specs.declared.cmp.Ordering.TheVariants.{Less, Equal, Greater}
-use Rattle.gq_tree.specs.declared.expr.AddSign.{AddSign}
-use Rattle.gq_tree.specs.declared.expr.AddSign.TheVariants as sign
-use Rattle.gq_tree.specs.declared.expr.MulSign.{MulSign}
-use Rattle.gq_tree.specs.declared.expr.MulSign.TheVariants as times
-use Rattle.gq_tree.specs.declared.expr.CmpSign.{CmpSign}
-use Rattle.gq_tree.specs.declared.expr.CmpSign.TheVariants as cmp
-use Rattle.gq_tree.specs.Tree.{Tree, Behind, Trees, Parts, Factors, Terms, Number, Text, Truth, Global, Name, Call, Post, Neg, Mul, Sum, Cmp, Not, And, Or, Field, Method, Attached, Before, no_tree, tree, no_part, part, no_factor, factor, no_term, term}
+use Rattle.gq_typing.specs.AddSign.{AddSign}
+use Rattle.gq_typing.specs.AddSign.TheVariants as sign
+use Rattle.gq_typing.specs.MulSign.{MulSign}
+use Rattle.gq_typing.specs.MulSign.TheVariants as times
+use Rattle.gq_typing.specs.CmpSign.{CmpSign}
+use Rattle.gq_typing.specs.CmpSign.TheVariants as cmp
+use Rattle.gq_typing.specs.Tree.{Tree, Behind, Trees, Parts, Factors, Terms, Number, Text, Truth, Global, Name, Call, Post, Neg, Mul, Sum, Cmp, Not, And, Or, Field, Method, Attached, Before, no_tree, tree, no_part, part, no_factor, factor, no_term, term}
 use Rattle.gq_value.specs.declared.value.Wrong.{Wrong}
 use Rattle.gq_value.specs.Val.{Val, rank}
 use Rattle.gq_value.specs.Val as val

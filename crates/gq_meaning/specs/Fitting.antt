@@ -10,7 +10,7 @@ use Rattle.gq_value.specs.Accums.{Base, INT, UINT, BOOL, STRING, DATETIME, VERTE
 use Rattle.gq_value.specs.AccumViews.{bases}
 use Rattle.gq_value.specs.Typed.{in_calendar, is_scalar}
 use Rattle.gq_value.specs.Candidates.{among, is_target}
-use Rattle.gq_content.specs.Holds.{Holds, HoldsEach}
+use Rattle.gq_typing.specs.Holds.{Holds, HoldsEach}
 use Rattle.gq_typing.specs.Sorts.{VertexSort, EdgeSort, bases_of}
 use Rattle.gq_typing.specs.Words.{Makes}
 use Rattle.gq_typing.specs.Judging.{Typed, Of, Average, Whole, GroupRow, AliasOf, EdgeOf, SetOf, MemberOf}

@@ -1,10 +1,10 @@
 -- Laws: what holds of all typed expressions, blocks, statements and queries.
 use Rattle.std.specs.Prelude.{◌≡◌, ℕ, true, Ok, Bool, false, List, Some, slice_get}
-use Rattle.gq_tree.specs.Tree.{Tree}
+use Rattle.gq_typing.specs.Tree.{Tree}
 use Rattle.gq_value.specs.Accums.{Accum, Given}
 use Rattle.gq_value.specs.Candidates.{is_target}
-use Rattle.gq_content.specs.Holds.{Holds}
-use Rattle.gq_content.specs.After.{after}
+use Rattle.gq_typing.specs.Holds.{Holds}
+use Rattle.gq_typing.specs.After.{after}
 use Rattle.gq_typing.specs.Selecting.{Input, Acts}
 use Rattle.gq_typing.specs.Judging.{Typed}
 use Rattle.gq_typing.specs.Kinds.{read_type}

@@ -26,3 +26,21 @@ pub mod Laws
 pub mod Arguments
 pub mod Sessions
 pub mod Built
+pub use Rattle.gq_typing.specs.FieldTypes
+pub use Rattle.gq_typing.specs.Judging
+pub use Rattle.gq_typing.specs.KindTypes
+pub use Rattle.gq_typing.specs.QueryTypes
+pub use Rattle.gq_typing.specs.Scopes
+pub use Rattle.gq_typing.specs.SelectViews
+pub use Rattle.gq_typing.specs.Selecting
+pub use Rattle.gq_typing.specs.Sorts
+pub use Rattle.gq_typing.specs.StatementViews
+pub use Rattle.gq_typing.specs.Statements as TypingStatements
+pub use Rattle.gq_typing.specs.Types
+pub use Rattle.gq_typing.specs.Words
+pub use Rattle.gq_typing.specs.Tree
+pub use Rattle.gq_typing.specs.View
+pub use Rattle.gq_typing.specs.AddSign
+pub use Rattle.gq_typing.specs.CmpSign
+pub use Rattle.gq_typing.specs.MulSign
+pub use Rattle.gq_typing.specs.Plain

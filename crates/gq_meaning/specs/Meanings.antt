@@ -7,8 +7,8 @@ use Rattle.gq_value.specs.Val.{Val, Int, UInt, Truth, Text, Vertex}
 use Rattle.gq_value.specs.Accums.{Base, INT, UINT, BOOL, STRING, DATETIME, Accum, SumAccum, MinAccum, MaxAccum, OrAccum, AndAccum, BitwiseOrAccum, BitwiseAndAccum, AvgAccum, Parts}
 use Rattle.gq_value.specs.Arithmetic.{in_type}
 use Rattle.gq_value.specs.Typed.{number_type}
-use Rattle.gq_content.specs.Holds.{Holds, HoldsEach}
-use Rattle.gq_content.specs.Reads.{value_in}
+use Rattle.gq_typing.specs.Holds.{Holds, HoldsEach}
+use Rattle.gq_typing.specs.Reads.{value_in}
 use Rattle.gq_typing.specs.Statements.{Bytes}
 use Rattle.gq_meaning.specs.Answers.{Answer, Gives, Faults, Stuck, ◌>>=◌, of_result}
 

@@ -5,8 +5,8 @@ use Rattle.std.specs.Fmt.{decimal, signed_decimal}
 use Rattle.gq_value.specs.Val.{Val, Vals, Int, UInt, Truth, Text, Vertex, Tuple, Fraction, more}
 use Rattle.gq_value.specs.Accums.{Base, DATETIME, TUPLE, Accum, SumAccum, MinAccum, MaxAccum, OrAccum, AndAccum, BitwiseOrAccum, BitwiseAndAccum, AvgAccum, SetAccum, BagAccum, ListAccum, MapAccum, GroupByAccum, HeapAccum, Parts, no_part, part_and}
 use Rattle.gq_value.specs.Typed.{number_type}
-use Rattle.gq_content.specs.Holds.{Holds, HoldsEach, entries}
-use Rattle.gq_content.specs.Reads.{value_in}
+use Rattle.gq_typing.specs.Holds.{Holds, HoldsEach, entries}
+use Rattle.gq_typing.specs.Reads.{value_in}
 use Rattle.gq_typing.specs.Statements.{Bytes}
 use Rattle.gq_typing.specs.Sorts.{Fields}
 use Rattle.gq_typing.specs.FieldTypes.{tuple_fields}

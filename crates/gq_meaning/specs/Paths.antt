@@ -3,8 +3,8 @@
 use Rattle.std.specs.Prelude.{ℕ, ◌==◌, Bool, true, false, if◌then◌else◌, List, [], ◌∷◌, filter, Option, Some, None}
 use Rattle.std.specs.Option.{is_some, unwrap_or}
 use Rattle.std.specs.List.{flat_map, list_any}
-use Rattle.gq_tree.specs.declared.select.Way.{Way}
-use Rattle.gq_tree.specs.declared.select.Way.TheVariants as way
+use Rattle.gq_typing.specs.Way.{Way}
+use Rattle.gq_typing.specs.Way.TheVariants as way
 use Rattle.gq_value.specs.declared.catalog.EdgeType.{EdgeType}
 use Rattle.gq_value.specs.declared.store.EdgeRow.{EdgeRow}
 use Rattle.gq_value.specs.declared.store.Candidate.{Candidate}

@@ -2,7 +2,7 @@
 use Rattle.std.specs.Prelude.{ℕ, Bool, true, List, [], ◌∷◌, ◌++◌, Option, Some, codes, slice_get}
 use Rattle.gq_value.specs.declared.value.Wrong.{Wrong}
 use Rattle.gq_value.specs.Accums.{Accum}
-use Rattle.gq_content.specs.Holds.{Holds}
+use Rattle.gq_typing.specs.Holds.{Holds}
 use Rattle.gq_typing.specs.Statements.{Bytes, Item, Printed, Whole, Selection}
 use Rattle.gq_meaning.specs.Answers.{Answer, Gives, Stuck, ◌>>=◌, found, each}
 use Rattle.gq_meaning.specs.Graphs.{sort_of_vertex}

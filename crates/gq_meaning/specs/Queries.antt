@@ -1,13 +1,13 @@
 -- Queries: a query's run: its openings over the arguments, then its statements. The result is what was printed.
 use Rattle.std.specs.Prelude.{ℕ, Bool, true, false, List, [], ◌∷◌, ◌++◌, Option, Some, None, Ok, Err}
 use Rattle.std.specs.List.{range_with_len}
-use Rattle.gq_tree.specs.Tree.{Tree}
+use Rattle.gq_typing.specs.Tree.{Tree}
 use Rattle.gq_value.specs.declared.value.Wrong.{Wrong}
 use Rattle.gq_value.specs.Val.{Val}
 use Rattle.gq_value.specs.Accums.{Accum}
-use Rattle.gq_content.specs.Holds.{Holds}
-use Rattle.gq_content.specs.After.{fresh}
-use Rattle.gq_content.specs.Reads.{set_to}
+use Rattle.gq_typing.specs.Holds.{Holds}
+use Rattle.gq_typing.specs.After.{fresh}
+use Rattle.gq_typing.specs.Reads.{set_to}
 use Rattle.gq_typing.specs.Statements.{Bytes, BaseTree, KindTree, Definition, TupleType, Accums, Parameter, Query, QueryOver}
 use Rattle.gq_typing.specs.Sorts.{Fields}
 use Rattle.gq_typing.specs.Words.{Setting, by_name}

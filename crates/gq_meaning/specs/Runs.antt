@@ -1,6 +1,6 @@
 -- Runs: what statements do, one after the other, with so many turns.
 use Rattle.std.specs.Prelude.{ℕ, zero, suc, Bool, true, false, List, [], ◌∷◌, ◌++◌, ℤ, pos, negsuc, Option, Some, None}
-use Rattle.gq_tree.specs.Tree.{Tree}
+use Rattle.gq_typing.specs.Tree.{Tree}
 use Rattle.gq_value.specs.declared.value.Wrong.{Wrong}
 use Rattle.gq_value.specs.Val.{Val}
 use Rattle.gq_value.specs.Accums.{Base}

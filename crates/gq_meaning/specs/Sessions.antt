@@ -3,8 +3,8 @@
 use Rattle.std.specs.Prelude.{ℕ, Bool, true, false, not, ◌&&◌, ◌||◌, if◌then◌else◌, List, [], ◌∷◌, ◌++◌, map, find, Option, Some, None, Result, Ok, Err, bytes_eq, codes, slice_get}
 use Rattle.std.specs.List.{list_any}
 use Rattle.std.specs.Str.{str_eq_ignore_ascii_case}
-use Rattle.gq_tree.specs.declared.query.Mode.{Mode}
-use Rattle.gq_tree.specs.declared.query.Mode.TheVariants as mode
+use Rattle.gq_typing.specs.Mode.{Mode}
+use Rattle.gq_typing.specs.Mode.TheVariants as mode
 use Rattle.gq_value.specs.declared.catalog.GraphType.{GraphType}
 use Rattle.gq_value.specs.declared.store.VertexRow.{VertexRow}
 use Rattle.gq_value.specs.declared.store.EdgeRow.{EdgeRow}

@@ -1,7 +1,7 @@
 -- Sets: the vertices of set expressions, with their types.
 use Rattle.std.specs.Prelude.{ℕ, not, List, [], ◌∷◌, ◌++◌, filter, Option, Some, None}
-use Rattle.gq_tree.specs.declared.body.SetOp.{SetOp}
-use Rattle.gq_tree.specs.declared.body.SetOp.TheVariants as op
+use Rattle.gq_typing.specs.SetOp.{SetOp}
+use Rattle.gq_typing.specs.SetOp.TheVariants as op
 use Rattle.gq_value.specs.declared.value.Wrong.{Wrong}
 use Rattle.gq_value.specs.Val.{Val, Vertex}
 use Rattle.gq_value.specs.Accums.{Base, VERTEX_OF, SetAccum}

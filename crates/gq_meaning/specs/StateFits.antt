@@ -5,8 +5,8 @@ use Rattle.std.specs.List.{list_all}
 use Rattle.gq_value.specs.Val.{Val, Vertex}
 use Rattle.gq_value.specs.Accums.{Base, Accum, MapAccum, GroupByAccum, Parts, no_part, part_and, Given, One, Keyed, Givens, no_given, given_and}
 use Rattle.gq_value.specs.Candidates.{among}
-use Rattle.gq_content.specs.Holds.{Holds}
-use Rattle.gq_content.specs.Fits.{fits, IsProper}
+use Rattle.gq_typing.specs.Holds.{Holds}
+use Rattle.gq_typing.specs.Fits.{fits, IsProper}
 use Rattle.gq_typing.specs.Sorts.{bases_of}
 use Rattle.gq_typing.specs.Types.{vertex_base}
 use Rattle.gq_typing.specs.Kinds.{input_type}

@@ -1,6 +1,6 @@
 -- Statements: what declarations, assignments and changes of global accumulators do, and what FOREACH goes over.
 use Rattle.std.specs.Prelude.{ℕ, zero, suc, Bool, true, false, List, [], ◌∷◌, map, ℤ, pos, ◌+ℤ◌, ◌-ℤ◌, int_le, nat_abs, Option, Some, None}
-use Rattle.gq_tree.specs.Tree.{Tree, Name}
+use Rattle.gq_typing.specs.Tree.{Tree, Name}
 use Rattle.gq_value.specs.declared.kind.Number.{Number}
 use Rattle.gq_value.specs.declared.value.Wrong.{Wrong}
 use Rattle.gq_value.specs.Val.{Val, Int, UInt, Truth, Text}

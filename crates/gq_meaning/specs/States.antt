@@ -3,7 +3,7 @@
 use Rattle.std.specs.Prelude.{ℕ, zero, suc, ◌-◌, Bool, if◌then◌else◌, List, [], ◌∷◌, length, drop, Option, Some, None, is_some, position, slice_get}
 use Rattle.gq_value.specs.Val.{Val, Vertex, Tuple, list_of}
 use Rattle.gq_value.specs.Accums.{Base, TUPLE, Accum, Parts, no_part, part_and}
-use Rattle.gq_content.specs.Holds.{Holds, HoldsEach}
+use Rattle.gq_typing.specs.Holds.{Holds, HoldsEach}
 use Rattle.gq_typing.specs.Sorts.{names_of, bases_of}
 use Rattle.gq_typing.specs.Words.{OfVertexType, OfEdgeType, OfTupleType, OfParts, under, names_of_parts}
 use Rattle.gq_typing.specs.Types.{vertex_base}

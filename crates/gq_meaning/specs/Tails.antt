@@ -4,10 +4,10 @@ use Rattle.std.specs.Prelude.{ℕ, Bool, if◌then◌else◌, List, [], ◌∷�
 use Rattle.std.specs.declared.cmp.Ordering.{Ordering}
 use Rattle.std.specs.declared.cmp.Ordering.TheVariants.{Equal}
 use Rattle.std.specs.Ordering.{nat_cmp, ordering_then, ordering_reverse}
-use Rattle.gq_tree.specs.Tree.{Tree}
+use Rattle.gq_typing.specs.Tree.{Tree}
 use Rattle.gq_value.specs.Val.{Val}
 use Rattle.gq_value.specs.Order.{compare}
-use Rattle.gq_content.specs.Gather.{sorted}
+use Rattle.gq_typing.specs.Gather.{sorted}
 use Rattle.gq_typing.specs.Selecting.{Select}
 use Rattle.gq_meaning.specs.Answers.{Answer, Gives, ◌>>=◌, blaming, each}
 use Rattle.gq_meaning.specs.Graphs.{vertex_count}

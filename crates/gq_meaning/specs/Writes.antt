@@ -3,10 +3,10 @@ use Rattle.std.specs.Prelude.{ℕ, zero, suc, Bool, true, false, List, [], ◌�
 use Rattle.gq_value.specs.declared.value.Wrong.{Wrong}
 use Rattle.gq_value.specs.Val.{Val}
 use Rattle.gq_value.specs.Accums.{Accum, Given}
-use Rattle.gq_content.specs.Holds.{Holds}
-use Rattle.gq_content.specs.After.{after}
-use Rattle.gq_content.specs.Fits.{fits}
-use Rattle.gq_content.specs.Reads.{set_to}
+use Rattle.gq_typing.specs.Holds.{Holds}
+use Rattle.gq_typing.specs.After.{after}
+use Rattle.gq_typing.specs.Fits.{fits}
+use Rattle.gq_typing.specs.Reads.{set_to}
 use Rattle.gq_typing.specs.Selecting.{Change, Adds, Puts}
 use Rattle.gq_typing.specs.Kinds.{set_type}
 use Rattle.gq_meaning.specs.Answers.{Answer, Gives, Faults, ◌>>=◌, blaming, found}

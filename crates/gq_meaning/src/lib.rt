@@ -8,6 +8,8 @@ ghost use Rattle.gq_typing.specs.Statements.{Bytes};
 ghost use Rattle.gq_meaning.specs.Laws.{ExpressionLaw, LookLaw, InputLaw, ContentLaw, ContributionLaw};
 ghost use Rattle.gq_meaning.specs.Built.{LineLaw};
 
+pub use gq_typing::{AddSign, CmpSign, MulSign, SetOp, Way};
+
 /// A typed expression is never stuck, and what it is has its type.
 #[tactic(auto, using(crate::proofs::NeverStuck::expression_law_by_name))]
 pub fn no_expression_is_stuck()

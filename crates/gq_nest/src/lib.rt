@@ -14,8 +14,6 @@ mod merge;
 mod more;
 mod reads;
 mod rows;
-#[cfg(test)]
-mod tests;
 
 pub use content::{Content, Heap, Parts};
 pub use reads::Keys;

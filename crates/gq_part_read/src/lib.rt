@@ -8,8 +8,6 @@ mod laws;
 mod lists;
 mod literals;
 mod macros;
-#[cfg(test)]
-mod tests;
 mod words;
 
 pub use gq_expr_read::Read;

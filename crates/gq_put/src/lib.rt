@@ -4,7 +4,5 @@
 #![tactic(auto)]
 
 mod put;
-#[cfg(test)]
-mod tests;
 
 pub use put::{End, put_edge, put_vertex};

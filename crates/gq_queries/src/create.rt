@@ -3,17 +3,17 @@ ghost use Rattle.std.specs.Prelude.{◌≡◌, ◌<◌, MatchResult, length};
 ghost use Rattle.std.specs.Option.{ForSome};
 ghost use Rattle.gq_refusal.specs.Answers.{Answers};
 ghost use Rattle.gq_queries.specs.Judging.{Judges};
-ghost use Rattle.gq_queries.specs.Queries.{create_refusal, query_created, with_query};
+ghost use Rattle.gq_queries.specs.Queries.{create_refusal, created, query_created, with_query};
 
 use crate::fault::taken;
-use crate::judge::judge_graph;
+use crate::judge::{graph_of, judge_graph};
 use crate::modes::are_good;
 use crate::stored::{Stored, has_query, place_of};
 use gq_list::List;
 use gq_refusal::{Refusal, StatementFault};
 use gq_schema::Catalog;
 use gq_tree::QueryTree;
-use gq_value::{Memory, Txt};
+use gq_value::Memory;
 use std::alloc::Global;
 
 /// CREATE QUERY, with the graph that is in use, by its number. The queries gain the one of the name, which isn't installed, or are
@@ -21,14 +21,14 @@ use std::alloc::Global;
 ///
 /// Refused for its modes, else where a query of the name is there, else for a graph that isn't there, else by the first rule on
 /// queries that fails.
-pub fn create_query(
+pub fn create_query<'s>(
     alloc: Global,
     catalog: &Catalog,
     in_use: Option<u32>,
-    queries: &mut List<Stored>,
+    queries: &mut List<Stored<'s>>,
     replace: bool,
-    name: &str,
-    tree: &QueryTree,
+    name: &'s str,
+    tree: &'s QueryTree,
 ) -> Result<(), StatementFault>
     requires { ForSome in_use (λ g. g < length catalog.now.graphs) }
     ensures { Answers (query_created catalog.now in_use queries.old replace name.now tree.now) queries.old queries.new result }
@@ -45,7 +45,8 @@ pub fn create_query(
         Ok(()) => {}
         Err(fault) => return Err(fault),
     }
-    match put(alloc, queries, name) {
+    let graph = graph_of(catalog, in_use, tree);
+    match put(queries, name, tree, graph) {
         Ok(()) => Ok(()),
         Err(Memory) => Err(StatementFault::Memory),
     }
@@ -55,7 +56,7 @@ fn judge(
     alloc: Global,
     catalog: &Catalog,
     in_use: Option<u32>,
-    queries: &[Stored],
+    queries: &[Stored<'_>],
     replace: bool,
     name: &str,
     tree: &QueryTree,
@@ -73,11 +74,18 @@ fn judge(
 }
 
 // Puts a query that isn't installed in the place of the one of its name, or behind all.
-fn put(alloc: Global, queries: &mut List<Stored>, name: &str) -> Result<(), Memory>
-    ensures { MatchResult result (λ _. queries.new ≡ with_query queries.old name.now) (λ _. queries.new ≡ queries.old) }
+fn put<'s>(
+    queries: &mut List<Stored<'s>>,
+    name: &'s str,
+    tree: &'s QueryTree,
+    graph: Option<u32>,
+) -> Result<(), Memory>
+    ensures { MatchResult result (λ _. queries.new ≡ with_query queries.old (created name.now tree.now graph)) (λ _. queries.new ≡ queries.old) }
 {
     let query = Stored {
-        name: Txt::of(alloc, name)?,
+        name,
+        tree,
+        graph,
         installed: false,
     };
     match place_of(queries.as_slice(), name) {

@@ -17,7 +17,7 @@ use std::alloc::Global;
 /// INSTALL QUERY: all queries, or those of the names. Refused for the first name that is none of them; then none is installed.
 pub fn install_queries(
     alloc: Global,
-    queries: &mut List<Stored>,
+    queries: &mut List<Stored<'_>>,
     which: &Installed,
 ) -> Result<(), StatementFault>
     ensures { Answers (spec.query_installed queries.old which.now) queries.old queries.new result }
@@ -33,7 +33,7 @@ pub fn install_queries(
 
 fn install_these(
     alloc: Global,
-    queries: &mut List<Stored>,
+    queries: &mut List<Stored<'_>>,
     names: &[Txt],
 ) -> Result<(), StatementFault>
     ensures { Answers (spec.query_installed queries.old (Installed.Named names.now)) queries.old queries.new result }
@@ -47,13 +47,13 @@ fn install_these(
     }
 }
 
-fn first_unknown<'a>(queries: &[Stored], names: &'a [Txt]) -> Option<&'a Txt>
+fn first_unknown<'a>(queries: &[Stored<'_>], names: &'a [Txt]) -> Option<&'a Txt>
     ensures { option_copied result ≡ find (λ name. not (spec.has_query queries.now name)) names.now }
 {
     names.iter().find(|name| !has_query(queries, name.as_str()))
 }
 
-fn install_all(queries: &mut [Stored])
+fn install_all(queries: &mut [Stored<'_>])
     ensures { queries.new ≡ spec.all_installed queries.old }
 {
     for query in queries {
@@ -61,11 +61,11 @@ fn install_all(queries: &mut [Stored])
     }
 }
 
-fn install_named(queries: &mut [Stored], names: &[Txt])
+fn install_named(queries: &mut [Stored<'_>], names: &[Txt])
     ensures { queries.new ≡ spec.with_installed names.now queries.old }
 {
     for query in queries {
-        query.installed |= stands_in(query.name.as_str(), names);
+        query.installed |= stands_in(query.name, names);
     }
 }
 

@@ -1,7 +1,8 @@
 // Why a query is refused for its modes, its graph or its rules.
-ghost use Rattle.std.specs.Prelude.{◌<◌, length};
+ghost use Rattle.std.specs.Prelude.{◌≡◌, ◌<◌, length};
 ghost use Rattle.std.specs.Option.{ForSome};
 ghost use Rattle.gq_queries.specs.Judging.{Judges, graph_refusal, interpret_refusal, rules_refusal};
+ghost use Rattle.gq_queries.specs.Queries.{graph_fixed};
 
 use crate::fault::{statement_fault, unknown};
 use crate::modes::are_good;
@@ -26,6 +27,16 @@ pub fn judge_interpreted(
         return Err(StatementFault::Refused(Refusal::BadOption));
     }
     judge_graph(alloc, catalog, in_use, tree)
+}
+
+/// The number of a query's graph: of the one that is named, else of the one in use, else none.
+pub fn graph_of(catalog: &Catalog, in_use: Option<u32>, tree: &QueryTree) -> Option<u32>
+    ensures { result ≡ graph_fixed catalog.now in_use tree.now }
+{
+    match &tree.graph {
+        None => in_use,
+        Some(name) => catalog.graph(name.as_str()),
+    }
 }
 
 /// The same for a query whose modes are good.

@@ -9,10 +9,8 @@ mod install;
 mod judge;
 mod modes;
 mod stored;
-#[cfg(test)]
-mod tests;
 
 pub use create::create_query;
 pub use install::install_queries;
-pub use judge::judge_interpreted;
-pub use stored::Stored;
+pub use judge::{graph_of, judge_interpreted};
+pub use stored::{Stored, query_named};

@@ -11,8 +11,6 @@ mod parameters;
 mod queries;
 mod runs;
 mod series;
-#[cfg(test)]
-mod tests;
 
 pub use bodies::Bodies;
 pub use installs::install;

@@ -1,6 +1,6 @@
 -- RenamedLaws: an expression means under new names what it meant under the old ones, where the same is seen.
 use Rattle.std.proofs.Common.{◌≡◌, Bool, true, false, List, [], ◌∷◌, Option, refl, ap, ◌∙◌}
-use Rattle.gq_tree.specs.Tree.{Tree, Behind, Trees, Parts, Factors, Terms, Number, Text, Truth, Global, Name, Call, Post, Neg, Mul, Sum, Cmp, Not, And, Or, Field, Method, Attached, Before, no_tree, tree, no_part, part, no_factor, factor, no_term, term}
+use Rattle.gq_meaning.specs.Tree.{Tree, Behind, Trees, Parts, Factors, Terms, Number, Text, Truth, Global, Name, Call, Post, Neg, Mul, Sum, Cmp, Not, And, Or, Field, Method, Attached, Before, no_tree, tree, no_part, part, no_factor, factor, no_term, term}
 use Rattle.gq_value.specs.Accums.{Base}
 use Rattle.gq_meaning.specs.Answers.{Answer, Gives, Faults, Stuck, ◌>>=◌, found}
 use Rattle.gq_meaning.specs.Meanings.{Meant, Outcome, value_of_meant, vertex_of_meant, as_truth, truly}

@@ -1,15 +1,15 @@
 -- ViewLaws: the equations of the views, one for each variant.
 use Rattle.std.proofs.Common.{◌≡◌, ℕ, Bool, List, map, Option, None, Some, sym, ap, ◌∙◌}
 use Rattle.std.specs.Option.{option_map}
-use Rattle.gq_tree.specs.declared.expr.AddSign.{AddSign}
-use Rattle.gq_tree.specs.declared.expr.MulSign.{MulSign}
-use Rattle.gq_tree.specs.declared.expr.CmpSign.{CmpSign}
-use Rattle.gq_tree.specs.Tree.{Tree, Behind, Number, Text, Truth, Global, Name, Call, Post, Neg, Mul, Sum, Cmp, Not, And, Or, Field, Method, Attached, Before}
-use Rattle.gq_typing.specs.Words.{Outdegree}
-use Rattle.gq_typing.specs.Selecting as plain
-use Rattle.gq_typing.specs.Statements as plain_stmt
-use Rattle.gq_typing.specs.SelectViews.{inputs_of, choices_of}
-use Rattle.gq_typing.specs.StatementViews.{branches_of}
+use Rattle.gq_meaning.specs.AddSign.{AddSign}
+use Rattle.gq_meaning.specs.MulSign.{MulSign}
+use Rattle.gq_meaning.specs.CmpSign.{CmpSign}
+use Rattle.gq_meaning.specs.Tree.{Tree, Behind, Number, Text, Truth, Global, Name, Call, Post, Neg, Mul, Sum, Cmp, Not, And, Or, Field, Method, Attached, Before}
+use Rattle.gq_meaning.specs.Words.{Outdegree}
+use Rattle.gq_meaning.specs.Selecting as plain
+use Rattle.gq_meaning.specs.TypingStatements as plain_stmt
+use Rattle.gq_meaning.specs.SelectViews.{inputs_of, choices_of}
+use Rattle.gq_meaning.specs.StatementViews.{branches_of}
 use Rattle.gq_resolved.specs.declared.expr.Expr.{Expr, Expr-F, fold-roll-Expr}
 use Rattle.gq_resolved.specs.declared.expr.Expr.TheVariants as expr
 use Rattle.gq_resolved.specs.declared.expr.Behind.{Behind-F, fold-roll-Behind}

@@ -1,19 +1,19 @@
 -- WorkedPlans: a query beside its plan: the plan is typed, and it prints what the query prints.
 use Rattle.std.proofs.Common.{◌≡◌, ℕ, true, false, List, [], ◌∷◌, pos, Some, None, refl}
 use Rattle.std.specs.Prelude.{codes, is_ok}
-use Rattle.gq_tree.specs.declared.expr.AddSign.TheVariants as add
-use Rattle.gq_tree.specs.declared.kind.Plain.TheVariants as plain
-use Rattle.gq_tree.specs.Tree.{Number, Name, Post, Sum, Field, Attached}
-use Rattle.gq_tree.specs.View.{parts_of, terms_of}
+use Rattle.gq_meaning.specs.AddSign.TheVariants as add
+use Rattle.gq_meaning.specs.Plain.TheVariants as plain
+use Rattle.gq_meaning.specs.Tree.{Number, Name, Post, Sum, Field, Attached}
+use Rattle.gq_meaning.specs.View.{parts_of, terms_of}
 use Rattle.gq_value.specs.declared.kind.Number.TheVariants as number
 use Rattle.gq_value.specs.declared.catalog.EdgeType.{EdgeType}
 use Rattle.gq_value.specs.declared.store.EdgeRow.{EdgeRow}
 use Rattle.gq_value.specs.Val.{Int}
 use Rattle.gq_value.specs.Accums.{INT, SumAccum}
-use Rattle.gq_typing.specs.Selecting.{Plain, Adds, AtAlias, no_act, act_and, These, OneHop, Select}
-use Rattle.gq_typing.specs.Statements.{Bytes, Ints, OfBase, OverElem, AllOf, Seeds, Selects, Sets, Whole, Selection, no_stmt, stmt_and, Assign, Print, Accums, QueryOver}
-use Rattle.gq_typing.specs.Sorts.{Sorts}
-use Rattle.gq_typing.specs.QueryTypes.{typing_over}
+use Rattle.gq_meaning.specs.Selecting.{Plain, Adds, AtAlias, no_act, act_and, These, OneHop, Select}
+use Rattle.gq_meaning.specs.TypingStatements.{Bytes, Ints, OfBase, OverElem, AllOf, Seeds, Selects, Sets, Whole, Selection, no_stmt, stmt_and, Assign, Print, Accums, QueryOver}
+use Rattle.gq_meaning.specs.Sorts.{Sorts}
+use Rattle.gq_meaning.specs.QueryTypes.{typing_over}
 use Rattle.gq_meaning.specs.Calendars.{Calendar}
 use Rattle.gq_meaning.specs.Graphs.{Graph}
 use Rattle.gq_meaning.specs.Queries.{run_query, run_plan}

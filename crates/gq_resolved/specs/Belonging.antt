@@ -2,12 +2,12 @@
 use Rattle.std.specs.Prelude.{◌≡◌, ℕ, Bool, true, List, [], ◌∷◌, ◌++◌, map, Ok, Option, Some, None, slice_get}
 use Rattle.gq_value.specs.Accums.{Accum}
 use Rattle.gq_value.specs.AccumViews.{base_of, accum_of}
-use Rattle.gq_typing.specs.Statements.{Bytes}
-use Rattle.gq_typing.specs.Sorts.{Fields, Sorts}
-use Rattle.gq_typing.specs.Words.{Setting}
-use Rattle.gq_typing.specs.Judging.{BadKind, Judged, ◌>>◌, unless}
-use Rattle.gq_typing.specs.Scopes.{Entry, Variable, SetVariable, Alias, EdgeAlias, Accumulator, Scope, entry}
-use Rattle.gq_typing.specs.QueryTypes.{typing_over}
+use Rattle.gq_meaning.specs.TypingStatements.{Bytes}
+use Rattle.gq_meaning.specs.Sorts.{Fields, Sorts}
+use Rattle.gq_meaning.specs.Words.{Setting}
+use Rattle.gq_meaning.specs.Judging.{BadKind, Judged, ◌>>◌, unless}
+use Rattle.gq_meaning.specs.Scopes.{Entry, Variable, SetVariable, Alias, EdgeAlias, Accumulator, Scope, entry}
+use Rattle.gq_meaning.specs.QueryTypes.{typing_over}
 use Rattle.gq_meaning.specs.Calendars.{Calendar}
 use Rattle.gq_meaning.specs.Graphs.{Graph}
 use Rattle.gq_meaning.specs.Expressions.{World}

@@ -1,8 +1,8 @@
 -- BlockView: the blocks of a plan as plain data.
 use Rattle.std.specs.Prelude.{ℕ, List, map}
 use Rattle.std.specs.Option.{option_map}
-use Rattle.gq_typing.specs.Selecting as plain
-use Rattle.gq_typing.specs.SelectViews.{inputs_of, acts_of, choices_of}
+use Rattle.gq_meaning.specs.Selecting as plain
+use Rattle.gq_meaning.specs.SelectViews.{inputs_of, acts_of, choices_of}
 use Rattle.gq_resolved.specs.declared.block.Feed.{Feed, Feed-F, fold-Feed}
 use Rattle.gq_resolved.specs.declared.block.Change.{Change}
 use Rattle.gq_resolved.specs.declared.block.Change.TheVariants as change

@@ -1,10 +1,10 @@
 -- ExprView: expressions of a plan as plain data.
 use Rattle.std.specs.Prelude.{ℕ, List, map, Option, Some, None}
-use Rattle.gq_tree.specs.declared.expr.AddSign.{AddSign}
-use Rattle.gq_tree.specs.declared.expr.MulSign.{MulSign}
-use Rattle.gq_tree.specs.Tree.{Tree, Behind, Trees, Parts, Factors, Terms, Number, Text, Truth, Global, Name, Call, Post, Neg, Mul, Sum, Cmp, Not, And, Or, Field, Method, Attached, Before, no_tree, tree}
-use Rattle.gq_tree.specs.View.{trees_of, parts_of, factors_of, terms_of}
-use Rattle.gq_typing.specs.Words as words
+use Rattle.gq_meaning.specs.AddSign.{AddSign}
+use Rattle.gq_meaning.specs.MulSign.{MulSign}
+use Rattle.gq_meaning.specs.Tree.{Tree, Behind, Trees, Parts, Factors, Terms, Number, Text, Truth, Global, Name, Call, Post, Neg, Mul, Sum, Cmp, Not, And, Or, Field, Method, Attached, Before, no_tree, tree}
+use Rattle.gq_meaning.specs.View.{trees_of, parts_of, factors_of, terms_of}
+use Rattle.gq_meaning.specs.Words as words
 use Rattle.gq_resolved.specs.declared.expr.Expr.{Expr, Expr-F, fold-Expr}
 use Rattle.gq_resolved.specs.declared.expr.Behind.{Behind-F, fold-Behind}
 use Rattle.gq_resolved.specs.declared.expr.Behind as code

@@ -7,3 +7,15 @@ pub mod Renamed
 pub mod Settled
 pub mod PlanKinds
 pub mod Belonging
+pub use Rattle.gq_meaning.specs.Answers
+pub use Rattle.gq_meaning.specs.Calendars
+pub use Rattle.gq_meaning.specs.Calls
+pub use Rattle.gq_meaning.specs.Expressions
+pub use Rattle.gq_meaning.specs.Meanings
+pub use Rattle.gq_meaning.specs.States
+pub use Rattle.gq_meaning.specs.TypingStatements as Statements
+pub use Rattle.gq_meaning.specs.Types
+pub use Rattle.gq_meaning.specs.Words
+pub use Rattle.gq_meaning.specs.AddSign
+pub use Rattle.gq_meaning.specs.CmpSign
+pub use Rattle.gq_meaning.specs.MulSign

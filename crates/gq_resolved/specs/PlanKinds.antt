@@ -6,12 +6,12 @@ use Rattle.gq_value.specs.Accums.{Base, VERTEX_OF, TUPLE, DATETIME, Accum, SetAc
 use Rattle.gq_value.specs.AccumViews.{bases}
 use Rattle.gq_value.specs.Candidates.{among}
 use Rattle.gq_value.specs.Typed.{has_no_list, have_no_list}
-use Rattle.gq_typing.specs.Statements.{Bytes}
-use Rattle.gq_typing.specs.Sorts.{bases_of, names_of}
-use Rattle.gq_typing.specs.Words.{Setting, names_of_parts}
-use Rattle.gq_typing.specs.Types.{same_bases}
-use Rattle.gq_typing.specs.FieldTypes.{tuple_fields}
-use Rattle.gq_typing.specs.KindTypes.{is_key, stands_in}
+use Rattle.gq_meaning.specs.TypingStatements.{Bytes}
+use Rattle.gq_meaning.specs.Sorts.{bases_of, names_of}
+use Rattle.gq_meaning.specs.Words.{Setting, names_of_parts}
+use Rattle.gq_meaning.specs.Types.{same_bases}
+use Rattle.gq_meaning.specs.FieldTypes.{tuple_fields}
+use Rattle.gq_meaning.specs.KindTypes.{is_key, stands_in}
 use Rattle.gq_resolved.specs.Reference.{Reference}
 
 -- no name stands twice

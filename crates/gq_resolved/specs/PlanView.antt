@@ -2,12 +2,12 @@
 use Rattle.std.specs.Prelude.{ℕ, Bool, List, [], ◌∷◌, map, Option, Some, None}
 use Rattle.std.specs.Option.{option_map}
 use Rattle.std.specs.List.{flat_map}
-use Rattle.gq_tree.specs.Tree.{Tree}
+use Rattle.gq_meaning.specs.Tree.{Tree}
 use Rattle.gq_value.specs.Accums.{Accum}
 use Rattle.gq_value.specs.AccumViews.{accum_of}
-use Rattle.gq_typing.specs.Statements as plain
-use Rattle.gq_typing.specs.Statements.{Bytes}
-use Rattle.gq_typing.specs.StatementViews.{stmts_of, branches_of}
+use Rattle.gq_meaning.specs.TypingStatements as plain
+use Rattle.gq_meaning.specs.TypingStatements.{Bytes}
+use Rattle.gq_meaning.specs.StatementViews.{stmts_of, branches_of}
 use Rattle.gq_resolved.specs.declared.step.Seed.{Seed}
 use Rattle.gq_resolved.specs.declared.step.Seed.TheVariants as seed
 use Rattle.gq_resolved.specs.declared.step.SetTerm.{SetTerm}

@@ -1,6 +1,6 @@
 -- Reference: what stands for a name in a plan.
 use Rattle.std.specs.Prelude.{ℕ}
-use Rattle.gq_typing.specs.Words.{Function, Method}
+use Rattle.gq_meaning.specs.Words.{Function, Method}
 use Rattle.gq_resolved.specs.declared.expr.FieldPlaces.{FieldPlaces}
 
 pub data Reference : Type 0 where

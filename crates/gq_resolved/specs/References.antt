@@ -1,8 +1,8 @@
 -- References: what the references of a plan stand for. A query has names in their place.
 use Rattle.std.specs.Prelude.{ℕ, ◌==◌, Bool, true, false, List, [], Option, Some, None, slice_get, codes, unwrap_or}
-use Rattle.gq_typing.specs.Statements.{Bytes}
-use Rattle.gq_typing.specs.Sorts.{Sorts}
-use Rattle.gq_typing.specs.Words.{Owner, OfVertexType, OfEdgeType, OfTupleType, OfParts, Function, Makes, Method, Words, place_of, if_own}
+use Rattle.gq_meaning.specs.TypingStatements.{Bytes}
+use Rattle.gq_meaning.specs.Sorts.{Sorts}
+use Rattle.gq_meaning.specs.Words.{Owner, OfVertexType, OfEdgeType, OfTupleType, OfParts, Function, Makes, Method, Words, place_of, if_own}
 use Rattle.gq_resolved.specs.declared.expr.FieldPlaces.{FieldPlaces}
 use Rattle.gq_resolved.specs.Reference.{Reference, Place, Slot, VertexType, EdgeType, TupleType, TypeName, FieldAt, Calls, Does}
 

@@ -1,7 +1,7 @@
 -- Renamed: the same expression with other names, as a plan has references for names. Each use of a name has its own.
 use Rattle.std.specs.Prelude.{◌≡◌, ℕ}
-use Rattle.gq_tree.specs.Tree.{Tree, Behind, Trees, Parts, Factors, Terms, Number, Text, Truth, Global, Name, Call, Post, Neg, Mul, Sum, Cmp, Not, And, Or, Field, Method, Attached, Before, no_tree, tree, no_part, part, no_factor, factor, no_term, term}
-use Rattle.gq_typing.specs.Words.{function_named}
+use Rattle.gq_meaning.specs.Tree.{Tree, Behind, Trees, Parts, Factors, Terms, Number, Text, Truth, Global, Name, Call, Post, Neg, Mul, Sum, Cmp, Not, And, Or, Field, Method, Attached, Before, no_tree, tree, no_part, part, no_factor, factor, no_term, term}
+use Rattle.gq_meaning.specs.Words.{function_named}
 use Rattle.gq_meaning.specs.Meanings.{Meant}
 use Rattle.gq_meaning.specs.Expressions.{Look, setting, meaning}
 

@@ -3,13 +3,13 @@
 -- numbered in order of declaration.
 use Rattle.std.specs.Prelude.{ℕ, ◌==◌, Bool, true, false, ◌&&◌, List, [], ◌∷◌, ◌++◌, map, length, Option, Some, None}
 use Rattle.std.specs.List.{list_all, range_with_len}
-use Rattle.gq_tree.specs.declared.expr.AddSign.{AddSign}
-use Rattle.gq_tree.specs.declared.expr.MulSign.{MulSign}
+use Rattle.gq_meaning.specs.AddSign.{AddSign}
+use Rattle.gq_meaning.specs.MulSign.{MulSign}
 use Rattle.gq_value.specs.AccumViews.{base_of, bases}
-use Rattle.gq_typing.specs.Sorts.{Sorts, bases_of, names_of, vertex_fields, edge_fields}
-use Rattle.gq_typing.specs.Types.{same_bases}
-use Rattle.gq_typing.specs.Words.{Owner, OfVertexType, OfEdgeType, OfTupleType, Setting, edge_quoted, place_of}
-use Rattle.gq_typing.specs.FieldTypes.{tuple_fields}
+use Rattle.gq_meaning.specs.Sorts.{Sorts, bases_of, names_of, vertex_fields, edge_fields}
+use Rattle.gq_meaning.specs.Types.{same_bases}
+use Rattle.gq_meaning.specs.Words.{Owner, OfVertexType, OfEdgeType, OfTupleType, Setting, edge_quoted, place_of}
+use Rattle.gq_meaning.specs.FieldTypes.{tuple_fields}
 use Rattle.gq_resolved.specs.declared.expr.Expr.{Expr, Expr-F, fold-Expr}
 use Rattle.gq_resolved.specs.declared.expr.Behind.{Behind-F}
 use Rattle.gq_resolved.specs.declared.expr.Field.{Field}

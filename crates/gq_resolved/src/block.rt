@@ -1,7 +1,7 @@
 // Blocks of a plan: SELECT.
 use crate::expr::Expr;
 use gq_list::List;
-use gq_tree::Way;
+use gq_meaning::Way;
 
 /// What `+=` feeds an accumulator.
 #[cycle(feed)]

@@ -1,6 +1,6 @@
 // Expressions of a plan.
 use gq_list::{Boxed, List};
-use gq_tree::{AddSign, CmpSign, MulSign};
+use gq_meaning::{AddSign, CmpSign, MulSign};
 use gq_value::{Fields, Txt};
 
 /// An expression. A variable, a set or an alias is a place of the frame, an accumulator the number of its slot.

@@ -1,5 +1,5 @@
 // What is true of plans.
-ghost use Rattle.gq_typing.specs.Statements.{Bytes};
+ghost use Rattle.gq_meaning.specs.TypingStatements.{Bytes};
 ghost use Rattle.gq_resolved.specs.Reference.{Reference};
 ghost use Rattle.gq_resolved.specs.Renamed.{RenamedLaw};
 

@@ -13,6 +13,7 @@ mod step;
 
 pub use block::{Act, Block, Change, Feed, Hop, PathStep, Source, Types, Walk};
 pub use expr::{Behind, Expr, Field, FieldPlaces, Function, Method};
+pub use gq_meaning::{AddSign, CmpSign, MulSign};
 pub use laws::references_mean_what_names_do;
 pub use plan::{Accum, Declared, Definition, Held, Parameter, Plan};
 pub use step::{Item, Over, Right, Seed, SetTerm, SetTypes, Sets, Step};

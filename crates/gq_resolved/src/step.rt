@@ -3,7 +3,7 @@ use crate::block::{Block, Change};
 use crate::expr::Expr;
 use crate::plan::Declared;
 use gq_list::List;
-use gq_tree::SetOp;
+use gq_meaning::SetOp;
 use gq_value::Txt;
 
 /// What a written vertex set holds.

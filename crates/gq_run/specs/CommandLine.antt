@@ -39,25 +39,25 @@ sample_files people = (codes "people.csv", people_file people) ∷ (codes "knows
 
 -- ---- tasks
 
--- what a sample means, whatever files there are
-abbrev pub SampleMeans : ℕ → Outcome → Type 0
-SampleMeans people outcome = ScriptMeans script_text (Told (sample_files people)) None outcome
+-- what a sample means with so many turns for a query, whatever files there are
+abbrev pub SampleMeans : ℕ → ℕ → Outcome → Type 0
+SampleMeans turns people outcome = ScriptMeans script_text (Told (sample_files people)) turns None outcome
 
 module _ (known : Known) where
-  -- what a script with these bytes means, with the file of its arguments, where one is named
-  abbrev pub BytesMean : Option (List ℕ) → List ℕ → Outcome → Type 0
-  BytesMean None bytes outcome = ScriptMeans bytes known None outcome
-  BytesMean (Some path) bytes outcome = Asks known path (λ file. ScriptMeans bytes known (Some file)) outcome
+  -- what a script with these bytes means, with so many turns for a query and with the file of its arguments, where one is named
+  abbrev pub BytesMean : ℕ → Option (List ℕ) → List ℕ → Outcome → Type 0
+  BytesMean turns None bytes outcome = ScriptMeans bytes known turns None outcome
+  BytesMean turns (Some path) bytes outcome = Asks known path (λ file. ScriptMeans bytes known turns (Some file)) outcome
 
   -- what a task means
-  abbrev pub TaskMeans : Task → Outcome → Type 0
-  TaskMeans (Script path arguments) outcome = Asks known path (BytesMean arguments) outcome
-  TaskMeans (Sample people) outcome = SampleMeans people outcome
+  abbrev pub TaskMeans : ℕ → Task → Outcome → Type 0
+  TaskMeans turns (Script path arguments) outcome = Asks known path (BytesMean turns arguments) outcome
+  TaskMeans turns (Sample people) outcome = SampleMeans turns people outcome
 
   -- what a command means, or words that are no use of it
   abbrev pub CommandMeans : Option Command → Outcome → Type 0
   CommandMeans None outcome = outcome ≡ usage
-  CommandMeans (Some command) outcome = TaskMeans command.task outcome
+  CommandMeans (Some command) outcome = TaskMeans command.turns command.task outcome
 
   -- what the words after the program's name mean
   abbrev pub Means : List (List ℕ) → Outcome → Type 0

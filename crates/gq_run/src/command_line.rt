@@ -2,32 +2,31 @@
 ghost use Rattle.std.specs.Prelude.{◌≡◌, ◌≢◌, ◌⊎◌, ◌≤◌, ℕ, Some, None, false, map, string_bytes};
 ghost use Rattle.gq_io.specs.Counts.{Rose};
 ghost use Rattle.gq_io.specs.Listing.{Listing};
-ghost use Rattle.gq_command.specs.Ranges.{TaskInRange};
+ghost use Rattle.gq_command.specs.Ranges.{InRange, TaskInRange};
 ghost use Rattle.gq_command.specs.Words.{command_of};
 ghost use Rattle.gq_outcome.specs.Outcome.{Outcome, Ends, IsFinal, KeepsTo, OnlyRuns};
 ghost use Rattle.gq_script.specs.Known.{Told, known_of};
-ghost use Rattle.gq_run.specs.CommandLine.{Means, TaskMeans, asks_for_files, command_asks_for_files};
+ghost use Rattle.gq_run.specs.CommandLine.{CommandMeans, Means, TaskMeans, asks_for_files, command_asks_for_files};
 
 use crate::file::run_file;
 use crate::sample::run_sample;
-use gq_command::{Task, WordsFault, read_words};
-use gq_io::{Files, Gate, Sink};
+use gq_command::{Command, Task, WordsFault, read_words};
+use gq_io::{Files, Sink};
 use gq_outcome::Status;
+use gq_runs::{Runner, RunsQueries};
 use std::alloc::Global;
-use std::sync::Wait;
-use std::thread::Threads;
 
-/// Runs what the words after the program's name ask for, over these files, and writes its lines to the sink.
+/// Runs what the words after the program's name ask for, over these files, and writes its lines to the sink. Its queries run on this
+/// machine.
 ///
 /// The words are read first, then the script's file, then that of the arguments, where one is named. The whole script is read before
 /// its first statement runs, and each line is written when its statement has ended. A sample has a script and files of its own.
-pub fn run<R: Threads + Wait + Sync, F: Files, K: Sink, G: Gate>(
-    _rt: &R,
+pub fn run<R: RunsQueries, F: Files, K: Sink>(
+    machine: &R,
     alloc: Global,
     words: &[String],
     files: &mut F,
     out: &mut K,
-    _gate: &G,
 ) -> Status
     // Over files that are told: the lines and the status are those that the words mean, or a counted fault or want of memory ended
     // the run sooner: after a failed read with whole lines, else with a prefix of the bytes.
@@ -56,25 +55,63 @@ pub fn run<R: Threads + Wait + Sync, F: Files, K: Sink, G: Gate>(
     ensures steady { (Rose (F.faults files.old) (F.faults files.new) → ⊥) → (Rose (K.faults out.old) (K.faults out.new) → ⊥) → IsFinal result ⊎ (result ≡ Status.Memory) }
 {
     match read_words(alloc, words) {
-        Ok(command) => run_task(alloc, &command.task, files, out),
+        Ok(command) => run_command(machine, alloc, &command, files, out),
         Err(WordsFault::Usage) => Status::Usage,
         Err(WordsFault::Memory) => Status::Memory,
     }
 }
 
-fn run_task<F: Files, K: Sink>(alloc: Global, task: &Task, files: &mut F, out: &mut K) -> Status
-    requires { TaskInRange task.now }
-    ensures keeps { (pairs : Listing) → F.held files.old ≡ Some pairs → (outcome : Outcome) → TaskMeans (Told pairs) task.now outcome
+fn run_command<R: RunsQueries, F: Files, K: Sink>(
+    machine: &R,
+    alloc: Global,
+    command: &Command,
+    files: &mut F,
+    out: &mut K,
+) -> Status
+    requires { InRange command.now }
+    ensures keeps { (pairs : Listing) → F.held files.old ≡ Some pairs → (outcome : Outcome) → CommandMeans (Told pairs) (Some command.now) outcome
         → KeepsTo outcome result (K.written out.old) (K.written out.new) (Rose (F.faults files.old) (F.faults files.new)) (Rose (K.faults out.old) (K.faults out.new)) }
     ensures is_meant { IsFinal result → (before : ℕ) → before ≤ F.absences files.old → (outcome : Outcome)
-        × TaskMeans (known_of (F.held files.old) before (F.absences files.new) (F.length_met files.new)) task.now outcome
+        × CommandMeans (known_of (F.held files.old) before (F.absences files.new) (F.length_met files.new)) (Some command.now) outcome
+        × Ends outcome result (K.written out.old) (K.written out.new) }
+    ensures only_runs { OnlyRuns result (Rose (F.faults files.old) (F.faults files.new)) (Rose (K.faults out.old) (K.faults out.new)) }
+    ensures untouched { asks_for_files command.now.task ≡ false → files.new ≡ files.old }
+    ensures sure { asks_for_files command.now.task ≡ false → result ≢ Status.ReadFault }
+{
+    let runner = Runner {
+        machine,
+        shape: command.shape,
+        turns: command.turns,
+    };
+    run_task(alloc, &command.task, &runner, files, out)
+}
+
+fn run_task<R: RunsQueries, F: Files, K: Sink>(
+    alloc: Global,
+    task: &Task,
+    runner: &Runner<'_, R>,
+    files: &mut F,
+    out: &mut K,
+) -> Status
+    requires { TaskInRange task.now }
+    ensures keeps { (pairs : Listing) → F.held files.old ≡ Some pairs → (outcome : Outcome) → TaskMeans (Told pairs) runner.now.turns task.now outcome
+        → KeepsTo outcome result (K.written out.old) (K.written out.new) (Rose (F.faults files.old) (F.faults files.new)) (Rose (K.faults out.old) (K.faults out.new)) }
+    ensures is_meant { IsFinal result → (before : ℕ) → before ≤ F.absences files.old → (outcome : Outcome)
+        × TaskMeans (known_of (F.held files.old) before (F.absences files.new) (F.length_met files.new)) runner.now.turns task.now outcome
         × Ends outcome result (K.written out.old) (K.written out.new) }
     ensures only_runs { OnlyRuns result (Rose (F.faults files.old) (F.faults files.new)) (Rose (K.faults out.old) (K.faults out.new)) }
     ensures untouched { asks_for_files task.now ≡ false → files.new ≡ files.old }
     ensures sure { asks_for_files task.now ≡ false → result ≢ Status.ReadFault }
 {
     match task {
-        Task::Script { path, arguments } => run_file(alloc, path.as_str(), arguments, files, out),
-        Task::Sample(people) => run_sample(alloc, *people, out),
+        Task::Script { path, arguments } => run_file(
+            alloc,
+            path.as_str(),
+            arguments,
+            runner,
+            files,
+            out,
+        ),
+        Task::Sample(people) => run_sample(alloc, *people, runner, out),
     }
 }

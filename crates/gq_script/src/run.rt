@@ -20,10 +20,10 @@ use std::alloc::Global;
 
 /// Runs the statements of the script with these bytes, from the machine's state on, and writes the line of each before the next
 /// begins. A refusal is the last line.
-pub fn run_statements<M: Machine, F: Files, K: Sink>(
+pub fn run_statements<'s, M: Machine<'s>, F: Files, K: Sink>(
     alloc: Global,
     bytes: &[u8],
-    statements: &[Placed],
+    statements: &'s [Placed],
     machine: &mut M,
     files: &mut F,
     out: &mut K,
@@ -51,11 +51,11 @@ pub fn run_statements<M: Machine, F: Files, K: Sink>(
 }
 
 // Runs the statement of this number, and tells how the run ends, if it ends there.
-fn run_one<M: Machine, F: Files, K: Sink>(
+fn run_one<'s, M: Machine<'s>, F: Files, K: Sink>(
     alloc: Global,
     bytes: &[u8],
     number: u64,
-    placed: &Placed,
+    placed: &'s Placed,
     machine: &mut M,
     files: &mut F,
     out: &mut K,

@@ -3,8 +3,6 @@
 
 mod bodies;
 mod script;
-#[cfg(test)]
-mod tests;
 
 pub use bodies::QueryBodies;
 pub use script::read_script;

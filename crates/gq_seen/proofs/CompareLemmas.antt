@@ -4,12 +4,12 @@ use Rattle.std.specs.declared.cmp.Ordering.{Ordering}
 use Rattle.std.specs.declared.cmp.Ordering.TheVariants.{Less, Equal, Greater}
 use Rattle.std.specs.Ordering.{nat_cmp, ordering_then}
 use Rattle.std.specs.Cmp.Lexicographic.{slice_cmp}
-use Rattle.gq_tree.specs.declared.expr.CmpSign.{CmpSign}
+use Rattle.gq_resolved.specs.CmpSign.{CmpSign}
 use Rattle.gq_value.specs.Val.{Val, Int, UInt, Truth, Text, Vertex, Tuple, Fraction}
 use Rattle.gq_value.specs.Order.{compare}
-use Rattle.gq_meaning.specs.Answers.{Stuck}
-use Rattle.gq_meaning.specs.Meanings.{truly}
-use Rattle.gq_meaning.specs.Expressions.{compared, related}
+use Rattle.gq_resolved.specs.Answers.{Stuck}
+use Rattle.gq_resolved.specs.Meanings.{truly}
+use Rattle.gq_resolved.specs.Expressions.{compared, related}
 use Rattle.gq_seen.specs.Meant.{IsText, IsNoText}
 
 then_equal : (o : Ordering) → ordering_then (ordering_then o Equal) Equal ≡ o

@@ -8,8 +8,8 @@ use Rattle.gq_content.specs.Reads.{value_in}
 use Rattle.gq_nest.specs.declared.content.Content.{Content, out-Content}
 use Rattle.gq_nest.specs.Forms.{view}
 use Rattle.gq_nest.specs.Tells.{Tells, IsFitting}
-use Rattle.gq_meaning.specs.Meanings.{Meant, Is, IsAverage, IsContent, read}
-use Rattle.gq_meaning.specs.Answers.{Answer, Gives}
+use Rattle.gq_resolved.specs.Meanings.{Meant, Is, IsAverage, IsContent, read}
+use Rattle.gq_resolved.specs.Answers.{Answer, Gives}
 use Rattle.gq_value.specs.declared.value.Wrong.{Wrong}
 use Rattle.gq_content.specs.Holds.{Holds}
 use Rattle.gq_content.specs.After.{fresh}

@@ -11,7 +11,7 @@ use Rattle.gq_value.specs.Answers as value_answers
 use Rattle.gq_value.specs.Arithmetic.{converted}
 use Rattle.gq_value.specs.Accums.{Base, INT, UINT, BOOL, STRING, DATETIME, VERTEX, VERTEX_OF, TUPLE}
 use Rattle.gq_value.specs.AccumViews.{bases, base_step, base_of}
-use Rattle.gq_meaning.specs.Answers.{Answer, Gives, Faults, Stuck, ◌>>=◌, of_result}
+use Rattle.gq_resolved.specs.Answers.{Answer, Gives, Faults, Stuck, ◌>>=◌, of_result}
 use Rattle.gq_seen.specs.declared.halt.Halt.{Halt}
 use Rattle.gq_seen.specs.Meant.{number_in, number_to, Halts, Told, Tells}
 use Rattle.gq_seen.proofs.OperatorLemmas.{first_stops, told}

@@ -1,8 +1,8 @@
 -- OperatorLemmas: what operations on numbers come to, operand by operand.
 use Rattle.std.proofs.Common.{◌≡◌, ◌≢◌, List, ℕ, zero, suc, ◌+◌, ◌-◌, ◌<◌, ◌≤◌, Bool, true, false, not, if◌then◌else◌, ℤ, neg_ℤ, Result, Ok, Err, refl, sym, ap, subst, ◌∙◌, arith}
-use Rattle.gq_tree.specs.declared.expr.AddSign.TheVariants as sign
-use Rattle.gq_tree.specs.declared.expr.MulSign.{MulSign}
-use Rattle.gq_tree.specs.declared.expr.MulSign.TheVariants as times
+use Rattle.gq_resolved.specs.AddSign.TheVariants as sign
+use Rattle.gq_resolved.specs.MulSign.{MulSign}
+use Rattle.gq_resolved.specs.MulSign.TheVariants as times
 use Rattle.gq_value.specs.declared.value.Value.{Value}
 use Rattle.gq_value.specs.declared.value.Wrong.{Wrong}
 use Rattle.gq_value.specs.declared.value.EvalFault.{EvalFault}
@@ -11,9 +11,9 @@ use Rattle.gq_value.specs.Val.{Val, Int, UInt, Text}
 use Rattle.gq_value.specs.Answers as value_answers
 use Rattle.gq_value.specs.Accums.{INT, UINT}
 use Rattle.gq_value.specs.Arithmetic.{added, negated}
-use Rattle.gq_meaning.specs.Answers.{Answer, Gives, Faults, Stuck, ◌>>=◌, of_result}
-use Rattle.gq_meaning.specs.Meanings.{Meant, Is, as_number, numbered}
-use Rattle.gq_meaning.specs.Expressions.{calculated, product, summed, minus, nots}
+use Rattle.gq_resolved.specs.Answers.{Answer, Gives, Faults, Stuck, ◌>>=◌, of_result}
+use Rattle.gq_resolved.specs.Meanings.{Meant, Is, as_number, numbered}
+use Rattle.gq_resolved.specs.Expressions.{calculated, product, summed, minus, nots}
 use Rattle.gq_seen.specs.declared.halt.Halt.{Halt}
 use Rattle.gq_seen.specs.declared.halt.Halt.TheVariants as halt
 use Rattle.gq_seen.specs.Meant.{number_in, is_unsigned, IsNoText, Halts, Told, Tells}

@@ -1,2 +1,11 @@
 pub mod Meant
 pub mod Sound
+pub use Rattle.gq_resolved.specs.Reference
+pub use Rattle.gq_resolved.specs.References
+pub use Rattle.gq_resolved.specs.declared.plan.Held
+pub use Rattle.gq_resolved.specs.Answers
+pub use Rattle.gq_resolved.specs.Expressions
+pub use Rattle.gq_resolved.specs.Meanings
+pub use Rattle.gq_resolved.specs.States
+pub use Rattle.gq_resolved.specs.Types
+pub use Rattle.gq_resolved.specs.Words

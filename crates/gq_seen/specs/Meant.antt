@@ -15,12 +15,12 @@ use Rattle.gq_content.specs.Holds.{HoldsEach, row_cmp}
 use Rattle.gq_content.specs.After.{fresh, fresh_each}
 use Rattle.gq_nest.specs.declared.content.Content.{Content, out-Content}
 use Rattle.gq_nest.specs.Forms.{view}
-use Rattle.gq_typing.specs.Statements.{Bytes}
+use Rattle.gq_resolved.specs.Statements.{Bytes}
 use Rattle.gq_value.specs.declared.kind.Number.{Number}
 use Rattle.gq_value.specs.declared.kind.Number.TheVariants as number
 use Rattle.gq_value.specs.Arithmetic.{in_type}
-use Rattle.gq_meaning.specs.Answers.{Answer, Gives, Faults, Stuck, ◌>>=◌, of_result}
-use Rattle.gq_meaning.specs.Meanings.{Meant, Is, IsAverage, IsContent, IsRow, IsEdge, IsSet, IsMember, as_number, read}
+use Rattle.gq_resolved.specs.Answers.{Answer, Gives, Faults, Stuck, ◌>>=◌, of_result}
+use Rattle.gq_resolved.specs.Meanings.{Meant, Is, IsAverage, IsContent, IsRow, IsEdge, IsSet, IsMember, as_number, read}
 use Rattle.gq_seen.specs.declared.seen.Sort.{Sort}
 use Rattle.gq_seen.specs.declared.seen.Sort.TheVariants as sort
 use Rattle.gq_seen.specs.declared.seen.Operand.{Operand}

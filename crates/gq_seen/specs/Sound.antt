@@ -10,9 +10,9 @@ use Rattle.gq_content.specs.Fits.{fits}
 use Rattle.gq_nest.specs.declared.content.Content.{Content, out-Content}
 use Rattle.gq_nest.specs.Forms.{view}
 use Rattle.gq_nest.specs.Shows.{Shows}
-use Rattle.gq_typing.specs.Words.{Function, Makes}
+use Rattle.gq_resolved.specs.Words.{Function, Makes}
 use Rattle.gq_content.specs.Reads.{value_in}
-use Rattle.gq_meaning.specs.Meanings.{Is, read}
+use Rattle.gq_resolved.specs.Meanings.{Is, read}
 use Rattle.gq_seen.specs.declared.seen.Seen.{Seen}
 use Rattle.gq_seen.specs.declared.seen.Seen.TheVariants as seen
 use Rattle.gq_seen.specs.Meant.{keys_are, parts_are}

@@ -2,15 +2,15 @@
 ghost use Rattle.std.specs.Prelude.{◌≡◌, ◌⊎◌, MatchOption};
 ghost use Rattle.gq_value.specs.Val as val;
 ghost use Rattle.gq_value.specs.Views.{val};
-ghost use Rattle.gq_typing.specs.Types.{is_equality};
-ghost use Rattle.gq_meaning.specs.Expressions.{may_compare, related, compared};
+ghost use Rattle.gq_resolved.specs.Types.{is_equality};
+ghost use Rattle.gq_resolved.specs.Expressions.{may_compare, related, compared};
 ghost use Rattle.gq_seen.specs.Meant.{meant, valued, IsText, Tells};
 
 use crate::halt::Halt;
 use crate::operand::text;
 use crate::operators::truly;
 use crate::seen::{Operand, Seen};
-use gq_tree::CmpSign;
+use gq_resolved::CmpSign;
 use gq_value::{Value, compare};
 use std::cmp::Ordering;
 

@@ -3,7 +3,7 @@ ghost use Rattle.std.specs.Prelude.{◌≡◌, IfOk, true};
 ghost use Rattle.gq_value.specs.Accums.{AvgAccum, INT, BOOL};
 ghost use Rattle.gq_value.specs.AccumViews.{accum_of};
 ghost use Rattle.gq_value.specs.Typed.{is_scalar, number_type};
-ghost use Rattle.gq_meaning.specs.Answers.{Gives};
+ghost use Rattle.gq_resolved.specs.Answers.{Gives};
 ghost use Rattle.gq_seen.specs.Meant.{meant, sort_is, read_of, opening_of, number_read, Tells};
 ghost use Rattle.gq_seen.specs.Sound.{IsSound, Sound, ReadsAs};
 

@@ -1,9 +1,9 @@
 // Conversions.
 ghost use Rattle.gq_value.specs.AccumViews.{base_of};
 ghost use Rattle.gq_value.specs.Accums.{INT};
-ghost use Rattle.gq_meaning.specs.Meanings.{converted_to};
+ghost use Rattle.gq_resolved.specs.Meanings.{converted_to};
 ghost use Rattle.gq_seen.specs.Meant.{valued, number_to, Told, Tells};
-ghost use Rattle.gq_meaning.specs.Answers.{Gives};
+ghost use Rattle.gq_resolved.specs.Answers.{Gives};
 ghost use Rattle.gq_value.specs.Views.{val};
 
 use crate::halt::Halt;

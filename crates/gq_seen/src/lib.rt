@@ -16,6 +16,7 @@ mod sees;
 pub use compare::{compared, held};
 pub use contents::{opening, read};
 pub use convert::{converted, converted_to, made};
+pub use gq_resolved::Held;
 pub use halt::Halt;
 pub use operand::{number, own, text, truth, vertex_in};
 pub use operators::{calculated, minus, nots, numbered, product, summed, truly};

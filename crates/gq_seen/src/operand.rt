@@ -3,7 +3,7 @@ ghost use Rattle.std.specs.Prelude.{IfOk, MatchOption, ◌≡◌};
 ghost use Rattle.gq_value.specs.Arithmetic.{IsWhole};
 ghost use Rattle.gq_value.specs.Val.{Text};
 ghost use Rattle.gq_value.specs.Views.{val};
-ghost use Rattle.gq_meaning.specs.Meanings.{as_truth};
+ghost use Rattle.gq_resolved.specs.Meanings.{as_truth};
 ghost use Rattle.gq_seen.specs.Meant.{valued, itself, vertex_of_value, number_in, IsNoText, Tells};
 
 use crate::halt::Halt;

@@ -1,8 +1,8 @@
 // Operators on numbers, texts and truths.
 ghost use Rattle.std.specs.Prelude.{◌≡◌, ◌++◌, IfOk};
-ghost use Rattle.gq_meaning.specs.Answers.{Gives};
-ghost use Rattle.gq_meaning.specs.Meanings.{numbered, truly, said};
-ghost use Rattle.gq_meaning.specs.Expressions.{calculated, product, summed, minus, nots};
+ghost use Rattle.gq_resolved.specs.Answers.{Gives};
+ghost use Rattle.gq_resolved.specs.Meanings.{numbered, truly, said};
+ghost use Rattle.gq_resolved.specs.Expressions.{calculated, product, summed, minus, nots};
 ghost use Rattle.gq_value.specs.Arithmetic.{added, subtracted};
 ghost use Rattle.gq_value.specs.Views.{val};
 ghost use Rattle.gq_seen.specs.Meant.{meant, valued, is_unsigned, Told, Tells};
@@ -10,7 +10,7 @@ ghost use Rattle.gq_seen.specs.Meant.{meant, valued, is_unsigned, Told, Tells};
 use crate::halt::Halt;
 use crate::operand::{number, text};
 use crate::seen::{Operand, Seen, Sort};
-use gq_tree::{AddSign, MulSign};
+use gq_resolved::{AddSign, MulSign};
 use gq_value::{EvalFault, Memory, Txt, Value, add, div, mul, negate, rem, sub};
 use std::alloc::Global;
 

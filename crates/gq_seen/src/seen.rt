@@ -1,7 +1,7 @@
 // What is seen.
 ghost use Rattle.std.specs.Prelude.{◌≡◌};
 ghost use Rattle.gq_value.specs.AccumViews.{base_of};
-ghost use Rattle.gq_meaning.specs.Meanings.{value_of_meant, vertex_of_meant};
+ghost use Rattle.gq_resolved.specs.Meanings.{value_of_meant, vertex_of_meant};
 ghost use Rattle.gq_seen.specs.Meant.{sort_is, meant, valued, itself, Tells};
 
 use crate::halt::Halt;

@@ -2,10 +2,10 @@
 ghost use Rattle.std.specs.Prelude.{◌≡◌, ℕ, IfOk, map, Some, pos};
 ghost use Rattle.std.specs.Option.{option_map};
 ghost use Rattle.gq_value.specs.AccumViews.{base_of};
-ghost use Rattle.gq_typing.specs.Words.{Function, Method, Makes, function_named, edge_quoted};
-ghost use Rattle.gq_meaning.specs.Calendars.{IsCalendar};
-ghost use Rattle.gq_meaning.specs.Calls.{sum, degree_of};
-ghost use Rattle.gq_meaning.specs.Expressions.{Look, setting};
+ghost use Rattle.gq_resolved.specs.Words.{Function, Method, Makes, function_named, edge_quoted};
+ghost use Rattle.gq_resolved.specs.Calendars.{IsCalendar};
+ghost use Rattle.gq_resolved.specs.Calls.{sum, degree_of};
+ghost use Rattle.gq_resolved.specs.Expressions.{Look, setting};
 ghost use Rattle.gq_resolved.specs.Reference.{Reference, Place, Slot, TupleType, Calls, Does};
 ghost use Rattle.gq_resolved.specs.ExprView.{field_of};
 ghost use Rattle.gq_seen.specs.Meant.{meant, Tells};

@@ -1,2 +1,3 @@
 pub mod GrowthLemmas
 pub mod SessionLemmas
+pub mod QueryLemmas

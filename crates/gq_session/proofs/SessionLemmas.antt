@@ -16,13 +16,10 @@ use Rattle.gq_jobs.specs.declared.named.NamedJob.{NamedJob}
 use Rattle.gq_jobs.specs.FittingLaws.{jobs_stay}
 use Rattle.gq_kept.specs.KeepingLaws.{growth_fits}
 use Rattle.gq_tree.specs.declared.job.RunJobTree.{RunJobTree}
-use Rattle.gq_tree.specs.declared.query.QueryTree.{QueryTree}
-use Rattle.gq_plain.specs.Plain.{plain_text}
-use Rattle.gq_queries.specs.Judging.{interpret_refusal}
 use Rattle.gq_script.specs.Known.{Known}
 use Rattle.gq_script.specs.Effects.{Becomes, Refused, lines_of}
 use Rattle.gq_loads.specs.JobRuns.{JobDoes, JobLeaves}
-use Rattle.gq_session.specs.Statements.{State, RunsJob, JobLeft, printed, unless_due, interpreted}
+use Rattle.gq_session.specs.Statements.{State, RunsJob, JobLeft}
 use Rattle.gq_session.specs.Keeping.{SessionFits}
 use Rattle.gq_session.proofs.GrowthLemmas.{Grown, not_grown}
 
@@ -84,16 +81,6 @@ silent_left {R} meant s t answer (Err f) answers same =
 pub left_same : {A : Type 0} (s : State) (r : Result A StatementFault) → IfErr r (λ f. s ≡ s)
 left_same s (Ok a) = tt
 left_same s (Err f) = refl
-
--- ---- queries
-
--- a query that isn't refused prints what a query that prints numbers alone prints
-pub interprets : (s v : State) → v ≡ s → (number : ℕ) (tree : QueryTree) (r : Result (Option (Vec ℕ Global)) StatementFault) → interpret_refusal v.schema v.in_use tree ≡ None
-    → IfOk r (λ line. Becomes s (lines_of line) ≡ printed s number (plain_text tree)) → IfOk r (λ line. Becomes s (lines_of line) ≡ interpreted s number tree)
-interprets s v same number tree r none done =
-    let P : State → Type 0 = λ u. interpret_refusal u.schema u.in_use tree ≡ None in
-    let Q : Option Refusal → Type 0 = λ due. IfOk r (λ line. Becomes s (lines_of line) ≡ unless_due s number due (plain_text tree)) in
-    subst Q (sym (subst P same none)) done
 
 -- ---- loading jobs
 

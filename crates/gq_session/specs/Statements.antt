@@ -1,5 +1,6 @@
 -- Statements: what each statement of a script does to a session, what it prints, and what it leaves where it doesn't run to its end.
-use Rattle.std.specs.Prelude.{◌≡◌, ℕ, Bool, List, [], ◌∷◌, length, Option, Some, None, Result, Ok, Err}
+use Rattle.std.specs.Prelude.{◌≡◌, ℕ, Bool, if◌then◌else◌, List, [], length, map, Option, Some, None, Result, Ok, Err, Vec, option_map}
+use Rattle.std.specs.declared.alloc.Global.{Global}
 use Rattle.gq_value.specs.Catalog.{Schema, graph_of}
 use Rattle.gq_index.specs.declared.store.Store.{Store}
 use Rattle.gq_tree.specs.declared.schema.VertexTree.{VertexTree}
@@ -15,32 +16,44 @@ use Rattle.gq_tree.specs.declared.statement.Statement.TheVariants as top
 use Rattle.gq_refusal.specs.declared.refusal.Refusal.{Refusal}
 use Rattle.gq_refusal.specs.declared.refusal.Refusal.TheVariants as refusal
 use Rattle.gq_refusal.specs.declared.refusal.StatementFault.{StatementFault}
+use Rattle.gq_refusal.specs.declared.refusal.StatementFault.TheVariants as fault
 use Rattle.gq_refusal.specs.Messages.{message_of}
 use Rattle.gq_define.specs.Declarations.{vertex_created, edge_created, graph_created}
-use Rattle.gq_plain.specs.Plain.{plain_text}
 use Rattle.gq_jobs.specs.declared.named.NamedJob.{NamedJob}
 use Rattle.gq_jobs.specs.Jobs.{job_created}
 use Rattle.gq_kept.specs.Keeping.{no_rows}
 use Rattle.gq_loads.specs.JobRuns.{JobDoes, JobLeaves}
 use Rattle.gq_inserts.specs.Inserting.{row_inserted}
-use Rattle.gq_queries.specs.declared.stored.Stored.{Stored}
+use Rattle.gq_tree.specs.declared.query.RunTree.{RunTree}
+use Rattle.gq_typing.specs.StatementViews.{view_query}
+use Rattle.gq_meaning.specs.Sessions as sessions
+use Rattle.gq_meaning.specs.Sessions.{ran, interpreted}
+use Rattle.gq_calendar.specs.Gregorian.{gregorian}
+use Rattle.gq_arguments.specs.Given.{view_argument}
+use Rattle.gq_arguments.specs.Members.{members_for}
+use Rattle.gq_queries.specs.Kept.{Kept}
 use Rattle.gq_queries.specs.Judging.{interpret_refusal}
 use Rattle.gq_queries.specs.Queries.{query_created, query_installed}
+use Rattle.gq_runs.specs.Sessions.{session_of}
 use Rattle.gq_script.specs.Known.{Known}
-use Rattle.gq_script.specs.Effects.{Effect, Becomes, Refused}
+use Rattle.gq_script.specs.Effects.{Effect, Becomes, Refused, lines_of}
+use Rattle.gq_session.specs.Arguments.{object_of}
+use Rattle.gq_session.specs.Paths.{has_path, walks_path}
 
 -- what one statement leaves to the next: the catalog, the number of the graph in use, loading jobs and queries by their names, and the
--- store
+-- store; and what stays the same, the bytes of the file of arguments, where one is named, and the turns of a query
 pub record State : Type 0 where
   pub schema : Schema
   pub in_use : Option ℕ
   pub jobs : List NamedJob
-  pub queries : List Stored
+  pub queries : List Kept
   pub store : Store
+  pub file : Option (List ℕ)
+  pub turns : ℕ
 
 -- no types, no graphs and none in use, no jobs, no queries, and no rows
-abbrev pub opening : State
-opening = record { schema = record { vertex_types = []; edge_types = []; graphs = [] }; in_use = None; jobs = []; queries = []; store = no_rows }
+abbrev pub opening : Option (List ℕ) → ℕ → State
+opening file turns = record { schema = record { vertex_types = []; edge_types = []; graphs = [] }; in_use = None; jobs = []; queries = []; store = no_rows; file = file; turns = turns }
 
 -- ---- types and graphs
 
@@ -100,7 +113,7 @@ RunsJob known s tree effect = (e : Effect Store) × JobDoes known s.schema s.job
 
 -- ---- queries
 
-abbrev pub with_queries : State → Result (List Stored) Refusal → Result State Refusal
+abbrev pub with_queries : State → Result (List Kept) Refusal → Result State Refusal
 with_queries s (Ok queries) = Ok (record s { queries = queries })
 with_queries s (Err r) = Err r
 
@@ -123,19 +136,30 @@ effect_of (Err r) = Refused (message_of r)
 abbrev pub unsupported : ℕ → Effect State
 unsupported number = Refused (message_of (refusal.Unsupported number))
 
--- a query that prints numbers alone, and no other yet
-abbrev pub printed : State → ℕ → Option (List ℕ) → Effect State
-printed s number (Some line) = Becomes s (line ∷ [])
-printed s number None = unsupported number
+-- the refusal that is due, or else this
+abbrev pub unless_due : Option Refusal → Effect State → Effect State
+unless_due (Some due) effect = Refused (message_of due)
+unless_due None effect = effect
 
--- the same of a query that isn't refused
-abbrev pub unless_due : State → ℕ → Option Refusal → Option (List ℕ) → Effect State
-unless_due s number (Some due) line = Refused (message_of due)
-unless_due s number None line = printed s number line
+-- the session of gq_meaning's definitions, and what is done to it: RUN QUERY and INTERPRET QUERY leave it as it is
+abbrev pub session_in : State → sessions.Session
+session_in s = session_of s.schema s.in_use s.queries s.store
+
+abbrev pub effect_in : State → sessions.Effect → Effect State
+effect_in s (sessions.Becomes t lines) = Becomes s lines
+effect_in s (sessions.Refused message) = Refused message
+
+-- RUN QUERY
+abbrev pub query_ran : State → ℕ → RunTree → Effect State
+query_ran s number tree =
+    if walks_path s.queries tree.name then unsupported number
+    else effect_in s (ran (session_in s) gregorian s.turns tree.name (option_map (map view_argument) tree.arguments) (members_for (object_of s.file) tree.name))
 
 -- INTERPRET QUERY
-abbrev pub interpreted : State → ℕ → QueryTree → Effect State
-interpreted s number tree = unless_due s number (interpret_refusal s.schema s.in_use tree) (plain_text tree)
+abbrev pub query_interpreted : State → ℕ → QueryTree → Effect State
+query_interpreted s number tree =
+    if has_path (view_query tree) then unless_due (interpret_refusal s.schema s.in_use tree) (unsupported number)
+    else effect_in s (interpreted (session_in s) gregorian s.turns tree.graph tree.modes (view_query tree))
 
 -- what the statement of this number does, by what is known of the files
 abbrev pub Does : Known → State → ℕ → Statement → Effect State → Type 0
@@ -147,11 +171,20 @@ Does known s number (top.Job tree) effect = effect ≡ effect_of (job_made s tre
 Does known s number (top.RunJob tree) effect = RunsJob known s tree effect
 Does known s number (top.Query replace name tree) effect = effect ≡ effect_of (query_made s replace name tree)
 Does known s number (top.Install which) effect = effect ≡ effect_of (install_made s which)
-Does known s number (top.Run tree) effect = effect ≡ unsupported number
-Does known s number (top.Interpret tree) effect = effect ≡ interpreted s number tree
+Does known s number (top.Run tree) effect = effect ≡ query_ran s number tree
+Does known s number (top.Interpret tree) effect = effect ≡ query_interpreted s number tree
 Does known s number (top.Insert tree) effect = effect ≡ effect_of (row_made s tree)
 Does known s number top.Begin effect = effect ≡ Becomes s []
 Does known s number top.End effect = effect ≡ Becomes s []
+
+-- ---- answers
+
+-- the answer of a statement that leaves the session as it is; memory may be wanting at any time
+abbrev pub Prints : State → Effect State → Result (Option (Vec ℕ Global)) StatementFault → Type 0
+Prints s effect (Ok line) = effect ≡ Becomes s (lines_of line)
+Prints s effect (Err (fault.Refused refusal)) = effect ≡ Refused (message_of refusal)
+Prints s effect (Err fault.ReadFault) = ⊥
+Prints s effect (Err fault.Memory) = Unit {0}
 
 -- ---- what is left
 

@@ -6,10 +6,12 @@ ghost use Rattle.gq_refusal.specs.Answers.{Answers};
 ghost use Rattle.gq_refusal.specs.Messages.{message_of};
 ghost use Rattle.gq_script.specs.Effects.{Becomes, Refused, lines_of};
 ghost use Rattle.gq_script.specs.Known.{known_of};
-ghost use Rattle.gq_plain.specs.Plain.{plain_text};
+ghost use Rattle.gq_queries.specs.Judging.{interpret_refusal};
 ghost use Rattle.gq_kept.specs.Keeping.{no_rows as rows_of_none};
-ghost use Rattle.gq_session.specs.Statements.{Does, JobLeft, Leaves, RunsJob, State, edge_made, effect_of, graph_made, graph_used, install_made, interpreted, job_made, opening, printed, query_made, row_made, vertex_made};
+ghost use Rattle.gq_session.specs.Statements.{Does, JobLeft, Leaves, Prints, RunsJob, State, edge_made, effect_of, graph_made, graph_used, install_made, job_made, opening, query_interpreted, query_made, query_ran, row_made, unless_due, unsupported as not_yet, vertex_made};
 
+use crate::file::ArgsFile;
+use crate::path::{has_path, walks_path};
 use gq_define::{create_edge, create_graph, create_vertex};
 use gq_edge::Edges;
 use gq_index::Store;
@@ -18,13 +20,13 @@ use gq_io::Files;
 use gq_jobs::{NamedJob, create_job};
 use gq_list::List;
 use gq_loads::run_job;
-use gq_plain::plain_line;
 use gq_queries::{Stored, create_query, install_queries, judge_interpreted};
 use gq_refusal::{Refusal, StatementFault};
+use gq_runs::{Runner, RunsQueries, interpret_query, run_query};
 use gq_schema::Catalog;
 use gq_script::Machine;
 use gq_tree::{
-    EdgeTree, GraphTree, InsertTree, Installed, JobTree, QueryTree, RunJobTree, Statement,
+    EdgeTree, GraphTree, InsertTree, Installed, JobTree, QueryTree, RunJobTree, RunTree, Statement,
     VertexTree,
 };
 use gq_value::{Memory, Txt};
@@ -32,38 +34,41 @@ use gq_vertex::Vertices;
 use std::alloc::Global;
 use std::marker::Model;
 
-/// What the statements of a script leave to one another: the catalog, the graph in use, the loading jobs, the queries,
-/// and the store.
+/// What the statements of a script leave to one another: the catalog, the graph in use, the loading jobs, the queries, whose trees the
+/// script lends, and the store. The file of arguments and what runs queries are lent to it too.
 #[derive(Drop)]
-pub struct Session {
+pub struct Session<'s, R> {
     alloc: Global,
     catalog: Catalog,
     in_use: Option<u32>,
     jobs: List<NamedJob>,
-    queries: List<Stored>,
+    queries: List<Stored<'s>>,
     store: Store,
+    file: ArgsFile<'s>,
+    runner: &'s Runner<'s, R>,
 }
 
-impl Model for Session {
+impl<'s, R> Model for Session<'s, R> {
     ghost use Rattle.std.specs.Coded.{codes};
     ghost use Rattle.gq_value.specs.contracts.value.Value as value;
     ghost use Rattle.gq_value.specs.contracts.kind.BaseType as base;
+    ghost use Rattle.gq_tree.specs.contracts.query.QueryTree as query;
     ghost use Rattle.gq_session.specs.Statements.{State};
     ghost use Rattle.gq_session.specs.Keeping.{SessionFits};
 
     ghost Value = { State };
 
-    ghost coded = { Prim.hlevel (codes, value.the_row.coded, base.the_row.coded) };
+    ghost coded = { Prim.hlevel (codes, value.the_row.coded, base.the_row.coded, query.the_row.coded) };
 
-    ghost view = { λ s. record { schema = s.catalog; in_use = s.in_use; jobs = s.jobs; queries = s.queries; store = s.store } };
+    ghost view = { λ s. record { schema = s.catalog; in_use = s.in_use; jobs = s.jobs; queries = s.queries; store = s.store; file = s.file; turns = s.runner.now.turns } };
 
     ghost invariant = { λ s. SessionFits s.catalog s.in_use s.jobs s.store };
 }
 
-impl Session {
+impl<'s, R: RunsQueries> Session<'s, R> {
     /// A session without types, graphs, jobs, queries and rows.
-    pub fn new(alloc: Global) -> Session
-        ensures { result ≡ opening }
+    pub fn new(alloc: Global, file: ArgsFile<'s>, runner: &'s Runner<'s, R>) -> Session<'s, R>
+        ensures { result ≡ opening file.entry runner.now.turns }
     {
         Session {
             alloc,
@@ -72,6 +77,8 @@ impl Session {
             jobs: List::new(alloc),
             queries: List::new(alloc),
             store: no_rows(alloc),
+            file,
+            runner,
         }
     }
 
@@ -83,7 +90,7 @@ impl Session {
         &mut self,
         files: &mut F,
         number: u64,
-        statement: &Statement,
+        statement: &'s Statement,
     ) -> Result<Option<Vec<u8>>, StatementFault>
         // A statement that runs got bytes for each file that it asked for, so that no count is needed.
         ensures done { (before now met : ℕ) → IfOk result (λ line.
@@ -109,7 +116,7 @@ impl Session {
             Statement::Interpret(tree) => self.interpret(number, tree),
             Statement::Insert(tree) => silent(self.insert(tree)),
             Statement::Begin | Statement::End => Ok(None),
-            Statement::Run(_) => unsupported(number),
+            Statement::Run(tree) => self.run_query(number, tree),
         }
     }
 
@@ -161,8 +168,8 @@ impl Session {
     fn make_query(
         &mut self,
         replace: bool,
-        name: &Txt,
-        tree: &QueryTree,
+        name: &'s Txt,
+        tree: &'s QueryTree,
     ) -> Result<(), StatementFault>
         ensures { Answers (query_made self.old replace name.now tree.now) self.old self.new result }
     {
@@ -184,13 +191,47 @@ impl Session {
         install_queries(self.alloc, &mut self.queries, which)
     }
 
+    fn run_query(&self, number: u64, tree: &RunTree) -> Result<Option<Vec<u8>>, StatementFault>
+        ensures { Prints self.now (query_ran self.now number tree.now) result }
+    {
+        let queries = self.queries.as_slice();
+        if walks_path(queries, tree.name.as_str()) {
+            return unsupported(number);
+        }
+        let file = self.file.given();
+        with_line(run_query(
+            self.alloc,
+            self.runner,
+            &self.catalog,
+            &self.store,
+            queries,
+            file,
+            tree,
+        ))
+    }
+
     fn interpret(&self, number: u64, tree: &QueryTree) -> Result<Option<Vec<u8>>, StatementFault>
-        ensures done { IfOk result (λ line. Becomes self.now (lines_of line) ≡ interpreted self.now number tree.now) }
-        ensures refused { (refusal : Refusal) → result ≡ Err (StatementFault.Refused refusal) → Refused (message_of refusal) ≡ interpreted self.now number tree.now }
-        ensures read_fault { result ≡ Err StatementFault.ReadFault → ⊥ }
+        ensures { Prints self.now (query_interpreted self.now number tree.now) result }
+    {
+        if has_path(tree) {
+            return self.judge_path(number, tree);
+        }
+        with_line(interpret_query(
+            self.alloc,
+            self.runner,
+            &self.catalog,
+            &self.store,
+            self.in_use,
+            tree,
+        ))
+    }
+
+    // A query with a path, which isn't run yet, is refused as any other, and else for that.
+    fn judge_path(&self, number: u64, tree: &QueryTree) -> Result<Option<Vec<u8>>, StatementFault>
+        ensures { Prints self.now (unless_due (interpret_refusal self.now.schema self.now.in_use tree.now) (not_yet number)) result }
     {
         match judge_interpreted(self.alloc, &self.catalog, self.in_use, tree) {
-            Ok(()) => print_plain(self.alloc, number, tree),
+            Ok(()) => unsupported(number),
             Err(fault) => Err(fault),
         }
     }
@@ -229,7 +270,7 @@ impl Session {
     }
 }
 
-impl Machine for Session {
+impl<'s, R: RunsQueries> Machine<'s> for Session<'s, R> {
     ghost use Rattle.gq_session.specs.Statements.{Does};
     ghost use Rattle.gq_session.specs.StatementLaws.{does_one};
 
@@ -239,7 +280,7 @@ impl Machine for Session {
         &mut self,
         files: &mut F,
         number: u64,
-        statement: &Statement,
+        statement: &'s Statement,
     ) -> Result<Option<Vec<u8>>, StatementFault> {
         self.run(files, number, statement)
     }
@@ -280,26 +321,8 @@ fn with_line(answer: Result<Vec<u8>, StatementFault>) -> Result<Option<Vec<u8>>,
     }
 }
 
-// The line of a query that prints numbers alone.
-fn print_plain(
-    alloc: Global,
-    number: u64,
-    query: &QueryTree,
-) -> Result<Option<Vec<u8>>, StatementFault>
-    ensures done { (s : State) → IfOk result (λ line. Becomes s (lines_of line) ≡ printed s number (plain_text query.now)) }
-    ensures refused { (s : State) (refusal : Refusal) → result ≡ Err (StatementFault.Refused refusal)
-        → Refused (message_of refusal) ≡ printed s number (plain_text query.now) }
-    ensures read_fault { result ≡ Err StatementFault.ReadFault → ⊥ }
-{
-    match plain_line(alloc, query) {
-        Ok(Some(line)) => Ok(Some(line)),
-        Ok(None) => unsupported(number),
-        Err(Memory) => Err(StatementFault::Memory),
-    }
-}
-
 fn unsupported(number: u64) -> Result<Option<Vec<u8>>, StatementFault>
-    ensures { result ≡ Err (StatementFault.Refused (Refusal.Unsupported number)) }
+    ensures { (s : State) → Prints s (not_yet number) result }
 {
     Err(StatementFault::Refused(Refusal::Unsupported(number)))
 }

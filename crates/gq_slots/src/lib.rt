@@ -6,8 +6,6 @@
 
 mod accums;
 mod slots;
-#[cfg(test)]
-mod tests;
 
 pub use accums::Accums;
 pub use slots::Slots;

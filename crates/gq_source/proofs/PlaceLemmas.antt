@@ -6,7 +6,7 @@ use Rattle.gq_token.specs.declared.token.Token.{Token}
 use Rattle.gq_token.specs.Cut.{IsSpelledIn}
 use Rattle.gq_token.specs.Nesting.{IsTooDeepAt}
 use Rattle.gq_tree.specs.declared.statement.Placed.{Placed}
-use Rattle.gq_tree.specs.Cutting.{BeginsAt, IsNext, Cuts, IsScript, FailsAt}
+use Rattle.gq_tree.specs.Cutting.{BeginsAt, Cuts, IsScript, FailsAt}
 
 module _ (bytes : List ℕ) (tokens : List Token) (spelled : All (IsSpelledIn bytes) tokens) where
   token_within : (t : Token) → IsSpelledIn bytes t → t.from ≤ length bytes

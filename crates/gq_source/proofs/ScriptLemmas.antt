@@ -1,5 +1,5 @@
 -- A script means one outcome at most over files that are told, and a call that keeps to one keeps to what is meant.
-use Rattle.std.proofs.Common.{◌≡◌, ◌≢◌, ℕ, ◌<◌, ◌≤◌, suc, List, [], ◌∷◌, length, slice_get, All, Option, Some, None, Ok, Err, Result, inl, inr, ap, sym, ◌∙◌, subst, codes, arith, refl}
+use Rattle.std.proofs.Common.{◌≡◌, ℕ, List, [], Option, Some, inl, inr, ap, ◌∙◌, subst, codes}
 use Rattle.serde_json.specs.Data.{Members}
 use Rattle.gq_token.specs.declared.token.Token.{Token}
 use Rattle.gq_token.specs.declared.fault.LexFault.{LexFault}
@@ -16,7 +16,7 @@ use Rattle.gq_script.specs.Known.{Known}
 use Rattle.gq_source.specs.Messages.{message_at, name_of, fault_message}
 use Rattle.gq_source.specs.Scripts.{StatementsMean, ArgumentsMean, TokensMean, ScriptMeans}
 
-module _ (bytes : List ℕ) (known : Known) (status : Status) (old new : Option (List ℕ)) (A B : Type 0) where
+module _ (bytes : List ℕ) (known : Known) (turns : ℕ) (status : Status) (old new : Option (List ℕ)) (A B : Type 0) where
   -- the call keeps to this
   abbrev pub Keeps : Outcome → Type 0
   Keeps outcome = KeepsTo outcome status old new A B
@@ -27,13 +27,13 @@ module _ (bytes : List ℕ) (known : Known) (status : Status) (old new : Option 
   -- ---- arguments
 
   module _ (file : List ℕ) (statements : List Placed) where
-    pub keeps_arguments : (members : Members) → IsObject file members → ((outcome : Outcome) → StatementsMean bytes known statements outcome → Keeps outcome)
-        → (outcome : Outcome) → ArgumentsMean bytes known (Some file) statements outcome → Keeps outcome
+    pub keeps_arguments : (members : Members) → IsObject file members → ((outcome : Outcome) → StatementsMean bytes known turns (Some file) statements outcome → Keeps outcome)
+        → (outcome : Outcome) → ArgumentsMean bytes known turns (Some file) statements outcome → Keeps outcome
     keeps_arguments members is keeps outcome (inl (others, are, mean)) = keeps outcome mean
     keeps_arguments members is keeps outcome (inr (none, same)) = absurd (none members is)
 
     pub keeps_unreadable : ((members : Members) → IsObject file members → ⊥) → Keeps (refused_with (codes "arguments unreadable"))
-        → (outcome : Outcome) → ArgumentsMean bytes known (Some file) statements outcome → Keeps outcome
+        → (outcome : Outcome) → ArgumentsMean bytes known turns (Some file) statements outcome → Keeps outcome
     keeps_unreadable none keeps outcome (inl (members, is, mean)) = absurd (none members is)
     keeps_unreadable none keeps outcome (inr (nothing, same)) = keeps_refusal (codes "arguments unreadable") outcome keeps same
 
@@ -42,15 +42,15 @@ module _ (bytes : List ℕ) (known : Known) (status : Status) (old new : Option 
   module _ (arguments : Option (List ℕ)) (tokens : List Token) where
     pub keeps_statements : (statements : List Placed) → ((others : List Placed) → IsRead bytes tokens others → others ≡ statements)
         → ((fault : ScriptFault) → HasFault bytes tokens fault → ⊥)
-        → ((outcome : Outcome) → ArgumentsMean bytes known arguments statements outcome → Keeps outcome)
-        → (outcome : Outcome) → TokensMean bytes known arguments tokens outcome → Keeps outcome
+        → ((outcome : Outcome) → ArgumentsMean bytes known turns arguments statements outcome → Keeps outcome)
+        → (outcome : Outcome) → TokensMean bytes known turns arguments tokens outcome → Keeps outcome
     keeps_statements statements only none keeps outcome (inl (fault, has, same)) = absurd (none fault has)
     keeps_statements statements only none keeps outcome (inr (others, deep, is, mean)) =
-        keeps outcome (subst (λ ps. ArgumentsMean bytes known arguments ps outcome) (only others (deep, is)) mean)
+        keeps outcome (subst (λ ps. ArgumentsMean bytes known turns arguments ps outcome) (only others (deep, is)) mean)
 
     pub keeps_fault : (fault : ScriptFault) → ((other : ScriptFault) → HasFault bytes tokens other → other ≡ fault)
         → ((statements : List Placed) → IsRead bytes tokens statements → ⊥) → Keeps (refused_with (fault_message bytes fault))
-        → (outcome : Outcome) → TokensMean bytes known arguments tokens outcome → Keeps outcome
+        → (outcome : Outcome) → TokensMean bytes known turns arguments tokens outcome → Keeps outcome
     keeps_fault fault only none keeps outcome (inl (other, has, same)) =
         keeps_refusal (fault_message bytes fault) outcome keeps (same ∙ ap (λ f. refused_with (fault_message bytes f)) (only other has))
     keeps_fault fault only none keeps outcome (inr (statements, shallow, is, mean)) = absurd (none statements (shallow, is))
@@ -59,15 +59,15 @@ module _ (bytes : List ℕ) (known : Known) (status : Status) (old new : Option 
 
   module _ (arguments : Option (List ℕ)) where
     pub keeps_cut : (fault : LexFault) → ((other : LexFault) → lex.HasFault bytes other → other ≡ fault) → ((tokens : List Token) → HasTokens bytes tokens → ⊥)
-        → Keeps (refused_with (message_at bytes (name_of fault) (lex.place_of fault))) → (outcome : Outcome) → ScriptMeans bytes known arguments outcome → Keeps outcome
+        → Keeps (refused_with (message_at bytes (name_of fault) (lex.place_of fault))) → (outcome : Outcome) → ScriptMeans bytes known turns arguments outcome → Keeps outcome
     keeps_cut fault only none keeps outcome (inl (other, has, same)) =
         keeps_refusal (message_at bytes (name_of fault) (lex.place_of fault)) outcome keeps
         (same ∙ ap (λ f. refused_with (message_at bytes (name_of f) (lex.place_of f))) (only other has))
     keeps_cut fault only none keeps outcome (inr (tokens, has, mean)) = absurd (none tokens has)
 
     pub keeps_tokens : (tokens : List Token) → ((others : List Token) → HasTokens bytes others → others ≡ tokens) → ((fault : LexFault) → lex.HasFault bytes fault → ⊥)
-        → ((outcome : Outcome) → TokensMean bytes known arguments tokens outcome → Keeps outcome)
-        → (outcome : Outcome) → ScriptMeans bytes known arguments outcome → Keeps outcome
+        → ((outcome : Outcome) → TokensMean bytes known turns arguments tokens outcome → Keeps outcome)
+        → (outcome : Outcome) → ScriptMeans bytes known turns arguments outcome → Keeps outcome
     keeps_tokens tokens only none keeps outcome (inl (fault, has, same)) = absurd (none fault has)
     keeps_tokens tokens only none keeps outcome (inr (others, has, mean)) =
-        keeps outcome (subst (λ ts. TokensMean bytes known arguments ts outcome) (only others has) mean)
+        keeps outcome (subst (λ ts. TokensMean bytes known turns arguments ts outcome) (only others has) mean)

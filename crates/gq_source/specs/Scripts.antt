@@ -1,4 +1,5 @@
--- Scripts: what the bytes of a script mean, over files of which something is known: its lines and its status.
+-- Scripts: what the bytes of a script mean, over files of which something is known and with so many turns for each query: its lines
+-- and its status.
 use Rattle.std.specs.Prelude.{◌≡◌, ◌⊎◌, List, ℕ, Option, Some, None, codes}
 use Rattle.serde_json.specs.Data.{Members}
 use Rattle.gq_token.specs.declared.token.Token.{Token}
@@ -17,16 +18,16 @@ use Rattle.gq_script.specs.Runs.{Runs}
 use Rattle.gq_session.specs.Statements.{Does, opening}
 use Rattle.gq_source.specs.Messages.{message_at, name_of, fault_message}
 
-module _ (bytes : List ℕ) (known : Known) where
-  -- what the statements of the script mean, one after another from a new session on
-  abbrev pub StatementsMean : List Placed → Outcome → Type 0
-  StatementsMean statements outcome = Runs Does bytes known opening 1 statements outcome
+module _ (bytes : List ℕ) (known : Known) (turns : ℕ) where
+  -- what the statements of the script mean, one after another from a new session on, with this file of arguments, if one is named
+  abbrev pub StatementsMean : Option (List ℕ) → List Placed → Outcome → Type 0
+  StatementsMean arguments statements outcome = Runs Does bytes known (opening arguments turns) 1 statements outcome
 
-  -- the same, where a file of arguments has these bytes, if one is named: they have to be a JSON object
+  -- the same, where the bytes of the file, if one is named, have to be a JSON object
   abbrev pub ArgumentsMean : Option (List ℕ) → List Placed → Outcome → Type 0
-  ArgumentsMean None statements outcome = StatementsMean statements outcome
+  ArgumentsMean None statements outcome = StatementsMean None statements outcome
   ArgumentsMean (Some file) statements outcome =
-      ((members : Members) × IsObject file members × StatementsMean statements outcome)
+      ((members : Members) × IsObject file members × StatementsMean (Some file) statements outcome)
       ⊎ (((members : Members) → IsObject file members → ⊥) × (outcome ≡ refused_with (codes "arguments unreadable")))
 
   -- what the tokens of the script mean

@@ -1,7 +1,5 @@
 // From the bytes of a script to its lines.
-ghost use Rattle.std.specs.Prelude.{◌≡◌, ◌≤◌, ℕ, true, false, All, IfOk, Some, length};
-ghost use Rattle.serde_json.specs.Data.{Members};
-ghost use Rattle.gq_args.specs.Objects.{IsObject};
+ghost use Rattle.std.specs.Prelude.{◌≡◌, ◌≤◌, ℕ, All, Some, length};
 ghost use Rattle.std.specs.Option.{option_copied};
 ghost use Rattle.gq_io.specs.Counts.{Rose};
 ghost use Rattle.gq_io.specs.Listing.{Listing};
@@ -16,32 +14,35 @@ use gq_args::{Args, ArgsFault};
 use gq_io::{Files, Sink};
 use gq_outcome::{Status, refuse};
 use gq_query_read::Bodies;
+use gq_runs::{Runner, RunsQueries};
 use gq_script::run_statements;
-use gq_session::Session;
+use gq_session::{ArgsFile, Session};
 use gq_stmt_read::{ScriptFault, read_with};
 use gq_token::{LexFault, Token, tokens};
 use gq_tree::Placed;
-use gq_value::Memory;
 use std::alloc::Global;
 
-/// Runs the script with these bytes, where the file of arguments, if one is named, has those.
-pub fn run_script<B: Bodies, F: Files, K: Sink>(
+/// Runs the script with these bytes, where the file of arguments, if one is named, has those. Its queries run by what is given.
+pub fn run_script<B: Bodies, R: RunsQueries, F: Files, K: Sink>(
     alloc: Global,
     bytes: &[u8],
     arguments: Option<&[u8]>,
+    runner: &Runner<'_, R>,
     files: &mut F,
     out: &mut K,
 ) -> Status
     requires { ReadsBodies B.parser }
-    ensures keeps { (pairs : Listing) → F.held files.old ≡ Some pairs → (outcome : Outcome) → ScriptMeans bytes.now (Told pairs) (option_copied arguments.entry) outcome
+    ensures keeps { (pairs : Listing) → F.held files.old ≡ Some pairs → (outcome : Outcome) → ScriptMeans bytes.now (Told pairs) runner.now.turns (option_copied arguments.entry) outcome
         → KeepsTo outcome result (K.written out.old) (K.written out.new) (Rose (F.faults files.old) (F.faults files.new)) (Rose (K.faults out.old) (K.faults out.new)) }
     ensures is_meant { IsFinal result → (before : ℕ) → before ≤ F.absences files.old → (outcome : Outcome)
-        × ScriptMeans bytes.now (known_of (F.held files.old) before (F.absences files.new) (F.length_met files.new)) (option_copied arguments.entry) outcome
+        × ScriptMeans bytes.now (known_of (F.held files.old) before (F.absences files.new) (F.length_met files.new)) runner.now.turns (option_copied arguments.entry) outcome
         × Ends outcome result (K.written out.old) (K.written out.new) }
     ensures only_runs { OnlyRuns result (Rose (F.faults files.old) (F.faults files.new)) (Rose (K.faults out.old) (K.faults out.new)) }
 {
     match tokens(alloc, bytes) {
-        Ok(tokens) => run_tokens::<B, F, K>(alloc, bytes, &tokens, arguments, files, out),
+        Ok(tokens) => run_tokens::<B, R, F, K>(
+            alloc, bytes, &tokens, arguments, runner, files, out,
+        ),
         Err(fault) => {
             if fault == LexFault::Memory {
                 return Status::Memory;
@@ -51,25 +52,26 @@ pub fn run_script<B: Bodies, F: Files, K: Sink>(
     }
 }
 
-fn run_tokens<B: Bodies, F: Files, K: Sink>(
+fn run_tokens<B: Bodies, R: RunsQueries, F: Files, K: Sink>(
     alloc: Global,
     bytes: &[u8],
     tokens: &[Token],
     arguments: Option<&[u8]>,
+    runner: &Runner<'_, R>,
     files: &mut F,
     out: &mut K,
 ) -> Status
     requires tokens { All (IsSpelledIn bytes.now) tokens.now }
     requires bodies { ReadsBodies B.parser }
-    ensures keeps { (pairs : Listing) → F.held files.old ≡ Some pairs → (outcome : Outcome) → TokensMean bytes.now (Told pairs) (option_copied arguments.entry) tokens.now outcome
+    ensures keeps { (pairs : Listing) → F.held files.old ≡ Some pairs → (outcome : Outcome) → TokensMean bytes.now (Told pairs) runner.now.turns (option_copied arguments.entry) tokens.now outcome
         → KeepsTo outcome result (K.written out.old) (K.written out.new) (Rose (F.faults files.old) (F.faults files.new)) (Rose (K.faults out.old) (K.faults out.new)) }
     ensures is_meant { IsFinal result → (before : ℕ) → before ≤ F.absences files.old → (outcome : Outcome)
-        × TokensMean bytes.now (known_of (F.held files.old) before (F.absences files.new) (F.length_met files.new)) (option_copied arguments.entry) tokens.now outcome
+        × TokensMean bytes.now (known_of (F.held files.old) before (F.absences files.new) (F.length_met files.new)) runner.now.turns (option_copied arguments.entry) tokens.now outcome
         × Ends outcome result (K.written out.old) (K.written out.new) }
     ensures only_runs { OnlyRuns result (Rose (F.faults files.old) (F.faults files.new)) (Rose (K.faults out.old) (K.faults out.new)) }
 {
     match read_with::<B>(alloc, bytes, tokens) {
-        Ok(statements) => run_read(alloc, bytes, &statements, arguments, files, out),
+        Ok(statements) => run_read(alloc, bytes, &statements, arguments, runner, files, out),
         Err(ScriptFault::Syntax { statement, at }) => refuse_syntax(
             alloc, bytes, statement, at, out,
         ),
@@ -78,82 +80,77 @@ fn run_tokens<B: Bodies, F: Files, K: Sink>(
     }
 }
 
-fn run_read<F: Files, K: Sink>(
+fn run_read<R: RunsQueries, F: Files, K: Sink>(
     alloc: Global,
     bytes: &[u8],
     statements: &[Placed],
     arguments: Option<&[u8]>,
+    runner: &Runner<'_, R>,
     files: &mut F,
     out: &mut K,
 ) -> Status
     requires { All (λ p. p.from ≤ length bytes.now) statements.now }
-    ensures keeps { (pairs : Listing) → F.held files.old ≡ Some pairs → (outcome : Outcome) → ArgumentsMean bytes.now (Told pairs) (option_copied arguments.entry) statements.now outcome
+    ensures keeps { (pairs : Listing) → F.held files.old ≡ Some pairs → (outcome : Outcome) → ArgumentsMean bytes.now (Told pairs) runner.now.turns (option_copied arguments.entry) statements.now outcome
         → KeepsTo outcome result (K.written out.old) (K.written out.new) (Rose (F.faults files.old) (F.faults files.new)) (Rose (K.faults out.old) (K.faults out.new)) }
     ensures is_meant { IsFinal result → (before : ℕ) → before ≤ F.absences files.old → (outcome : Outcome)
-        × ArgumentsMean bytes.now (known_of (F.held files.old) before (F.absences files.new) (F.length_met files.new)) (option_copied arguments.entry) statements.now outcome
+        × ArgumentsMean bytes.now (known_of (F.held files.old) before (F.absences files.new) (F.length_met files.new)) runner.now.turns (option_copied arguments.entry) statements.now outcome
         × Ends outcome result (K.written out.old) (K.written out.new) }
     ensures only_runs { OnlyRuns result (Rose (F.faults files.old) (F.faults files.new)) (Rose (K.faults out.old) (K.faults out.new)) }
 {
     match arguments {
-        None => run_opened(alloc, bytes, statements, files, out),
-        Some(file) => run_with_file(alloc, bytes, file, statements, files, out),
+        None => {
+            let args = Args::none();
+            let file = ArgsFile::none(&args);
+            run_opened(alloc, bytes, statements, file, runner, files, out)
+        }
+        Some(file) => run_with_file(alloc, bytes, file, statements, runner, files, out),
     }
 }
 
-fn run_with_file<F: Files, K: Sink>(
+fn run_with_file<R: RunsQueries, F: Files, K: Sink>(
     alloc: Global,
     bytes: &[u8],
     file: &[u8],
     statements: &[Placed],
+    runner: &Runner<'_, R>,
     files: &mut F,
     out: &mut K,
 ) -> Status
     requires { All (λ p. p.from ≤ length bytes.now) statements.now }
-    ensures keeps { (pairs : Listing) → F.held files.old ≡ Some pairs → (outcome : Outcome) → ArgumentsMean bytes.now (Told pairs) (Some file.now) statements.now outcome
+    ensures keeps { (pairs : Listing) → F.held files.old ≡ Some pairs → (outcome : Outcome) → ArgumentsMean bytes.now (Told pairs) runner.now.turns (Some file.now) statements.now outcome
         → KeepsTo outcome result (K.written out.old) (K.written out.new) (Rose (F.faults files.old) (F.faults files.new)) (Rose (K.faults out.old) (K.faults out.new)) }
     ensures is_meant { IsFinal result → (before : ℕ) → before ≤ F.absences files.old → (outcome : Outcome)
-        × ArgumentsMean bytes.now (known_of (F.held files.old) before (F.absences files.new) (F.length_met files.new)) (Some file.now) statements.now outcome
+        × ArgumentsMean bytes.now (known_of (F.held files.old) before (F.absences files.new) (F.length_met files.new)) runner.now.turns (Some file.now) statements.now outcome
         × Ends outcome result (K.written out.old) (K.written out.new) }
     ensures only_runs { OnlyRuns result (Rose (F.faults files.old) (F.faults files.new)) (Rose (K.faults out.old) (K.faults out.new)) }
 {
-    let good = match is_object(alloc, file) {
-        Ok(good) => good,
-        Err(Memory) => return Status::Memory,
-    };
-    if good {
-        run_opened(alloc, bytes, statements, files, out)
-    } else {
-        refuse(alloc, "arguments unreadable", out)
-    }
-}
-
-// Whether a file of arguments has these bytes.
-fn is_object(alloc: Global, file: &[u8]) -> Result<bool, Memory>
-    ensures yes { IfOk result (λ good. good ≡ true → (members : Members) × IsObject file.now members) }
-    ensures no { IfOk result (λ good. good ≡ false → (members : Members) → IsObject file.now members → ⊥) }
-{
     match Args::read(alloc, file) {
-        Ok(_) => Ok(true),
-        Err(ArgsFault::Unreadable) => Ok(false),
-        Err(ArgsFault::Memory) => Err(Memory),
+        Ok(args) => {
+            let file = ArgsFile::read(&args, file);
+            run_opened(alloc, bytes, statements, file, runner, files, out)
+        }
+        Err(ArgsFault::Unreadable) => refuse(alloc, "arguments unreadable", out),
+        Err(ArgsFault::Memory) => Status::Memory,
     }
 }
 
-fn run_opened<F: Files, K: Sink>(
+fn run_opened<R: RunsQueries, F: Files, K: Sink>(
     alloc: Global,
     bytes: &[u8],
     statements: &[Placed],
+    file: ArgsFile<'_>,
+    runner: &Runner<'_, R>,
     files: &mut F,
     out: &mut K,
 ) -> Status
     requires { All (λ p. p.from ≤ length bytes.now) statements.now }
-    ensures keeps { (pairs : Listing) → F.held files.old ≡ Some pairs → (outcome : Outcome) → StatementsMean bytes.now (Told pairs) statements.now outcome
+    ensures keeps { (pairs : Listing) → F.held files.old ≡ Some pairs → (outcome : Outcome) → StatementsMean bytes.now (Told pairs) runner.now.turns file.entry statements.now outcome
         → KeepsTo outcome result (K.written out.old) (K.written out.new) (Rose (F.faults files.old) (F.faults files.new)) (Rose (K.faults out.old) (K.faults out.new)) }
     ensures is_meant { IsFinal result → (before : ℕ) → before ≤ F.absences files.old → (outcome : Outcome)
-        × StatementsMean bytes.now (known_of (F.held files.old) before (F.absences files.new) (F.length_met files.new)) statements.now outcome
+        × StatementsMean bytes.now (known_of (F.held files.old) before (F.absences files.new) (F.length_met files.new)) runner.now.turns file.entry statements.now outcome
         × Ends outcome result (K.written out.old) (K.written out.new) }
     ensures only_runs { OnlyRuns result (Rose (F.faults files.old) (F.faults files.new)) (Rose (K.faults out.old) (K.faults out.new)) }
 {
-    let mut session = Session::new(alloc);
+    let mut session = Session::new(alloc, file, runner);
     run_statements(alloc, bytes, statements, &mut session, files, out)
 }

@@ -8,8 +8,6 @@ mod fault;
 mod laws;
 mod script;
 mod statements;
-#[cfg(test)]
-mod tests;
 
 pub use fault::ScriptFault;
 pub use laws::{one_script, statements_are_exact};

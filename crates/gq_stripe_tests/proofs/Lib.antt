@@ -1,1 +1,3 @@
 mod SumFits
+mod SetFits
+mod SendLemmas

@@ -20,7 +20,7 @@ use Rattle.gq_stripe.specs.declared.partials.Partials.{Partials}
 use Rattle.gq_nest.specs.declared.content.Content.{Content}
 use Rattle.gq_stripe.proofs.FitLemmas.{one_more_fits}
 
-within_int : (z : ℤ) → FitsSigned w64 z → is_within number.Int z ≡ true
+pub within_int : (z : ℤ) → FitsSigned w64 z → is_within number.Int z ≡ true
 within_int (pos n) h = let k : n < 2 ^ 63 = h.sfits in grind (arith, nat_tests)
 within_int (negsuc n) h = let k : n < 2 ^ 63 = h.sfits in grind (arith, nat_tests)
 

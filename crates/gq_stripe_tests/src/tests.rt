@@ -2,7 +2,7 @@
 ghost use Rattle.std.specs.Prelude.{◌≡◌, ◌+◌, ◌^◌, ◌<◌, ◌≤◌, Some, IfOk, IfSome, replicate, slice_get};
 ghost use Rattle.gq_value.specs.declared.kind.Kind.TheVariants.{Sum};
 ghost use Rattle.gq_value.specs.declared.kind.Number.TheVariants.{Int};
-ghost use Rattle.gq_stripe.specs.Seats.{plan_of, IsIdle, IsFree, FitBatches, contributions, content_at};
+ghost use Rattle.gq_stripe.specs.Seats.{plan_of, view_of, IsIdle, IsFree, FitBatches, contributions, content_at};
 
 use gq_accum::Scalar;
 use gq_core::Batches;
@@ -15,7 +15,7 @@ use std::sync::Wait;
 use std::test::Fail;
 
 // A book of sums.
-fn sums(
+pub(crate) fn sums(
     alloc: Global,
     targets: u32,
     chunks: u64,
@@ -28,6 +28,7 @@ fn sums(
     ensures idle { IfOk result (λ r. IsIdle r.0 r.1) }
     ensures layout { IfOk result (λ r. (plan_of r.0).layout ≡ replicate targets (Sum Int)) }
     ensures stripes { IfOk result (λ r. (plan_of r.0).stripes ≡ stripes) }
+    ensures spare { IfOk result (λ r. (view_of r.1).spare + 1 ≡ seats) }
 {
     let mut layout = Layout::new(alloc);
     layout.push_all(Kind::Sum(Number::Int), targets)?;
@@ -35,7 +36,7 @@ fn sums(
 }
 
 // Adds a number to what a sum is to be fed.
-fn add(book: &Book, batches: &mut Batches, target: u64, x: i64) -> Result<(), Memory>
+pub(crate) fn add(book: &Book, batches: &mut Batches, target: u64, x: i64) -> Result<(), Memory>
     requires fit { FitBatches (plan_of book.now) batches.old }
     requires few { contributions batches.old < 2 ^ 35 }
     requires sum { slice_get (plan_of book.now).layout target ≡ Some (Sum Int) }
@@ -63,7 +64,7 @@ pub(crate) fn put_next<R: Wait>(
 }
 
 // The sum at a target of a closed book.
-fn sum_at(partials: &Partials, target: u64) -> Option<i128>
+pub(crate) fn sum_at(partials: &Partials, target: u64) -> Option<i128>
     requires { (content : _) × (content_at partials.now target ≡ Some content) }
 {
     match partials.at(target) {

@@ -18,8 +18,6 @@ mod moment;
 mod numbers;
 mod reading;
 mod shown;
-#[cfg(test)]
-mod tests;
 mod writing;
 
 pub use adding::{Unit, add};

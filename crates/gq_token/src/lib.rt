@@ -18,14 +18,13 @@ mod lines;
 mod nesting;
 mod numbers;
 mod symbols;
-#[cfg(test)]
-mod tests;
 mod texts;
 mod token;
 mod words;
 
 pub use cut::tokens;
 pub use fault::LexFault;
+pub use gq_value::{Memory, Txt};
 pub use laws::one_fault;
 pub use lines::line_of;
 pub use nesting::too_deep;

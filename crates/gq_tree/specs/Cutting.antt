@@ -1,7 +1,7 @@
 -- Cutting: how a script is cut into statements, from the left, each the longest prefix of the rest that is one. A lone `;` stands for nothing.
 -- Here whole prefixes are looked at, the longer ones too. The code reads one statement after another.
 use Rattle.std.specs.Prelude.{◌≡◌, ℕ, suc, ◌≤◌, ◌<◌, true, false, List, [], ◌∷◌, length, slice_get, Some, All}
-use Rattle.gq_token.specs.declared.token.Token.{Token}
+use Rattle.gq_grammar.specs.Token.{Token}
 use Rattle.gq_grammar.specs.Lexemes.{Lexeme, Lexemes, lexeme_of, lexemes_of, sign, is_of}
 use Rattle.gq_grammar.specs.Reading.{between, IsLongest, HasNone}
 use Rattle.gq_tree.specs.declared.statement.Placed.{Placed}

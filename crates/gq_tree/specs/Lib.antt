@@ -12,3 +12,16 @@ pub mod Bodies
 pub mod Queries
 pub mod Scripts
 pub mod Cutting
+pub use Rattle.gq_value.specs.AccumViews
+pub use Rattle.gq_value.specs.Accums
+pub use Rattle.gq_value.specs.Arithmetic
+pub use Rattle.gq_value.specs.Candidates
+pub use Rattle.gq_value.specs.Catalog
+pub use Rattle.gq_value.specs.Typed
+pub use Rattle.gq_value.specs.declared.catalog.Attribute
+pub use Rattle.gq_value.specs.declared.catalog.EdgeType
+pub use Rattle.gq_value.specs.declared.catalog.GraphType
+pub use Rattle.gq_value.specs.declared.catalog.IdKind
+pub use Rattle.gq_value.specs.declared.catalog.IdShape
+pub use Rattle.gq_value.specs.declared.catalog.VertexType
+pub use Rattle.gq_value.specs.declared.kind.Number

@@ -2,7 +2,7 @@
 use Rattle.std.proofs.Common.{ℕ, zero, suc, Bool, true, false, List, [], ◌∷◌, ◌++◌, Option, Some, None, Ok, Err}
 use Rattle.std.specs.Prelude.{codes}
 use Rattle.gq_tree.specs.Tree.{Tree}
-use Rattle.gq_value.specs.Accums.{INT, STRING, DATETIME}
+use Rattle.gq_tree.specs.Accums.{INT, STRING, DATETIME}
 use Rattle.gq_typing.specs.Statements.{Bytes, KindTree, Definition, Stmts, Query}
 use Rattle.gq_typing.specs.Sorts.{Sorts, EdgeSort}
 use Rattle.gq_typing.specs.Judging.{TypingFault, Judged}

@@ -1,6 +1,6 @@
 -- ActTypes: the typing rules of inputs, of ACCUM and of POST-ACCUM, in order of text.
 use Rattle.std.specs.Prelude.{ℕ, suc, Bool, true, false, not, ◌&&◌, nat_lt, ◌==◌, List, [], ◌∷◌, length, Option, Some, None, Ok, Err}
-use Rattle.gq_value.specs.Accums.{Base, Accum}
+use Rattle.gq_tree.specs.Accums.{Base, Accum}
 use Rattle.gq_typing.specs.Selecting.{Input, Plain, Keys, Inputs, no_input, input_and, Change, Adds, Puts, Act, AtAlias, AtGlobal, Choose, Acts, no_act, act_and, Choices, otherwise, when}
 use Rattle.gq_typing.specs.Judging.{Mismatch, NotAllowedHere, TwoAliases, TooMany, OrderDependent, Judged, ◌>>=◌, ◌>>◌, unless, or_fault, each_judged}
 use Rattle.gq_typing.specs.Types.{converts, convert_all, as_base}

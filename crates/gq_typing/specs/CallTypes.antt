@@ -1,8 +1,8 @@
 -- CallTypes: the types of functions and methods, once their arguments have types.
 use Rattle.std.specs.Prelude.{Bool, true, false, ◌&&◌, ◌==◌, List, [], ◌∷◌, length, Option, Some, Ok, Err}
 use Rattle.gq_tree.specs.Tree.{Text, Trees, no_tree, tree}
-use Rattle.gq_value.specs.Accums.{Base, INT, BOOL, STRING, DATETIME, TUPLE, MapAccum, GroupByAccum}
-use Rattle.gq_value.specs.AccumViews.{bases}
+use Rattle.gq_tree.specs.Accums.{Base, INT, BOOL, STRING, DATETIME, TUPLE, MapAccum, GroupByAccum}
+use Rattle.gq_tree.specs.AccumViews.{bases}
 use Rattle.gq_typing.specs.Sorts.{Sorts}
 use Rattle.gq_typing.specs.Words.{Function, Makes, Abs, ToString, ToDatetime, EpochToDatetime, DatetimeToEpoch, DatetimeDiff, DatetimeAdd, PartOf, Method, Size, Contains, ContainsKey, Get, Outdegree, edge_quoted, unit_named}
 use Rattle.gq_typing.specs.Judging.{Typed, Of, Whole, GroupRow, SetOf, MemberOf, Mismatch, UnknownName, Judged, ◌>>◌, unless, or_fault}

@@ -4,7 +4,7 @@ use Rattle.std.specs.Prelude.{ℕ, zero, suc, ◌^◌, Bool, ◌&&◌, if◌then
 use Rattle.gq_tree.specs.declared.expr.AddSign.{AddSign}
 use Rattle.gq_tree.specs.declared.expr.AddSign.TheVariants as sign
 use Rattle.gq_tree.specs.Tree.{Tree, Behind, Trees, Parts, Factors, Terms, Number, Text, Truth, Global, Name, Call, Post, Neg, Mul, Sum, Cmp, Not, And, Or, Field, Method, Attached, Before, no_tree, tree, no_part, part, no_factor, factor, no_term, term}
-use Rattle.gq_value.specs.Accums.{Base, INT, UINT, BOOL, STRING, Accum}
+use Rattle.gq_tree.specs.Accums.{Base, INT, UINT, BOOL, STRING, Accum}
 use Rattle.gq_typing.specs.Words.{Setting, function_named}
 use Rattle.gq_typing.specs.Judging.{Typed, Of, Mismatch, NotAllowedHere, UnknownName, Judged, ◌>>=◌, ◌>>◌, unless, or_fault, each_judged}
 use Rattle.gq_typing.specs.Types.{is_number, is_bool, converts, as_base, has_accums, alone, calculated, added, comparable}

@@ -1,6 +1,6 @@
 -- FieldTypes: the types of `x.f` and `x.type`.
 use Rattle.std.specs.Prelude.{ℕ, Bool, true, if◌then◌else◌, List, [], ◌∷◌, map, Option, Some, None, Ok, Err, slice_get}
-use Rattle.gq_value.specs.Accums.{Base, STRING, VERTEX, VERTEX_OF, TUPLE, Parts}
+use Rattle.gq_tree.specs.Accums.{Base, STRING, VERTEX, VERTEX_OF, TUPLE, Parts}
 use Rattle.gq_typing.specs.Sorts.{Fields, names_of, bases_of, vertex_fields, edge_fields}
 use Rattle.gq_typing.specs.Words.{Owner, OfVertexType, OfEdgeType, OfTupleType, OfParts, Setting, names_of_parts}
 use Rattle.gq_typing.specs.Judging.{Typed, Of, GroupRow, AliasOf, EdgeOf, MemberOf, Mismatch, NoAttribute, Judged, ◌>>=◌, ◌>>◌, unless, or_fault}

@@ -1,6 +1,6 @@
 -- Judging: what an expression's type is, the faults of typing, and rules in order of text: the first that fails is the fault.
 use Rattle.std.specs.Prelude.{ℕ, Bool, true, false, List, [], ◌∷◌, Option, Some, None, Result, Ok, Err}
-use Rattle.gq_value.specs.Accums.{Base, Accum, Parts}
+use Rattle.gq_tree.specs.Accums.{Base, Accum, Parts}
 use Rattle.gq_typing.specs.Statements.{Bytes}
 
 -- an expression has a base type, or is an average, a whole collection or a group's row. Before a dot a name may also be a

@@ -5,11 +5,11 @@ use Rattle.gq_tree.specs.declared.kind.Plain.{Plain}
 use Rattle.gq_tree.specs.declared.kind.Plain.TheVariants as plain
 use Rattle.gq_tree.specs.declared.kind.Bits.{Bits}
 use Rattle.gq_tree.specs.declared.kind.Bits.TheVariants as bits
-use Rattle.gq_value.specs.declared.kind.Number.{Number}
-use Rattle.gq_value.specs.declared.kind.Number.TheVariants as number
-use Rattle.gq_value.specs.Accums.{Base, INT, UINT, BOOL, TUPLE, Accum, SumAccum, MinAccum, MaxAccum, OrAccum, AndAccum, BitwiseOrAccum, BitwiseAndAccum, AvgAccum, SetAccum, BagAccum, ListAccum, MapAccum, GroupByAccum, HeapAccum, Parts, no_part, part_and}
-use Rattle.gq_value.specs.AccumViews.{bases}
-use Rattle.gq_value.specs.Typed.{has_no_list, have_no_list}
+use Rattle.gq_tree.specs.Number.{Number}
+use Rattle.gq_tree.specs.Number.TheVariants as number
+use Rattle.gq_tree.specs.Accums.{Base, INT, UINT, BOOL, TUPLE, Accum, SumAccum, MinAccum, MaxAccum, OrAccum, AndAccum, BitwiseOrAccum, BitwiseAndAccum, AvgAccum, SetAccum, BagAccum, ListAccum, MapAccum, GroupByAccum, HeapAccum, Parts, no_part, part_and}
+use Rattle.gq_tree.specs.AccumViews.{bases}
+use Rattle.gq_tree.specs.Typed.{has_no_list, have_no_list}
 use Rattle.gq_typing.specs.Statements.{Bytes, BaseTree, Elem, OfBase, OfTuple, KindTree, OverElem, OverBits, Averaged, MapTo, MapToElem, Grouped, Heap, PartTrees, no_part_tree, part_tree_and}
 use Rattle.gq_typing.specs.Sorts.{Fields, names_of, bases_of}
 use Rattle.gq_typing.specs.Words.{Setting, place_of}

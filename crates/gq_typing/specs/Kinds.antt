@@ -1,7 +1,7 @@
 -- Kinds: what accumulators of a kind read as, what they are fed, and what `=` sets them to.
 use Rattle.std.specs.Prelude.{Bool, true, false, List, [], ◌∷◌, map, Option, Some, None}
-use Rattle.gq_value.specs.Accums.{Base, INT, BOOL, Accum, SumAccum, MinAccum, MaxAccum, OrAccum, AndAccum, BitwiseOrAccum, BitwiseAndAccum, AvgAccum, SetAccum, BagAccum, ListAccum, MapAccum, GroupByAccum, HeapAccum, Parts, no_part, part_and}
-use Rattle.gq_value.specs.Typed.{number_type}
+use Rattle.gq_tree.specs.Accums.{Base, INT, BOOL, Accum, SumAccum, MinAccum, MaxAccum, OrAccum, AndAccum, BitwiseOrAccum, BitwiseAndAccum, AvgAccum, SetAccum, BagAccum, ListAccum, MapAccum, GroupByAccum, HeapAccum, Parts, no_part, part_and}
+use Rattle.gq_tree.specs.Typed.{number_type}
 use Rattle.gq_typing.specs.Judging.{Typed, Of, Average, Whole}
 
 -- what reading one gives

@@ -1,9 +1,9 @@
 -- QueryTypes: the typing rules of parameters, declarations and whole queries, in order of text.
 use Rattle.std.specs.Prelude.{ℕ, Bool, true, false, if◌then◌else◌, nat_lt, List, [], ◌∷◌, ◌++◌, filter, length, ℤ, pos, neg_ℤ, Option, Some, None, Ok}
 use Rattle.gq_tree.specs.Tree.{Tree}
-use Rattle.gq_value.specs.declared.kind.Number.TheVariants as number
-use Rattle.gq_value.specs.Arithmetic.{is_within}
-use Rattle.gq_value.specs.Accums.{Base, INT, UINT, BOOL, STRING, VERTEX_OF, Accum}
+use Rattle.gq_tree.specs.Number.TheVariants as number
+use Rattle.gq_tree.specs.Arithmetic.{is_within}
+use Rattle.gq_tree.specs.Accums.{Base, INT, UINT, BOOL, STRING, VERTEX_OF, Accum}
 use Rattle.gq_typing.specs.Statements.{Bytes, Definition, TupleType, Accums, Literal, Signed, Quoted, Truthful, Parameter, Query, QueryOver}
 use Rattle.gq_typing.specs.Sorts.{Fields, Sorts}
 use Rattle.gq_typing.specs.Words.{Setting, by_name}

@@ -1,6 +1,6 @@
 -- Scopes: the names that are visible, and what a place lets an expression name.
 use Rattle.std.specs.Prelude.{ℕ, Bool, true, false, not, if◌then◌else◌, List, ◌∷◌, Option, Some, is_some, Ok, Err}
-use Rattle.gq_value.specs.Accums.{Base, INT, UINT, BOOL, STRING, VERTEX, VERTEX_OF, Accum}
+use Rattle.gq_tree.specs.Accums.{Base, INT, UINT, BOOL, STRING, VERTEX, VERTEX_OF, Accum}
 use Rattle.gq_typing.specs.Statements.{BaseTree, Ints, UInts, Bools, Strings, AnyVertex, VertexOf}
 use Rattle.gq_typing.specs.Words.{Setting, under}
 use Rattle.gq_typing.specs.Judging.{Typed, Of, AliasOf, EdgeOf, SetOf, MemberOf, TypingFault, NotAllowedHere, UnknownName, NameTwice, Judged, ◌>>=◌, ◌>>◌, unless, or_fault}

@@ -3,7 +3,7 @@ use Rattle.std.specs.Prelude.{ℕ, Bool, true, false, not, ◌&&◌, ◌||◌, i
 use Rattle.gq_tree.specs.Tree.{Tree}
 use Rattle.gq_tree.specs.declared.select.Way.{Way}
 use Rattle.gq_tree.specs.declared.select.Way.TheVariants as way
-use Rattle.gq_value.specs.Accums.{STRING}
+use Rattle.gq_tree.specs.Accums.{STRING}
 use Rattle.gq_typing.specs.Selecting.{Types, Every, These, Hop, Step, Walk, Nowhere, OneHop, Path, Select}
 use Rattle.gq_typing.specs.Sorts.{EdgeSort}
 use Rattle.gq_typing.specs.Judging.{Typed, Of, Mismatch, NotAllowedHere, Judged, ◌>>=◌, ◌>>◌, unless, or_fault, each_judged}

@@ -4,8 +4,8 @@ use Rattle.std.specs.List.{list_all}
 use Rattle.gq_tree.specs.Tree.{Tree, Name}
 use Rattle.gq_tree.specs.declared.body.SetOp.{SetOp}
 use Rattle.gq_tree.specs.declared.body.SetOp.TheVariants as op
-use Rattle.gq_value.specs.Accums.{Base, VERTEX, VERTEX_OF, Accum, SetAccum}
-use Rattle.gq_value.specs.Candidates.{among}
+use Rattle.gq_tree.specs.Accums.{Base, VERTEX, VERTEX_OF, Accum, SetAccum}
+use Rattle.gq_tree.specs.Candidates.{among}
 use Rattle.gq_typing.specs.Statements.{Seed, AllOf, AllVertices, OneVertex, ContentOf, SetTerm, SetNamed, Seeds, SetTypes, AnyType, TypeOf, Right, Selects, Sets, Expression}
 use Rattle.gq_typing.specs.Judging.{Mismatch, WiderSet, Judged, ◌>>=◌, ◌>>◌, unless, each_judged, through_judged}
 use Rattle.gq_typing.specs.ExpressionTypes.{Names, typing, base_type, converting}

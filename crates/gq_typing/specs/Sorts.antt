@@ -1,16 +1,16 @@
 -- Sorts: the vertex and edge types that a query sees, with their attributes.
 -- A type's number is its place in the catalog. The code asks the catalog.
 use Rattle.std.specs.Prelude.{ℕ, Bool, true, false, List, [], ◌∷◌, map, Option, Some, None, slice_get}
-use Rattle.gq_value.specs.Accums.{Base, INT, UINT, STRING}
-use Rattle.gq_value.specs.AccumViews.{base_of}
-use Rattle.gq_value.specs.Catalog.{Schema}
-use Rattle.gq_value.specs.declared.catalog.Attribute.{Attribute}
-use Rattle.gq_value.specs.declared.catalog.IdKind.{IdKind}
-use Rattle.gq_value.specs.declared.catalog.IdKind.TheVariants as id
-use Rattle.gq_value.specs.declared.catalog.IdShape.{IdShape}
-use Rattle.gq_value.specs.declared.catalog.VertexType.{VertexType}
-use Rattle.gq_value.specs.declared.catalog.EdgeType.{EdgeType}
-use Rattle.gq_value.specs.declared.catalog.GraphType.{GraphType}
+use Rattle.gq_tree.specs.Accums.{Base, INT, UINT, STRING}
+use Rattle.gq_tree.specs.AccumViews.{base_of}
+use Rattle.gq_tree.specs.Catalog.{Schema}
+use Rattle.gq_tree.specs.Attribute.{Attribute}
+use Rattle.gq_tree.specs.IdKind.{IdKind}
+use Rattle.gq_tree.specs.IdKind.TheVariants as id
+use Rattle.gq_tree.specs.IdShape.{IdShape}
+use Rattle.gq_tree.specs.VertexType.{VertexType}
+use Rattle.gq_tree.specs.EdgeType.{EdgeType}
+use Rattle.gq_tree.specs.GraphType.{GraphType}
 use Rattle.gq_typing.specs.Statements.{Bytes}
 
 -- fields in order, each with its name and its type

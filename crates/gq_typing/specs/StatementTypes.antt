@@ -2,7 +2,7 @@
 use Rattle.std.specs.Prelude.{Bool, true, false, not, if◌then◌else◌, List, [], ◌∷◌, Option, Some, is_some, Ok, Err, bytes_eq}
 use Rattle.std.specs.List.{list_any}
 use Rattle.gq_tree.specs.Tree.{Tree, Name}
-use Rattle.gq_value.specs.Accums.{Base, Accum}
+use Rattle.gq_tree.specs.Accums.{Base, Accum}
 use Rattle.gq_typing.specs.Selecting.{Change, Adds, Puts}
 use Rattle.gq_typing.specs.Statements.{Bytes, Item, Printed, Whole, Selection, Over, Elements, Range, Stmt, Local, Assign, ChangeGlobal, If, While, Foreach, Print, Stmts, no_stmt, stmt_and, Branches, else_, if_}
 use Rattle.gq_typing.specs.Judging.{Typed, SetOf, Mismatch, NotAllowedHere, NameTwice, Judged, ◌>>=◌, ◌>>◌, unless, or_fault, through_judged}

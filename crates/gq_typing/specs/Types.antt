@@ -2,7 +2,7 @@
 use Rattle.std.specs.Prelude.{ℕ, ◌==◌, Bool, true, false, ◌&&◌, ◌||◌, List, [], ◌∷◌, Ok, Err}
 use Rattle.gq_tree.specs.declared.expr.CmpSign.{CmpSign}
 use Rattle.gq_tree.specs.declared.expr.CmpSign.TheVariants as cmp
-use Rattle.gq_value.specs.Accums.{Base, INT, UINT, BOOL, STRING, DATETIME, VERTEX, VERTEX_OF, TUPLE, Bases, no_base, base_and}
+use Rattle.gq_tree.specs.Accums.{Base, INT, UINT, BOOL, STRING, DATETIME, VERTEX, VERTEX_OF, TUPLE, Bases, no_base, base_and}
 use Rattle.gq_typing.specs.Judging.{Typed, Of, Average, GroupRow, AliasOf, EdgeOf, SetOf, MemberOf, Mismatch, NotAllowedHere, Judged, ◌>>◌, unless}
 
 abbrev mutual

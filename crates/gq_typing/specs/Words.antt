@@ -2,7 +2,7 @@
 use Rattle.std.specs.Prelude.{ℕ, suc, ◌==◌, Bool, if◌then◌else◌, List, [], ◌∷◌, map, Option, Some, None, bytes_eq, codes, position}
 use Rattle.std.specs.List.{list_any}
 use Rattle.std.specs.Str.{str_eq_ignore_ascii_case}
-use Rattle.gq_value.specs.Accums.{Base, Parts, no_part, part_and}
+use Rattle.gq_tree.specs.Accums.{Base, Parts, no_part, part_and}
 use Rattle.gq_time.specs.declared.adding.Unit.{Unit}
 use Rattle.gq_time.specs.declared.adding.Unit.TheVariants as unit
 use Rattle.gq_typing.specs.Statements.{Bytes}

@@ -12,8 +12,6 @@ mod order_laws;
 mod ordered;
 mod steps;
 mod store;
-#[cfg(test)]
-mod tests;
 mod txt;
 mod value;
 

@@ -63,6 +63,14 @@ impl Vertices {
         find(&self.rows, &self.hashes, kind, id)
     }
 
+    /// How many attributes the row of a vertex has.
+    pub fn width(&self, vertex: u32) -> usize
+        requires { vertex < length self.now }
+        ensures { result ≡ length (vertex_at self.now vertex).attributes }
+    {
+        self.rows[vertex as usize].attributes.len()
+    }
+
     /// The type of a vertex.
     pub fn kind(&self, vertex: u32) -> u32
         requires { vertex < length self.now }
@@ -196,6 +204,3 @@ fn replace(rows: &mut Vec<VertexRow>, number: u32, attributes: Row)
     let row = &mut rows[number as usize];
     row.attributes = attributes;
 }
-
-#[cfg(test)]
-mod tests;

@@ -17,8 +17,6 @@ mod parts;
 mod rule;
 mod seat;
 mod signed;
-#[cfg(test)]
-mod tests;
 mod view;
 mod words;
 

@@ -1,7 +1,7 @@
-use Rattle.std.proofs.Common.{refl, ap, ◌∙◌, slice_index_or}
+use Rattle.std.proofs.Common.{refl, ap, ◌∙◌}
 use Rattle.std.specs.List.{list_any}
 use Rattle.std.specs.Str.{bytes_eq}
-use Rattle.gq_queries.specs.declared.stored.Stored.{Stored}
+use Rattle.gq_queries.specs.Kept.{Kept}
 use Rattle.gq_queries.specs.Queries.{installed_if}
 use Rattle.gq_queries.proofs.InstallLemmas.{changed_to, changed_all}
 use Rattle.gq_queries.proofs.install.install_named.Goals as goal
@@ -11,10 +11,11 @@ loop-query-init c = refl
 
 pub loop-query-preserved : goal.loop-query-preserved
 loop-query-preserved c =
-    changed_to (λ (query : Stored). installed_if (list_any (bytes_eq query.name) c.args.names.now) query) c.loop-query.query-index c.args.queries.now c.loop-query.query-items
+    let inside : Kept = record { name = c.query.inside.name.now; tree = c.query.inside.tree.now; graph = c.query.inside.graph; installed = c.query.inside.installed } in
+    changed_to (λ (query : Kept). installed_if (list_any (bytes_eq query.name) c.args.names.now) query) c.loop-query.query-index c.args.queries.now c.loop-query.query-items
     c.query-item.result _ c.loop-query-test.true c.loop-query.invariant
-    (ap (λ b. installed_if b (slice_index_or c.loop-query.query-items c.loop-query.query-index c.query-item.result))
-    (c.stands_in.ensures ∙ ap (λ name. list_any (bytes_eq name) c.args.names.now) c.as_str.ensures))
+    (ap (λ b. installed_if b inside) c.stands_in.ensures
+    ∙ ap (λ (query : Kept). installed_if (list_any (bytes_eq query.name) c.args.names.now) query) c.query.view_is)
 
 pub returns : goal.returns
-returns c = c.loop-query.invariant ∙ changed_all (λ (query : Stored). installed_if (list_any (bytes_eq query.name) c.args.names.now) query) c.loop-query.query-index c.args.queries.now c.loop-query-test.false
+returns c = c.loop-query.invariant ∙ changed_all (λ (query : Kept). installed_if (list_any (bytes_eq query.name) c.args.names.now) query) c.loop-query.query-index c.args.queries.now c.loop-query-test.false

@@ -9,8 +9,8 @@ pub returns-in-Ok-clause-is_meant : goal.returns-in-Ok-clause-is_meant
 returns-in-Ok-clause-is_meant g c = λ final.
     let before = g.F.Files.absences c.args.files.now in
     let low : before ≤ before = omega arith in
-    let meant = c.run_task.ensures.is_meant final before low in
-    let known = known_of (g.F.Files.held c.args.files.now) before (g.F.Files.absences c.run_task.new.files) (g.F.Files.length_met c.run_task.new.files) in
+    let meant = c.run_command.ensures.is_meant final before low in
+    let known = known_of (g.F.Files.held c.args.files.now) before (g.F.Files.absences c.run_command.new.files) (g.F.Files.length_met c.run_command.new.files) in
     (meant.0, subst (λ command. CommandMeans known command meant.0) (sym c.in-Ok.ensures.command) meant.1, meant.2)
 
 pub returns-in-Err-Usage-clause-is_meant : goal.returns-in-Err-Usage-clause-is_meant

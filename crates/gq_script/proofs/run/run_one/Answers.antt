@@ -1,4 +1,4 @@
-use Rattle.std.proofs.Common.{◌≡◌, ◌≤◌, Err, refl, ap, sym, ◌∙◌, subst, arith}
+use Rattle.std.proofs.Common.{rules, ◌≤◌, Err, refl, ap, sym, ◌∙◌, subst, arith}
 use Rattle.gq_token.specs.Lines.{line_of}
 use Rattle.gq_refusal.specs.Messages.{message_of, refusal_text}
 use Rattle.gq_outcome.specs.Outcome.{Ends, ended_by, lines_then}
@@ -13,7 +13,7 @@ returns-in-Err-Failed-clause-keeps g c = λ pairs is others outcome runs.
     let told = subst (λ k. g.M.Machine.does k c.args.machine.now c.args.number c.args.placed.now.statement (Becomes c.run_statement.new.self lines))
     (told_is_known (g.F.Files.held c.args.files.now) pairs 0 0 0 is) (c.in-Ok.ensures.done 0 0 0) in
     let piece = rw c.in-Err-Failed.field-0-is at c.in-Err-Failed.ensures in
-    keeps_unwritten g.M.Machine.does c.args.bytes.now _ c.args.machine.now c.args.number c.args.placed.now others (g.met.M.Machine.determined pairs) outcome runs
+    keeps_unwritten g.M.Machine.does c.args.bytes.now _ c.args.machine.now c.args.number c.args.placed.now others ((g.met.M.Machine c.lifetimes (search rules)).determined pairs) outcome runs
     c.run_statement.new.self lines told _ _ _ _ _
     (λ rest. keeps_write_fault (lines_then lines rest) _ _ _ _ (piece.failed refl) (prefix_of_lines _ _ lines rest.lines piece.prefix))
 
@@ -23,7 +23,7 @@ returns-in-Ok-clause-keeps g c = λ pairs is others outcome runs.
     let told = subst (λ k. g.M.Machine.does k c.args.machine.now c.args.number c.args.placed.now.statement (Becomes c.run_statement.new.self lines))
     (told_is_known (g.F.Files.held c.args.files.now) pairs 0 0 0 is) (c.in-Ok.ensures.done 0 0 0) in
     let piece = rw c.in-Err-Memory-print.field-0-is at c.in-Err-Memory-print.ensures in
-    keeps_unwritten g.M.Machine.does c.args.bytes.now _ c.args.machine.now c.args.number c.args.placed.now others (g.met.M.Machine.determined pairs) outcome runs
+    keeps_unwritten g.M.Machine.does c.args.bytes.now _ c.args.machine.now c.args.number c.args.placed.now others ((g.met.M.Machine c.lifetimes (search rules)).determined pairs) outcome runs
     c.run_statement.new.self lines told _ _ _ _ _
     (λ rest. keeps_memory (lines_then lines rest) _ _ _ _ (prefix_of_lines _ _ lines rest.lines piece.prefix))
 
@@ -34,7 +34,7 @@ returns-in-Err-Refused-clause-keeps g c = λ pairs is others outcome runs.
     let does = c.in-Err-Refused.ensures.refused c.in-Err-Refused.refusal (ap Err c.in-Err-Refused.field-0-is) (g.F.Files.absences c.args.files.now) low in
     let told = subst (λ k. g.M.Machine.does k c.args.machine.now c.args.number c.args.placed.now.statement (Refused message))
     (told_is_known (g.F.Files.held c.args.files.now) pairs _ _ _ is) does in
-    let same = refused_runs g.M.Machine.does c.args.bytes.now _ c.args.machine.now c.args.number c.args.placed.now others (g.met.M.Machine.determined pairs) outcome runs message told in
+    let same = refused_runs g.M.Machine.does c.args.bytes.now _ c.args.machine.now c.args.number c.args.placed.now others ((g.met.M.Machine c.lifetimes (search rules)).determined pairs) outcome runs message told in
     keeps_same (ended_by (refusal_text c.line_of-line.result message)) outcome _ _ _ _ _ (same ∙ ap (λ l. ended_by (refusal_text l message)) (sym c.line_of-line.ensures))
     (keeps_more _ _ _ _ _ _ _ _ (λ (no : ⊥). absurd no) (λ rose. rose) c.refuse_statement.ensures.keeps)
 

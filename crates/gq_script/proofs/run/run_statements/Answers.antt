@@ -1,4 +1,4 @@
-use Rattle.std.proofs.Common.{◌≡◌, ◌≤◌, ◌+◌, ◌∷◌, drop, refl, ap, sym, ◌∙◌, subst, arith}
+use Rattle.std.proofs.Common.{rules, ◌≤◌, ◌+◌, ◌∷◌, drop, refl, ap, sym, ◌∙◌, subst, arith}
 use Rattle.std.proofs.lemmas.List.{drop_more}
 use Rattle.gq_io.specs.Counts.{Rose}
 use Rattle.gq_outcome.specs.Outcome.{Outcome, Ends}
@@ -23,7 +23,7 @@ returns-in-Some-clause-keeps g c = λ pairs is outcome runs.
     let p = c.index-statements-index.result in
     let statements = c.args.statements.now in
     let next = drop_more statements c.loop-index.index p (omega arith) ∙ ap (λ q. q ∷ drop (c.loop-index.index + 1) statements) (sym c.index-statements-index.is) in
-    keeps_here g.M.Machine.does c.args.bytes.now (g.F.Files.held c.args.files.now) c.args.machine.now statements (λ ps. g.met.M.Machine.determined ps)
+    keeps_here g.M.Machine.does c.args.bytes.now (g.F.Files.held c.args.files.now) c.args.machine.now statements (λ ps. (g.met.M.Machine c.lifetimes (search rules)).determined ps)
     c.loop-index.index c.loop-index.machine (g.K.Sink.written c.args.out.now) (g.K.Sink.written c.loop-index.out) inv.0 p next
     c.in-Some.status (g.K.Sink.written c.run_one.new.out)
     (Rose (g.F.Files.faults c.loop-index.files) (g.F.Files.faults c.run_one.new.files)) (Rose (g.K.Sink.faults c.loop-index.out) (g.K.Sink.faults c.run_one.new.out))
@@ -43,7 +43,7 @@ returns-in-Some-clause-is_meant g c = λ final before low.
     let mid = g.K.Sink.written c.loop-index.out in
     let new = g.K.Sink.written c.run_one.new.out in
     let lower : before ≤ g.F.Files.absences c.loop-index.files = omega (arith, low, inv.3) in
-    meant_here g.M.Machine.does c.args.bytes.now (g.F.Files.held c.args.files.now) c.args.machine.now statements (λ ps. g.met.M.Machine.determined ps)
+    meant_here g.M.Machine.does c.args.bytes.now (g.F.Files.held c.args.files.now) c.args.machine.now statements (λ ps. (g.met.M.Machine c.lifetimes (search rules)).determined ps)
     c.loop-index.index c.loop-index.machine (g.K.Sink.written c.args.out.now) mid inv.0 p next
     c.in-Some.status new before now met
     (subst (λ h. (outcome : Outcome) × Runs g.M.Machine.does c.args.bytes.now (known_of h before now met) c.loop-index.machine (c.loop-index.index + 1) (p ∷ drop (c.loop-index.index + 1) statements) outcome × Ends outcome c.in-Some.status mid new)
@@ -56,7 +56,7 @@ loop-index-preserved g c =
     let statements = c.args.statements.now in
     let next = drop_more statements c.loop-index.index p (omega arith) ∙ ap (λ q. q ∷ drop (c.loop-index.index + 1) statements) (sym c.index-statements-index.is) in
     let on = c.in-None.ensures.goes_on in (
-      come_next g.M.Machine.does c.args.bytes.now (g.F.Files.held c.args.files.now) c.args.machine.now statements (λ ps. g.met.M.Machine.determined ps)
+      come_next g.M.Machine.does c.args.bytes.now (g.F.Files.held c.args.files.now) c.args.machine.now statements (λ ps. (g.met.M.Machine c.lifetimes (search rules)).determined ps)
           c.loop-index.index c.loop-index.machine (g.K.Sink.written c.args.out.now) (g.K.Sink.written c.loop-index.out) inv.0 p next
           c.run_one.new.machine on.0 (g.K.Sink.written c.run_one.new.out)
           (λ before now met. subst (λ h. g.M.Machine.does (known_of h before now met) c.loop-index.machine (c.loop-index.index + 1) p.statement (Becomes c.run_one.new.machine on.0)) inv.1 (on.1 before now met))

@@ -1,7 +1,7 @@
 use Rattle.std.proofs.Common.{◌≡◌, ◌-◌}
 use Rattle.gq_value.specs.Arithmetic.{IsWhole}
 use Rattle.gq_value.specs.Views.{val}
-use Rattle.gq_meaning.specs.Expressions.{minus}
+use Rattle.gq_resolved.specs.Expressions.{minus}
 use Rattle.gq_seen.specs.Meant.{valued}
 use Rattle.gq_seen.proofs.operators.minus.Given as goal
 

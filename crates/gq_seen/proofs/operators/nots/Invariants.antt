@@ -1,5 +1,5 @@
 use Rattle.std.proofs.Common.{◌≡◌, ◌-◌}
-use Rattle.gq_meaning.specs.Expressions.{nots}
+use Rattle.gq_resolved.specs.Expressions.{nots}
 use Rattle.gq_seen.proofs.operators.nots.Given as goal
 
 abbrev pub invariant-loop-turn : goal.invariant-loop-turn

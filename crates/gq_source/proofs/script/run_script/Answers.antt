@@ -10,7 +10,7 @@ use Rattle.gq_source.proofs.script.run_script.Goals as goal
 
 pub returns-in-Ok-clause-keeps : goal.returns-in-Ok-clause-keeps
 returns-in-Ok-clause-keeps g c = λ pairs is outcome mean.
-    keeps_tokens c.args.bytes.now (Told pairs) _ _ _ _ _ _ c.deref.result.now (λ others has. c.in-Ok.ensures.only others has ∙ sym c.deref.ensures.value) c.in-Ok.ensures.no_fault
+    keeps_tokens c.args.bytes.now (Told pairs) c.args.runner.now.turns _ _ _ _ _ _ c.deref.result.now (λ others has. c.in-Ok.ensures.only others has ∙ sym c.deref.ensures.value) c.in-Ok.ensures.no_fault
     (λ o m. c.run_tokens.ensures.keeps pairs is o m) outcome mean
 
 pub returns-in-Ok-clause-is_meant : goal.returns-in-Ok-clause-is_meant
@@ -20,7 +20,7 @@ returns-in-Ok-clause-is_meant g c = λ final before low.
 
 pub returns-else-eq-clause-keeps : goal.returns-else-eq-clause-keeps
 returns-else-eq-clause-keeps g c = λ pairs is outcome mean.
-    keeps_cut c.args.bytes.now (Told pairs) _ _ _ _ _ _ c.in-Err.fault (c.in-Err.ensures.only_fault (λ memory. absurd (search rules))) (c.in-Err.ensures.no_cut (λ memory. absurd (search rules)))
+    keeps_cut c.args.bytes.now (Told pairs) c.args.runner.now.turns _ _ _ _ _ _ c.in-Err.fault (c.in-Err.ensures.only_fault (λ memory. absurd (search rules))) (c.in-Err.ensures.no_cut (λ memory. absurd (search rules)))
     (keeps_more _ _ _ _ _ _ _ _ (λ (no : ⊥). absurd no) (λ rose. rose) c.refuse_cut.ensures.keeps) outcome mean
 
 pub returns-else-eq-clause-is_meant : goal.returns-else-eq-clause-is_meant

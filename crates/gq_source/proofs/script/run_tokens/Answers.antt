@@ -1,4 +1,4 @@
-use Rattle.std.proofs.Common.{Err, refl, sym, ◌∙◌, inl, inr, subst}
+use Rattle.std.proofs.Common.{refl, sym, ◌∙◌, inl, inr, subst}
 use Rattle.gq_tree.specs.Cutting.{IsScript}
 use Rattle.gq_stmt_read.specs.declared.fault.ScriptFault.TheVariants.{Syntax, TooDeep}
 use Rattle.gq_outcome.specs.Outcome.{refused_with}
@@ -26,7 +26,7 @@ refuse_at-requires g c =
 
 pub returns-in-Ok-clause-keeps : goal.returns-in-Ok-clause-keeps
 returns-in-Ok-clause-keeps g c = λ pairs is outcome mean.
-    keeps_statements c.args.bytes.now (Told pairs) _ _ _ _ _ _ c.args.tokens.now c.deref.result.now
+    keeps_statements c.args.bytes.now (Told pairs) c.args.runner.now.turns _ _ _ _ _ _ c.args.tokens.now c.deref.result.now
     (λ others read. c.in-Ok.ensures.only others read ∙ sym c.deref.ensures.value) c.in-Ok.ensures.no_fault
     (λ o m. c.run_read.ensures.keeps pairs is o m) outcome mean
 
@@ -41,7 +41,7 @@ returns-in-Ok-clause-is_meant g c = λ final before low.
 pub returns-in-Err-Syntax-clause-keeps : goal.returns-in-Err-Syntax-clause-keeps
 returns-in-Err-Syntax-clause-keeps g c = λ pairs is outcome mean.
     let read = rw c.in-Err-Syntax.field-0-is at c.in-Err-Syntax.ensures in
-    keeps_fault c.args.bytes.now (Told pairs) _ _ _ _ _ _ c.args.tokens.now (Syntax c.in-Err-Syntax.statement c.in-Err-Syntax.at)
+    keeps_fault c.args.bytes.now (Told pairs) c.args.runner.now.turns _ _ _ _ _ _ c.args.tokens.now (Syntax c.in-Err-Syntax.statement c.in-Err-Syntax.at)
     (read.only_fault (λ memory. cc memory)) (read.no_script (λ memory. cc memory))
     (keeps_more _ _ _ _ _ _ _ _ (λ (no : ⊥). absurd no) (λ rose. rose) c.refuse_syntax.ensures.keeps) outcome mean
 
@@ -54,7 +54,7 @@ returns-in-Err-Syntax-clause-is_meant g c = λ final before low.
 pub returns-in-Err-TooDeep-clause-keeps : goal.returns-in-Err-TooDeep-clause-keeps
 returns-in-Err-TooDeep-clause-keeps g c = λ pairs is outcome mean.
     let read = rw c.in-Err-TooDeep.field-0-is at c.in-Err-TooDeep.ensures in
-    keeps_fault c.args.bytes.now (Told pairs) _ _ _ _ _ _ c.args.tokens.now (TooDeep c.in-Err-TooDeep.at)
+    keeps_fault c.args.bytes.now (Told pairs) c.args.runner.now.turns _ _ _ _ _ _ c.args.tokens.now (TooDeep c.in-Err-TooDeep.at)
     (read.only_fault (λ memory. cc memory)) (read.no_script (λ memory. cc memory))
     (keeps_more _ _ _ _ _ _ _ _ (λ (no : ⊥). absurd no) (λ rose. rose) c.refuse_at.ensures.keeps) outcome mean
 

@@ -3,7 +3,7 @@ use Rattle.gq_session.proofs.SessionLemmas.{session_uses}
 use Rattle.gq_session.proofs.session.Session.make_graph.Goals as goal
 
 pub invariant_of-self : goal.invariant_of-self
-invariant_of-self c =
+invariant_of-self g c =
     let i = c.self.inside in
     session_uses i.catalog c.create_graph.new.catalog i.in_use c.in-Ok.graph i.jobs i.store
     (graph_grown i.catalog c.create_graph.new.catalog c.args.tree.now c.in-Ok.ensures.created)

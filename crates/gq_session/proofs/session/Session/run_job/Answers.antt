@@ -13,7 +13,7 @@ use Rattle.gq_session.proofs.session.Session.run_job.Goals as goal
 pub returns-clause-done : goal.returns-clause-done
 returns-clause-done g c = λ before now met.
     let i = c.self.inside in
-    let v : State = record { schema = i.catalog; in_use = i.in_use; jobs = i.jobs; queries = i.queries; store = i.store } in
+    let v : State = record { schema = i.catalog; in_use = i.in_use; jobs = i.jobs; queries = i.queries; store = i.store; file = i.file; turns = i.runner.now.turns } in
     job_printed c.args.self.now v c.self.view_is c.args.tree.now (known_of (g.F.Files.held c.args.files.now) before now met) c.run_job.new.store c.run_job.result c.with_line.result
     (is_line c.run_job.result c.with_line.result c.with_line.ensures.done c.with_line.ensures.printed c.with_line.ensures.same)
     (let P : List NamedJob → Type 0 = λ jobs. IfOk c.run_job.result (λ line.
@@ -23,7 +23,7 @@ returns-clause-done g c = λ before now met.
 pub returns-clause-refused : goal.returns-clause-refused
 returns-clause-refused g c = λ refusal same before low.
     let i = c.self.inside in
-    let v : State = record { schema = i.catalog; in_use = i.in_use; jobs = i.jobs; queries = i.queries; store = i.store } in
+    let v : State = record { schema = i.catalog; in_use = i.in_use; jobs = i.jobs; queries = i.queries; store = i.store; file = i.file; turns = i.runner.now.turns } in
     job_refused c.args.self.now v c.self.view_is c.args.tree.now
     (known_of (g.F.Files.held c.args.files.now) before (g.F.Files.absences c.run_job.new.files) (g.F.Files.length_met c.run_job.new.files)) (message_of refusal)
     (let P : List NamedJob → Type 0 = λ jobs.
@@ -34,7 +34,7 @@ returns-clause-refused g c = λ refusal same before low.
 pub returns-clause-left : goal.returns-clause-left
 returns-clause-left g c = λ before low.
     let i = c.self.inside in
-    let v : State = record { schema = i.catalog; in_use = i.in_use; jobs = i.jobs; queries = i.queries; store = i.store } in
+    let v : State = record { schema = i.catalog; in_use = i.in_use; jobs = i.jobs; queries = i.queries; store = i.store; file = i.file; turns = i.runner.now.turns } in
     let known = known_of (g.F.Files.held c.args.files.now) before (g.F.Files.absences c.run_job.new.files) (g.F.Files.length_met c.run_job.new.files) in
     job_left c.args.self.now v c.self.view_is c.args.tree.now known c.run_job.new.store c.run_job.result c.with_line.result
     (is_line c.run_job.result c.with_line.result c.with_line.ensures.done c.with_line.ensures.printed c.with_line.ensures.same)

@@ -1,0 +1,4 @@
+pub mod CountLemmas
+pub mod LookupLemmas
+pub mod MemberLemmas
+pub mod RowLemmas

@@ -1,0 +1,57 @@
+// Vertices by type and id.
+ghost use Rattle.std.specs.Prelude.{◌≡◌};
+ghost use Rattle.std.specs.Fmt.{signed_decimal};
+ghost use Rattle.std.specs.Option.{option_map};
+ghost use Rattle.gq_value.specs.Views.{val};
+ghost use Rattle.gq_scope.specs.Held.{sorts_in};
+ghost use Rattle.gq_typing.specs.QueryTypes.{signed as signed_number};
+ghost use Rattle.gq_meaning.specs.Arguments as spec;
+
+use gq_scope::Scope;
+use gq_value::Value;
+use gq_vertex::Vertices;
+use itoa::Buffer;
+
+/// The vertex of a type, where the query sees the type, and of an id.
+#[tactic(auto, using(gq_value::specs::ViewLaws::view_laws))]
+pub(crate) fn vertex_in(
+    types: &Scope<'_>,
+    vertices: &Vertices,
+    kind: &str,
+    id: &str,
+) -> Option<Value>
+    ensures { option_map val result ≡ spec.vertex_in (sorts_in types.now) vertices.now kind.now id.now }
+{
+    match types.vertex_type(kind) {
+        Some(kind) => match vertices.find(kind, id) {
+            Some(vertex) => Some(Value::Vertex(vertex)),
+            None => None,
+        },
+        None => None,
+    }
+}
+
+/// The vertex whose id is a number, in decimal.
+pub(crate) fn numbered_vertex(
+    types: &Scope<'_>,
+    vertices: &Vertices,
+    kind: &str,
+    minus: bool,
+    number: u64,
+) -> Option<Value>
+    ensures { option_map val result ≡ spec.vertex_in (sorts_in types.now) vertices.now kind.now (spec.number_id minus number) }
+{
+    let mut digits = Buffer::new();
+    vertex_in(types, vertices, kind, digits.format(signed(minus, number)))
+}
+
+/// A number with its sign.
+pub(crate) fn signed(minus: bool, number: u64) -> i128
+    ensures { result ≡ signed_number minus number }
+{
+    if minus {
+        -i128::from(number)
+    } else {
+        i128::from(number)
+    }
+}

@@ -1,0 +1,45 @@
+// Assignments.
+ghost use Rattle.std.specs.Prelude.{OnOk};
+ghost use Rattle.std.specs.Option.{option_map};
+ghost use Rattle.gq_meaning.specs.Statements.{assigned};
+ghost use Rattle.gq_resolved.specs.PlanView.{view_right, view_set_types};
+ghost use Rattle.gq_resolved.specs.Reference.{Place};
+ghost use Rattle.gq_frame.specs.Slots.{AreSound};
+ghost use Rattle.gq_ground.specs.Changes.{Becomes};
+ghost use Rattle.gq_ground.specs.Grounds.{world_on};
+
+use crate::chosen::assign_select;
+use crate::named::assign_value;
+use crate::sets::assign_sets;
+use gq_control::RunFault;
+use gq_ground::Ground;
+use gq_io::Gate;
+use gq_names::Live;
+use gq_resolved::{Right, SetTypes};
+use gq_select::Workers;
+use gq_view::Clock;
+use std::alloc::Global;
+
+/// Assigns what stands on the right side to the variable at a place.
+///
+/// A SELECT gives its accumulators too, and its vertices to a set variable, whose types are fixed where it comes into view. What doesn't fit the
+/// place is want of memory.
+pub fn assign<C: Clock, G: Gate>(
+    workers: &Workers<'_, G>,
+    alloc: Global,
+    ground: &Ground<'_, C>,
+    place: u32,
+    types: Option<SetTypes>,
+    right: &Right,
+    live: &mut Live,
+) -> Result<(), RunFault>
+    requires { AreSound live.old.frame.accums }
+    ensures names { Becomes ground.now.plan.places (λ s. assigned (world_on C.clock ground.now) s (Place place) (option_map view_set_types types) (view_right right.now)) live.old live.new result }
+    ensures sound { OnOk result (AreSound live.new.frame.accums) }
+{
+    match right {
+        Right::Select(block) => assign_select(workers, alloc, ground, place, types, block, live),
+        Right::Sets(sets) => assign_sets(alloc, ground, place, types, sets, live),
+        Right::Value(expr) => assign_value(alloc, ground, place, types, expr, live),
+    }
+}

@@ -1,0 +1,6 @@
+pub mod AliasLemmas
+pub mod CopyLemmas
+pub mod FoundLemmas
+pub mod ListLemmas
+pub mod EndLemmas
+pub mod RunLemmas

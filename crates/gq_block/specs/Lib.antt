@@ -1,0 +1,3 @@
+pub mod Aliases
+pub mod Running
+pub mod Results

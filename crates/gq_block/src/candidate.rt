@@ -1,0 +1,104 @@
+// What a candidate leaves.
+ghost use Rattle.std.specs.Prelude.{◌≡◌, ◌||◌, ◌*◌, ℕ, length, map, IfOk};
+ghost use Rattle.gq_contribute.specs.Passing.{Comes};
+ghost use Rattle.gq_marks.specs.Marks.{is_marked};
+ghost use Rattle.gq_start.specs.Starts.{IsBelow, IsWithin};
+ghost use Rattle.gq_frame.specs.Names.{alias_of};
+ghost use Rattle.gq_block.specs.Running.{ComesUnder, IsShaped, Tried, comes, marks_end};
+
+use crate::aliases::{bind, no_alias};
+use crate::found::Found;
+use gq_contribute::{Outcome, Room, contribute};
+use gq_core::Batches;
+use gq_ends::Ends;
+use gq_frame::Alias;
+use gq_list::{List, Memory};
+use gq_marks::mark;
+use gq_resolved::Block;
+use gq_value::{Candidate, Wrong};
+use gq_view::{Clock, Setting};
+use std::alloc::Global;
+
+/// Tries a candidate. What a match contributes waits in the batch, and its ends are marked; the fault of one that faults is told.
+#[tactic(auto, using(crate::proofs::FoundLemmas::tried_laws))]
+pub(crate) fn try_candidate<C: Clock>(
+    alloc: Global,
+    block: &Block,
+    over: &Setting<'_, C>,
+    ends: &Ends,
+    edge: Option<u32>,
+    candidate: Candidate,
+    found: &mut Found,
+) -> Result<Option<Wrong>, Memory>
+    requires within { IsWithin (length over.now.vertices) candidate }
+    requires shaped { IsShaped (length over.now.vertices) found.old }
+    ensures tried { IfOk result (Tried over.now (comes C.clock over.now block.now ends.now edge candidate) found.old found.new) }
+    ensures shaped { IfOk result (λ _. IsShaped (length over.now.vertices) found.new) }
+{
+    let room = &mut found.room;
+    match outcome_of(
+        alloc,
+        block,
+        over,
+        ends,
+        edge,
+        candidate,
+        room,
+        &mut found.batches,
+    ) {
+        Err(Memory) => Err(Memory),
+        Ok(Outcome::Fault(fault)) => Ok(Some(fault)),
+        Ok(Outcome::Filtered) => Ok(None),
+        Ok(Outcome::Passed) => {
+            mark(&mut found.sources, candidate.source);
+            mark_end(&mut found.targets, candidate.target);
+            Ok(None)
+        }
+    }
+}
+
+/// What comes of a candidate: it sees its aliases, and the accumulators of the frame.
+fn outcome_of<C: Clock>(
+    alloc: Global,
+    block: &Block,
+    over: &Setting<'_, C>,
+    ends: &Ends,
+    edge: Option<u32>,
+    candidate: Candidate,
+    room: &mut Room,
+    into: &mut Batches,
+) -> Result<Outcome, Memory>
+    ensures { IfOk result (Comes over.now.frame.accums.slots candidate (comes C.clock over.now block.now ends.now edge candidate) into.old into.new) }
+{
+    let mut row = [no_alias(); 3];
+    let count = bind(&mut row, ends, edge, candidate);
+    outcome_under(alloc, block, over, &row[..count], room, into)
+}
+
+/// What comes of a candidate with these aliases.
+fn outcome_under<C: Clock>(
+    alloc: Global,
+    block: &Block,
+    over: &Setting<'_, C>,
+    aliases: &[Alias<'_>],
+    room: &mut Room,
+    into: &mut Batches,
+) -> Result<Outcome, Memory>
+    ensures { IfOk result (ComesUnder C.clock over.now block.now (map alias_of aliases.now) into.old into.new) }
+{
+    let accums = &over.frame.accums;
+    let view = over.view(aliases, accums, accums);
+    contribute(alloc, block, &view, accums, room, into)
+}
+
+/// Marks the vertex at an end, if there is one.
+fn mark_end(words: &mut List<u64>, vertex: Option<u32>)
+    requires { IsBelow (length words.old * 64) vertex }
+    ensures len { length words.new ≡ length words.old }
+    ensures marks { (v : ℕ) → is_marked words.new v ≡ (marks_end vertex v || is_marked words.old v) }
+{
+    match vertex {
+        Some(vertex) => mark(words, vertex),
+        None => {}
+    }
+}

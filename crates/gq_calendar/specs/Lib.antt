@@ -1,0 +1,4 @@
+pub mod Days
+pub mod Adding
+pub mod Reading
+pub mod Gregorian

@@ -1,0 +1,4 @@
+pub mod Gathered
+pub mod Taking
+pub mod Feeds
+pub mod Passing

@@ -1,0 +1,64 @@
+// The types that a SELECT begins from.
+ghost use Rattle.std.specs.Prelude.{◌≡◌, IfOk};
+ghost use Rattle.std.specs.Option.{option_to_list};
+ghost use Rattle.gq_frame.specs.Names.{held_thing};
+ghost use Rattle.gq_ends.specs.Seen.{own_of, set_types, types_from};
+
+use crate::patterns::is_own;
+use gq_frame::Thing;
+use gq_list::List;
+use gq_resolved::{Held, Plan, Source};
+use gq_value::{Memory, Numbers};
+use std::alloc::Global;
+
+/// The types of the set that a SELECT begins from, or its vertex type. A place that has no set gives none.
+#[tactic(auto, using(crate::proofs::StepLemmas::source_laws))]
+pub(crate) fn types_from(
+    alloc: Global,
+    plan: &Plan,
+    things: &[Option<Thing>],
+    source: Source,
+) -> Result<Numbers, Memory>
+    ensures { IfOk result (λ l. l ≡ types_from plan.now things.now source) }
+{
+    match source {
+        Source::Set(place) => match plan.places.as_slice().get(place as usize) {
+            None => Ok(List::new(alloc)),
+            Some(held) => match things.get(place as usize) {
+                None => Ok(List::new(alloc)),
+                Some(thing) => set_types(alloc, held, thing),
+            },
+        },
+        Source::Type(t) => one_type(alloc, plan.vertices.as_slice(), t),
+    }
+}
+
+/// A type, if it is among the graph's.
+#[tactic(auto, using(crate::proofs::SortLemmas::own_type_laws))]
+fn one_type(alloc: Global, own: &[u32], t: u32) -> Result<Numbers, Memory>
+    ensures { IfOk result (λ l. l ≡ option_to_list (own_of own.now t)) }
+{
+    if is_own(own, t) {
+        let mut types = List::new(alloc);
+        types.push(t)?;
+        Ok(types)
+    } else {
+        Ok(List::new(alloc))
+    }
+}
+
+/// The types of the set that stands at a place, if one does.
+fn set_types(alloc: Global, held: &Held, thing: &Option<Thing>) -> Result<Numbers, Memory>
+    ensures { IfOk result (λ l. l ≡ set_types (held_thing (Some held.now) (Some thing.now))) }
+{
+    match held {
+        Held::Variable(_) | Held::Alias(_) | Held::EdgeAlias(_) => Ok(List::new(alloc)),
+        Held::Set(types) => match thing {
+            None => Ok(List::new(alloc)),
+            Some(thing) => match thing {
+                Thing::Value(_) => Ok(List::new(alloc)),
+                Thing::Set(_) => List::from_slice(alloc, types.as_slice()),
+            },
+        },
+    }
+}

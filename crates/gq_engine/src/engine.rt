@@ -1,0 +1,127 @@
+// What runs queries.
+ghost use Rattle.std.specs.Prelude.{◌≡◌, map};
+ghost use Rattle.gq_value.specs.Views.{val};
+ghost use Rattle.gq_index.specs.Sights.{sight_of};
+ghost use Rattle.gq_index.specs.Walks.{adjacency};
+ghost use Rattle.gq_meaning.specs.Answers.{Answer};
+ghost use Rattle.gq_meaning.specs.Statements.{Fault};
+ghost use Rattle.gq_calendar.specs.Gregorian.{gregorian};
+ghost use Rattle.gq_fields.specs.Worlds.{HaveAttributes};
+ghost use Rattle.gq_view.specs.Ends.{HaveEnds};
+ghost use Rattle.gq_flow.specs.Plans.{Objects, Prints};
+ghost use Rattle.gq_runs.specs.Runs.{Runs};
+ghost use Rattle.gq_engine.specs.Engines.{is_calendar, plan_over};
+
+use crate::whole::{has_attributes, has_ends};
+use gq_control::RunFault as PlanFault;
+use gq_flow::{Workers, run_query};
+use gq_index::{Graph, Index, Store};
+use gq_io::{OpenGate, Shape};
+use gq_json::Printed;
+use gq_list::List;
+use gq_plan::plan;
+use gq_resolved::Plan;
+use gq_runs::{RunFault, RunsQueries};
+use gq_schema::Catalog;
+use gq_tree::QueryTree;
+use gq_value::Row;
+use gq_view::Clock;
+use std::alloc::Global;
+
+/// Runs queries on the calling thread.
+#[derive(Clone, Copy, Debug)]
+pub struct Engine;
+
+/// The calendar by which queries read and write times. No value has it.
+enum Gregorian {}
+
+impl Clock for Gregorian {
+    ghost clock = { gregorian };
+
+    ghost is = { is_calendar };
+}
+
+impl RunsQueries for Engine {
+    fn run(
+        &self,
+        alloc: Global,
+        catalog: &Catalog,
+        graph: Option<u32>,
+        store: &Store,
+        query: &QueryTree,
+        arguments: &Row,
+        shape: &Shape,
+        turns: u64,
+    ) -> Result<List<Printed>, RunFault> {
+        let gate = OpenGate;
+        let workers = Workers {
+            shape: *shape,
+            gate: &gate,
+        };
+        match plan(alloc, catalog, graph, query) {
+            Err(_) => Err(RunFault::Memory),
+            Ok(plan) => run_plan(&workers, alloc, catalog, store, &plan, arguments, turns),
+        }
+    }
+}
+
+/// Indexes a store, and runs a plan over it.
+fn run_plan(
+    workers: &Workers<'_, OpenGate>,
+    alloc: Global,
+    catalog: &Catalog,
+    store: &Store,
+    plan: &Plan,
+    arguments: &Row,
+    turns: u64,
+) -> Result<List<Printed>, RunFault>
+    ensures { Runs (plan_over catalog.now store.now gregorian plan.now (map val arguments.now) turns) result }
+{
+    if !has_attributes(catalog, &store.vertices) || !has_ends(store) {
+        return Err(RunFault::Memory);
+    }
+    match Index::build(alloc, catalog, store) {
+        Err(_) => Err(RunFault::Memory),
+        Ok(index) => run_indexed(
+            workers, alloc, catalog, store, &index, plan, arguments, turns,
+        ),
+    }
+}
+
+/// Runs a plan over an indexed store.
+fn run_indexed<'x>(
+    workers: &'x Workers<'x, OpenGate>,
+    alloc: Global,
+    catalog: &'x Catalog,
+    store: &'x Store,
+    index: &'x Index,
+    plan: &'x Plan,
+    arguments: &Row,
+    turns: u64,
+) -> Result<List<Printed>, RunFault>
+    requires indexed { index.now ≡ adjacency (sight_of catalog.now store.now.vertices store.now.edges) }
+    requires attributes { HaveAttributes catalog.now store.now.vertices }
+    requires ends { HaveEnds store.now.vertices store.now.edges.rows }
+    ensures { Runs (plan_over catalog.now store.now gregorian plan.now (map val arguments.now) turns) result }
+{
+    let graph = Graph {
+        catalog,
+        store,
+        index,
+    };
+    told(run_query::<Gregorian>(workers, alloc, graph, plan, arguments, turns))
+}
+
+/// What a run of a plan gives, as the run of a query.
+fn told(answer: Result<List<Printed>, PlanFault>) -> Result<List<Printed>, RunFault>
+    ensures { (o : Answer Fault Objects) → Prints o answer → Runs o result }
+{
+    match answer {
+        Ok(printed) => Ok(printed),
+        Err(PlanFault::Eval(wrong)) => Err(RunFault::Wrong(wrong)),
+        Err(PlanFault::SumRange(slot)) => Err(RunFault::SumRange(slot)),
+        Err(PlanFault::LoopBound) => Err(RunFault::LoopBound),
+        Err(PlanFault::PathBound) => Err(RunFault::PathBound),
+        Err(PlanFault::Memory) => Err(RunFault::Memory),
+    }
+}

@@ -1,0 +1,68 @@
+// Rows that are whole.
+ghost use Rattle.std.specs.Prelude.{◌≡◌, ◌<◌, Some, length, slice_get, true};
+ghost use Rattle.std.specs.Option.{option_copied};
+ghost use Rattle.gq_fields.specs.Worlds.{HaveAttributes};
+ghost use Rattle.gq_view.specs.Ends.{HaveEnds};
+ghost use Rattle.gq_engine.specs.Engines.{HasAttributes, HasEnds};
+
+use gq_index::Store;
+use gq_schema::Catalog;
+use gq_value::{EdgeRow, VertexType};
+use gq_vertex::Vertices;
+
+/// Whether each vertex has a value for each attribute of its type.
+#[tactic(auto, using(crate::proofs::WholeLemmas::attribute_laws))]
+pub(crate) fn has_attributes(catalog: &Catalog, vertices: &Vertices) -> bool
+    ensures { result ≡ true → HaveAttributes catalog.now vertices.now }
+{
+    for vertex in 0..vertices.len() {
+        if !has_own(catalog, vertices, vertex) {
+            return false;
+        }
+    }
+    true
+}
+
+/// Whether a vertex has a value for each attribute of its type.
+#[tactic(auto, using(crate::proofs::WholeLemmas::own_laws))]
+fn has_own(catalog: &Catalog, vertices: &Vertices, vertex: u32) -> bool
+    requires { vertex < length vertices.now }
+    ensures { result ≡ true → HasAttributes catalog.now vertices.now vertex }
+{
+    match vertex_type(catalog, vertices.kind(vertex)) {
+        None => true,
+        Some(of) => of.attributes.len() <= vertices.width(vertex),
+    }
+}
+
+/// A vertex type by its number, if there is one.
+#[tactic(auto, using(gq_fields::proofs::VertexLemmas::type_laws))]
+fn vertex_type(catalog: &Catalog, kind: u32) -> Option<&VertexType>
+    ensures { slice_get catalog.now.vertex_types kind ≡ option_copied result }
+{
+    let count = catalog.type_count() - catalog.edge_types().len() as u32;
+    if kind < count {
+        Some(catalog.vertex_at(kind))
+    } else {
+        None
+    }
+}
+
+/// Whether the ends of all edges are vertices.
+pub(crate) fn has_ends(store: &Store) -> bool
+    ensures { result ≡ true → HaveEnds store.now.vertices store.now.edges.rows }
+{
+    end_there(store.edges.rows(), store.vertices.len())
+}
+
+#[tactic(auto, using(crate::proofs::WholeLemmas::end_laws))]
+fn end_there(rows: &[EdgeRow], count: u32) -> bool
+    ensures { result ≡ true → HasEnds count rows.now }
+{
+    for row in rows {
+        if row.from >= count || row.to >= count {
+            return false;
+        }
+    }
+    true
+}

@@ -1,0 +1,5 @@
+pub mod FormLemmas
+pub mod PlaceLemmas
+pub mod SlotLemmas
+pub mod FeedLemmas
+pub mod FitLemmas

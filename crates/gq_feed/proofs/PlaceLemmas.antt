@@ -1,0 +1,66 @@
+-- PlaceLemmas: parts of a list, and one item put in another's place.
+use Rattle.std.proofs.Common.{◌≡◌, ℕ, zero, suc, ◌+◌, ◌<◌, ◌≤◌, List, [], ◌∷◌, take, drop, length, set, get_or, slice_get, Some, None, refl, sym, ap, ◌∙◌, arith}
+
+pub same_some : {A : Type 0} {a b : A} → Some a ≡ Some b → a ≡ b
+same_some h = cc
+
+pub none_apart : {A P : Type 0} (x : A) → None ≡ Some x → P
+none_apart x h = absurd (cc h)
+
+module _ {A : Type 0} where
+  pub take_set_front : (xs : List A) (v t : ℕ) (d : A) → v < t → take t (set xs v d) ≡ set (take t xs) v d
+  take_set_front xs v zero d h = absurd (omega (arith, h))
+  take_set_front [] v (suc t) d h = refl
+  take_set_front (x ∷ xs) zero (suc t) d h = refl
+  take_set_front (x ∷ xs) (suc v) (suc t) d h = ap (λ l. x ∷ l) (take_set_front xs v t d (omega (arith, h)))
+
+  pub drop_set_front : (xs : List A) (v t : ℕ) (d : A) → v < t → drop t (set xs v d) ≡ drop t xs
+  drop_set_front xs v zero d h = absurd (omega (arith, h))
+  drop_set_front [] v (suc t) d h = refl
+  drop_set_front (x ∷ xs) zero (suc t) d h = refl
+  drop_set_front (x ∷ xs) (suc v) (suc t) d h = drop_set_front xs v t d (omega (arith, h))
+
+  pub take_set_behind : (xs : List A) (t x : ℕ) (d : A) → t ≤ x → take t (set xs x d) ≡ take t xs
+  take_set_behind xs zero x d h = refl
+  take_set_behind [] (suc t) x d h = refl
+  take_set_behind (y ∷ xs) (suc t) zero d h = absurd (omega (arith, h))
+  take_set_behind (y ∷ xs) (suc t) (suc x) d h = ap (λ l. y ∷ l) (take_set_behind xs t x d (omega (arith, h)))
+
+  pub drop_set_behind : (xs : List A) (t x : ℕ) (d : A) → drop t (set xs (t + x) d) ≡ set (drop t xs) x d
+  drop_set_behind xs zero x d = let e : 0 + x ≡ x = omega arith in ap (λ (n : ℕ). set xs n d) e
+  drop_set_behind [] (suc t) x d = refl
+  drop_set_behind (y ∷ xs) (suc t) x d = let e : suc t + x ≡ suc (t + x) = omega arith in ap (λ (n : ℕ). drop (suc t) (set (y ∷ xs) n d)) e ∙ drop_set_behind xs t x d
+
+  pub get_taken : (xs : List A) (t i : ℕ) (x : A) → slice_get (take t xs) i ≡ Some x → (i < t) × (slice_get xs i ≡ Some x)
+  get_taken xs zero i x h = none_apart x h
+  get_taken [] (suc t) i x h = none_apart x h
+  get_taken (y ∷ xs) (suc t) zero x h = (omega arith, h)
+  get_taken (y ∷ xs) (suc t) (suc i) x h = let r = get_taken xs t i x h in (let l = r.0 in omega (arith, l), r.1)
+
+  pub taken_get : (xs : List A) (t i : ℕ) → i < t → slice_get (take t xs) i ≡ slice_get xs i
+  taken_get xs zero i h = absurd (omega (arith, h))
+  taken_get [] (suc t) i h = refl
+  taken_get (y ∷ xs) (suc t) zero h = refl
+  taken_get (y ∷ xs) (suc t) (suc i) h = taken_get xs t i (omega (arith, h))
+
+  pub get_dropped : (xs : List A) (t i : ℕ) → slice_get (drop t xs) i ≡ slice_get xs (t + i)
+  get_dropped xs zero i = let e : i ≡ 0 + i = omega arith in ap (slice_get xs) e
+  get_dropped [] (suc t) i = refl
+  get_dropped (y ∷ xs) (suc t) i = get_dropped xs t i ∙ (let e : suc (t + i) ≡ suc t + i = omega arith in ap (slice_get (y ∷ xs)) e)
+
+  -- an item as the code has it
+  pub get_some : (xs : List A) (i : ℕ) (x : A) → i < length xs → x ≡ get_or xs i x → slice_get xs i ≡ Some x
+  get_some [] i x l h = absurd (omega (arith, l))
+  get_some (y ∷ xs) zero x l h = ap Some (sym h)
+  get_some (y ∷ xs) (suc i) x l h = get_some xs i x (omega (arith, l)) h
+
+  pub drop_item : (xs : List A) (i : ℕ) (x : A) → slice_get xs i ≡ Some x → drop i xs ≡ x ∷ drop (suc i) xs
+  drop_item [] i x h = none_apart x h
+  drop_item (y ∷ xs) zero x h = ap (λ z. z ∷ xs) (same_some h)
+  drop_item (y ∷ xs) (suc i) x h = drop_item xs i x h
+
+  pub drop_all : (xs : List A) (i : ℕ) → length xs ≤ i → drop i xs ≡ []
+  drop_all [] zero h = refl
+  drop_all [] (suc i) h = refl
+  drop_all (x ∷ xs) zero h = absurd (omega (arith, h))
+  drop_all (x ∷ xs) (suc i) h = drop_all xs i (omega (arith, h))

@@ -1,0 +1,4 @@
+pub mod Worlds
+pub mod Attributes
+pub mod Tuples
+pub mod Parts

@@ -1,0 +1,4 @@
+pub mod ChangeLemmas
+pub mod PrintLemmas
+pub mod ProgramLemmas
+pub mod QueryLemmas

@@ -1,0 +1,12 @@
+use Rattle.std.proofs.Common.{subst}
+use Rattle.gq_value.specs.AccumViews.{accum_of}
+use Rattle.gq_meaning.specs.Writes.{made_by}
+use Rattle.gq_resolved.specs.BlockView.{view_change}
+use Rattle.gq_seen.specs.Meant.{Tells}
+use Rattle.gq_view.specs.Viewed.{Viewed}
+use Rattle.gq_view.specs.Looks.{look_of}
+use Rattle.gq_write.specs.Making.{making_of}
+use Rattle.gq_flow.proofs.change.made_of.Goals as goal
+
+pub returns : goal.returns
+returns g c = subst (λ (v : Viewed). Tells making_of (made_by (look_of g.C.Clock.clock v) (accum_of c.args.kind.now) (view_change c.args.change.now)) c.made_by.result) c.sight-sight.ensures c.made_by.ensures

@@ -1,0 +1,84 @@
+// Changes of global accumulators.
+ghost use Rattle.std.specs.Prelude.{◌≡◌, OnOk, slice_get};
+ghost use Rattle.std.specs.Option.{option_copied};
+ghost use Rattle.gq_value.specs.AccumViews.{accum_of};
+ghost use Rattle.gq_meaning.specs.Writes.{made_by};
+ghost use Rattle.gq_resolved.specs.BlockView.{view_change};
+ghost use Rattle.gq_seen.specs.Meant.{Tells};
+ghost use Rattle.gq_frame.specs.Slots.{AreSound};
+ghost use Rattle.gq_ground.specs.Changes.{Becomes};
+ghost use Rattle.gq_ground.specs.Grounds.{look_on, world_on};
+ghost use Rattle.gq_write.specs.Making.{making_of};
+ghost use Rattle.gq_flow.specs.Steps.{Makes, global_so};
+
+use gq_control::RunFault;
+use gq_frame::Frame;
+use gq_ground::{Ground, run_fault};
+use gq_list::List;
+use gq_names::Live;
+use gq_resolved::Change;
+use gq_seen::Halt;
+use gq_value::Kind;
+use gq_view::Clock;
+use gq_write::{ChangeFault, Made, change_at, made_by};
+use std::alloc::Global;
+
+/// Changes the global accumulator in a slot at once. A sum out of range is judged at once too.
+pub(crate) fn change<C: Clock>(
+    alloc: Global,
+    ground: &Ground<'_, C>,
+    slot: u32,
+    change: &Change,
+    live: &mut Live,
+) -> Result<(), RunFault>
+    requires { AreSound live.old.frame.accums }
+    ensures names { Becomes ground.now.plan.places (global_so (world_on C.clock ground.now) slot (view_change change.now)) live.old live.new result }
+    ensures sound { OnOk result (AreSound live.new.frame.accums) }
+{
+    match made_over(alloc, ground, slot, change, &live.frame) {
+        Err(halt) => Err(run_fault(halt)),
+        Ok(made) => match change_at(alloc, &mut live.frame.accums, slot, 0, &made) {
+            Ok(()) => Ok(()),
+            Err(ChangeFault::TooBig) => Err(RunFault::SumRange(slot)),
+            Err(ChangeFault::Memory) => Err(RunFault::Memory),
+        },
+    }
+}
+
+/// What a change makes of the accumulator in a slot.
+fn made_over<C: Clock>(
+    alloc: Global,
+    ground: &Ground<'_, C>,
+    slot: u32,
+    change: &Change,
+    frame: &Frame,
+) -> Result<Made, Halt>
+    requires { AreSound frame.now.accums }
+    ensures { Makes (look_on C.clock ground.now frame.now) frame.now.accums slot (view_change change.now) result }
+{
+    match item(&frame.accums.slots.declared, slot as usize) {
+        None => Err(Halt::Outside),
+        Some(declared) => made_of(alloc, ground, &declared.kind, change, frame),
+    }
+}
+
+fn made_of<C: Clock>(
+    alloc: Global,
+    ground: &Ground<'_, C>,
+    kind: &Kind,
+    change: &Change,
+    frame: &Frame,
+) -> Result<Made, Halt>
+    requires { AreSound frame.now.accums }
+    ensures { Tells making_of (made_by (look_on C.clock ground.now frame.now) (accum_of kind.now) (view_change change.now)) result }
+{
+    let sight = ground.sight(frame);
+    made_by(change, kind, alloc, &sight)
+}
+
+/// The item at a place, if there is one.
+fn item<T>(items: &List<T>, at: usize) -> Option<&T>
+    ensures { slice_get items.now at ≡ option_copied result }
+{
+    items.as_slice().get(at)
+}

@@ -1,0 +1,67 @@
+// What single statements do.
+ghost use Rattle.gq_ground.specs.Grounds.{world_on};
+
+use crate::change::change;
+use crate::print::print_more;
+use gq_assign::{Workers, assign};
+use gq_control::{Machine, Rounds, RunFault, Running};
+use gq_ground::Ground;
+use gq_io::OpenGate;
+use gq_local::declare;
+use gq_resolved::{Expr, Over, Step};
+use gq_rounds::{rounds, truth};
+use gq_view::Clock;
+use std::alloc::Global;
+
+/// A plan over a graph, as what does single statements.
+#[derive(Drop)]
+pub struct Program<'a, C> {
+    pub workers: &'a Workers<'a, OpenGate>,
+    pub alloc: Global,
+    pub ground: Ground<'a, C>,
+}
+
+impl<'a, C: Clock> Machine for Program<'a, C> {
+    ghost world = { λ p. world_on C.clock p.ground };
+
+    ghost places = { λ p. p.ground.plan.places };
+
+    fn act(&self, step: &Step, r: &mut Running) -> Result<(), RunFault> {
+        match step {
+            Step::Local(declared, locals) => declare(
+                &self.ground,
+                self.alloc,
+                *declared,
+                locals.as_slice(),
+                &mut r.live,
+            ),
+            Step::Assign(place, types, right) => assign(
+                self.workers,
+                self.alloc,
+                &self.ground,
+                *place,
+                *types,
+                right,
+                &mut r.live,
+            ),
+            Step::Global(slot, made) => {
+                change(self.alloc, &self.ground, *slot, made, &mut r.live)
+            }
+            Step::Print(items) => print_more(self.alloc, &self.ground, items.as_slice(), r),
+            Step::If(_, _) | Step::While(_, _, _) => Err(RunFault::Memory),
+            Step::Foreach(_, _, _) => Err(RunFault::Memory),
+        }
+    }
+
+    fn truth(&self, condition: &Expr, r: &Running) -> Result<bool, RunFault> {
+        truth(self.alloc, &self.ground, condition, &r.live.frame)
+    }
+
+    fn limit(&self, limit: &Expr, r: &Running) -> Result<u64, RunFault> {
+        gq_rounds::limit(self.alloc, &self.ground, limit, &r.live.frame)
+    }
+
+    fn rounds(&self, place: u32, over: &Over, r: &Running) -> Result<Rounds, RunFault> {
+        rounds(self.alloc, &self.ground, place, over, &r.live.frame)
+    }
+}

@@ -1,0 +1,88 @@
+// What names stand for.
+ghost use Rattle.std.specs.Prelude.{◌≡◌, ◌==◌, IfOk, map, slice_get};
+ghost use Rattle.std.specs.Option.{option_map};
+ghost use Rattle.gq_seen.specs.Types.{vertex_base};
+ghost use Rattle.gq_seen.specs.Words.{under};
+ghost use Rattle.gq_seen.specs.States as states;
+ghost use Rattle.gq_seen.specs.Reference.{Place};
+ghost use Rattle.gq_seen.specs.Meant.{meant, sort_is, Tells};
+ghost use Rattle.gq_seen.specs.Sound.{Sound};
+ghost use Rattle.gq_frame.specs.Names.{alias_of, placed_of, thing_of, thing_at, thing_in, named_in, thing_meant};
+
+use crate::frame::{Alias, Bound, Thing};
+use gq_seen::{Halt, Held, Operand, Seen, Sort};
+use gq_value::Value;
+
+/// What the name at a place stands for: the first alias of the place, or else the variable or the set that is there. Takes no memory.
+pub fn named<'a>(
+    aliases: &[Alias<'a>],
+    places: &'a [Held],
+    things: &'a [Option<Thing>],
+    place: u32,
+) -> Result<Seen<'a>, Halt>
+    ensures named { Tells meant (named_in (thing_at (map alias_of aliases.now) places.entry.now things.entry.now) (Place place)) result }
+    ensures sound { IfOk result Sound }
+{
+    match alias_at(aliases, place) {
+        Some(bound) => Ok(seen_as(bound)),
+        None => held(places, things, place),
+    }
+}
+
+/// The first alias of a place.
+#[tactic(auto, using(crate::proofs::NameLemmas::alias_laws))]
+fn alias_at<'a>(aliases: &[Alias<'a>], place: u32) -> Option<Bound<'a>>
+    ensures { option_map placed_of result ≡ under ◌==◌ place (map alias_of aliases.now) }
+{
+    for alias in aliases {
+        if alias.place == place {
+            return Some(alias.is);
+        }
+    }
+    None
+}
+
+#[tactic(auto, using(gq_value::specs::ViewLaws::view_laws))]
+fn seen_as<'a>(bound: Bound<'a>) -> Seen<'a>
+    ensures named { meant result ≡ states.meant (thing_of (placed_of bound.entry)) }
+    ensures sound { Sound result }
+{
+    match bound {
+        Bound::Vertex(types, vertex) => {
+            Seen::Value(sort_among(types), Operand::Made(Value::Vertex(vertex)))
+        }
+        Bound::Edge(row, kind) => Seen::Edge(row, kind),
+        Bound::Member(types, set, vertex) => Seen::Member(set, sort_among(types), vertex),
+    }
+}
+
+/// The type of a vertex of one of these types.
+fn sort_among<'a>(types: &[u32]) -> Sort<'a>
+    ensures { sort_is result ≡ vertex_base types.now }
+{
+    match types {
+        [kind] => Sort::VertexOf(*kind),
+        [] | [_, _, ..] => Sort::AnyVertex,
+    }
+}
+
+/// The variable or the set at a place.
+fn held<'a>(places: &'a [Held], things: &'a [Option<Thing>], place: u32) -> Result<Seen<'a>, Halt>
+    ensures named { Tells meant (thing_meant (thing_in places.entry.now things.entry.now place)) result }
+    ensures sound { IfOk result Sound }
+{
+    match places.get(place as usize) {
+        None => Err(Halt::Stuck),
+        Some(Held::Variable(base)) => match things.get(place as usize) {
+            Some(Some(Thing::Value(value))) => {
+                Ok(Seen::Value(Sort::of(base), Operand::Lent(value)))
+            }
+            Some(Some(Thing::Set(_))) | Some(None) | None => Err(Halt::Stuck),
+        },
+        Some(Held::Set(_)) => match things.get(place as usize) {
+            Some(Some(Thing::Set(set))) => Ok(Seen::Set(set.as_slice())),
+            Some(Some(Thing::Value(_))) | Some(None) | None => Err(Halt::Stuck),
+        },
+        Some(Held::Alias(_)) | Some(Held::EdgeAlias(_)) => Err(Halt::Stuck),
+    }
+}

@@ -1,0 +1,4 @@
+pub mod PlaceLemmas
+pub mod ListLemmas
+pub mod TupleLemmas
+pub mod TableLemmas

@@ -1,0 +1,4 @@
+pub mod Grounds
+pub mod Faults
+pub mod Places
+pub mod Changes

@@ -1,0 +1,44 @@
+use gq_hash::{Hashes, mixed, text_hash, wide_hash};
+use std::test::Fail;
+
+#[test]
+fn rows_of_one_hash_are_found_from_the_last_on(rt: HostRuntime) -> Result<(), Fail> {
+    let mut hashes = Hashes::new(rt.alloc());
+    for row in 0..100u32 {
+        assert!(rt; hashes.len() < 1000);
+        hashes.push(row % 3)?;
+    }
+    assert!(rt; hashes.len() == 100);
+    assert_eq!(rt; hashes.last(2), Some(98));
+    assert_eq!(rt; hashes.before(98), Some(95));
+    assert_eq!(rt; hashes.before(2), None);
+    assert_eq!(rt; hashes.last(3), None);
+    Ok(())
+}
+
+#[test]
+fn a_cut_forgets_the_last_rows_alone(rt: HostRuntime) -> Result<(), Fail> {
+    let mut hashes = Hashes::new(rt.alloc());
+    for row in 0..50u32 {
+        assert!(rt; hashes.len() < 1000);
+        hashes.push(row % 8)?;
+    }
+    assert!(rt; hashes.len() == 50);
+    let copy = hashes.duplicate()?;
+    hashes.cut(11);
+    assert_eq!(rt; hashes.len(), 11);
+    assert_eq!(rt; hashes.last(2), Some(10));
+    assert_eq!(rt; hashes.last(7), Some(7));
+    assert!(rt; hashes.len() == 11);
+    hashes.push(7)?;
+    assert_eq!(rt; hashes.last(7), Some(11));
+    assert_eq!(rt; copy.last(7), Some(47));
+    Ok(())
+}
+
+#[test]
+fn a_hash_takes_all_parts_in(rt: HostRuntime) {
+    assert!(rt; text_hash(0, "ab") != text_hash(0, "ba"));
+    assert!(rt; wide_hash(0, 4_294_967_296) != wide_hash(0, 1));
+    assert!(rt; mixed(mixed(0, 1), 2) != mixed(mixed(0, 2), 1));
+}

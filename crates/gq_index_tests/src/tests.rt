@@ -1,0 +1,212 @@
+// Helpers own what is built, and give numbers: proofs of tests grow with what a return drops.
+ghost use Rattle.std.specs.Prelude.{◌≡◌, All, true};
+ghost use Rattle.gq_value.specs.Defaults.{is_plain};
+ghost use Rattle.gq_value.specs.Edges.{Agrees, naming_with};
+
+use gq_edge::Edges;
+use gq_index::{Candidates, Graph, Index, Store, VertexList, chunk};
+use gq_list::List;
+use gq_schema::Catalog;
+use gq_value::{Attributes, Candidate, IdKind, IdShape, Pattern, Row, Steps, StoreFault, Txt};
+use gq_vertex::Vertices;
+use std::alloc::Global;
+use std::test::Fail;
+
+// Persons a, b and c who know each other: edges of type 0, and of its reverse type 1 where they are directed.
+#[derive(Clone, Copy)]
+struct Joined<'a> {
+    directed: bool,
+    pairs: &'a [(u32, u32)],
+}
+
+fn none(alloc: Global) -> Attributes
+    ensures { All (λ a. is_plain a ≡ true) result }
+{
+    List::new(alloc)
+}
+
+fn declare(catalog: &mut Catalog, alloc: Global, directed: bool) -> Result<(), Fail> {
+    let id = IdShape {
+        name: Txt::of(alloc, "id")?,
+        kind: IdKind::Text,
+        shown: false,
+    };
+    let none = none(alloc);
+    let person = "person";
+    let reverse = if directed { Some("known_by") } else { None };
+    catalog.add_vertex_type(person, &id, &none)?;
+    catalog.add_edge_type("knows", directed, person, person, reverse, &none, &none)?;
+    Ok(())
+}
+
+fn fill(vertices: &mut Vertices, alloc: Global) -> Result<(), Fail> {
+    for name in ["a", "b", "c"] {
+        vertices.upsert(0, name, List::new(alloc))?;
+    }
+    Ok(())
+}
+
+fn put(
+    edges: &mut Edges,
+    attributes: Row,
+    directed: bool,
+    from: u32,
+    to: u32,
+) -> Result<(), StoreFault>
+    requires { Agrees edges.old.namings (naming_with 0 directed 0) }
+    ensures { Agrees edges.new.namings (naming_with 0 directed 0) }
+{
+    match edges.upsert(0, directed, from, to, 0, attributes) {
+        Ok(_) => Ok(()),
+        Err(fault) => Err(fault),
+    }
+}
+
+fn join(edges: &mut Edges, alloc: Global, joined: Joined<'_>) -> Result<(), Fail>
+    requires { Agrees edges.old.namings (naming_with 0 joined.directed 0) }
+{
+    for (from, to) in joined.pairs {
+        put(edges, List::new(alloc), joined.directed, *from, *to)?;
+    }
+    Ok(())
+}
+
+fn store_of(alloc: Global, joined: Joined<'_>) -> Result<Store, Fail> {
+    let mut store = Store {
+        vertices: Vertices::new(alloc),
+        edges: Edges::new(alloc),
+    };
+    fill(&mut store.vertices, alloc)?;
+    join(&mut store.edges, alloc, joined)?;
+    Ok(store)
+}
+
+fn set_of(alloc: Global, numbers: &[u32]) -> Result<VertexList, Fail> {
+    let mut set = VertexList::new(alloc);
+    for number in numbers {
+        if !set.contains(*number) {
+            set.push(*number)?;
+        }
+    }
+    Ok(set)
+}
+
+// To persons, along these edge types.
+fn pattern_of(alloc: Global, edges: &[u32]) -> Result<Pattern, Fail> {
+    Ok(Pattern {
+        edges: List::from_slice(alloc, edges)?,
+        targets: List::from_slice(alloc, &[0])?,
+    })
+}
+
+fn candidates_of(
+    alloc: Global,
+    catalog: &Catalog,
+    store: &Store,
+    set: &[u32],
+    edges: &[u32],
+) -> Result<Candidates, Fail> {
+    let set = set_of(alloc, set)?;
+    let pattern = pattern_of(alloc, edges)?;
+    let index = Index::build(alloc, catalog, store)?;
+    let graph = Graph {
+        catalog,
+        store,
+        index: &index,
+    };
+    Ok(Candidates::of(alloc, &graph, &set, Some(&pattern))?)
+}
+
+fn along(
+    alloc: Global,
+    joined: Joined<'_>,
+    set: &[u32],
+    edges: &[u32],
+) -> Result<Candidates, Fail> {
+    let mut catalog = Catalog::new(alloc);
+    declare(&mut catalog, alloc, joined.directed)?;
+    let store = store_of(alloc, joined)?;
+    candidates_of(alloc, &catalog, &store, set, edges)
+}
+
+// How many candidates there are.
+fn count(alloc: Global, joined: Joined<'_>, set: &[u32], edges: &[u32]) -> Result<u64, Fail> {
+    Ok(along(alloc, joined, set, edges)?.count())
+}
+
+fn degree(alloc: Global, joined: Joined<'_>, vertex: u32, kind: u32) -> Result<u64, Fail> {
+    let mut catalog = Catalog::new(alloc);
+    declare(&mut catalog, alloc, joined.directed)?;
+    let store = store_of(alloc, joined)?;
+    Ok(Index::build(alloc, &catalog, &store)?.degree(vertex, kind))
+}
+
+const KNOWS: Joined<'static> = Joined {
+    directed: true,
+    pairs: &[(0, 1), (0, 2), (1, 2)],
+};
+
+const NEAR: Joined<'static> = Joined {
+    directed: false,
+    pairs: &[(0, 1), (1, 1)],
+};
+
+#[test]
+fn the_last_candidate_of_three_is_found_in_three_steps(rt: HostRuntime) -> Result<(), Fail> {
+    let candidates = along(rt.alloc(), KNOWS, &[2, 1, 0], &[0])?;
+    assert_eq!(rt; candidates.count(), 3);
+    let mut steps = Steps::new();
+    let last = candidates.at(2, &mut steps);
+    let wanted = Candidate {
+        source: 1,
+        edge: Some(2),
+        kind: Some(0),
+        target: Some(2),
+    };
+    assert!(rt; last == wanted);
+    assert!(rt; steps.count() <= 3);
+    Ok(())
+}
+
+#[test]
+fn an_undirected_self_loop_matches_once(rt: HostRuntime) -> Result<(), Fail> {
+    assert_eq!(rt; count(rt.alloc(), NEAR, &[0, 1], &[0])?, 3);
+    assert_eq!(rt; degree(rt.alloc(), NEAR, 1, 0)?, 2);
+    Ok(())
+}
+
+#[test]
+fn a_degree_under_a_reverse_type_counts_edges_that_come_in(rt: HostRuntime) -> Result<(), Fail> {
+    for (vertex, out, back) in [(0, 2, 0), (1, 1, 1), (2, 0, 2), (3, 0, 0)] {
+        assert_eq!(rt; degree(rt.alloc(), KNOWS, vertex, 0)?, out);
+        assert_eq!(rt; degree(rt.alloc(), KNOWS, vertex, 1)?, back);
+    }
+    Ok(())
+}
+
+#[test]
+fn a_pattern_of_every_edge_type_walks_each_edge_from_both_ends(
+    rt: HostRuntime,
+) -> Result<(), Fail> {
+    assert_eq!(rt; count(rt.alloc(), KNOWS, &[0, 1, 2], &[0, 1])?, 6);
+    assert_eq!(rt; count(rt.alloc(), KNOWS, &[], &[0, 1])?, 0);
+    assert_eq!(rt; count(rt.alloc(), KNOWS, &[0, 1, 2], &[])?, 0);
+    Ok(())
+}
+
+#[test]
+fn what_is_not_there_is_not_walked(rt: HostRuntime) -> Result<(), Fail> {
+    let stray = Joined {
+        pairs: &[(9, 0), (0, 9), (1, 0)],
+        ..KNOWS
+    };
+    assert_eq!(rt; count(rt.alloc(), stray, &[0, 1, 2, 9], &[0, 1, 9])?, 2);
+    Ok(())
+}
+
+#[test]
+fn the_last_chunk_may_be_short(rt: HostRuntime) -> Result<(), Fail> {
+    assert_eq!(rt; chunk(0, 4, 10), (0, 4));
+    assert_eq!(rt; chunk(2, 4, 10), (8, 10));
+    Ok(())
+}

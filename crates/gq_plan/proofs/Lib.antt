@@ -1,0 +1,6 @@
+pub mod PlaceLemmas
+pub mod ParameterLemmas
+pub mod FieldLemmas
+pub mod ScopeLemmas
+pub mod HeadLemmas
+pub mod PrintLaws

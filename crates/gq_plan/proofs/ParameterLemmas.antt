@@ -1,0 +1,53 @@
+-- ParameterLemmas: parameters that are planned from the last one on.
+use Rattle.std.proofs.Common.{◌≡◌, ◌+◌, ◌<◌, ◌≤◌, ℕ, List, [], ◌∷◌, ◌++◌, length, get_or, drop, map, reverse, Some, arith, sym, subst}
+use Rattle.std.proofs.lemmas.List.{drop_all, reverse-append}
+use Rattle.gq_tree.specs.declared.query.Parameter.{Parameter}
+use Rattle.gq_places.specs.Named.{Named}
+use Rattle.gq_typing.specs.Sorts.{Sorts}
+use Rattle.gq_typing.specs.StatementViews.{view_base, view_parameter}
+use Rattle.gq_resolved.specs.declared.plan.Parameter as code
+use Rattle.gq_resolved.specs.declared.plan.Declared.{Declared}
+use Rattle.gq_step_plan.specs.Parts.{resolved_base}
+use Rattle.gq_step_plan.specs.Steps.{new_name}
+use Rattle.gq_found.specs.Found.{globals_of}
+use Rattle.gq_planned.specs.Laws.{no_names, ParametersPlanned}
+use Rattle.gq_plan.proofs.PlaceLemmas.{left_at}
+
+-- those from the nth on are planned, the last one first, and are in view
+pub record PlannedFrom (sorts : Sorts) (trees : List Parameter) (n : ℕ) (done : List code.Parameter) (m : Named) : Type 0 where
+  pub few : n ≤ length trees
+  pub planned : ParametersPlanned sorts (map view_parameter (drop n trees)) (reverse done) m
+
+pub from_end : (sorts : Sorts) (trees : List Parameter) (n : ℕ) (m : Named) → n ≡ length trees → m ≡ no_names → PlannedFrom sorts trees n [] m
+from_end sorts trees n m end none = record {
+  few = subst (λ k. n ≤ k) end (omega_le n);
+  planned = subst (λ l. ParametersPlanned sorts (map view_parameter l) [] m) (sym (drop_all n trees (subst (λ k. k ≤ n) end (omega_le n)))) none;
+}
+  where
+    omega_le : (k : ℕ) → k ≤ k
+    omega_le k = omega arith
+
+pub one_before : (sorts : Sorts) (trees : List Parameter) (n k : ℕ) (done : List code.Parameter) (m i : Named) (t : Parameter) (b : Declared) (place : ℕ)
+    → n ≡ k + 1 → k < length trees → t ≡ get_or trees k t → PlannedFrom sorts trees n done m
+    → resolved_base (globals_of sorts [] no_names) (view_base t.base) ≡ Some b → new_name m t.name ≡ Some (i, place)
+    → PlannedFrom sorts trees k (done ++ record { base = b; place = place } ∷ []) i
+one_before sorts trees n k done m i t b place next low is from base new = record {
+  few = omega_weak k (length trees) low;
+  planned =
+      subst (λ (l : List code.Parameter). ParametersPlanned sorts (map view_parameter (drop k trees)) l i) (sym (reverse-append done (record { base = b; place = place } ∷ [])))
+      (subst (λ l. ParametersPlanned sorts (map view_parameter l) (record { base = b; place = place } ∷ reverse done) i) (sym (left_at trees k t low is))
+      (base, (m, (subst (λ j. ParametersPlanned sorts (map view_parameter (drop j trees)) (reverse done) m) next from.planned, new))));
+}
+  where
+    omega_weak : (a c : ℕ) → a < c → a ≤ c
+    omega_weak a c h = omega (arith, h)
+
+pub all_planned : (sorts : Sorts) (trees : List Parameter) (n : ℕ) (done list : List code.Parameter) (m : Named) → n ≤ 0 → PlannedFrom sorts trees n done m → list ≡ reverse done
+    → ParametersPlanned sorts (map view_parameter trees) list m
+all_planned sorts trees n done list m low from is =
+    subst (λ l. ParametersPlanned sorts (map view_parameter trees) l m) (sym is) (subst (λ k. ParametersPlanned sorts (map view_parameter (drop k trees)) (reverse done) m) (zero_is n low) from.planned)
+  where
+    zero_is : (k : ℕ) → k ≤ 0 → k ≡ 0
+    zero_is k h = omega (arith, h)
+
+pub ruleset parameter_laws = (from_end, one_before, all_planned)

@@ -1,0 +1,100 @@
+-- PrintLaws: a plan that is made of a query prints what the query prints.
+use Rattle.std.proofs.Common.{◌≡◌, ℕ, false, List, [], Option, Some, refl, ap, ◌∙◌, subst}
+use Rattle.gq_value.specs.Val.{Val}
+use Rattle.gq_value.specs.Catalog.{Schema}
+use Rattle.gq_value.specs.declared.catalog.GraphType.{GraphType}
+use Rattle.gq_value.specs.declared.store.VertexRow.{VertexRow}
+use Rattle.gq_value.specs.declared.store.EdgeRow.{EdgeRow}
+use Rattle.gq_typing.specs.Statements.{Bytes, Query, KindTree}
+use Rattle.gq_typing.specs.Sorts.{sorts_of}
+use Rattle.gq_meaning.specs.Calendars.{Calendar}
+use Rattle.gq_meaning.specs.Graphs.{Graph, graph_of}
+use Rattle.gq_meaning.specs.Queries.{kind_of, run_plan, run_query}
+use Rattle.gq_resolved.specs.declared.plan.Plan.{Plan}
+use Rattle.gq_resolved.specs.Belonging.{world_of}
+use Rattle.gq_resolved.specs.PlanView.{view_plan, accum_names}
+use Rattle.gq_resolved.specs.Reference.{Reference}
+use Rattle.gq_renaming.proofs.QueryLaws.{query_law}
+use Rattle.gq_places.specs.Named.{Named}
+use Rattle.gq_typing.specs.Scopes.{InStatement}
+use Rattle.gq_scope.specs.Kept.{tuple_types}
+use Rattle.gq_scope.specs.Held.{Held, graph_in, sorts_in}
+use Rattle.gq_step_plan.specs.Steps.{resolved_stmts}
+use Rattle.gq_found.specs.Found.{TupleTypes, globals_of}
+use Rattle.gq_planned.specs.Declared.{ground_of}
+use Rattle.gq_planned.specs.Planned.{DefinitionsPlanned}
+use Rattle.gq_planned.specs.Laws.{ParametersPlanned, IsPlanned, no_names}
+use Rattle.gq_planned.proofs.QueryLaws.{plan_law}
+use Rattle.gq_plan.specs.Heading.{IsScoped, heads_of}
+use Rattle.gq_plan.specs.Prints.{graph_for, PrintsAs, PrintLaw}
+
+-- with these numbers for those of the query's graph
+abbrev with_own : Graph → List ℕ → List ℕ → Graph
+with_own g vertices edges = record g { sorts = record (g.sorts) { own_vertices = vertices; own_edges = edges } }
+
+module _ (schema : Schema) (own : Option GraphType) (q : Query Bytes) (p : Plan) (planned : IsPlanned (sorts_of schema own) q p) where
+  graph_is : (vertices : List VertexRow) (edges : List EdgeRow) → graph_for schema p vertices edges ≡ graph_of schema own vertices edges
+  graph_is vertices edges =
+      ap (λ l. with_own (graph_of schema own vertices edges) l p.edges) planned.vertices
+      ∙ ap (λ l. with_own (graph_of schema own vertices edges) (sorts_of schema own).own_vertices l) planned.edges
+
+  runs : (vertices : List VertexRow) (edges : List EdgeRow) (clock : Calendar) (arguments : List Val) (turns : ℕ)
+      → run_plan (world_of (accum_names p) [] (graph_of schema own vertices edges) clock) (view_plan p) arguments turns ≡ run_query (graph_of schema own vertices edges) clock q arguments turns
+  runs vertices edges clock arguments turns =
+      let g = graph_of schema own vertices edges in
+      query_law {M = Bytes} {N = Reference} {K = KindTree Bytes} (ground_of g clock (accum_names p)) kind_of q (view_plan p) (plan_law g clock q p planned) arguments turns
+
+  prints_as : PrintsAs schema own q p
+  prints_as = record {
+    same_graph = graph_is;
+    same = λ vertices edges clock arguments turns.
+        ap (λ g. run_plan (world_of (accum_names p) [] g clock) (view_plan p) arguments turns) (graph_is vertices edges) ∙ runs vertices edges clock arguments turns;
+  }
+
+pub print_law : PrintLaw
+print_law schema own q p planned = prints_as schema own q p planned
+
+-- ---- where nothing is declared in the scope
+
+pub sorts_are : (s : Held) (schema : Schema) (graph : Option ℕ) → s.schema ≡ schema → s.graph ≡ graph → sorts_in s ≡ sorts_of schema (graph_in schema graph)
+unfolding sorts_in
+sorts_are s schema graph e h = ap (λ z. sorts_of z (graph_in z s.graph)) e ∙ ap (λ g. sorts_of schema (graph_in schema g)) h
+
+-- ---- the parts of a plan, as they come
+
+pub plan_made : (s t : Held) (q : Query Bytes) (p : Plan) (names behind : Named) (before tuples : TupleTypes) (first slots : Named)
+    → before ≡ [] → first ≡ no_names → IsScoped (sorts_in s) tuples t → p.with_paths ≡ q.with_paths → ParametersPlanned (sorts_in s) q.parameters p.parameters names
+    → DefinitionsPlanned (sorts_in s) names (heads_of before first) q.definitions p.definitions (heads_of tuples slots)
+    → resolved_stmts (globals_of (sorts_in t) tuples slots) names q.statements ≡ Some (behind, p.steps)
+    → p.vertices ≡ (sorts_in s).own_vertices → p.edges ≡ (sorts_in s).own_edges → IsPlanned (sorts_in s) q p
+plan_made s t q p names behind before tuples first slots none nothing scoped with_paths parameters definitions statements vertices edges = record {
+  names = names;
+  heads = heads_of tuples slots;
+  behind = behind;
+  with_paths = with_paths;
+  parameters = parameters;
+  definitions =
+      subst (λ (l : TupleTypes). DefinitionsPlanned (sorts_in s) names (heads_of l no_names) q.definitions p.definitions (heads_of tuples slots)) none
+      (subst (λ m. DefinitionsPlanned (sorts_in s) names (heads_of before m) q.definitions p.definitions (heads_of tuples slots)) nothing definitions);
+  statements = subst (λ z. resolved_stmts (globals_of z tuples slots) names q.statements ≡ Some (behind, p.steps)) scoped.sorts_are statements;
+  vertices = vertices;
+  edges = edges;
+}
+
+-- a new scope sees the types of the graph, and no tuple type
+pub scope_new : (s : Held) (schema : Schema) (graph : Option ℕ) → s ≡ record { schema = schema; graph = graph; names = []; place = InStatement; with_paths = false } → IsScoped (sorts_in s) [] s
+scope_new s schema graph is = record { sorts_are = refl; tuples_are = ap (λ (h : Held). tuple_types h.names) is }
+
+pub sorts_new : (s : Held) (schema : Schema) (graph : Option ℕ) → s ≡ record { schema = schema; graph = graph; names = []; place = InStatement; with_paths = false }
+    → sorts_in s ≡ sorts_of schema (graph_in schema graph)
+sorts_new s schema graph is = sorts_are s schema graph (ap (λ (h : Held). h.schema) is) (ap (λ (h : Held). h.graph) is)
+
+pub planned_new : (s : Held) (schema : Schema) (graph : Option ℕ) (q : Query Bytes) (p : Plan) → s ≡ record { schema = schema; graph = graph; names = []; place = InStatement; with_paths = false }
+    → IsPlanned (sorts_in s) q p → IsPlanned (sorts_of schema (graph_in schema graph)) q p
+planned_new s schema graph q p is planned = subst (λ z. IsPlanned z q p) (sorts_new s schema graph is) planned
+
+pub prints_new : (s : Held) (schema : Schema) (graph : Option ℕ) (q : Query Bytes) (p : Plan) → s ≡ record { schema = schema; graph = graph; names = []; place = InStatement; with_paths = false }
+    → IsPlanned (sorts_in s) q p → PrintsAs schema (graph_in schema graph) q p
+prints_new s schema graph q p is planned = print_law schema (graph_in schema graph) q p (planned_new s schema graph q p is planned)
+
+pub ruleset plan_laws = (plan_made, scope_new, planned_new, prints_new)

@@ -1,0 +1,13 @@
+use Rattle.std.proofs.Common.{◌≡◌, drop}
+use Rattle.gq_typing.specs.StatementViews.{view_fields}
+use Rattle.gq_scope.specs.Held.{sorts_in}
+use Rattle.gq_expr_plan.proofs.ListLemmas.{after}
+use Rattle.gq_block_plan.specs.Resolved.{each_resolved}
+use Rattle.gq_found.specs.Found.{globals_of}
+use Rattle.gq_plan.specs.Heading.{resolved_field}
+use Rattle.gq_plan.proofs.tuples.planned_fields.Given as goal
+
+abbrev pub invariant-loop-tree : goal.invariant-loop-tree
+invariant-loop-tree l =
+    each_resolved (resolved_field (globals_of (sorts_in l.found.scope.now) l.found.tuples.now l.found.slots.now)) (view_fields l.trees)
+    ≡ after l.planned (each_resolved (resolved_field (globals_of (sorts_in l.found.scope.now) l.found.tuples.now l.found.slots.now)) (view_fields (drop l.tree-index l.trees)))

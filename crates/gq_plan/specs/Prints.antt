@@ -1,0 +1,30 @@
+-- Prints: what a plan prints, and what its query prints.
+use Rattle.std.specs.Prelude.{◌≡◌, ℕ, List, [], Option, Some}
+use Rattle.gq_value.specs.Val.{Val}
+use Rattle.gq_value.specs.Catalog.{Schema}
+use Rattle.gq_value.specs.declared.catalog.GraphType.{GraphType}
+use Rattle.gq_value.specs.declared.store.VertexRow.{VertexRow}
+use Rattle.gq_value.specs.declared.store.EdgeRow.{EdgeRow}
+use Rattle.gq_typing.specs.Statements.{Bytes, Query}
+use Rattle.gq_typing.specs.Sorts.{sorts_of}
+use Rattle.gq_meaning.specs.Calendars.{Calendar}
+use Rattle.gq_meaning.specs.Graphs.{Graph, graph_of}
+use Rattle.gq_meaning.specs.Queries.{run_plan, run_query}
+use Rattle.gq_resolved.specs.declared.plan.Plan.{Plan}
+use Rattle.gq_resolved.specs.Belonging.{world_of}
+use Rattle.gq_resolved.specs.PlanView.{view_plan, accum_names}
+use Rattle.gq_planned.specs.Laws.{IsPlanned}
+
+-- what a plan reads of a catalog and a store: it has the types of its graph
+abbrev pub graph_for : Schema → Plan → List VertexRow → List EdgeRow → Graph
+graph_for schema p vertices edges = graph_of schema (Some (record { name = []; vertices = p.vertices; edges = p.edges })) vertices edges
+
+-- over any store, with any calendar, any arguments and any number of turns, the plan gives what the query gives for its graph
+pub record PrintsAs (schema : Schema) (own : Option GraphType) (q : Query Bytes) (p : Plan) : Type 0 where
+  pub same_graph : (vertices : List VertexRow) (edges : List EdgeRow) → graph_for schema p vertices edges ≡ graph_of schema own vertices edges
+  pub same : (vertices : List VertexRow) (edges : List EdgeRow) (clock : Calendar) (arguments : List Val) (turns : ℕ)
+      → run_plan (world_of (accum_names p) [] (graph_for schema p vertices edges) clock) (view_plan p) arguments turns
+      ≡ run_query (graph_of schema own vertices edges) clock q arguments turns
+
+abbrev pub PrintLaw : Type 0
+PrintLaw = (schema : Schema) (own : Option GraphType) (q : Query Bytes) (p : Plan) → IsPlanned (sorts_of schema own) q p → PrintsAs schema own q p

@@ -1,0 +1,81 @@
+// Accumulators with what they open with.
+ghost use Rattle.std.specs.Prelude.{◌≡◌, IfOk, Ok, [], map};
+ghost use Rattle.gq_value.specs.AccumViews.{accum_of};
+ghost use Rattle.gq_places.specs.Named.{with_name};
+ghost use Rattle.gq_typing.specs.KindTypes.{kind_written as kind_meant};
+ghost use Rattle.gq_typing.specs.StatementViews.{view_accum, view_kind};
+ghost use Rattle.gq_scope.specs.Held.{scope_in, sorts_in};
+ghost use Rattle.gq_planned.specs.Planned.{AccumPlanned, AccumsPlanned};
+ghost use Rattle.gq_plan.specs.Heading.{heads_of};
+
+use crate::names::add_slot;
+use gq_expr_plan::PlanFault;
+use gq_globals::{Found, TupleType};
+use gq_kind_check::kind_written;
+use gq_list::List;
+use gq_places::Places;
+use gq_resolved::Accum;
+use gq_scope::Scope;
+use gq_step_plan::plan_opening;
+use gq_tree::{AccumTree, KindTree};
+use gq_value::{Kind, Txt};
+use std::alloc::Global;
+
+/// The kind of accumulators.
+pub(crate) fn kind(alloc: Global, scope: &Scope<'_>, tree: &KindTree) -> Result<Kind, PlanFault>
+    ensures { IfOk result (λ kind. kind_meant (scope_in scope.now) [] (view_kind tree.now) ≡ Ok (accum_of kind)) }
+{
+    match kind_written(alloc, scope, "", tree) {
+        Ok(kind) => Ok(kind),
+        Err(_) => Err(PlanFault::Unknown),
+    }
+}
+
+/// An accumulator; its opening sees what is declared before it.
+fn accum(
+    alloc: Global,
+    scope: &Scope<'_>,
+    tuples: &[TupleType],
+    slots: &mut Places,
+    places: &Places,
+    tree: &AccumTree,
+) -> Result<Accum, PlanFault>
+    ensures planned { IfOk result (λ b. AccumPlanned (sorts_in scope.now) places.now (heads_of tuples.now slots.old) (view_accum tree.now) b) }
+    ensures declared { IfOk result (λ _. slots.new ≡ with_name slots.old tree.now.name tree.now.attached) }
+{
+    let found = Found {
+        scope,
+        tuples,
+        slots: &*slots,
+    };
+    let opening = plan_opening(alloc, &found, places, tree.opening.as_ref())?;
+    let name = Txt::of(alloc, tree.name.as_str())?;
+    let slot = add_slot(slots, tree.name.as_str(), tree.attached)?;
+    Ok(Accum {
+        attached: tree.attached,
+        slot,
+        name,
+        opening,
+    })
+}
+
+/// Accumulators of one kind, one after the other.
+#[tactic(auto, using(crate::proofs::HeadLemmas::accum_laws))]
+pub(crate) fn accums(
+    alloc: Global,
+    scope: &Scope<'_>,
+    tuples: &[TupleType],
+    slots: &mut Places,
+    places: &Places,
+    trees: &[AccumTree],
+) -> Result<List<Accum>, PlanFault>
+    ensures { IfOk result (λ bs. AccumsPlanned (sorts_in scope.now) places.now (heads_of tuples.now slots.old) (map view_accum trees.now) bs
+        (heads_of tuples.now slots.new)) }
+{
+    let mut planned = List::new(alloc);
+    for tree in trees {
+        let one = accum(alloc, scope, tuples, slots, places, tree)?;
+        planned.push(one)?;
+    }
+    Ok(planned)
+}

@@ -1,0 +1,99 @@
+// Definitions, one after the other: each sees what is declared before it.
+ghost use Rattle.std.specs.Prelude.{◌≡◌, IfOk, [], ◌∷◌, map};
+ghost use Rattle.gq_typing.specs.Statements.{Accums};
+ghost use Rattle.gq_typing.specs.StatementViews.{view_accum, view_definition, view_kind};
+ghost use Rattle.gq_scope.specs.Held.{sorts_in};
+ghost use Rattle.gq_planned.specs.Planned.{DefinitionsPlanned};
+ghost use Rattle.gq_plan.specs.Heading.{IsScoped, heads_of};
+
+use crate::accums::{accums, kind};
+use crate::tuples::tuple_type;
+use gq_expr_plan::PlanFault;
+use gq_globals::TupleType;
+use gq_list::List;
+use gq_places::Places;
+use gq_resolved::Definition;
+use gq_scope::Scope;
+use gq_tree::{AccumTree, KindTree};
+use std::alloc::Global;
+
+/// Accumulators of a kind.
+#[tactic(auto, using(crate::proofs::HeadLemmas::kind_laws))]
+fn of_kind(
+    alloc: Global,
+    scope: &Scope<'_>,
+    tuples: &[TupleType],
+    slots: &mut Places,
+    places: &Places,
+    tree: &KindTree,
+    trees: &[AccumTree],
+) -> Result<Definition, PlanFault>
+    requires { IsScoped (sorts_in scope.now) tuples.now scope.now }
+    ensures { IfOk result (λ e. DefinitionsPlanned (sorts_in scope.now) places.now (heads_of tuples.now slots.old)
+        (Accums (view_kind tree.now) (map view_accum trees.now) ∷ []) (e ∷ []) (heads_of tuples.now slots.new)) }
+{
+    let kind = kind(alloc, scope, tree)?;
+    let planned = accums(alloc, scope, tuples, slots, places, trees)?;
+    Ok(Definition::Accums(kind, planned))
+}
+
+fn definition(
+    alloc: Global,
+    scope: &mut Scope<'_>,
+    tuples: &mut List<TupleType>,
+    slots: &mut Places,
+    places: &Places,
+    tree: &gq_tree::Definition,
+) -> Result<Definition, PlanFault>
+    requires { IsScoped (sorts_in scope.old) tuples.old scope.old }
+    ensures planned { IfOk result (λ e. DefinitionsPlanned (sorts_in scope.old) places.now (heads_of tuples.old slots.old)
+        (view_definition tree.now ∷ []) (e ∷ []) (heads_of tuples.new slots.new)) }
+    ensures scoped { IfOk result (λ _. IsScoped (sorts_in scope.old) tuples.new scope.new) }
+{
+    match tree {
+        gq_tree::Definition::Tuple(fields, name) => {
+            tuple_type(
+                alloc,
+                scope,
+                tuples,
+                slots,
+                fields.as_slice(),
+                name.as_str(),
+            )
+        }
+        gq_tree::Definition::Accums(tree, list) => {
+            of_kind(
+                alloc,
+                scope,
+                tuples.as_slice(),
+                slots,
+                places,
+                tree,
+                list.as_slice(),
+            )
+        }
+    }
+}
+
+/// The definitions of a query. The scope and `tuples` have its tuple types then, and `slots` its accumulators.
+#[tactic(auto, using(crate::proofs::HeadLemmas::definition_laws))]
+pub(crate) fn definitions(
+    alloc: Global,
+    scope: &mut Scope<'_>,
+    tuples: &mut List<TupleType>,
+    slots: &mut Places,
+    places: &Places,
+    trees: &[gq_tree::Definition],
+) -> Result<List<Definition>, PlanFault>
+    requires { IsScoped (sorts_in scope.old) tuples.old scope.old }
+    ensures planned { IfOk result (λ es. DefinitionsPlanned (sorts_in scope.old) places.now (heads_of tuples.old slots.old)
+        (map view_definition trees.now) es (heads_of tuples.new slots.new)) }
+    ensures scoped { IfOk result (λ _. IsScoped (sorts_in scope.old) tuples.new scope.new) }
+{
+    let mut planned = List::new(alloc);
+    for tree in trees {
+        let one = definition(alloc, scope, tuples, slots, places, tree)?;
+        planned.push(one)?;
+    }
+    Ok(planned)
+}

@@ -1,0 +1,64 @@
+// Parameters. They take places from the last one on.
+ghost use Rattle.std.specs.Prelude.{◌≡◌, IfOk, [], map, reverse};
+ghost use Rattle.gq_typing.specs.StatementViews.{view_base, view_parameter};
+ghost use Rattle.gq_scope.specs.Held.{sorts_in};
+ghost use Rattle.gq_expr_plan.specs.Resolved.{Answers};
+ghost use Rattle.gq_step_plan.specs.Parts.{resolved_base};
+ghost use Rattle.gq_found.specs.Found.{globals_of};
+ghost use Rattle.gq_planned.specs.Laws.{no_names, ParametersPlanned};
+
+use crate::names::add_name;
+use gq_expr_plan::PlanFault;
+use gq_globals::Found;
+use gq_list::List;
+use gq_places::Places;
+use gq_resolved::{Declared, Parameter};
+use gq_scope::Scope;
+use gq_step_plan::plan_base;
+use gq_tree::BaseTree;
+use gq_value::Memory;
+use std::alloc::Global;
+
+/// In the other order.
+fn turned(alloc: Global, parameters: &[Parameter]) -> Result<List<Parameter>, Memory>
+    ensures { IfOk result (λ list. list ≡ reverse parameters.now) }
+{
+    let list = parameters.iter().rev().copied().collect(alloc)?;
+    Ok(List::from_vec(list))
+}
+
+/// The type of a parameter, before anything else is declared.
+fn base(alloc: Global, scope: &Scope<'_>, tree: &BaseTree) -> Result<Declared, PlanFault>
+    ensures { Answers (resolved_base (globals_of (sorts_in scope.now) [] no_names) (view_base tree.now)) result }
+{
+    let slots = Places::new(alloc);
+    let found = Found {
+        scope,
+        tuples: &[],
+        slots: &slots,
+    };
+    plan_base(&found, tree)
+}
+
+/// The parameters of a query, which come into view.
+#[tactic(auto, using(crate::proofs::ParameterLemmas::parameter_laws))]
+pub(crate) fn parameters(
+    alloc: Global,
+    scope: &Scope<'_>,
+    places: &mut Places,
+    trees: &[gq_tree::Parameter],
+) -> Result<List<Parameter>, PlanFault>
+    requires { places.old ≡ no_names }
+    ensures { IfOk result (λ list. ParametersPlanned (sorts_in scope.now) (map view_parameter trees.now) list places.new) }
+{
+    let mut planned = List::new(alloc);
+    let mut left = trees.len();
+    while left > 0 {
+        left -= 1;
+        let tree = &trees[left];
+        let base = base(alloc, scope, &tree.base)?;
+        let place = add_name(places, tree.name.as_str())?;
+        planned.push(Parameter { base, place })?;
+    }
+    Ok(turned(alloc, planned.as_slice())?)
+}

@@ -1,0 +1,124 @@
+// Whole queries.
+ghost use Rattle.std.specs.Prelude.{◌≡◌, ◌<◌, ◌≤◌, IfOk, true, [], length};
+ghost use Rattle.std.specs.Option.{ForSome};
+ghost use Rattle.std.specs.List.{list_any};
+ghost use Rattle.gq_value.specs.Catalog.{most_types};
+ghost use Rattle.gq_typing.specs.Sorts.{sorts_of};
+ghost use Rattle.gq_typing.specs.StatementViews.{is_v2, view_query};
+ghost use Rattle.gq_scope.specs.Held.{graph_in, sorts_in};
+ghost use Rattle.gq_planned.specs.Laws.{IsPlanned};
+ghost use Rattle.gq_plan.specs.Heading.{IsScoped};
+ghost use Rattle.gq_plan.specs.Prints.{PrintsAs};
+
+use crate::definitions::definitions;
+use crate::parameters::parameters;
+use gq_expr_plan::PlanFault;
+use gq_globals::Found;
+use gq_held::places_of;
+use gq_list::List;
+use gq_places::Places;
+use gq_resolved::{Held, Plan};
+use gq_schema::Catalog;
+use gq_scope::Scope;
+use gq_step_plan::plan_steps;
+use gq_tree::{Mode, QueryTree};
+use gq_value::Memory;
+use std::alloc::Global;
+
+/// Whether the query is in SYNTAX v2.
+fn allows_paths(modes: &[Mode]) -> bool
+    ensures { result ≡ list_any is_v2 modes.now }
+{
+    for mode in modes {
+        if is_second(mode) {
+            return true;
+        }
+    }
+    false
+}
+
+fn is_second(mode: &Mode) -> bool
+    ensures { result ≡ is_v2 mode.now }
+{
+    match mode {
+        Mode::Api(_) => false,
+        Mode::Syntax(name) => name.as_str().eq_ignore_ascii_case("v2"),
+    }
+}
+
+/// The plan of a query, where nothing is declared yet. Unknown where something stands for nothing, which no well typed query has.
+#[tactic(auto, using(crate::proofs::PrintLaws::plan_laws))]
+fn planned(
+    alloc: Global,
+    scope: &mut Scope<'_>,
+    query: &QueryTree,
+    held: List<Held>,
+) -> Result<Plan, PlanFault>
+    requires { IsScoped (sorts_in scope.old) [] scope.old }
+    ensures planned { IfOk result (λ p. IsPlanned (sorts_in scope.old) (view_query query.now) p) }
+    ensures few { IfOk result (λ p. length p.edges ≤ most_types) }
+{
+    let vertices = List::from_slice(alloc, scope.own_vertices())?;
+    let edges = List::from_slice(alloc, scope.own_edges())?;
+    if edges.len() > 256 {
+        return Err(PlanFault::Memory);
+    }
+    let mut places = Places::new(alloc);
+    let mut tuples = List::new(alloc);
+    let mut slots = Places::new(alloc);
+    let parameters = parameters(alloc, scope, &mut places, query.parameters.as_slice())?;
+    let trees = query.body.definitions.as_slice();
+    let definitions = definitions(alloc, scope, &mut tuples, &mut slots, &places, trees)?;
+    let found = Found {
+        scope: &*scope,
+        tuples: tuples.as_slice(),
+        slots: &slots,
+    };
+    let steps = plan_steps(alloc, &found, &mut places, query.body.statements.as_slice())?;
+    Ok(Plan {
+        parameters,
+        with_paths: allows_paths(query.modes.as_slice()),
+        definitions,
+        steps,
+        places: held,
+        vertices,
+        edges,
+    })
+}
+
+/// Whether the catalog has a graph of this number.
+fn has_graph(catalog: &Catalog, graph: Option<u32>) -> bool
+    ensures { result ≡ true → ForSome graph (λ g. g < length catalog.now.graphs) }
+{
+    match graph {
+        None => true,
+        Some(number) => (number as usize) < catalog.graph_count(),
+    }
+}
+
+/// The plan of a query for a graph of the catalog, by the graph's number; the query was taken by `check` of gq_check. It takes some frames of
+/// the stack for each level of the query's trees.
+///
+/// Memory comes too for a query that isn't well typed, and for a graph that isn't there.
+#[tactic(auto, using(crate::proofs::PrintLaws::plan_laws))]
+pub fn plan(
+    alloc: Global,
+    catalog: &Catalog,
+    graph: Option<u32>,
+    query: &QueryTree,
+) -> Result<Plan, Memory>
+    ensures there { IfOk result (λ _. ForSome graph (λ g. g < length catalog.now.graphs)) }
+    ensures planned { IfOk result (λ p. IsPlanned (sorts_of catalog.now (graph_in catalog.now graph)) (view_query query.now) p) }
+    ensures prints { IfOk result (λ p. PrintsAs catalog.now (graph_in catalog.now graph) (view_query query.now) p) }
+    ensures few { IfOk result (λ p. length p.edges ≤ most_types) }
+{
+    if !has_graph(catalog, graph) {
+        return Err(Memory);
+    }
+    let held = places_of(alloc, catalog, graph, query)?;
+    let mut scope = Scope::new(alloc, catalog, graph);
+    match planned(alloc, &mut scope, query, held) {
+        Ok(plan) => Ok(plan),
+        Err(_) => Err(Memory),
+    }
+}

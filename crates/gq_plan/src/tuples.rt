@@ -1,0 +1,181 @@
+// Tuple types.
+ghost use Rattle.std.specs.Prelude.{◌≡◌, ◌++◌, IfOk, Ok, Some, [], ◌∷◌, map};
+ghost use Rattle.gq_value.specs.AccumViews.{base_of};
+ghost use Rattle.gq_typing.specs.KindTypes as kinds;
+ghost use Rattle.gq_typing.specs.Scopes as typing;
+ghost use Rattle.gq_typing.specs.Statements.{TupleType as a_tuple_type};
+ghost use Rattle.gq_typing.specs.StatementViews.{view_base, view_fields};
+ghost use Rattle.gq_scope.specs.Held.{fields_of, scope_in, sorts_in};
+ghost use Rattle.gq_expr_plan.specs.Resolved.{Answers};
+ghost use Rattle.gq_block_plan.specs.Resolved.{each_resolved};
+ghost use Rattle.gq_places.specs.Named.{Named};
+ghost use Rattle.gq_found.specs.Found.{globals_of};
+ghost use Rattle.gq_planned.specs.Planned.{DefinitionsPlanned};
+ghost use Rattle.gq_plan.specs.Heading.{IsScoped, heads_of, resolved_field};
+
+use gq_expr_plan::PlanFault;
+use gq_globals::{Found, TupleType};
+use gq_kind_check::base_written;
+use gq_list::List;
+use gq_places::Places;
+use gq_resolved::{Declared, Definition};
+use gq_scope::{Entry, Scope};
+use gq_step_plan::plan_base;
+use gq_tree::BaseTree;
+use gq_value::{BaseType, Memory, Txt};
+use std::alloc::Global;
+
+// ---- the fields of the plan
+
+/// A field as the plan has it.
+fn planned_field(
+    alloc: Global,
+    found: &Found<'_, '_>,
+    tree: &(BaseTree, Txt),
+) -> Result<(Declared, Txt), PlanFault>
+    ensures { Answers (resolved_field (globals_of (sorts_in found.now.scope.now) found.now.tuples.now found.now.slots.now) (view_base tree.now.0, tree.now.1)) result }
+{
+    let base = plan_base(found, &tree.0)?;
+    let name = Txt::of(alloc, tree.1.as_str())?;
+    Ok((base, name))
+}
+
+#[tactic(auto, using(gq_expr_plan::proofs::ListLemmas::list_laws))]
+fn planned_fields(
+    alloc: Global,
+    found: &Found<'_, '_>,
+    trees: &[(BaseTree, Txt)],
+) -> Result<List<(Declared, Txt)>, PlanFault>
+    ensures { Answers (each_resolved (resolved_field (globals_of (sorts_in found.now.scope.now) found.now.tuples.now found.now.slots.now)) (view_fields trees.now)) result }
+{
+    let mut planned = List::new(alloc);
+    for tree in trees {
+        let one = planned_field(alloc, found, tree)?;
+        planned.push(one)?;
+    }
+    Ok(planned)
+}
+
+// ---- the fields with their types
+
+/// A type that a field is declared with.
+fn field_type(alloc: Global, scope: &Scope<'_>, tree: &BaseTree) -> Result<BaseType, PlanFault>
+    ensures { IfOk result (λ base. typing.base_written (scope_in scope.now) (view_base tree.now) ≡ Ok (base_of base)) }
+{
+    match base_written(alloc, scope, tree) {
+        Ok(base) => Ok(base),
+        Err(_) => Err(PlanFault::Unknown),
+    }
+}
+
+/// Whether one of these has the name.
+fn stands_in(fields: &[(Txt, BaseType)], name: &str) -> bool
+    ensures { result ≡ kinds.stands_in (map (λ f. f.0) fields.now) name.now }
+{
+    for field in fields {
+        if name == field.0.as_str() {
+            return true;
+        }
+    }
+    false
+}
+
+/// One name more that the type doesn't have yet, of 16 at most.
+fn own_name(fields: &[(Txt, BaseType)], name: &str) -> Result<(), PlanFault>
+    ensures { IfOk result (λ _. kinds.own_name 16 (map (λ f. f.0) fields.now) name.now ≡ Ok (map (λ f. f.0) fields.now ++ name.now ∷ [])) }
+{
+    if stands_in(fields, name) {
+        return Err(PlanFault::Unknown);
+    }
+    if fields.len() >= 16 {
+        return Err(PlanFault::Unknown);
+    }
+    Ok(())
+}
+
+/// The fields of a tuple type, with their types.
+#[tactic(auto, using(gq_type::proofs::ArgumentLemmas::all_laws, crate::proofs::FieldLemmas::field_laws))]
+fn typed_fields(
+    alloc: Global,
+    scope: &Scope<'_>,
+    trees: &[(BaseTree, Txt)],
+) -> Result<List<(Txt, BaseType)>, PlanFault>
+    ensures { IfOk result (λ fields. kinds.fields_written (scope_in scope.now) 16 [] (view_fields trees.now) ≡ Ok (fields_of fields)) }
+{
+    let mut fields = List::new(alloc);
+    for tree in trees {
+        let base = field_type(alloc, scope, &tree.0)?;
+        own_name(fields.as_slice(), tree.1.as_str())?;
+        let name = Txt::of(alloc, tree.1.as_str())?;
+        fields.push((name, base))?;
+    }
+    Ok(fields)
+}
+
+/// A copy.
+fn copied(alloc: Global, fields: &[(Txt, BaseType)]) -> Result<List<(Txt, BaseType)>, Memory>
+    ensures { IfOk result (λ list. list ≡ fields.now) }
+{
+    let mut list = List::new(alloc);
+    for field in fields {
+        let name = Txt::of(alloc, field.0.as_str())?;
+        let base = field.1.duplicate(alloc)?;
+        list.push((name, base))?;
+    }
+    Ok(list)
+}
+
+// ---- tuple types
+
+/// A tuple type comes into the scope and among these.
+#[tactic(auto, using(crate::proofs::ScopeLemmas::scope_laws))]
+fn declare(
+    alloc: Global,
+    scope: &mut Scope<'_>,
+    tuples: &mut List<TupleType>,
+    name: &str,
+    fields: List<(Txt, BaseType)>,
+) -> Result<(), PlanFault>
+    requires { IsScoped (sorts_in scope.old) tuples.old scope.old }
+    ensures scoped { IfOk result (λ _. IsScoped (sorts_in scope.old) tuples.new scope.new) }
+    ensures added { IfOk result (λ _. tuples.new ≡ tuples.old ++ (name.now, fields) ∷ []) }
+{
+    if scope.has(name) {
+        return Err(PlanFault::Unknown);
+    }
+    let copy = copied(alloc, fields.as_slice())?;
+    let own = Txt::of(alloc, name)?;
+    scope.add(name, Entry::TupleType(copy))?;
+    tuples.push((own, fields))?;
+    Ok(())
+}
+
+/// A tuple type. Its number is its place.
+#[tactic(auto, using(crate::proofs::HeadLemmas::tuple_laws))]
+pub(crate) fn tuple_type(
+    alloc: Global,
+    scope: &mut Scope<'_>,
+    tuples: &mut List<TupleType>,
+    slots: &Places,
+    trees: &[(BaseTree, Txt)],
+    name: &str,
+) -> Result<Definition, PlanFault>
+    requires { IsScoped (sorts_in scope.old) tuples.old scope.old }
+    ensures planned { IfOk result (λ e. (n : Named) → DefinitionsPlanned (sorts_in scope.old) n (heads_of tuples.old slots.now)
+        (a_tuple_type (view_fields trees.now) name.now ∷ []) (e ∷ []) (heads_of tuples.new slots.now)) }
+    ensures scoped { IfOk result (λ _. IsScoped (sorts_in scope.old) tuples.new scope.new) }
+{
+    let number = tuples.len();
+    if number > u32::MAX as usize {
+        return Err(PlanFault::Memory);
+    }
+    let found = Found {
+        scope: &*scope,
+        tuples: tuples.as_slice(),
+        slots,
+    };
+    let planned = planned_fields(alloc, &found, trees)?;
+    let fields = typed_fields(alloc, scope, trees)?;
+    declare(alloc, scope, tuples, name, fields)?;
+    Ok(Definition::Tuple(planned, number as u32))
+}

@@ -1,0 +1,10 @@
+pub mod Steps
+pub mod ActLemmas
+pub mod WriteLemmas
+pub mod WaitLemmas
+pub mod VertexLemmas
+pub mod FeedingLemmas
+pub mod PhaseLemmas
+pub mod RunLemmas
+pub mod PostLemmas
+pub mod NamelessLemmas

@@ -1,0 +1,5 @@
+pub mod Writing
+pub mod Faults
+pub mod Sights
+pub mod Feeding
+pub mod Phases

@@ -1,0 +1,5 @@
+pub mod EachSteps
+pub mod ItemLemmas
+pub mod ColumnLemmas
+pub mod StateLemmas
+pub mod WholeLemmas

@@ -1,0 +1,111 @@
+ghost use Rattle.std.specs.Prelude.{◌≡◌, ℕ, false, length, IfOk};
+ghost use Rattle.gq_value.specs.Edges.{Agrees, naming_with};
+
+use gq_edge::Edges;
+use gq_index::Store;
+use gq_list::List;
+use gq_put::{End, put_edge, put_vertex};
+use gq_value::{Memory, Naming, Row, StoreFault, Value};
+use gq_vertex::Vertices;
+use std::alloc::Global;
+use std::test::Fail;
+
+fn one(alloc: Global, n: i64) -> Result<Row, Memory>
+    ensures { IfOk result (λ row. length row ≡ 1) }
+{
+    let values = Vec::from_array(alloc, [Value::Int(n)])?;
+    Ok(List::from_vec(values))
+}
+
+fn number(values: &[Value]) -> Option<i64> {
+    match values {
+        [Value::Int(n)] => Some(*n),
+        _ => None,
+    }
+}
+
+/// Three persons, numbered from 0 on.
+fn persons(alloc: Global, store: &mut Store) -> Result<(), Fail>
+    ensures { store.new.edges ≡ store.old.edges }
+{
+    put_vertex(store, 0, "a", one(alloc, 1)?)?;
+    put_vertex(store, 0, "b", one(alloc, 2)?)?;
+    put_vertex(store, 0, "c", one(alloc, 3)?)?;
+    Ok(())
+}
+
+/// An edge of an undirected type, whose ends have age 0 where they aren't there.
+fn near(alloc: Global, store: &mut Store, from: &str, to: &str, w: i64) -> Result<(), StoreFault>
+    requires { (kind : ℕ) → Agrees store.old.edges.namings (naming_with kind false 0) }
+    ensures { (kind : ℕ) → Agrees store.new.edges.namings (naming_with kind false 0) }
+{
+    let missing = [Value::Int(0)];
+    let naming = Naming {
+        kind: 0,
+        directed: false,
+        key: 0,
+    };
+    let from = End {
+        kind: 0,
+        id: from,
+        missing: missing.as_slice(),
+    };
+    let to = End {
+        kind: 0,
+        id: to,
+        missing: missing.as_slice(),
+    };
+    let attributes = match one(alloc, w) {
+        Ok(attributes) => attributes,
+        Err(Memory) => return Err(StoreFault::Memory),
+    };
+    match put_edge(alloc, store, naming, from, to, attributes) {
+        Ok(()) => Ok(()),
+        Err(fault) => Err(fault),
+    }
+}
+
+/// The numbers of five vertices and the weights of all edges after these edges.
+fn loaded(alloc: Global, edges: &[(&str, &str, i64)]) -> Result<(Vec<i64>, Vec<i64>), Fail> {
+    let mut store = Store {
+        vertices: Vertices::new(alloc),
+        edges: Edges::new(alloc),
+    };
+    persons(alloc, &mut store)?;
+    for (from, to, w) in edges {
+        near(alloc, &mut store, from, to, *w)?;
+    }
+    let mut places = Vec::new(alloc);
+    for id in ["a", "b", "c", "d", "e"] {
+        places.push(place(&store, id))?;
+    }
+    let mut weights = Vec::new(alloc);
+    for row in store.edges.rows() {
+        weights.push(number(row.attributes.as_slice()).unwrap_or(-1))?;
+    }
+    Ok((places, weights))
+}
+
+/// The number of a vertex, or -1 where it isn't there.
+fn place(store: &Store, id: &str) -> i64 {
+    match store.vertices.find(0, id) {
+        Some(vertex) => i64::from(vertex),
+        None => -1,
+    }
+}
+
+#[test]
+fn an_undirected_edge_named_from_either_end_is_one_row(rt: HostRuntime) -> Result<(), Fail> {
+    let (places, weights) = loaded(rt.alloc(), &[("c", "c", 1), ("c", "b", 2), ("b", "c", 5)])?;
+    assert_eq!(rt; weights.as_slice(), [1, 5].as_slice());
+    assert_eq!(rt; places.as_slice(), [0, 1, 2, -1, -1].as_slice());
+    Ok(())
+}
+
+#[test]
+fn missing_ends_are_put_from_first(rt: HostRuntime) -> Result<(), Fail> {
+    let (places, weights) = loaded(rt.alloc(), &[("a", "d", 1), ("e", "d", 2)])?;
+    assert_eq!(rt; weights.as_slice(), [1, 2].as_slice());
+    assert_eq!(rt; places.as_slice(), [0, 1, 2, 3, 4].as_slice());
+    Ok(())
+}

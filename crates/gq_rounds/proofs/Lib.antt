@@ -1,0 +1,4 @@
+pub mod LimitLemmas
+pub mod ElementLemmas
+pub mod RangeLemmas
+pub mod OverLemmas

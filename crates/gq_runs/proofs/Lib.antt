@@ -1,0 +1,4 @@
+pub mod SlotLemmas
+pub mod AnswerLemmas
+pub mod RunLemmas
+pub mod InterpretLemmas

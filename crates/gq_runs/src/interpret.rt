@@ -1,0 +1,44 @@
+// INTERPRET QUERY.
+ghost use Rattle.std.specs.Prelude.{◌<◌, List, length};
+ghost use Rattle.std.specs.Option.{ForSome};
+ghost use Rattle.gq_typing.specs.StatementViews.{view_query};
+ghost use Rattle.gq_meaning.specs.Sessions.{interpreted};
+ghost use Rattle.gq_calendar.specs.Gregorian.{gregorian};
+ghost use Rattle.gq_queries.specs.Kept.{Kept};
+ghost use Rattle.gq_runs.specs.Answers.{Says};
+ghost use Rattle.gq_runs.specs.Sessions.{session_of};
+
+use crate::line::line_over;
+use crate::runner::{Runner, RunsQueries};
+use gq_index::Store;
+use gq_list::List;
+use gq_queries::{graph_of, judge_interpreted};
+use gq_refusal::StatementFault;
+use gq_schema::Catalog;
+use gq_tree::QueryTree;
+use std::alloc::Global;
+
+/// INTERPRET QUERY, with the graph that is in use, by its number: the line that the query prints. The session stays as it is.
+///
+/// Refused for its modes, else for a graph that isn't there, else by the first rule on queries that fails, else for the fault of its run.
+pub fn interpret_query<R: RunsQueries>(
+    alloc: Global,
+    runner: &Runner<'_, R>,
+    catalog: &Catalog,
+    store: &Store,
+    in_use: Option<u32>,
+    tree: &QueryTree,
+) -> Result<Vec<u8>, StatementFault>
+    requires { ForSome in_use (λ g. g < length catalog.now.graphs) }
+    ensures { (queries : List Kept) → Says (session_of catalog.now in_use queries store.now)
+        (interpreted (session_of catalog.now in_use queries store.now) gregorian runner.now.turns tree.now.graph tree.now.modes (view_query tree.now)) result }
+{
+    match judge_interpreted(alloc, catalog, in_use, tree) {
+        Ok(()) => {
+            let graph = graph_of(catalog, in_use, tree);
+            let none = List::new(alloc);
+            line_over(alloc, runner, catalog, graph, store, tree, &none)
+        }
+        Err(fault) => Err(fault),
+    }
+}

@@ -1,0 +1,67 @@
+// What runs queries.
+ghost use Rattle.std.specs.Prelude.{map};
+ghost use Rattle.gq_value.specs.Views.{val};
+ghost use Rattle.gq_typing.specs.StatementViews.{view_query};
+ghost use Rattle.gq_meaning.specs.Queries as meaning;
+ghost use Rattle.gq_calendar.specs.Gregorian.{gregorian};
+ghost use Rattle.gq_runs.specs.Runs.{Runs};
+ghost use Rattle.gq_runs.specs.Sessions.{graph_read};
+
+use gq_index::Store;
+use gq_io::Shape;
+use gq_json::Printed;
+use gq_list::List;
+use gq_schema::Catalog;
+use gq_tree::QueryTree;
+use gq_value::{Row, Wrong};
+use std::alloc::Global;
+use thiserror::Error;
+
+/// Why a query doesn't run to its end.
+#[derive(Clone, Copy, Debug, PartialEq, Eq, Error)]
+pub enum RunFault {
+    #[error("{0}")]
+    Wrong(Wrong),
+
+    /// The sum of the accumulator of this number, in order of declaration, doesn't fit its type.
+    #[error("sum out of range")]
+    SumRange(u32),
+
+    /// A loop's body would be entered with no turn left.
+    #[error("loop bound reached")]
+    LoopBound,
+    #[error("too many paths")]
+    PathBound,
+    #[error("out of memory")]
+    Memory,
+}
+
+/// What runs the queries of a session, and how.
+#[derive(Drop)]
+pub struct Runner<'r, R> {
+    pub machine: &'r R,
+
+    /// How the work of a block is cut. It changes no answer.
+    pub shape: Shape,
+
+    /// How many rounds of loops a query may take.
+    pub turns: u64,
+}
+
+/// Something that runs queries which were checked.
+pub trait RunsQueries {
+    /// Runs a query for the graph of this number, over a value of each parameter and with so many turns. The shape, by which the work of
+    /// its blocks is cut, changes no answer.
+    fn run(
+        &self,
+        alloc: Global,
+        catalog: &Catalog,
+        graph: Option<u32>,
+        store: &Store,
+        query: &QueryTree,
+        arguments: &Row,
+        shape: &Shape,
+        turns: u64,
+    ) -> Result<List<Printed>, RunFault>
+        ensures { Runs (meaning.run_query (graph_read catalog.now graph store.now) gregorian (view_query query.now) (map val arguments.now) turns) result };
+}

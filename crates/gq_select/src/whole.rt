@@ -1,0 +1,122 @@
+// A whole SELECT.
+ghost use Rattle.std.specs.Prelude.{◌≡◌, IfOk};
+ghost use Rattle.gq_frame.specs.Slots.{AreSound};
+ghost use Rattle.gq_ends.specs.Ends.{HasEnds, end_at};
+ghost use Rattle.gq_block.specs.Results.{Leaves};
+ghost use Rattle.gq_select.specs.Selecting.{HasTypes, Posts, Selects};
+
+use gq_answer::{After, BlockFault};
+use gq_block::run_block;
+use gq_ends::{Ends, ends_of, selects_target};
+use gq_index::VertexList;
+use gq_io::{Gate, Shape};
+use gq_list::List;
+use gq_post::post;
+use gq_resolved::Block;
+use gq_slots::Accums;
+use gq_tail::tail;
+use gq_value::Memory;
+use gq_view::{Clock, Setting};
+use std::alloc::Global;
+
+/// How blocks are worked on: how the work is cut, and the gate that workers pass.
+#[derive(Drop)]
+pub struct Workers<'a, G> {
+    pub shape: Shape,
+    pub gate: &'a G,
+}
+
+/// What a SELECT gives: the accumulators behind it, and the selected vertices with the types that they may have.
+#[derive(Drop)]
+pub struct Selected {
+    pub accums: Accums,
+    pub types: List<u32>,
+    pub vertices: VertexList,
+}
+
+/// A whole SELECT: WHERE and ACCUM of all candidates, then POST-ACCUM, then HAVING, ORDER BY and LIMIT. The frame stays as it is.
+///
+/// Along a path it answers Memory.
+pub fn select<C: Clock, G: Gate>(
+    workers: &Workers<'_, G>,
+    alloc: Global,
+    block: &Block,
+    over: &Setting<'_, C>,
+) -> Result<Selected, BlockFault>
+    ensures selects { Selects C.clock over.now block.now result }
+    ensures sound { IfOk result (λ selected. AreSound selected.accums) }
+{
+    match run_block(alloc, block, over, &workers.shape, workers.gate) {
+        Err(fault) => Err(fault),
+        Ok(after) => posted(alloc, block, over, after),
+    }
+}
+
+/// POST-ACCUM and the tail, over what a block has left.
+fn posted<C: Clock>(
+    alloc: Global,
+    block: &Block,
+    over: &Setting<'_, C>,
+    after: After,
+) -> Result<Selected, BlockFault>
+    requires { Leaves over.now after }
+    ensures posts { Posts C.clock over.now block.now after result }
+    ensures sound { IfOk result (λ selected. AreSound selected.accums) }
+{
+    match post(alloc, block, over, after) {
+        Err(fault) => Err(fault),
+        Ok(after) => match tail(alloc, block, over, &after) {
+            Err(fault) => Err(fault),
+            Ok(vertices) => match end_types(alloc, block, over) {
+                Err(_) => Err(BlockFault::Memory),
+                Ok(types) => Ok(with_vertices(after, types, vertices)),
+            },
+        },
+    }
+}
+
+fn with_vertices(after: After, types: List<u32>, vertices: VertexList) -> Selected
+    ensures { result ≡ record { accums = after.accums; types = types; vertices = vertices } }
+{
+    let After {
+        accums,
+        sources: _,
+        targets: _,
+    } = after;
+    Selected {
+        accums,
+        types,
+        vertices,
+    }
+}
+
+/// The types of the end that the selected alias is at.
+fn end_types<C: Clock>(
+    alloc: Global,
+    block: &Block,
+    over: &Setting<'_, C>,
+) -> Result<List<u32>, Memory>
+    ensures { IfOk result (HasTypes C.clock over.now block.now) }
+{
+    let ends = ends_over(alloc, block, over)?;
+    Ok(types_of(ends, selects_target(block)))
+}
+
+/// The ends of a block's candidates.
+fn ends_over<C: Clock>(alloc: Global, block: &Block, over: &Setting<'_, C>) -> Result<Ends, Memory>
+    ensures { IfOk result (HasEnds over.now.schema over.now.plan over.now.frame.things block.now) }
+{
+    let things = over.frame.things.as_slice();
+    ends_of(alloc, block, over.graph.catalog, over.plan, things)
+}
+
+/// The types of the target, or of the source.
+fn types_of(ends: Ends, target: bool) -> List<u32>
+    ensures { result ≡ (end_at ends target).types }
+{
+    let Ends {
+        source,
+        target: other,
+    } = ends;
+    if target { other.types } else { source.types }
+}

@@ -1,0 +1,8 @@
+-- Arguments: the object of the file of arguments.
+use Rattle.std.specs.Prelude.{ℕ, List, Option, option_and_then}
+use Rattle.serde_json.specs.Data.{Data}
+use Rattle.serde_json.specs.Read.{read}
+
+-- what the file's bytes are to `serde_json`; nothing, where no file is named
+abbrev pub object_of : Option (List ℕ) → Option Data
+object_of file = option_and_then read file

@@ -1,0 +1,4 @@
+pub mod BitLemmas
+pub mod SeedLemmas
+pub mod GatherLemmas
+pub mod SetLemmas

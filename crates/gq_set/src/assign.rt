@@ -1,0 +1,83 @@
+// Set variables.
+ghost use Rattle.std.specs.Prelude.{◌≡◌, List, OnOk, true, is_some};
+ghost use Rattle.std.specs.Option.{option_map};
+ghost use Rattle.gq_value.specs.declared.store.VertexRow.{VertexRow};
+ghost use Rattle.gq_meaning.specs.Expressions.{World};
+ghost use Rattle.gq_meaning.specs.States.{State};
+ghost use Rattle.gq_meaning.specs.Sets.{set_assigned};
+ghost use Rattle.gq_resolved.specs.Reference.{Reference, Place};
+ghost use Rattle.gq_resolved.specs.PlanView.{view_set_types};
+ghost use Rattle.gq_frame.specs.Names.{thing_in};
+ghost use Rattle.gq_names.specs.Lives.{Lives};
+ghost use Rattle.gq_set.specs.Lookups.{IsOver};
+ghost use Rattle.gq_set.specs.Written.{typed, Fixes, Agrees};
+
+use crate::lookup::types_at;
+use crate::typed::TypedSet;
+use gq_frame::Thing;
+use gq_names::Live;
+use gq_resolved::{Held, SetTypes};
+use gq_value::Memory;
+
+/// Gives a set variable a set. Its types are fixed where it comes into view: those that it is declared with, or else those of the set.
+/// A place that the plan doesn't give these types is want of memory.
+pub fn assign_set(
+    live: &mut Live,
+    own: &[u32],
+    places: &[Held],
+    place: u32,
+    types: Option<SetTypes>,
+    set: TypedSet,
+) -> Result<(), Memory>
+    ensures names { OnOk result ((vertices : List VertexRow) (world : World Reference) (s : State Reference) → IsOver vertices own.now world → Lives places.now live.old s
+        → Lives places.now live.new (set_assigned world (Place place) (option_map view_set_types types) (typed set) s)) }
+    ensures accums { live.new.frame.accums ≡ live.old.frame.accums }
+{
+    match types_at(places, place) {
+        Some(held) => {
+            if agrees(live, own, places, place, types, set.types.as_slice(), held) {
+                live.assign(places, place, Thing::Set(set.vertices))
+            } else {
+                Err(Memory)
+            }
+        }
+        None => Err(Memory),
+    }
+}
+
+/// Whether a set variable is in view, or else comes into view with the types that its place holds.
+#[tactic(auto, using(crate::proofs::SetLemmas::agrees_seen, crate::proofs::SetLemmas::agrees_fixed))]
+fn agrees(
+    live: &Live,
+    own: &[u32],
+    places: &[Held],
+    place: u32,
+    declared: Option<SetTypes>,
+    types: &[u32],
+    held: &[u32],
+) -> bool
+    ensures { result ≡ true → Agrees own.now (option_map view_set_types declared) types.now held.now (is_some (thing_in places.now live.now.frame.things place)) }
+{
+    if live.has(places, place) {
+        return true;
+    }
+    fixes(own, declared, types, held)
+}
+
+/// Whether a set variable that is declared with types, and gets a set of these ones, has the types that its place holds.
+#[tactic(auto, using(crate::proofs::SetLemmas::fixed_laws))]
+fn fixes(own: &[u32], declared: Option<SetTypes>, types: &[u32], held: &[u32]) -> bool
+    ensures { result ≡ true → Fixes own.now (option_map view_set_types declared) types.now held.now }
+{
+    match declared {
+        None => held == types,
+        Some(SetTypes::Every) => held == own,
+        Some(SetTypes::Of(kind)) => {
+            if own.contains(&kind) {
+                held == [kind].as_slice()
+            } else {
+                held == types
+            }
+        }
+    }
+}

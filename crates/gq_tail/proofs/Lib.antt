@@ -1,0 +1,5 @@
+pub mod EachSteps
+pub mod PassLemmas
+pub mod KeyLemmas
+pub mod LimitLemmas
+pub mod TailLemmas

@@ -1,0 +1,5 @@
+pub mod Ends
+pub mod Viewed
+pub mod Looks
+pub mod LookLaws
+pub mod FieldReads
