@@ -45,6 +45,20 @@ pub fn run<'v, V: Sees>(expr: &'v Expr, alloc: Global, sight: &'v V) -> Result<S
             let x = run(first.get(), alloc, sight)?;
             run_parts(parts.as_slice(), alloc, sight, x)
         }
+        Expr::Neg(_, _) | Expr::Mul(_, _) | Expr::Sum(_, _) => operated(expr, alloc, sight),
+        Expr::Cmp(_, _, _) | Expr::Not(_, _) => operated(expr, alloc, sight),
+        Expr::And(_, _) | Expr::Or(_, _) => operated(expr, alloc, sight),
+    }
+}
+
+/// What an operation on operands gives. A function of its own, since the common names and fields are to pay for no operand's room.
+#[cycle(eval)]
+#[tactic(auto, using(gq_resolved::proofs::ViewLaws::view_laws, crate::proofs::RunLemmas::run_laws, crate::proofs::RunLemmas::cmp_laws, crate::proofs::SoundSteps::minus_sound))]
+fn operated<'v, V: Sees>(expr: &'v Expr, alloc: Global, sight: &'v V) -> Result<Seen<'v>, Halt>
+    ensures told { Tells meant (meaning (V.look sight.entry.now) (view expr.entry.now)) result }
+    ensures sound { IfOk result Sound }
+{
+    match expr {
         Expr::Neg(count, operand) => {
             let x = run_value(operand.get(), alloc, sight)?;
             minus(*count, x)
@@ -74,6 +88,9 @@ pub fn run<'v, V: Sees>(expr: &'v Expr, alloc: Global, sight: &'v V) -> Result<S
             let truth = run_truth(first.get(), alloc, sight)?;
             run_any(others.as_slice(), alloc, sight, truth)
         }
+        Expr::Number(_) | Expr::Text(_) | Expr::Truth(_) => Err(Halt::Outside),
+        Expr::Global(_) | Expr::Name(_) => Err(Halt::Outside),
+        Expr::Call(_, _) | Expr::Post(_, _) => Err(Halt::Outside),
     }
 }
 

@@ -36,67 +36,70 @@ invariant-run_row-loop-place g l =
 -- ---- what is still to be gone down; a function that hands on what it was given counts for more
 
 abbrev pub decreases-run : goal.decreases-run
-decreases-run g l = 8 * goal.size-run g l + 0
+decreases-run g l = 8 * goal.size-run g l + 1
+
+abbrev pub decreases-operated : goal.decreases-operated
+decreases-operated g l = 8 * goal.size-operated g l + 0
 
 abbrev pub decreases-run_value : goal.decreases-run_value
-decreases-run_value g l = 8 * goal.size-run_value g l + 1
+decreases-run_value g l = 8 * goal.size-run_value g l + 2
 
 abbrev pub decreases-run_truth : goal.decreases-run_truth
-decreases-run_truth g l = 8 * goal.size-run_truth g l + 2
+decreases-run_truth g l = 8 * goal.size-run_truth g l + 3
 
 abbrev pub decreases-run_int : goal.decreases-run_int
-decreases-run_int g l = 8 * goal.size-run_int g l + 2
+decreases-run_int g l = 8 * goal.size-run_int g l + 3
 
 abbrev pub decreases-run_factors : goal.decreases-run_factors
-decreases-run_factors g l = 8 * goal.size-run_factors g l + 3
+decreases-run_factors g l = 8 * goal.size-run_factors g l + 4
 
 abbrev pub decreases-times : goal.decreases-times
-decreases-times g l = 8 * goal.size-times g l + 2
+decreases-times g l = 8 * goal.size-times g l + 3
 
 abbrev pub decreases-run_terms : goal.decreases-run_terms
-decreases-run_terms g l = 8 * goal.size-run_terms g l + 3
+decreases-run_terms g l = 8 * goal.size-run_terms g l + 4
 
 abbrev pub decreases-plus : goal.decreases-plus
-decreases-plus g l = 8 * goal.size-plus g l + 2
+decreases-plus g l = 8 * goal.size-plus g l + 3
 
 abbrev pub decreases-run_all : goal.decreases-run_all
-decreases-run_all g l = 8 * goal.size-run_all g l + 3
+decreases-run_all g l = 8 * goal.size-run_all g l + 4
 
 abbrev pub decreases-run_any : goal.decreases-run_any
-decreases-run_any g l = 8 * goal.size-run_any g l + 3
+decreases-run_any g l = 8 * goal.size-run_any g l + 4
 
 abbrev pub decreases-run_parts : goal.decreases-run_parts
-decreases-run_parts g l = 8 * goal.size-run_parts g l + 1
+decreases-run_parts g l = 8 * goal.size-run_parts g l + 2
 
 abbrev pub decreases-run_part : goal.decreases-run_part
-decreases-run_part g l = 8 * goal.size-run_part g l + 0
+decreases-run_part g l = 8 * goal.size-run_part g l + 1
 
 abbrev pub decreases-run_row : goal.decreases-run_row
-decreases-run_row g l = 8 * goal.size-run_row g l + 2
+decreases-run_row g l = 8 * goal.size-run_row g l + 3
 
 abbrev pub decreases-called : goal.decreases-called
-decreases-called g l = 8 * goal.size-called g l + 4
+decreases-called g l = 8 * goal.size-called g l + 5
 
 abbrev pub decreases-made : goal.decreases-made
-decreases-made g l = 8 * goal.size-made g l + 3
+decreases-made g l = 8 * goal.size-made g l + 4
 
 abbrev pub decreases-single : goal.decreases-single
-decreases-single g l = 8 * goal.size-single g l + 2
+decreases-single g l = 8 * goal.size-single g l + 3
 
 abbrev pub decreases-difference : goal.decreases-difference
-decreases-difference g l = 8 * goal.size-difference g l + 2
+decreases-difference g l = 8 * goal.size-difference g l + 3
 
 abbrev pub decreases-later : goal.decreases-later
-decreases-later g l = 8 * goal.size-later g l + 3
+decreases-later g l = 8 * goal.size-later g l + 4
 
 abbrev pub decreases-method_called : goal.decreases-method_called
-decreases-method_called g l = 8 * goal.size-method_called g l + 4
+decreases-method_called g l = 8 * goal.size-method_called g l + 5
 
 abbrev pub decreases-containing : goal.decreases-containing
-decreases-containing g l = 8 * goal.size-containing g l + 2
+decreases-containing g l = 8 * goal.size-containing g l + 3
 
 abbrev pub decreases-containing_key : goal.decreases-containing_key
-decreases-containing_key g l = 8 * goal.size-containing_key g l + 3
+decreases-containing_key g l = 8 * goal.size-containing_key g l + 4
 
 abbrev pub decreases-gotten : goal.decreases-gotten
-decreases-gotten g l = 8 * goal.size-gotten g l + 3
+decreases-gotten g l = 8 * goal.size-gotten g l + 4

@@ -1,0 +1,174 @@
+// What the clauses of `run` leave open: that runs succeed where there is memory, and that lines and answers are those that a reader of
+// the documents expects.
+use crate::files::{
+    EARLY_LINE, FILES, FRIENDS_LINES, GROUPS_LINE, INSERT_LINE, LOADS_LINE, SAMPLE_LINES, SEVEN,
+    SEVEN_LINE, SUMS_LINE,
+};
+use gq_engine::Engine;
+use gq_io::{MemoryFiles, MemorySink, SureFiles, SureSink};
+use gq_outcome::Status;
+use gq_run::run;
+use std::alloc::Global;
+use std::test::Fail;
+
+// The words of a line, which are parted by blanks.
+fn words_of(alloc: Global, line: &str) -> Result<Vec<String>, Fail> {
+    let mut words = Vec::new(alloc);
+    for word in line.split(' ') {
+        words.push(String::from_str(alloc, word)?)?;
+    }
+    Ok(words)
+}
+
+// What stands in these parts, one after the other.
+fn joined(alloc: Global, parts: &[&[u8]]) -> Result<Vec<u8>, Fail> {
+    let mut bytes = Vec::new(alloc);
+    for part in parts {
+        bytes.extend_from_slice(part)?;
+    }
+    Ok(bytes)
+}
+
+// Which read and which write fail, or 0, and how many bytes a write takes.
+#[derive(Clone, Copy)]
+struct Devices {
+    failed_read: u64,
+    failed_write: u64,
+    most: usize,
+}
+
+const SURE: Devices = Devices {
+    failed_read: 0,
+    failed_write: 0,
+    most: 1000,
+};
+
+// Devices of which a read fails.
+fn failing_read(call: u64) -> Devices {
+    Devices {
+        failed_read: call,
+        ..SURE
+    }
+}
+
+// Devices of which a write fails, and each takes so many bytes.
+fn failing_write(call: u64, most: usize) -> Devices {
+    Devices {
+        failed_read: 0,
+        failed_write: call,
+        most,
+    }
+}
+
+// All files, of which the read with this number fails.
+fn files(alloc: Global, failed: u64) -> Result<MemoryFiles, Fail> {
+    let mut files = MemoryFiles::new(alloc);
+    files.fail_at(failed)?;
+    for (name, parts) in FILES {
+        files.add(name, &joined(alloc, parts)?)?;
+    }
+    Ok(files)
+}
+
+// Whether a run of this line over these devices has this answer and prints these lines.
+fn ends(
+    alloc: Global,
+    line: &str,
+    devices: Devices,
+    answer: Status,
+    lines: &[u8],
+) -> Result<bool, Fail> {
+    let words = words_of(alloc, line)?;
+    let mut files = files(alloc, devices.failed_read)?;
+    let mut out = MemorySink::new(alloc, devices.most.max(1));
+    out.fail_at(devices.failed_write)?;
+    let status = run(&Engine, alloc, &words, &mut files, &mut out);
+    Ok(status == answer && out.bytes() == lines)
+}
+
+#[test]
+fn a_line_is_printed_where_no_device_can_fail(rt: HostRuntime) -> Result<(), Fail> {
+    let alloc = rt.alloc();
+    let words = words_of(alloc, "seven")?;
+    let mut files = SureFiles::new(alloc);
+    files.add("seven", SEVEN)?;
+    let mut out = SureSink::new(alloc, 100);
+    let status = run(&Engine, alloc, &words, &mut files, &mut out);
+    assert_eq!(rt; status, Status::Done);
+    assert_eq!(rt; out.bytes(), SEVEN_LINE);
+    Ok(())
+}
+
+#[test]
+fn the_lines_before_a_fault_stand(rt: HostRuntime) -> Result<(), Fail> {
+    for (line, devices, answer, lines) in [
+        ("seven", failing_read(1), Status::ReadFault, b"".as_slice()),
+        ("loads", failing_read(3), Status::ReadFault, b"".as_slice()),
+        (
+            "--args a.json argument",
+            failing_read(2),
+            Status::ReadFault,
+            b"".as_slice(),
+        ),
+        (
+            "seven_loads",
+            failing_read(2),
+            Status::ReadFault,
+            SEVEN_LINE,
+        ),
+        (
+            "twice",
+            failing_write(2, 1000),
+            Status::WriteFault,
+            SEVEN_LINE,
+        ),
+        (
+            "seven",
+            failing_write(3, 10),
+            Status::WriteFault,
+            b"{\"error\":false,\"mess".as_slice(),
+        ),
+    ] {
+        assert!(rt; ends(rt.alloc(), line, devices, answer, lines)?, "{line}");
+    }
+    Ok(())
+}
+
+#[test]
+fn the_bytes_before_a_failed_write_stand(rt: HostRuntime) -> Result<(), Fail> {
+    let alloc = rt.alloc();
+    let sample = "--sample 3";
+    let devices = failing_write(0, 1);
+    assert!(rt; ends(alloc, sample, devices, Status::Done, SAMPLE_LINES)?);
+    for written in 0..SAMPLE_LINES.len() {
+        let devices = failing_write(1 + written as u64, 1);
+        let lines = &SAMPLE_LINES[..written];
+        assert!(rt;
+            ends(alloc, sample, devices, Status::WriteFault, lines)?,
+            "{written}"
+        );
+    }
+    Ok(())
+}
+
+#[test]
+fn scripts_print_their_lines(rt: HostRuntime) -> Result<(), Fail> {
+    let alloc = rt.alloc();
+    for (line, lines) in [
+        ("loads", [LOADS_LINE, b"".as_slice()]),
+        ("groups", [LOADS_LINE, GROUPS_LINE]),
+        ("sums", [LOADS_LINE, SUMS_LINE]),
+        ("insert", [LOADS_LINE, INSERT_LINE]),
+        ("friends", [FRIENDS_LINES, b"".as_slice()]),
+        ("--args a.json argument", [SEVEN_LINE, SEVEN_LINE]),
+        (
+            "--workers 3 --chunk=1 seven --turns 5",
+            [SEVEN_LINE, b"".as_slice()],
+        ),
+    ] {
+        let lines = joined(alloc, &lines)?;
+        assert!(rt; ends(alloc, line, SURE, Status::Done, &lines)?, "{line}");
+    }
+    assert!(rt; ends(alloc, "early", SURE, Status::Refused, EARLY_LINE)?);
+    Ok(())
+}
