@@ -10,12 +10,12 @@ use crate::candidate::try_candidate;
 use crate::found::{Found, judged};
 use gq_answer::{After, BlockFault};
 use gq_ends::{Ends, ends_of};
-use gq_index::Candidates;
+use gq_index::{Candidates, Cursor};
 use gq_io::{Gate, Shape};
 use gq_list::Memory;
 use gq_resolved::Block;
 use gq_start::candidates_of;
-use gq_value::{Steps, Wrong};
+use gq_value::Wrong;
 use gq_view::{Clock, Setting};
 use std::alloc::Global;
 
@@ -90,9 +90,10 @@ fn through<C: Clock, G: Gate>(
     let mut found = Found::open(alloc, &over.frame.accums, over.graph.store.vertices.len())?;
     let edge = edge_place(&block.walk);
     let chunk = shape.chunk.max(1);
+    let mut cursor = Cursor::new();
     for place in 0..candidates.count() {
         begin(alloc, place, chunk, &mut found, gate)?;
-        let candidate = candidates.at(place, &mut Steps::new());
+        let candidate = candidates.near(place, &mut cursor);
         match try_candidate(alloc, block, over, ends, edge, candidate, &mut found)? {
             Some(fault) => return Ok(Ran::Fault(place, fault)),
             None => {}

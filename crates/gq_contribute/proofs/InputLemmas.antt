@@ -1,10 +1,27 @@
 -- InputLemmas: how the meaning of an input goes on from that of its parts.
 use Rattle.std.proofs.Common.{◌≡◌, ℕ, zero, suc, ◌+◌, ◌<◌, ◌≤◌, List, [], ◌∷◌, ◌++◌, map, drop, length, get_or, Option, Some, None, refl, sym, ap, subst, ◌∙◌, arith}
 use Rattle.std.specs.List.{slice_get}
+use Rattle.std.specs.Prelude.{ℤ, pos, negsuc, ◌^◌, Bool, true, if◌then◌else◌, Ok, Err}
+use Rattle.std.specs.Int.{w64}
+use Rattle.std.specs.Int.RustNames.{FitsSigned}
+use Rattle.std.proofs.lemmas.Bool.Decides.{nat_tests}
+use Rattle.gq_value.specs.Arithmetic.{is_within}
+use Rattle.gq_value.specs.declared.kind.Number.TheVariants as number
+use Rattle.gq_value.specs.declared.value.Wrong.TheVariants.{Range}
+use Rattle.gq_meaning.specs.Meanings.{Meant, Outcome, value_of_meant}
+use Rattle.gq_meaning.specs.Answers.{of_result}
+use Rattle.gq_resolved.specs.declared.expr.Expr.TheVariants as expr
+use Rattle.gq_resolved.specs.declared.expr.Behind as code
+use Rattle.gq_resolved.specs.declared.expr.Behind.TheVariants as behind
+use Rattle.gq_resolved.specs.declared.expr.Field.{Field}
+use Rattle.gq_resolved.specs.ExprView.{view, view_behind, view_parts, field_of}
+use Rattle.gq_resolved.specs.Reference.{Place}
+use Rattle.gq_resolved.proofs.ViewLaws.{view-Name, view_behind-Field}
+use Rattle.gq_contribute.specs.Feeds.{field_value, part_value}
 use Rattle.std.specs.Option.{option_map}
 use Rattle.std.proofs.lemmas.List.{drop_more, drop_all}
 use Rattle.std.proofs.lemmas.Option.{slice_get_within, get_or_from_slice_get}
-use Rattle.gq_tree.specs.Tree.{Tree, Trees}
+use Rattle.gq_tree.specs.Tree.{Tree, Trees, Post, Name, part, no_part}
 use Rattle.gq_value.specs.declared.kind.Input.{Input}
 use Rattle.gq_value.specs.declared.kind.Input.TheVariants as input
 use Rattle.gq_value.specs.declared.kind.Kind.{Kind}
@@ -13,7 +30,7 @@ use Rattle.gq_value.specs.declared.kind.GroupShape.{GroupShape}
 use Rattle.gq_value.specs.declared.value.Value.{Value}
 use Rattle.gq_value.specs.declared.value.Wrong.{Wrong}
 use Rattle.gq_value.specs.declared.kind.Number.{Number}
-use Rattle.gq_value.specs.Val.{Val}
+use Rattle.gq_value.specs.Val.{Val, Int}
 use Rattle.gq_value.specs.Views.{val}
 use Rattle.gq_value.specs.Accums.{Base, Accum, Given, One, Keyed, Givens, no_given, given_and}
 use Rattle.gq_value.specs.AccumViews.{accum_of, parts_of, given}
@@ -24,7 +41,7 @@ use Rattle.gq_typing.specs.SelectViews.{inputs_of as listed}
 use Rattle.gq_typing.specs.Statements.{Bytes}
 use Rattle.gq_meaning.specs.Answers.{Answer, Gives, Faults, Stuck, ◌>>=◌, found}
 use Rattle.gq_meaning.specs.Meanings.{converted_to}
-use Rattle.gq_meaning.specs.Expressions.{Look, arguments, value_of, value_as}
+use Rattle.gq_meaning.specs.Expressions.{Look, arguments, value_of, value_as, meaning_part}
 use Rattle.gq_meaning.specs.Blocks.{input_of, inputs_of}
 use Rattle.gq_resolved.specs.declared.block.Feed.{Feed}
 use Rattle.gq_resolved.specs.declared.block.Feed.TheVariants as feed
@@ -94,6 +111,55 @@ keyed_found look k f keys es feeds fs ws row ys is a b e g h =
     ∙ keyed_given look k ws (views keys) (listed (map view_feed feeds)) row ys e (ap (λ es. arguments look (map Some ws) (views es)) (sym a) ∙ g) (ap (λ fs. inputs_of look (part_kinds k) (listed (map view_feed fs))) (sym b) ∙ h)
 
 pub ruleset feed_laws = (keys_stop, parts_stop, keyed_given)
+
+-- ---- the INT that an attribute is
+
+within_int : (z : ℤ) → FitsSigned w64 z → is_within number.Int z ≡ true
+within_int (pos n) h = let k : n < 2 ^ 63 = h.sfits in grind (arith, nat_tests)
+within_int (negsuc n) h = let k : n < 2 ^ 63 = h.sfits in grind (arith, nat_tests)
+
+-- an INT that is taken as one stays what it is
+pub int_stays : (z : ℤ) → FitsSigned w64 z → number_to number.Int (Int z) ≡ Gives (Int z)
+int_stays z h = ap (λ b. of_result (if b then Ok (Int z) else Err Range)) (within_int z h)
+
+pub one_given : (x : Value) (v : Val) → val x ≡ v → given (input.One x) ≡ One v
+one_given x v e = given-One x ∙ ap One e
+
+pub int_given : (look : Look Reference) (k : Accum) (t : Tree Reference) (z : ℤ) (x : Input) → TakesAs (input_type k) (Some (taking.Number number.Int)) → value_of look t ≡ Gives (Int z)
+    → number_to number.Int (Int z) ≡ Gives (Int z) → given x ≡ One (Int z) → one_input look k t ≡ Gives (given x)
+int_given look k t z x e g stays is =
+    typed look k t (input_type k) (taking.Number number.Int) refl e ∙ ap (λ o. o >>= taken (taking.Number number.Int) >>= λ v. Gives (One v)) g
+    ∙ ap (λ o. o >>= λ v. Gives (One v)) stays ∙ ap Gives (sym is)
+
+one_list : {A : Type 0} (xs : List A) (x : A) → 1 ≤ length xs → length xs < 2 → x ≡ get_or xs 0 x → xs ≡ x ∷ []
+one_list [] x m n e = absurd (omega arith)
+one_list (y ∷ []) x m n e = ap (λ z. z ∷ []) (sym e)
+one_list (y ∷ z ∷ zs) x m n e = absurd (omega arith)
+
+-- the one part behind a name
+pub part_read : (look : Look Reference) (first : Expr) (parts : List code.Behind) (place : ℕ) (b : code.Behind) (v : Val) → first ≡ expr.Name place → 1 ≤ length parts → length parts < 2 → b ≡ get_or parts 0 b
+    → part_value look (Place place) (view_behind b) ≡ Gives v → value_of look (Post (view first) (view_parts parts)) ≡ Gives v
+part_read look first parts place b v is m n at e =
+    ap (λ f. value_of look (Post (view f) (view_parts parts))) is
+    ∙ ap (λ ps. value_of look (Post (view (expr.Name place)) (view_parts ps))) (one_list parts b m n at)
+    ∙ ap (λ t. value_of look (Post t (view_parts (b ∷ [])))) (view-Name place)
+    ∙ one_part (look.named (Place place)) ∙ e
+  where
+    last : (o : Outcome) → ((o >>= λ n. Gives n) >>= value_of_meant) ≡ (o >>= value_of_meant)
+    last (Gives m) = refl
+    last (Faults w) = refl
+    last Stuck = refl
+
+    one_part : (o : Outcome) → ((o >>= λ m. meaning_part look m (view_behind b) >>= λ n. Gives n) >>= value_of_meant) ≡ (o >>= λ m. meaning_part look m (view_behind b) >>= value_of_meant)
+    one_part (Gives m) = last (meaning_part look m (view_behind b))
+    one_part (Faults w) = refl
+    one_part Stuck = refl
+
+pub field_part : (look : Look Reference) (n : Reference) (b : code.Behind) (field : Field) (v : Val) → b ≡ behind.Field field → field_value look n (field_of field) ≡ Gives v → part_value look n (view_behind b) ≡ Gives v
+field_part look n b field v is e = ap (λ b. part_value look n (view_behind b)) is ∙ ap (part_value look n) (view_behind-Field field) ∙ e
+
+pub field_goes : (look : Look Reference) (n f : Reference) (m s : Meant) (v : Val) → look.named n ≡ Gives m → look.field m f ≡ Gives s → value_of_meant s ≡ Gives v → field_value look n f ≡ Gives v
+field_goes look n f m s v a b c = ap (λ o. o >>= λ m. look.field m f >>= value_of_meant) a ∙ ap (λ o. o >>= value_of_meant) b ∙ c
 
 pub ruleset one_laws = (not_taken, one_stops, taken_itself, number_stops, number_taken)
 

@@ -56,6 +56,15 @@ found_is segments place low long before after =
     sym (count_front (λ (s : Segment). nat_le s.start place) (record { source = 0; kind = 0; start = 0 }) segments low long
     (λ k h. le_holds (segment_at segments k).start place (before k h)) (λ k g h. le_fails (segment_at segments k).start place (after k g h)))
 
+-- so many segments start at or before a place, where the last of them does and the next one doesn't
+pub end_is : (segments : List Segment) (place end : ℕ) → IsRising segments → end ≤ length segments
+    → (0 < end → (segment_at segments (end - 1)).start ≤ place) → (end < length segments → place < (segment_at segments end).start)
+    → end ≡ count_by (λ (s : Segment). nat_le s.start place) segments
+end_is segments place end rising long before after =
+    found_is segments place end long
+    (λ k h. omega (arith, rising k (end - 1) (omega arith) (omega arith), before (omega arith)))
+    (λ k g h. omega (arith, rising end k g h, after (omega arith)))
+
 shown_is : (segments : List Segment) (reached : List Reached) → shown segments reached ≡ map (λ i. walk_of (segment_of segments i) (reached_at reached i)) (below (length reached))
 unfolding shown
 shown_is segments reached = refl

@@ -10,7 +10,7 @@ ghost use Rattle.gq_index.specs.Walks.{adjacency, walks_at, walked};
 ghost use Rattle.gq_index.specs.Segments.{is_wanted, segment_count, of_walk};
 
 use crate::marks::Marks;
-use crate::runs::{Reached, Runs, Segment, push};
+use crate::runs::{Cursor, Reached, Runs, Segment, push};
 use crate::walks::{Walk, Way};
 use crate::{Graph, Index, VertexList};
 use gq_value::{Candidate, Memory, Pattern, Steps};
@@ -240,6 +240,31 @@ impl Candidates {
             },
             Held::Edges(walks) => {
                 let walk = walks.at(place, steps);
+                Candidate {
+                    source: walk.source,
+                    edge: Some(walk.row),
+                    kind: Some(walk.kind),
+                    target: Some(walk.target),
+                }
+            }
+        }
+    }
+
+    /// The candidate at a place, as `at` finds it. Where places are read in order each takes one step, else the cursor is of no help.
+    /// Takes no memory.
+    pub fn near(&self, place: u64, cursor: &mut Cursor) -> Candidate
+        requires { place < length self.now }
+        ensures { slice_get self.now place ≡ Some result }
+    {
+        match &self.held {
+            Held::Vertices(vertices) => Candidate {
+                source: vertices[place as usize],
+                edge: None,
+                kind: None,
+                target: None,
+            },
+            Held::Edges(walks) => {
+                let walk = walks.near(place, cursor);
                 Candidate {
                     source: walk.source,
                     edge: Some(walk.row),

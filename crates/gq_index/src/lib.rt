@@ -20,5 +20,6 @@ mod walks;
 pub use candidates::Candidates;
 pub use chunks::chunk;
 pub use index::Index;
+pub use runs::Cursor;
 pub use store::{Graph, Store};
 pub use vertex_list::VertexList;

@@ -45,6 +45,57 @@ fn find(segments: &[Segment], place: u64, steps: &mut Steps) -> usize
     low
 }
 
+/// Whether the first segments, so many of them, start at or before a place.
+fn start_by(segments: &[Segment], place: u64, end: usize) -> bool
+    requires { end ≤ length segments.now }
+    ensures { result ≡ true → 0 < end → (segment_at segments.now (end - 1)).start ≤ place }
+{
+    if end == 0 {
+        return true;
+    }
+    segments[end - 1].start as u64 <= place
+}
+
+/// Whether the segment behind the first ones, so many of them, starts after a place.
+fn starts_after(segments: &[Segment], place: u64, end: usize) -> bool
+    ensures { result ≡ true → end < length segments.now → place < (segment_at segments.now end).start }
+{
+    if end >= segments.len() {
+        return true;
+    }
+    segments[end].start as u64 > place
+}
+
+/// Whether no more and no fewer segments than these start at or before a place.
+fn is_end(segments: &[Segment], place: u64, end: usize) -> bool
+    requires rising { IsRising segments.now }
+    ensures { result ≡ true → end ≡ count_by (λ s. nat_le s.start place) segments.now }
+{
+    if end > segments.len() {
+        return false;
+    }
+    if !start_by(segments, place, end) {
+        return false;
+    }
+    starts_after(segments, place, end)
+}
+
+/// How many segments start at or before a place: as many as `near`, or one more, or else it is found by halving.
+fn find_near(segments: &[Segment], place: u64, near: usize) -> usize
+    requires rising { IsRising segments.now }
+    requires short { length segments.now < 2 ^ 63 }
+    ensures { result ≡ count_by (λ s. nat_le s.start place) segments.now }
+{
+    if is_end(segments, place, near) {
+        return near;
+    }
+    let next = near.saturating_add(1);
+    if is_end(segments, place, next) {
+        return next;
+    }
+    find(segments, place, &mut Steps::new())
+}
+
 /// Whether a walk belongs to the last segment.
 fn continues(segments: &[Segment], walk: Walk) -> bool
     ensures yes { result ≡ true → (0 < length segments.now) × (walk.source ≡ (segment_at segments.now (length segments.now - 1)).source) × (walk.kind ≡ (segment_at segments.now (length segments.now - 1)).kind) }
@@ -106,6 +157,38 @@ fn walk_at_place(segments: &[Segment], reached: &[Reached], place: u64, steps: &
     }
 }
 
+/// The walk at a place, whose segment is looked for beside the one before.
+fn walk_near(segments: &[Segment], reached: &[Reached], place: u64, cursor: &mut Cursor) -> Walk
+    requires holds { Holds segments.now reached.now (shown segments.now reached.now) }
+    requires within { place < length reached.now }
+    requires short { length segments.now < 2 ^ 63 }
+    ensures { result ≡ walk_of (segment_of segments.now place) (reached_at reached.now place) }
+{
+    let end = find_near(segments, place, cursor.end);
+    cursor.end = end;
+    let segment = segments[end - 1];
+    let found = reached[place as usize];
+    Walk {
+        source: segment.source,
+        kind: segment.kind,
+        row: found.row,
+        target: found.target,
+    }
+}
+
+/// Where a reader of candidates is: how many segments start at or before the place that it read last.
+#[derive(Drop)]
+pub struct Cursor {
+    end: usize,
+}
+
+impl Cursor {
+    /// Before the first place.
+    pub fn new() -> Cursor {
+        Cursor { end: 0 }
+    }
+}
+
 /// A list of walks: 12 bytes for each segment, and 8 for each walk.
 #[derive(Drop)]
 pub struct Runs {
@@ -149,5 +232,13 @@ impl Runs {
         ensures counted { (d : ℕ) → run_count self.now < 2 ^ d → steps.new ≤ steps.old + d + 1 }
     {
         walk_at_place(&self.segments, &self.reached, place, steps)
+    }
+
+    /// The walk at a place, in one step where it is that of the cursor or the next one.
+    pub fn near(&self, place: u64, cursor: &mut Cursor) -> Walk
+        requires within { place < length self.now }
+        ensures { result ≡ walk_at self.now place }
+    {
+        walk_near(&self.segments, &self.reached, place, cursor)
     }
 }

@@ -21,17 +21,31 @@ use Rattle.gq_scope.specs.Held.{Held, fields_of, sorts_in, scope_in}
 use Rattle.gq_found.specs.Found.{TupleTypes, globals_of}
 use Rattle.gq_planned.specs.Planned.{Heads, AccumPlanned, AccumsPlanned, DefinitionsPlanned}
 use Rattle.gq_plan.specs.Heading.{IsScoped, heads_of, resolved_field}
+use Rattle.gq_plan.specs.Unplanned.{NoAccum, NoAccums, NoDefinition, NoDefinitions, DeclaredOnce, tuple_names}
 use Rattle.gq_plan.proofs.PlaceLemmas.{left_at, push_behind, none_behind}
+use Rattle.gq_plan.proofs.TupleLemmas.{AccumRead, read_accum, RestRead, read_rest, fields_lack, fields_fail, tuple_twice, kind_fails, accums_lack}
 use Rattle.gq_plan.proofs.ScopeLemmas.{fields_here, kind_here}
 
 -- ---- accumulators
 
--- what is planned of the rest is planned of all, behind what is done
+-- what is planned of the rest is planned of all, behind what is done; and in each plan of all stands one of the rest
 pub record AccumsGo (sorts : Sorts) (n : Named) (start : Heads) (all : List (Bool × Bytes × Option (Tree Bytes))) (done : List code.Accum) (rest : List (Bool × Bytes × Option (Tree Bytes))) (now : Heads) : Type 0 where
   pub go : (others : List code.Accum) (end : Heads) → AccumsPlanned sorts n now rest others end → AccumsPlanned sorts n start all (done ++ others) end
+  pub back : (bs : List code.Accum) (end : Heads) → AccumsPlanned sorts n start all bs end → (others : List code.Accum) × AccumsPlanned sorts n now rest others end
 
 pub accums_begin : (sorts : Sorts) (n : Named) (start : Heads) (all : List (Bool × Bytes × Option (Tree Bytes))) → AccumsGo sorts n start all [] all start
-accums_begin sorts n start all = record { go = λ others end p. p }
+accums_begin sorts n start all = record { go = λ others end p. p; back = λ bs end p. (bs, p) }
+
+-- the one at hand, and the rest
+module _ (sorts : Sorts) (n : Named) (start : Heads) (trees : List AccumTree) (done : List code.Accum) (k : ℕ) (now : Heads) (t : AccumTree) (low : k < length trees) (is : t ≡ get_or trees k t)
+    (so_far : AccumsGo sorts n start (map view_accum trees) done (map view_accum (drop k trees)) now) where
+  accum_here : (bs : List code.Accum) (end : Heads) → AccumsPlanned sorts n start (map view_accum trees) bs end → AccumRead sorts n now (view_accum t) (map view_accum (drop (k + 1) trees)) end
+  accum_here bs end p =
+      let u = so_far.back bs end p in
+      read_accum sorts n now (view_accum t) (map view_accum (drop (k + 1) trees)) u.0 end (subst (λ l. AccumsPlanned sorts n now (map view_accum l) u.0 end) (left_at trees k t low is) u.1)
+
+  pub accum_lacks : NoAccum sorts n now (view_accum t) → NoAccums sorts n start (map view_accum trees)
+  accum_lacks never = record { none = λ bs end p. let u = accum_here bs end p in never.none u.accum u.planned }
 
 pub accum_next : (sorts : Sorts) (n : Named) (start : Heads) (trees : List AccumTree) (done : List code.Accum) (k : ℕ) (tuples : TupleTypes) (slots more : Named) (t : AccumTree) (b : code.Accum)
     → k < length trees → t ≡ get_or trees k t → AccumsGo sorts n start (map view_accum trees) done (map view_accum (drop k trees)) (heads_of tuples slots)
@@ -42,6 +56,9 @@ accum_next sorts n start trees done k tuples slots more t b low is so_far one ne
       subst (λ (l : List code.Accum). AccumsPlanned sorts n start (map view_accum trees) l end) (push_behind done b others) (so_far.go (b ∷ others) end
       (subst (λ l. AccumsPlanned sorts n (heads_of tuples slots) (map view_accum l) (b ∷ others) end) (sym (left_at trees k t low is))
       (one, subst (λ m. AccumsPlanned sorts n (heads_of tuples m) (map view_accum (drop (k + 1) trees)) others end) new p)));
+  back = λ bs end p.
+      let u = accum_here sorts n start trees done k (heads_of tuples slots) t low is so_far bs end p in
+      (u.others, subst (λ m. AccumsPlanned sorts n (heads_of tuples m) (map view_accum (drop (k + 1) trees)) u.others end) (sym new) u.are);
 }
 
 pub accums_end : (sorts : Sorts) (n : Named) (start now : Heads) (trees : List AccumTree) (done : List code.Accum) (k : ℕ)
@@ -50,7 +67,7 @@ accums_end sorts n start now trees done k high so_far =
     subst (λ (l : List code.Accum). AccumsPlanned sorts n start (map view_accum trees) l now) (none_behind done) (so_far.go [] now
     (subst (λ l. AccumsPlanned sorts n now (map view_accum l) [] now) (sym (drop_all k trees high)) refl))
 
-pub ruleset accum_laws = (accums_begin, accum_next, accums_end)
+pub ruleset accum_laws = (accums_begin, accum_next, accums_end, accum_lacks)
 
 -- ---- one definition
 
@@ -65,15 +82,16 @@ pub kind_planned : (s : Held) (n : Named) (h i : Heads) (k : KindTree Bytes) (al
     → DefinitionsPlanned (sorts_in s) n h (Accums k all ∷ []) (definition.Accums kind bs ∷ []) i
 kind_planned s n h i k all kind bs scoped written planned = (kind_here (sorts_in s) h.tuples s k (accum_of kind) scoped written, (i, (planned, refl)))
 
-pub ruleset tuple_laws = (tuple_planned)
+pub ruleset tuple_laws = (tuple_planned, fields_lack, fields_fail, tuple_twice)
 
-pub ruleset kind_laws = (kind_planned)
+pub ruleset kind_laws = (kind_planned, kind_fails, accums_lack)
 
 -- ---- definitions
 
--- what is planned of the rest is planned of all, behind what is done
+-- what is planned of the rest is planned of all, behind what is done; and in each plan of all stands one of the rest
 pub record DefinitionsGo (sorts : Sorts) (n : Named) (start : Heads) (all : List (Definition Bytes (KindTree Bytes))) (done : List definition_code.Definition) (rest : List (Definition Bytes (KindTree Bytes))) (now : Heads) : Type 0 where
   pub go : (others : List definition_code.Definition) (end : Heads) → DefinitionsPlanned sorts n now rest others end → DefinitionsPlanned sorts n start all (done ++ others) end
+  pub back : (es : List definition_code.Definition) (end : Heads) → DefinitionsPlanned sorts n start all es end → DeclaredOnce (tuple_names start.tuples) all → RestRead sorts n now rest end
 
 -- so far, with the scope then
 pub record DefinitionsSoFar (n : Named) (s t : Held) (before tuples : TupleTypes) (first slots : Named) (trees : List definition_tree.Definition) (k : ℕ) (done : List definition_code.Definition) : Type 0 where
@@ -82,7 +100,7 @@ pub record DefinitionsSoFar (n : Named) (s t : Held) (before tuples : TupleTypes
 
 pub definitions_begin : (n : Named) (s : Held) (tuples : TupleTypes) (slots : Named) (trees : List definition_tree.Definition) → IsScoped (sorts_in s) tuples s
     → DefinitionsSoFar n s s tuples tuples slots slots trees 0 []
-definitions_begin n s tuples slots trees scoped = record { scoped = scoped; goes = record { go = λ others end p. p } }
+definitions_begin n s tuples slots trees scoped = record { scoped = scoped; goes = record { go = λ others end p. p; back = λ es end p once. record { others = es; are = p; once = once } } }
 
 -- one, and the rest
 joined : (sorts : Sorts) (n : Named) (h i j : Heads) (d : Definition Bytes (KindTree Bytes)) (rest : List (Definition Bytes (KindTree Bytes))) (e : definition_code.Definition) (others : List definition_code.Definition)
@@ -97,6 +115,22 @@ joined sorts n h i j (Accums k all) rest (definition.Accums kind bs) others one 
 pub scope_here : (s t : Held) (tuples : TupleTypes) → IsScoped (sorts_in s) tuples t → IsScoped (sorts_in t) tuples t
 scope_here s t tuples h = subst (λ z. IsScoped z tuples t) (sym h.sorts_are) h
 
+-- in each plan of all stands one of the definition at hand and the rest
+module _ (n : Named) (s t : Held) (before tuples : TupleTypes) (first slots : Named) (trees : List definition_tree.Definition) (k : ℕ) (done : List definition_code.Definition) (d : definition_tree.Definition)
+    (low : k < length trees) (is : d ≡ get_or trees k d) (so_far : DefinitionsSoFar n s t before tuples first slots trees k done) where
+  definition_here : (es : List definition_code.Definition) (end : Heads) → DefinitionsPlanned (sorts_in s) n (heads_of before first) (map view_definition trees) es end → DeclaredOnce (tuple_names before) (map view_definition trees)
+      → RestRead (sorts_in s) n (heads_of tuples slots) (view_definition d ∷ map view_definition (drop (k + 1) trees)) end
+  definition_here es end p once = subst (λ l. RestRead (sorts_in s) n (heads_of tuples slots) (map view_definition l) end) (left_at trees k d low is) (so_far.goes.back es end p once)
+
+  pub definition_lacks : NoDefinition (sorts_in t) n (heads_of tuples slots) (view_definition d) → NoDefinitions (sorts_in s) n (heads_of before first) (map view_definition trees)
+  definition_lacks never = record {
+    none = λ es end p once.
+        let u = definition_here es end p once in
+        let here : NoDefinition (sorts_in s) n (heads_of tuples slots) (view_definition d) = subst (λ z. NoDefinition z n (heads_of tuples slots) (view_definition d)) so_far.scoped.sorts_are never in
+        let all = here.none (map view_definition (drop (k + 1) trees)) in
+        all.none u.others end u.are u.once;
+  }
+
 pub definition_next : (n : Named) (s t u : Held) (before tuples more : TupleTypes) (first slots slots' : Named) (trees : List definition_tree.Definition) (k : ℕ) (done : List definition_code.Definition) (d : definition_tree.Definition) (e : definition_code.Definition)
     → k < length trees → d ≡ get_or trees k d → DefinitionsSoFar n s t before tuples first slots trees k done
     → DefinitionsPlanned (sorts_in t) n (heads_of tuples slots) (view_definition d ∷ []) (e ∷ []) (heads_of more slots') → IsScoped (sorts_in t) more u
@@ -110,6 +144,10 @@ definition_next n s t u before tuples more first slots slots' trees k done d e l
         (subst (λ l. DefinitionsPlanned (sorts_in s) n (heads_of tuples slots) (map view_definition l) (e ∷ others) end) (sym (left_at trees k d low is))
         (joined (sorts_in s) n (heads_of tuples slots) (heads_of more slots') end (view_definition d) (map view_definition (drop (k + 1) trees)) e others
         (subst (λ z. DefinitionsPlanned z n (heads_of tuples slots) (view_definition d ∷ []) (e ∷ []) (heads_of more slots')) so_far.scoped.sorts_are one) p)));
+    back = λ es end p once.
+        let u = definition_here n s t before tuples first slots trees k done d low is so_far es end p once in
+        read_rest (sorts_in s) n (view_definition d) e (map view_definition (drop (k + 1) trees)) u.others (heads_of tuples slots) (heads_of more slots') end
+        (subst (λ z. DefinitionsPlanned z n (heads_of tuples slots) (view_definition d ∷ []) (e ∷ []) (heads_of more slots')) so_far.scoped.sorts_are one) u.are u.once;
   };
 }
 
@@ -119,4 +157,4 @@ definitions_end n s t before tuples first slots trees k done high so_far =
     subst (λ (l : List definition_code.Definition). DefinitionsPlanned (sorts_in s) n (heads_of before first) (map view_definition trees) l (heads_of tuples slots)) (none_behind done)
     (so_far.goes.go [] (heads_of tuples slots) (subst (λ l. DefinitionsPlanned (sorts_in s) n (heads_of tuples slots) (map view_definition l) [] (heads_of tuples slots)) (sym (drop_all k trees high)) refl))
 
-pub ruleset definition_laws = (definitions_begin, scope_here, definition_next, definitions_end)
+pub ruleset definition_laws = (definitions_begin, scope_here, definition_next, definitions_end, definition_lacks)

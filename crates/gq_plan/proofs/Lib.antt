@@ -1,6 +1,9 @@
 pub mod PlaceLemmas
+pub mod FailLemmas
 pub mod ParameterLemmas
 pub mod FieldLemmas
 pub mod ScopeLemmas
+pub mod TupleLemmas
 pub mod HeadLemmas
 pub mod PrintLaws
+pub mod TypedLaws

@@ -1,9 +1,11 @@
 -- ParameterLemmas: parameters that are planned from the last one on.
-use Rattle.std.proofs.Common.{◌≡◌, ◌+◌, ◌<◌, ◌≤◌, ℕ, List, [], ◌∷◌, ◌++◌, length, get_or, drop, map, reverse, Some, arith, sym, subst}
+use Rattle.std.proofs.Common.{◌≡◌, ◌+◌, ◌<◌, ◌≤◌, ℕ, zero, suc, List, [], ◌∷◌, ◌++◌, length, get_or, drop, map, reverse, Some, None, arith, sym, ap, subst, ◌∙◌}
 use Rattle.std.proofs.lemmas.List.{drop_all, reverse-append}
 use Rattle.gq_tree.specs.declared.query.Parameter.{Parameter}
 use Rattle.gq_places.specs.Named.{Named}
 use Rattle.gq_typing.specs.Sorts.{Sorts}
+use Rattle.gq_typing.specs.Statements as plain
+use Rattle.gq_typing.specs.Statements.{Bytes}
 use Rattle.gq_typing.specs.StatementViews.{view_base, view_parameter}
 use Rattle.gq_resolved.specs.declared.plan.Parameter as code
 use Rattle.gq_resolved.specs.declared.plan.Declared.{Declared}
@@ -11,6 +13,8 @@ use Rattle.gq_step_plan.specs.Parts.{resolved_base}
 use Rattle.gq_step_plan.specs.Steps.{new_name}
 use Rattle.gq_found.specs.Found.{globals_of}
 use Rattle.gq_planned.specs.Laws.{no_names, ParametersPlanned}
+use Rattle.gq_meaning.proofs.AnswerLaws.{some_inj}
+use Rattle.gq_plan.specs.Unplanned.{NoParameters}
 use Rattle.gq_plan.proofs.PlaceLemmas.{left_at}
 
 -- those from the nth on are planned, the last one first, and are in view
@@ -50,4 +54,52 @@ all_planned sorts trees n done list m low from is =
     zero_is : (k : ℕ) → k ≤ 0 → k ≡ 0
     zero_is k h = omega (arith, h)
 
-pub ruleset parameter_laws = (from_end, one_before, all_planned)
+-- ---- parameters that aren't planned
+
+-- the names in view follow from the parameters
+pub parameters_same : (sorts : Sorts) (ps : List (plain.Parameter Bytes)) (qs rs : List code.Parameter) (n m : Named) → ParametersPlanned sorts ps qs n → ParametersPlanned sorts ps rs m → n ≡ m
+parameters_same sorts [] [] [] n m h k = h ∙ sym k
+parameters_same sorts [] [] (r ∷ rs) n m h k = absurd k
+parameters_same sorts [] (q ∷ qs) rs n m h k = absurd h
+parameters_same sorts (p ∷ ps) [] rs n m h k = absurd h
+parameters_same sorts (p ∷ ps) (q ∷ qs) [] n m h k = absurd k
+parameters_same sorts (p ∷ ps) (q ∷ qs) (r ∷ rs) n m h k =
+    let same : h.1.0 ≡ k.1.0 = parameters_same sorts ps qs rs h.1.0 k.1.0 h.1.1.0 k.1.1.0 in
+    let at : new_name h.1.0 p.name ≡ new_name k.1.0 p.name = ap (λ i. new_name i p.name) same in
+    ap (λ (b : Named × ℕ). b.0) (some_inj (sym h.1.1.1 ∙ (at ∙ k.1.1.1)))
+
+no_more : (sorts : Sorts) (p : plain.Parameter Bytes) (ps : List (plain.Parameter Bytes)) → NoParameters sorts ps → NoParameters sorts (p ∷ ps)
+no_more sorts p ps never = record { none = go }
+  where
+    go : (qs : List code.Parameter) (n : Named) → ParametersPlanned sorts (p ∷ ps) qs n → ⊥
+    go [] n h = h
+    go (q ∷ qs) n h = never.none qs h.1.0 h.1.1.0
+
+none_from : (sorts : Sorts) (k : ℕ) (trees : List Parameter) → NoParameters sorts (map view_parameter (drop k trees)) → NoParameters sorts (map view_parameter trees)
+none_from sorts zero trees never = never
+none_from sorts (suc k) [] never = never
+none_from sorts (suc k) (t ∷ trees) never = no_more sorts (view_parameter t) (map view_parameter trees) (none_from sorts k trees never)
+
+pub base_lacks : (sorts : Sorts) (trees : List Parameter) (k : ℕ) (t : Parameter) → k < length trees → t ≡ get_or trees k t
+    → resolved_base (globals_of sorts [] no_names) (view_base t.base) ≡ None → NoParameters sorts (map view_parameter trees)
+base_lacks sorts trees k t low is lacks =
+    none_from sorts k trees (subst (λ l. NoParameters sorts (map view_parameter l)) (sym (left_at trees k t low is)) (record { none = go }))
+  where
+    go : (qs : List code.Parameter) (n : Named) → ParametersPlanned sorts (view_parameter t ∷ map view_parameter (drop (k + 1) trees)) qs n → ⊥
+    go [] n h = h
+    go (q ∷ qs) n h = cc (lacks, h.0)
+
+pub name_taken : (sorts : Sorts) (trees : List Parameter) (n k : ℕ) (done : List code.Parameter) (m : Named) (t : Parameter)
+    → n ≡ k + 1 → k < length trees → t ≡ get_or trees k t → PlannedFrom sorts trees n done m → new_name m t.name ≡ None → NoParameters sorts (map view_parameter trees)
+name_taken sorts trees n k done m t next low is from taken =
+    none_from sorts k trees (subst (λ l. NoParameters sorts (map view_parameter l)) (sym (left_at trees k t low is)) (record { none = go }))
+  where
+    go : (qs : List code.Parameter) (i : Named) → ParametersPlanned sorts (view_parameter t ∷ map view_parameter (drop (k + 1) trees)) qs i → ⊥
+    go [] i h = h
+    go (q ∷ qs) i h =
+        let same : h.1.0 ≡ m =
+        parameters_same sorts (map view_parameter (drop (k + 1) trees)) qs (reverse done) h.1.0 m h.1.1.0 (subst (λ j. ParametersPlanned sorts (map view_parameter (drop j trees)) (reverse done) m) next from.planned) in
+        let at : new_name h.1.0 t.name ≡ None = ap (λ j. new_name j t.name) same ∙ taken in
+        cc (at, h.1.1.1)
+
+pub ruleset parameter_laws = (from_end, one_before, all_planned, base_lacks, name_taken)

@@ -1,24 +1,27 @@
 -- Heading: what is declared so far, as the code has it.
-use Rattle.std.specs.Prelude.{◌≡◌, Option, Some}
+use Rattle.std.specs.Prelude.{◌≡◌, false, is_some, Option, Some}
 use Rattle.gq_places.specs.Named.{Named}
 use Rattle.gq_typing.specs.Statements.{Bytes, BaseTree}
 use Rattle.gq_typing.specs.Sorts.{Sorts}
+use Rattle.gq_typing.specs.Scopes.{entry}
 use Rattle.gq_scope.specs.Kept.{tuple_types}
-use Rattle.gq_scope.specs.Held.{Held, sorts_in}
+use Rattle.gq_scope.specs.Held.{Held, sorts_in, scope_in}
 use Rattle.gq_resolved.specs.declared.plan.Declared.{Declared}
 use Rattle.gq_expr_plan.specs.Resolved.{◌>>=◌}
 use Rattle.gq_step_plan.specs.Globals.{Globals}
 use Rattle.gq_step_plan.specs.Parts.{resolved_base}
 use Rattle.gq_found.specs.Found.{TupleTypes}
 use Rattle.gq_planned.specs.Planned.{Heads}
+use Rattle.gq_plan.specs.Unplanned.{tuple_names, is_taken}
 
 abbrev pub heads_of : TupleTypes → Named → Heads
 heads_of tuples slots = record { tuples = tuples; slots = slots }
 
--- the scope has these types of the graph, and these tuple types
+-- the scope has these types of the graph, and these tuple types, and no other name is visible
 pub record IsScoped (sorts : Sorts) (tuples : TupleTypes) (s : Held) : Type 0 where
   pub sorts_are : sorts_in s ≡ sorts
   pub tuples_are : tuple_types s.names ≡ tuples
+  pub free : (x : Bytes) → is_taken (tuple_names tuples) x ≡ false → is_some (entry (scope_in s) x) ≡ false
 
 -- a field as the plan has it
 abbrev pub resolved_field : Globals → BaseTree Bytes × Bytes → Option (Declared × Bytes)

@@ -1,2 +1,4 @@
-pub mod Prints
+pub mod Unplanned
 pub mod Heading
+pub mod Prints
+pub mod Safe

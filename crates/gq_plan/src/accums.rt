@@ -1,15 +1,19 @@
 // Accumulators with what they open with.
-ghost use Rattle.std.specs.Prelude.{◌≡◌, IfOk, Ok, [], map};
+ghost use Rattle.std.specs.Prelude.{◌≡◌, ◌≢◌, IfOk, IfErr, Ok, [], map};
 ghost use Rattle.gq_value.specs.AccumViews.{accum_of};
 ghost use Rattle.gq_places.specs.Named.{with_name};
 ghost use Rattle.gq_typing.specs.KindTypes.{kind_written as kind_meant};
 ghost use Rattle.gq_typing.specs.StatementViews.{view_accum, view_kind};
 ghost use Rattle.gq_scope.specs.Held.{scope_in, sorts_in};
+ghost use Rattle.gq_fault.specs.declared.fault.CheckFault.TheVariants as check;
+ghost use Rattle.gq_expr_plan.specs.declared.fault.PlanFault.TheVariants as fault;
 ghost use Rattle.gq_planned.specs.Planned.{AccumPlanned, AccumsPlanned};
 ghost use Rattle.gq_plan.specs.Heading.{heads_of};
+ghost use Rattle.gq_plan.specs.Unplanned.{Fails, NoAccum, NoAccums};
 
 use crate::names::add_slot;
 use gq_expr_plan::PlanFault;
+use gq_fault::CheckFault;
 use gq_globals::{Found, TupleType};
 use gq_kind_check::kind_written;
 use gq_list::List;
@@ -21,17 +25,34 @@ use gq_tree::{AccumTree, KindTree};
 use gq_value::{Kind, Txt};
 use std::alloc::Global;
 
+/// Want of memory, or that a rule doesn't let something pass.
+pub(crate) fn fault_of(refusal: &CheckFault) -> PlanFault
+    ensures { result ≢ fault.Memory → refusal.now ≢ check.Memory }
+{
+    match refusal {
+        CheckFault::Memory => PlanFault::Memory,
+        CheckFault::Mismatch | CheckFault::NotAllowedHere => PlanFault::Unknown,
+        CheckFault::TwoAliases | CheckFault::TooMany => PlanFault::Unknown,
+        CheckFault::UnknownName(_) | CheckFault::NoAttribute(_) => PlanFault::Unknown,
+        CheckFault::OrderDependent(_) | CheckFault::WiderSet(_) => PlanFault::Unknown,
+        CheckFault::BadKind(_) | CheckFault::NameTwice(_) => PlanFault::Unknown,
+    }
+}
+
 /// The kind of accumulators.
+#[tactic(auto, using(crate::proofs::FailLemmas::fail_laws))]
 pub(crate) fn kind(alloc: Global, scope: &Scope<'_>, tree: &KindTree) -> Result<Kind, PlanFault>
-    ensures { IfOk result (λ kind. kind_meant (scope_in scope.now) [] (view_kind tree.now) ≡ Ok (accum_of kind)) }
+    ensures planned { IfOk result (λ kind. kind_meant (scope_in scope.now) [] (view_kind tree.now) ≡ Ok (accum_of kind)) }
+    ensures unknown { IfErr result (λ e. e ≢ fault.Memory → Fails (kind_meant (scope_in scope.now) [] (view_kind tree.now))) }
 {
     match kind_written(alloc, scope, "", tree) {
         Ok(kind) => Ok(kind),
-        Err(_) => Err(PlanFault::Unknown),
+        Err(refusal) => Err(fault_of(&refusal)),
     }
 }
 
 /// An accumulator; its opening sees what is declared before it.
+#[tactic(auto, using(crate::proofs::FailLemmas::accum_laws))]
 fn accum(
     alloc: Global,
     scope: &Scope<'_>,
@@ -42,6 +63,7 @@ fn accum(
 ) -> Result<Accum, PlanFault>
     ensures planned { IfOk result (λ b. AccumPlanned (sorts_in scope.now) places.now (heads_of tuples.now slots.old) (view_accum tree.now) b) }
     ensures declared { IfOk result (λ _. slots.new ≡ with_name slots.old tree.now.name tree.now.attached) }
+    ensures unknown { IfErr result (λ e. e ≢ fault.Memory → NoAccum (sorts_in scope.now) places.now (heads_of tuples.now slots.old) (view_accum tree.now)) }
 {
     let found = Found {
         scope,
@@ -69,8 +91,10 @@ pub(crate) fn accums(
     places: &Places,
     trees: &[AccumTree],
 ) -> Result<List<Accum>, PlanFault>
-    ensures { IfOk result (λ bs. AccumsPlanned (sorts_in scope.now) places.now (heads_of tuples.now slots.old) (map view_accum trees.now) bs
+    ensures planned { IfOk result (λ bs. AccumsPlanned (sorts_in scope.now) places.now (heads_of tuples.now slots.old) (map view_accum trees.now) bs
         (heads_of tuples.now slots.new)) }
+    ensures unknown { IfErr result (λ e. e ≢ fault.Memory
+        → NoAccums (sorts_in scope.now) places.now (heads_of tuples.now slots.old) (map view_accum trees.now)) }
 {
     let mut planned = List::new(alloc);
     for tree in trees {

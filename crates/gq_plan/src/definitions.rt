@@ -1,10 +1,12 @@
 // Definitions, one after the other: each sees what is declared before it.
-ghost use Rattle.std.specs.Prelude.{◌≡◌, IfOk, [], ◌∷◌, map};
+ghost use Rattle.std.specs.Prelude.{◌≡◌, ◌≢◌, IfOk, IfErr, [], ◌∷◌, map};
 ghost use Rattle.gq_typing.specs.Statements.{Accums};
 ghost use Rattle.gq_typing.specs.StatementViews.{view_accum, view_definition, view_kind};
 ghost use Rattle.gq_scope.specs.Held.{sorts_in};
+ghost use Rattle.gq_expr_plan.specs.declared.fault.PlanFault.TheVariants as fault;
 ghost use Rattle.gq_planned.specs.Planned.{DefinitionsPlanned};
 ghost use Rattle.gq_plan.specs.Heading.{IsScoped, heads_of};
+ghost use Rattle.gq_plan.specs.Unplanned.{NoDefinition, NoDefinitions};
 
 use crate::accums::{accums, kind};
 use crate::tuples::tuple_type;
@@ -29,8 +31,10 @@ fn of_kind(
     trees: &[AccumTree],
 ) -> Result<Definition, PlanFault>
     requires { IsScoped (sorts_in scope.now) tuples.now scope.now }
-    ensures { IfOk result (λ e. DefinitionsPlanned (sorts_in scope.now) places.now (heads_of tuples.now slots.old)
+    ensures planned { IfOk result (λ e. DefinitionsPlanned (sorts_in scope.now) places.now (heads_of tuples.now slots.old)
         (Accums (view_kind tree.now) (map view_accum trees.now) ∷ []) (e ∷ []) (heads_of tuples.now slots.new)) }
+    ensures unknown { IfErr result (λ e. e ≢ fault.Memory
+        → NoDefinition (sorts_in scope.now) places.now (heads_of tuples.now slots.old) (Accums (view_kind tree.now) (map view_accum trees.now))) }
 {
     let kind = kind(alloc, scope, tree)?;
     let planned = accums(alloc, scope, tuples, slots, places, trees)?;
@@ -49,6 +53,8 @@ fn definition(
     ensures planned { IfOk result (λ e. DefinitionsPlanned (sorts_in scope.old) places.now (heads_of tuples.old slots.old)
         (view_definition tree.now ∷ []) (e ∷ []) (heads_of tuples.new slots.new)) }
     ensures scoped { IfOk result (λ _. IsScoped (sorts_in scope.old) tuples.new scope.new) }
+    ensures unknown { IfErr result (λ e. e ≢ fault.Memory
+        → NoDefinition (sorts_in scope.old) places.now (heads_of tuples.old slots.old) (view_definition tree.now)) }
 {
     match tree {
         gq_tree::Definition::Tuple(fields, name) => {
@@ -89,6 +95,8 @@ pub(crate) fn definitions(
     ensures planned { IfOk result (λ es. DefinitionsPlanned (sorts_in scope.old) places.now (heads_of tuples.old slots.old)
         (map view_definition trees.now) es (heads_of tuples.new slots.new)) }
     ensures scoped { IfOk result (λ _. IsScoped (sorts_in scope.old) tuples.new scope.new) }
+    ensures unknown { IfErr result (λ e. e ≢ fault.Memory
+        → NoDefinitions (sorts_in scope.old) places.now (heads_of tuples.old slots.old) (map view_definition trees.now)) }
 {
     let mut planned = List::new(alloc);
     for tree in trees {

@@ -1,11 +1,13 @@
 // Parameters. They take places from the last one on.
-ghost use Rattle.std.specs.Prelude.{◌≡◌, IfOk, [], map, reverse};
+ghost use Rattle.std.specs.Prelude.{◌≡◌, ◌≢◌, IfOk, IfErr, [], map, reverse};
 ghost use Rattle.gq_typing.specs.StatementViews.{view_base, view_parameter};
 ghost use Rattle.gq_scope.specs.Held.{sorts_in};
 ghost use Rattle.gq_expr_plan.specs.Resolved.{Answers};
+ghost use Rattle.gq_expr_plan.specs.declared.fault.PlanFault.TheVariants as fault;
 ghost use Rattle.gq_step_plan.specs.Parts.{resolved_base};
 ghost use Rattle.gq_found.specs.Found.{globals_of};
 ghost use Rattle.gq_planned.specs.Laws.{no_names, ParametersPlanned};
+ghost use Rattle.gq_plan.specs.Unplanned.{NoParameters};
 
 use crate::names::add_name;
 use gq_expr_plan::PlanFault;
@@ -49,7 +51,8 @@ pub(crate) fn parameters(
     trees: &[gq_tree::Parameter],
 ) -> Result<List<Parameter>, PlanFault>
     requires { places.old ≡ no_names }
-    ensures { IfOk result (λ list. ParametersPlanned (sorts_in scope.now) (map view_parameter trees.now) list places.new) }
+    ensures planned { IfOk result (λ list. ParametersPlanned (sorts_in scope.now) (map view_parameter trees.now) list places.new) }
+    ensures unknown { IfErr result (λ e. e ≢ fault.Memory → NoParameters (sorts_in scope.now) (map view_parameter trees.now)) }
 {
     let mut planned = List::new(alloc);
     let mut left = trees.len();

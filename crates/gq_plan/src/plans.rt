@@ -1,5 +1,5 @@
 // Whole queries.
-ghost use Rattle.std.specs.Prelude.{◌≡◌, ◌<◌, ◌≤◌, IfOk, true, [], length};
+ghost use Rattle.std.specs.Prelude.{◌≡◌, ◌≢◌, ◌<◌, ◌≤◌, IfOk, IfErr, true, false, [], length};
 ghost use Rattle.std.specs.Option.{ForSome};
 ghost use Rattle.std.specs.List.{list_any};
 ghost use Rattle.gq_value.specs.Catalog.{most_types};
@@ -8,7 +8,10 @@ ghost use Rattle.gq_typing.specs.StatementViews.{is_v2, view_query};
 ghost use Rattle.gq_scope.specs.Held.{graph_in, sorts_in};
 ghost use Rattle.gq_planned.specs.Laws.{IsPlanned};
 ghost use Rattle.gq_plan.specs.Heading.{IsScoped};
+ghost use Rattle.gq_expr_plan.specs.declared.fault.PlanFault.TheVariants as fault;
 ghost use Rattle.gq_plan.specs.Prints.{PrintsAs};
+ghost use Rattle.gq_plan.specs.Safe.{NeverStuck};
+ghost use Rattle.gq_plan.specs.Unplanned.{NoPlan, NotTyped};
 
 use crate::definitions::definitions;
 use crate::parameters::parameters;
@@ -17,12 +20,11 @@ use gq_globals::Found;
 use gq_held::places_of;
 use gq_list::List;
 use gq_places::Places;
-use gq_resolved::{Held, Plan};
+use gq_resolved::Plan;
 use gq_schema::Catalog;
 use gq_scope::Scope;
 use gq_step_plan::plan_steps;
 use gq_tree::{Mode, QueryTree};
-use gq_value::Memory;
 use std::alloc::Global;
 
 /// Whether the query is in SYNTAX v2.
@@ -46,17 +48,15 @@ fn is_second(mode: &Mode) -> bool
     }
 }
 
-/// The plan of a query, where nothing is declared yet. Unknown where something stands for nothing, which no well typed query has.
+/// The plan of a query, where nothing is declared yet, and without what stands at its places.
+///
+/// Unknown where something stands for nothing: then no plan can be made.
 #[tactic(auto, using(crate::proofs::PrintLaws::plan_laws))]
-fn planned(
-    alloc: Global,
-    scope: &mut Scope<'_>,
-    query: &QueryTree,
-    held: List<Held>,
-) -> Result<Plan, PlanFault>
+fn planned(alloc: Global, scope: &mut Scope<'_>, query: &QueryTree) -> Result<Plan, PlanFault>
     requires { IsScoped (sorts_in scope.old) [] scope.old }
     ensures planned { IfOk result (λ p. IsPlanned (sorts_in scope.old) (view_query query.now) p) }
     ensures few { IfOk result (λ p. length p.edges ≤ most_types) }
+    ensures unknown { IfErr result (λ e. e ≢ fault.Memory → NoPlan (sorts_in scope.old) (view_query query.now)) }
 {
     let vertices = List::from_slice(alloc, scope.own_vertices())?;
     let edges = List::from_slice(alloc, scope.own_edges())?;
@@ -80,7 +80,7 @@ fn planned(
         with_paths: allows_paths(query.modes.as_slice()),
         definitions,
         steps,
-        places: held,
+        places: List::new(alloc),
         vertices,
         edges,
     })
@@ -88,7 +88,8 @@ fn planned(
 
 /// Whether the catalog has a graph of this number.
 fn has_graph(catalog: &Catalog, graph: Option<u32>) -> bool
-    ensures { result ≡ true → ForSome graph (λ g. g < length catalog.now.graphs) }
+    ensures there { result ≡ true → ForSome graph (λ g. g < length catalog.now.graphs) }
+    ensures lacking { result ≡ false → ForSome graph (λ g. g < length catalog.now.graphs) → ⊥ }
 {
     match graph {
         None => true,
@@ -99,26 +100,28 @@ fn has_graph(catalog: &Catalog, graph: Option<u32>) -> bool
 /// The plan of a query for a graph of the catalog, by the graph's number; the query was taken by `check` of gq_check. It takes some frames of
 /// the stack for each level of the query's trees.
 ///
-/// Memory comes too for a query that isn't well typed, and for a graph that isn't there.
-#[tactic(auto, using(crate::proofs::PrintLaws::plan_laws))]
+/// Unknown comes for a graph that isn't there and for a query that isn't well typed, and for no other. Memory may come for such a query
+/// too.
+#[tactic(auto, using(crate::proofs::PrintLaws::plan_laws, crate::proofs::TypedLaws::typed_laws))]
 pub fn plan(
     alloc: Global,
     catalog: &Catalog,
     graph: Option<u32>,
     query: &QueryTree,
-) -> Result<Plan, Memory>
+) -> Result<Plan, PlanFault>
     ensures there { IfOk result (λ _. ForSome graph (λ g. g < length catalog.now.graphs)) }
     ensures planned { IfOk result (λ p. IsPlanned (sorts_of catalog.now (graph_in catalog.now graph)) (view_query query.now) p) }
     ensures prints { IfOk result (λ p. PrintsAs catalog.now (graph_in catalog.now graph) (view_query query.now) p) }
+    ensures safe { IfOk result (λ p. NeverStuck catalog.now (graph_in catalog.now graph) (view_query query.now) p) }
     ensures few { IfOk result (λ p. length p.edges ≤ most_types) }
+    ensures unknown { IfErr result (λ e. e ≢ fault.Memory → ForSome graph (λ g. g < length catalog.now.graphs)
+        → NotTyped (sorts_of catalog.now (graph_in catalog.now graph)) (view_query query.now)) }
 {
     if !has_graph(catalog, graph) {
-        return Err(Memory);
+        return Err(PlanFault::Unknown);
     }
-    let held = places_of(alloc, catalog, graph, query)?;
     let mut scope = Scope::new(alloc, catalog, graph);
-    match planned(alloc, &mut scope, query, held) {
-        Ok(plan) => Ok(plan),
-        Err(_) => Err(Memory),
-    }
+    let mut plan = planned(alloc, &mut scope, query)?;
+    plan.places = places_of(alloc, catalog, graph, query)?;
+    Ok(plan)
 }

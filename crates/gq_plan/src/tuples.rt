@@ -1,5 +1,5 @@
 // Tuple types.
-ghost use Rattle.std.specs.Prelude.{◌≡◌, ◌++◌, IfOk, Ok, Some, [], ◌∷◌, map};
+ghost use Rattle.std.specs.Prelude.{◌≡◌, ◌≢◌, ◌++◌, IfOk, IfErr, Ok, true, [], ◌∷◌, map};
 ghost use Rattle.gq_value.specs.AccumViews.{base_of};
 ghost use Rattle.gq_typing.specs.KindTypes as kinds;
 ghost use Rattle.gq_typing.specs.Scopes as typing;
@@ -7,12 +7,15 @@ ghost use Rattle.gq_typing.specs.Statements.{TupleType as a_tuple_type};
 ghost use Rattle.gq_typing.specs.StatementViews.{view_base, view_fields};
 ghost use Rattle.gq_scope.specs.Held.{fields_of, scope_in, sorts_in};
 ghost use Rattle.gq_expr_plan.specs.Resolved.{Answers};
+ghost use Rattle.gq_expr_plan.specs.declared.fault.PlanFault.TheVariants as fault;
 ghost use Rattle.gq_block_plan.specs.Resolved.{each_resolved};
 ghost use Rattle.gq_places.specs.Named.{Named};
 ghost use Rattle.gq_found.specs.Found.{globals_of};
 ghost use Rattle.gq_planned.specs.Planned.{DefinitionsPlanned};
 ghost use Rattle.gq_plan.specs.Heading.{IsScoped, heads_of, resolved_field};
+ghost use Rattle.gq_plan.specs.Unplanned.{Fails, NoDefinition, is_taken, tuple_names};
 
+use crate::accums::fault_of;
 use gq_expr_plan::PlanFault;
 use gq_globals::{Found, TupleType};
 use gq_kind_check::base_written;
@@ -59,12 +62,14 @@ fn planned_fields(
 // ---- the fields with their types
 
 /// A type that a field is declared with.
+#[tactic(auto, using(crate::proofs::FailLemmas::fail_laws))]
 fn field_type(alloc: Global, scope: &Scope<'_>, tree: &BaseTree) -> Result<BaseType, PlanFault>
-    ensures { IfOk result (λ base. typing.base_written (scope_in scope.now) (view_base tree.now) ≡ Ok (base_of base)) }
+    ensures typed { IfOk result (λ base. typing.base_written (scope_in scope.now) (view_base tree.now) ≡ Ok (base_of base)) }
+    ensures unknown { IfErr result (λ e. e ≢ fault.Memory → Fails (typing.base_written (scope_in scope.now) (view_base tree.now))) }
 {
     match base_written(alloc, scope, tree) {
         Ok(base) => Ok(base),
-        Err(_) => Err(PlanFault::Unknown),
+        Err(refusal) => Err(fault_of(&refusal)),
     }
 }
 
@@ -81,8 +86,10 @@ fn stands_in(fields: &[(Txt, BaseType)], name: &str) -> bool
 }
 
 /// One name more that the type doesn't have yet, of 16 at most.
+#[tactic(auto, using(crate::proofs::FieldLemmas::name_laws))]
 fn own_name(fields: &[(Txt, BaseType)], name: &str) -> Result<(), PlanFault>
-    ensures { IfOk result (λ _. kinds.own_name 16 (map (λ f. f.0) fields.now) name.now ≡ Ok (map (λ f. f.0) fields.now ++ name.now ∷ [])) }
+    ensures own { IfOk result (λ _. kinds.own_name 16 (map (λ f. f.0) fields.now) name.now ≡ Ok (map (λ f. f.0) fields.now ++ name.now ∷ [])) }
+    ensures unknown { IfErr result (λ e. e ≢ fault.Memory → Fails (kinds.own_name 16 (map (λ f. f.0) fields.now) name.now)) }
 {
     if stands_in(fields, name) {
         return Err(PlanFault::Unknown);
@@ -94,18 +101,19 @@ fn own_name(fields: &[(Txt, BaseType)], name: &str) -> Result<(), PlanFault>
 }
 
 /// The fields of a tuple type, with their types.
-#[tactic(auto, using(gq_type::proofs::ArgumentLemmas::all_laws, crate::proofs::FieldLemmas::field_laws))]
+#[tactic(auto, using(gq_type::proofs::ArgumentLemmas::all_laws, crate::proofs::FieldLemmas::field_laws, crate::proofs::FieldLemmas::fail_laws))]
 fn typed_fields(
     alloc: Global,
     scope: &Scope<'_>,
     trees: &[(BaseTree, Txt)],
 ) -> Result<List<(Txt, BaseType)>, PlanFault>
-    ensures { IfOk result (λ fields. kinds.fields_written (scope_in scope.now) 16 [] (view_fields trees.now) ≡ Ok (fields_of fields)) }
+    ensures typed { IfOk result (λ fields. kinds.fields_written (scope_in scope.now) 16 [] (view_fields trees.now) ≡ Ok (fields_of fields)) }
+    ensures unknown { IfErr result (λ e. e ≢ fault.Memory → Fails (kinds.fields_written (scope_in scope.now) 16 [] (view_fields trees.now))) }
 {
     let mut fields = List::new(alloc);
     for tree in trees {
-        let base = field_type(alloc, scope, &tree.0)?;
         own_name(fields.as_slice(), tree.1.as_str())?;
+        let base = field_type(alloc, scope, &tree.0)?;
         let name = Txt::of(alloc, tree.1.as_str())?;
         fields.push((name, base))?;
     }
@@ -139,6 +147,7 @@ fn declare(
     requires { IsScoped (sorts_in scope.old) tuples.old scope.old }
     ensures scoped { IfOk result (λ _. IsScoped (sorts_in scope.old) tuples.new scope.new) }
     ensures added { IfOk result (λ _. tuples.new ≡ tuples.old ++ (name.now, fields) ∷ []) }
+    ensures unknown { IfErr result (λ e. e ≢ fault.Memory → is_taken (tuple_names tuples.old) name.now ≡ true) }
 {
     if scope.has(name) {
         return Err(PlanFault::Unknown);
@@ -164,6 +173,8 @@ pub(crate) fn tuple_type(
     ensures planned { IfOk result (λ e. (n : Named) → DefinitionsPlanned (sorts_in scope.old) n (heads_of tuples.old slots.now)
         (a_tuple_type (view_fields trees.now) name.now ∷ []) (e ∷ []) (heads_of tuples.new slots.now)) }
     ensures scoped { IfOk result (λ _. IsScoped (sorts_in scope.old) tuples.new scope.new) }
+    ensures unknown { IfErr result (λ f. f ≢ fault.Memory → (n : Named)
+        → NoDefinition (sorts_in scope.old) n (heads_of tuples.old slots.now) (a_tuple_type (view_fields trees.now) name.now)) }
 {
     let number = tuples.len();
     if number > u32::MAX as usize {

@@ -14,20 +14,20 @@ loop-place-init g c = run_first g.C.Clock.clock c.args.over.now c.args.block.now
     (subst (λ (o : Over). length o.vertices ≤ 4194304) c.over.view_is c.len.ensures.few)
 
 pub try_candidate-requires-clause-within : goal.try_candidate-requires-clause-within
-try_candidate-requires-clause-within g c = within_at (length c.args.over.now.vertices) c.loop-place.place c.args.candidates.now c.at-candidate.result c.requires.candidates.within c.at-candidate.ensures.candidate
+try_candidate-requires-clause-within g c = within_at (length c.args.over.now.vertices) c.loop-place.place c.args.candidates.now c.near-candidate.result c.requires.candidates.within c.near-candidate.ensures
 
 pub try_candidate-requires-clause-shaped : goal.try_candidate-requires-clause-shaped
 try_candidate-requires-clause-shaped g c = c.in_ok-begin.ensures.shaped (length c.args.over.now.vertices) c.loop-place.invariant.shaped
 
 pub returns-in-Some : goal.returns-in-Some
-returns-in-Some g c = run_faults g.C.Clock.clock c.args.over.now c.args.block.now c.args.ends.now c.edge_place-edge.result c.args.candidates.now c.loop-place.place c.at-candidate.result c.in-Some.fault c.loop-place.found c.begin.new.found c.try_candidate.new.found
-    c.requires.ends c.edge_place-edge.ensures c.requires.candidates c.at-candidate.ensures.candidate c.loop-place.invariant
-    (subst (λ (f : Option Wrong). Tried c.args.over.now (comes g.C.Clock.clock c.args.over.now c.args.block.now c.args.ends.now c.edge_place-edge.result c.at-candidate.result) c.begin.new.found c.try_candidate.new.found f) c.in-Some.is c.in_ok-fault.ensures.tried)
+returns-in-Some g c = run_faults g.C.Clock.clock c.args.over.now c.args.block.now c.args.ends.now c.edge_place-edge.result c.args.candidates.now c.loop-place.place c.near-candidate.result c.in-Some.fault c.loop-place.found c.begin.new.found c.try_candidate.new.found
+    c.requires.ends c.edge_place-edge.ensures c.requires.candidates c.near-candidate.ensures c.loop-place.invariant
+    (subst (λ (f : Option Wrong). Tried c.args.over.now (comes g.C.Clock.clock c.args.over.now c.args.block.now c.args.ends.now c.edge_place-edge.result c.near-candidate.result) c.begin.new.found c.try_candidate.new.found f) c.in-Some.is c.in_ok-fault.ensures.tried)
 
 pub loop-place-preserved : goal.loop-place-preserved
-loop-place-preserved g c = run_next g.C.Clock.clock c.args.over.now c.args.block.now c.args.ends.now c.edge_place-edge.result c.args.candidates.now c.loop-place.place c.at-candidate.result c.loop-place.found c.begin.new.found c.try_candidate.new.found
-    c.at-candidate.ensures.candidate c.loop-place.invariant c.in_ok-begin.ensures
-    (subst (λ (f : Option Wrong). Tried c.args.over.now (comes g.C.Clock.clock c.args.over.now c.args.block.now c.args.ends.now c.edge_place-edge.result c.at-candidate.result) c.begin.new.found c.try_candidate.new.found f) c.in-None.is c.in_ok-fault.ensures.tried)
+loop-place-preserved g c = run_next g.C.Clock.clock c.args.over.now c.args.block.now c.args.ends.now c.edge_place-edge.result c.args.candidates.now c.loop-place.place c.near-candidate.result c.loop-place.found c.begin.new.found c.try_candidate.new.found
+    c.near-candidate.ensures c.loop-place.invariant c.in_ok-begin.ensures
+    (subst (λ (f : Option Wrong). Tried c.args.over.now (comes g.C.Clock.clock c.args.over.now c.args.block.now c.args.ends.now c.edge_place-edge.result c.near-candidate.result) c.begin.new.found c.try_candidate.new.found f) c.in-None.is c.in_ok-fault.ensures.tried)
     c.in_ok-fault.ensures.shaped
 
 pub returns : goal.returns

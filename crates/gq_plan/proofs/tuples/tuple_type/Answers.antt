@@ -12,4 +12,4 @@ returns-clause-planned c = λ n.
     tuple_planned c.args.scope.now n c.args.tuples.now c.declare.new.tuples c.args.slots.now (view_fields c.args.trees.now) c.args.name.now c.in_ok-planned.planned c.in_ok-fields.fields c.len-number.result
     c.requires c.len-number.ensures
     (subst (λ (ts : TupleTypes). each_resolved (resolved_field (globals_of (sorts_in c.args.scope.now) ts c.args.slots.now)) (view_fields c.args.trees.now) ≡ Some c.in_ok-planned.planned) c.as_slice.ensures c.in_ok-planned.ensures)
-    c.in_ok-fields.ensures c.in_ok-declare.ensures.added
+    c.in_ok-fields.ensures.typed c.in_ok-declare.ensures.added
