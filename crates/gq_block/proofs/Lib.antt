@@ -4,3 +4,6 @@ pub mod FoundLemmas
 pub mod ListLemmas
 pub mod EndLemmas
 pub mod RunLemmas
+pub mod DirectLemmas
+pub mod GatherLemmas
+pub mod ComesLemmas

@@ -1,3 +1,4 @@
 pub mod Aliases
+pub mod Direct
 pub mod Running
 pub mod Results

@@ -1,5 +1,5 @@
 -- Running: what comes of candidates one after another, and what is known of a block's accumulators and marks by then.
-use Rattle.std.specs.Prelude.{◌≡◌, ◌==◌, ℕ, suc, ◌*◌, ◌≤◌, Bool, false, List, [], ◌∷◌, ◌++◌, length, map, filter_map, Option, Some, None}
+use Rattle.std.specs.Prelude.{◌≡◌, ◌==◌, ℕ, suc, ◌*◌, ◌≤◌, Bool, true, false, List, [], ◌∷◌, ◌++◌, length, map, filter_map, Option, Some, None}
 use Rattle.std.specs.List.{All, flat_map}
 use Rattle.gq_value.specs.declared.kind.Input.{Input}
 use Rattle.gq_value.specs.declared.store.Candidate.{Candidate}
@@ -22,7 +22,10 @@ use Rattle.gq_feed.specs.Feeding.{AreAfter}
 use Rattle.gq_contribute.specs.Passing.{Comes}
 use Rattle.gq_contribute.specs.declared.candidate.Outcome.{Outcome}
 use Rattle.gq_block.specs.declared.found.Found.{Found}
+use Rattle.gq_ints.specs.Ints.{as_inputs}
+use Rattle.gq_block.specs.declared.direct.Simple.{Simple}
 use Rattle.gq_block.specs.Aliases.{bound_to}
+use Rattle.gq_block.specs.Direct.{IsDirect}
 
 -- ---- candidates
 
@@ -54,7 +57,7 @@ sources_of ms = map (λ (m : Match). m.candidate.source) ms
 abbrev pub targets_of : List Match → List ℕ
 targets_of ms = filter_map (λ (m : Match). m.candidate.target) ms
 
--- the contributions of these matches: some are fed, the others wait in the batch
+-- the contributions of these matches: some are fed; the others wait in the batch, and behind them those that are INTs at hand
 pub record Holds (o : Over) (ms : List Match) (fed pending : List Contribution) (found : Found) : Type 0 where
   pub whole : gives_of ms ≡ fed ++ pending
   pub after : AreAfter 1 o.frame.accums found.accums fed
@@ -62,7 +65,7 @@ pub record Holds (o : Over) (ms : List Match) (fed pending : List Contribution) 
   pub may : All (MayTake o.frame.accums.slots) pending
   pub batch : List (ℕ × Input)
   pub waiting : found.batches ≡ batch ∷ []
-  pub batched : AreBatched o.frame.accums.slots pending batch
+  pub batched : AreBatched o.frame.accums.slots pending (batch ++ as_inputs found.ints)
   pub sources : Marks found.sources (sources_of ms)
   pub targets : Marks found.targets (targets_of ms)
   pub within : All (λ (m : Match). IsWithin (length o.vertices) m.candidate) ms
@@ -103,6 +106,12 @@ pub record Feeds (old new : Found) : Type 0 where
 abbrev pub Tried : Over → Answer Wrong (List Match) → Found → Found → Option Wrong → Type 0
 Tried o go old new None = (m : List Match) × (go ≡ Gives m) × ((ms : List Match) → Has o ms old → Has o (ms ++ m) new)
 Tried o go old new (Some w) = go ≡ Faults w
+
+-- a candidate whose acts feed INTs that are at hand is done; else nothing has changed
+abbrev pub Done : Calendar → Over → Candidate → Option (List Simple) → Found → Found → Bool → Type 0
+Done clock o c None old new true = ⊥
+Done clock o c (Some ss) old new true = ((block : Block) (ends : Ends) (edge : Option ℕ) → IsDirect ends edge o.frame.accums.slots block ss → Tried o (comes clock o block ends edge c) old new None) × IsShaped (length o.vertices) new
+Done clock o c ss old new false = new ≡ old
 
 -- whether a vertex is that at an end
 abbrev pub marks_end : Option ℕ → ℕ → Bool

@@ -1,13 +1,16 @@
 // What a candidate leaves.
-ghost use Rattle.std.specs.Prelude.{◌≡◌, ◌||◌, ◌*◌, ℕ, length, map, IfOk};
+ghost use Rattle.std.specs.Prelude.{◌≡◌, ◌||◌, ◌*◌, ℕ, [], Some, length, map, IfOk, IfSome};
 ghost use Rattle.gq_contribute.specs.Passing.{Comes};
 ghost use Rattle.gq_marks.specs.Marks.{is_marked};
 ghost use Rattle.gq_start.specs.Starts.{IsBelow, IsWithin};
 ghost use Rattle.gq_frame.specs.Names.{alias_of};
-ghost use Rattle.gq_block.specs.Running.{ComesUnder, IsShaped, Tried, comes, marks_end};
+ghost use Rattle.gq_block.specs.Direct.{IsDirect};
+ghost use Rattle.gq_block.specs.Running.{ComesUnder, Done, IsShaped, Tried, comes, marks_end};
 
 use crate::aliases::{bind, no_alias};
+use crate::direct::Simple;
 use crate::found::Found;
+use crate::gather::gather;
 use gq_contribute::{Outcome, Room, contribute};
 use gq_core::Batches;
 use gq_ends::Ends;
@@ -19,9 +22,78 @@ use gq_value::{Candidate, Wrong};
 use gq_view::{Clock, Setting};
 use std::alloc::Global;
 
-/// Tries a candidate. What a match contributes waits in the batch, and its ends are marked; the fault of one that faults is told.
+/// Tries a candidate: what a match contributes waits, and its ends are marked; the fault of one that faults is told. Where these acts
+/// stand for the block's, what they read is all that it contributes; they are asked where INTs are at hand.
+pub(crate) fn try_one<C: Clock>(
+    alloc: Global,
+    block: &Block,
+    over: &Setting<'_, C>,
+    ends: &Ends,
+    edge: Option<u32>,
+    direct: &Option<List<Simple<'_>>>,
+    at_hand: bool,
+    candidate: Candidate,
+    found: &mut Found,
+) -> Result<Option<Wrong>, Memory>
+    requires within { IsWithin (length over.now.vertices) candidate }
+    requires shaped { IsShaped (length over.now.vertices) found.old }
+    requires direct { IfSome direct.now (IsDirect ends.now edge over.now.frame.accums.slots block.now) }
+    ensures tried { IfOk result (Tried over.now (comes C.clock over.now block.now ends.now edge candidate) found.old found.new) }
+    ensures shaped { IfOk result (λ _. IsShaped (length over.now.vertices) found.new) }
+{
+    if is_done(direct, at_hand, over, candidate, found)? {
+        return Ok(None);
+    }
+    found.settle(alloc)?;
+    try_candidate(alloc, block, over, ends, edge, candidate, found)
+}
+
+/// Whether acts feed INTs that are at hand: then the candidate is done, and else nothing has changed.
+fn is_done<C: Clock>(
+    direct: &Option<List<Simple<'_>>>,
+    at_hand: bool,
+    over: &Setting<'_, C>,
+    candidate: Candidate,
+    found: &mut Found,
+) -> Result<bool, Memory>
+    requires within { IsWithin (length over.now.vertices) candidate }
+    requires shaped { IsShaped (length over.now.vertices) found.old }
+    ensures { IfOk result (Done C.clock over.now candidate direct.now found.old found.new) }
+{
+    match direct {
+        Some(simple) => {
+            if !at_hand {
+                return Ok(false);
+            }
+            by_ints(simple.as_slice(), over, candidate, found)
+        }
+        None => Ok(false),
+    }
+}
+
+/// Gathers the INTs that acts feed, and marks the ends; or changes nothing, where one of them feeds something else.
+fn by_ints<C: Clock>(
+    simple: &[Simple<'_>],
+    over: &Setting<'_, C>,
+    candidate: Candidate,
+    found: &mut Found,
+) -> Result<bool, Memory>
+    requires within { IsWithin (length over.now.vertices) candidate }
+    requires shaped { IsShaped (length over.now.vertices) found.old }
+    ensures { IfOk result (Done C.clock over.now candidate (Some simple.now) found.old found.new) }
+{
+    if !gather(simple, over.graph, candidate, &mut found.ints)? {
+        return Ok(false);
+    }
+    mark(&mut found.sources, candidate.source);
+    mark_end(&mut found.targets, candidate.target);
+    Ok(true)
+}
+
+/// Tries a candidate by evaluating its acts. What a match contributes waits in the batch, and its ends are marked; the fault of one that
+/// faults is told.
 #[tactic(auto, using(crate::proofs::FoundLemmas::tried_laws))]
-pub(crate) fn try_candidate<C: Clock>(
+fn try_candidate<C: Clock>(
     alloc: Global,
     block: &Block,
     over: &Setting<'_, C>,
@@ -30,6 +102,7 @@ pub(crate) fn try_candidate<C: Clock>(
     candidate: Candidate,
     found: &mut Found,
 ) -> Result<Option<Wrong>, Memory>
+    requires settled { found.old.ints ≡ [] }
     requires within { IsWithin (length over.now.vertices) candidate }
     requires shaped { IsShaped (length over.now.vertices) found.old }
     ensures tried { IfOk result (Tried over.now (comes C.clock over.now block.now ends.now edge candidate) found.old found.new) }

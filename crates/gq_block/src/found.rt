@@ -1,6 +1,6 @@
 // What was found so far.
-ghost use Rattle.std.specs.Prelude.{◌≡◌, length, IfOk, IfSome, OnOk};
-ghost use Rattle.gq_block.specs.Running.{Feeds, IsOpened, IsShort};
+ghost use Rattle.std.specs.Prelude.{◌≡◌, [], length, IfOk, IfSome, OnOk};
+ghost use Rattle.gq_block.specs.Running.{Feeds, IsOpened, IsShort, Keeps};
 ghost use Rattle.gq_block.specs.Results.{AreListed, IsJudged};
 
 use gq_answer::{After, BlockFault};
@@ -8,6 +8,7 @@ use gq_contribute::Room;
 use gq_core::Batches;
 use gq_feed::{feed_all, first_unfit};
 use gq_index::VertexList;
+use gq_ints::feed_ints;
 use gq_list::{List, Memory};
 use gq_marks::{listed, unmarked};
 use gq_slots::Accums;
@@ -22,6 +23,9 @@ pub(crate) struct Found {
     /// How many inputs are fed.
     pub fed: u64,
     pub batches: Batches,
+
+    /// INTs that were at hand, each with the number of its target. They come behind what is in the batch.
+    pub ints: List<(u64, i64)>,
     pub room: Room,
     pub sources: List<u64>,
     pub targets: List<u64>,
@@ -37,6 +41,7 @@ impl Found {
             accums: accums.duplicate(alloc)?,
             fed: 0,
             batches: Batches::new(alloc, 1)?,
+            ints: List::new(alloc),
             room: Room::new(alloc),
             sources: unmarked(alloc, vertices)?,
             targets: unmarked(alloc, vertices)?,
@@ -47,16 +52,36 @@ impl Found {
     #[tactic(auto, using(crate::proofs::FoundLemmas::feed_laws))]
     pub fn feed(&mut self, alloc: Global) -> Result<(), Memory>
         requires { length self.old.batches ≡ 1 }
-        ensures { OnOk result (Feeds self.old self.new) }
+        ensures fed { OnOk result (Feeds self.old self.new) }
+        ensures none { OnOk result (self.new.ints ≡ []) }
     {
         let batch = self.batches.at(0);
+        let ints = self.ints.as_slice();
         if batch.len() as u64 >= MOST_INPUTS || self.fed >= MOST_INPUTS {
             return Err(Memory);
         }
-        let fed = self.fed + batch.len() as u64;
+        if ints.len() as u64 >= MOST_INPUTS {
+            return Err(Memory);
+        }
+        let fed = self.fed + batch.len() as u64 + ints.len() as u64;
         feed_all(alloc, &mut self.accums, batch)?;
+        feed_ints(&mut self.accums, ints)?;
         self.batches.clear();
+        self.ints.truncate(0);
         self.fed = fed;
+        Ok(())
+    }
+
+    /// Feeds the inputs that aren't fed yet, where INTs are among them, so that the batch may take more.
+    #[tactic(auto, using(crate::proofs::FoundLemmas::keep_laws))]
+    pub fn settle(&mut self, alloc: Global) -> Result<(), Memory>
+        requires { length self.old.batches ≡ 1 }
+        ensures kept { OnOk result (Keeps self.old self.new) }
+        ensures none { OnOk result (self.new.ints ≡ []) }
+    {
+        if self.ints.len() > 0 {
+            self.feed(alloc)?;
+        }
         Ok(())
     }
 }

@@ -7,7 +7,10 @@
 
 mod aliases;
 mod candidate;
+mod chunk;
+mod direct;
 mod found;
+mod gather;
 mod run;
 
 pub use run::run_block;

@@ -1,18 +1,25 @@
 // The run.
-ghost use Rattle.std.specs.Prelude.{◌≡◌, ◌≤◌, length, IfOk, OnOk};
+ghost use Rattle.std.specs.Prelude.{◌≡◌, ◌≤◌, ℕ, Option, length, IfOk, IfSome, OnOk};
+ghost use Rattle.std.specs.Option.{option_map};
+ghost use Rattle.gq_typing.specs.Patterns.{edge_alias};
+ghost use Rattle.gq_resolved.specs.BlockView.{view_walk};
+ghost use Rattle.gq_resolved.specs.Reference.{Place};
+ghost use Rattle.gq_block.specs.Direct.{IsDirect};
 ghost use Rattle.gq_ends.specs.Ends.{HasEnds};
 ghost use Rattle.gq_start.specs.Starts.{AreCandidates};
 ghost use Rattle.gq_block.specs.Results.{Answers, Leaves, RanTo};
 ghost use Rattle.gq_block.specs.Running.{Keeps};
 
 use crate::aliases::edge_place;
-use crate::candidate::try_candidate;
+use crate::candidate::try_one;
+use crate::chunk::Chunk;
+use crate::direct::{Simple, direct_of};
 use crate::found::{Found, judged};
 use gq_answer::{After, BlockFault};
 use gq_ends::{Ends, ends_of};
 use gq_index::{Candidates, Cursor};
 use gq_io::{Gate, Shape};
-use gq_list::Memory;
+use gq_list::{List, Memory};
 use gq_resolved::Block;
 use gq_start::candidates_of;
 use gq_value::Wrong;
@@ -70,7 +77,9 @@ fn run_all<C: Clock, G: Gate>(
         over.frame.things.as_slice(),
     )?;
     let candidates = candidates_of(alloc, block, over, &ends)?;
-    through(alloc, block, over, &ends, &candidates, shape, gate)
+    let edge = edge_place(&block.walk);
+    let direct = direct_of(alloc, block, &ends, edge, &over.frame.accums.slots)?;
+    through(alloc, block, over, &ends, &direct, &candidates, shape, gate)
 }
 
 /// Goes through the candidates in order, up to the first that faults, and feeds what they contribute.
@@ -79,22 +88,37 @@ fn through<C: Clock, G: Gate>(
     block: &Block,
     over: &Setting<'_, C>,
     ends: &Ends,
+    direct: &Option<List<Simple<'_>>>,
     candidates: &Candidates,
     shape: &Shape,
     gate: &G,
 ) -> Result<Ran, Memory>
     requires ends { HasEnds over.now.schema over.now.plan over.now.frame.things block.now ends.now }
     requires candidates { AreCandidates over.now block.now candidates.now }
+    requires direct { (edge : Option ℕ) → option_map Place edge ≡ edge_alias (view_walk block.now.walk) → IfSome direct.now (IsDirect ends.now edge over.now.frame.accums.slots block.now) }
     ensures { IfOk result (RanTo C.clock over.now block.now) }
 {
     let mut found = Found::open(alloc, &over.frame.accums, over.graph.store.vertices.len())?;
     let edge = edge_place(&block.walk);
-    let chunk = shape.chunk.max(1);
+    let mut chunk = Chunk::new(alloc, shape.chunk.max(1));
     let mut cursor = Cursor::new();
     for place in 0..candidates.count() {
-        begin(alloc, place, chunk, &mut found, gate)?;
+        if chunk.is_past(place) {
+            chunk.next(place, direct, over.graph, candidates)?;
+        }
+        begin(alloc, place, &chunk, &mut found, gate)?;
         let candidate = candidates.near(place, &mut cursor);
-        match try_candidate(alloc, block, over, ends, edge, candidate, &mut found)? {
+        match try_one(
+            alloc,
+            block,
+            over,
+            ends,
+            edge,
+            direct,
+            chunk.at_hand,
+            candidate,
+            &mut found,
+        )? {
             Some(fault) => return Ok(Ran::Fault(place, fault)),
             None => {}
         }
@@ -108,16 +132,15 @@ fn through<C: Clock, G: Gate>(
 fn begin<G: Gate>(
     alloc: Global,
     place: u64,
-    chunk: u64,
+    chunk: &Chunk,
     found: &mut Found,
     gate: &G,
 ) -> Result<(), Memory>
-    requires some { 1 ≤ chunk }
     requires one { length found.old.batches ≡ 1 }
     ensures { OnOk result (Keeps found.old found.new) }
 {
-    if place % chunk == 0 {
-        gate.pass(0, place / chunk);
+    if place == chunk.start {
+        gate.pass(0, chunk.number);
         found.feed(alloc)?;
     }
     Ok(())
