@@ -1,5 +1,5 @@
-//! Tests of `gq_accum`, in a crate of their own, so that the library isn't proved a second time with them.
+//! Tests: contents of accumulators of every kind. They stand in a crate of their own, so that no library is proved a second time with its tests.
 #![tactic(auto)]
 
 #[cfg(test)]
-mod tests;
+mod contents;

@@ -4,7 +4,5 @@
 #![tactic(auto)]
 
 mod args;
-#[cfg(test)]
-mod tests;
 
 pub use args::{Args, ArgsFault};

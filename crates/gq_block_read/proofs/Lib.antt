@@ -4,3 +4,4 @@ pub mod WalkReads
 pub mod SelectReads
 pub mod Missing
 mod LevelLemmas
+pub mod StageLemmas

@@ -8,11 +8,15 @@ ghost use Rattle.gq_block_read.specs.Acts as spec;
 ghost use Rattle.gq_block_read.specs.Nests.{ActNests};
 
 use crate::changes::plain_act;
+use crate::stages::{chained, paired};
 use gq_grammar::Source;
 use gq_list::{List, Memory};
 use gq_part_read::{Read, expression, first_of, need};
 use gq_tree::{Act, Node};
 use std::alloc::Global;
+
+// A condition, and the acts behind it.
+type Branch = (Node, List<Act>);
 
 /// Reads an act that may hold others.
 #[derive(Drop)]
@@ -76,29 +80,50 @@ impl<'s, 'a, F: Fn(Global, &Source<'_>, usize, usize) -> Read<Act>> Acts<'s, 'a,
         requires at { at ≤ length self.now.source.now }
         ensures { IfOk result (Found (chain (lexemes.sign ",") (spec.nested_act_parser self.now.levels)) self.now.source.now at) }
     {
-        let (first, at) = need!(self.inner(at)?);
-        let (mut all, at) = self.more_acts(at)?;
-        all.insert(0, first)?;
-        Ok(Some((List::from_vec(all), at)))
+        match self.inner(at)? {
+            None => Ok(None),
+            Some((first, at)) => chained(first, self.more_acts(at)),
+        }
+    }
+
+    // THEN Acts
+    #[tactic(auto, unfolding(gq_grammar::specs::Parsers::after))]
+    fn then_acts(&self, at: usize) -> Read<List<Act>>
+        requires nests { ActNests self.now.source.now self.now.levels (F.pre self.now.inner) (F.post self.now.inner) }
+        requires at { at ≤ length self.now.source.now }
+        ensures { IfOk result (Found (after (lexemes.word "THEN") (chain (lexemes.sign ",") (spec.nested_act_parser self.now.levels))) self.now.source.now at) }
+    {
+        let at = need!(self.source.keyword(at, "THEN"));
+        self.acts(at)
+    }
+
+    // Expr THEN Acts
+    #[tactic(auto, unfolding(crate::specs::Acts::act_branch_parser))]
+    fn act_branch(&self, at: usize) -> Read<Branch>
+        requires nests { ActNests self.now.source.now self.now.levels (F.pre self.now.inner) (F.post self.now.inner) }
+        requires at { at ≤ length self.now.source.now }
+        ensures { IfOk result (Found (spec.act_branch_parser (spec.nested_act_parser self.now.levels)) self.now.source.now at) }
+    {
+        match expression(self.alloc, self.source, at)? {
+            None => Ok(None),
+            Some((condition, at)) => paired(condition, self.then_acts(at)),
+        }
     }
 
     // IF Expr THEN Acts
-    #[tactic(auto, unfolding(crate::specs::Acts::if_acts_parser, crate::specs::Acts::act_branch_parser, gq_grammar::specs::Parsers::after))]
-    fn if_acts(&self, at: usize) -> Read<(Node, List<Act>)>
+    #[tactic(auto, unfolding(crate::specs::Acts::if_acts_parser, gq_grammar::specs::Parsers::after))]
+    fn if_acts(&self, at: usize) -> Read<Branch>
         requires nests { ActNests self.now.source.now self.now.levels (F.pre self.now.inner) (F.post self.now.inner) }
         requires at { at ≤ length self.now.source.now }
         ensures { IfOk result (Found (spec.if_acts_parser (spec.nested_act_parser self.now.levels)) self.now.source.now at) }
     {
         let at = need!(self.source.keyword(at, "IF"));
-        let (condition, at) = need!(expression(self.alloc, self.source, at)?);
-        let at = need!(self.source.keyword(at, "THEN"));
-        let (acts, at) = need!(self.acts(at)?);
-        Ok(Some(((condition, acts), at)))
+        self.act_branch(at)
     }
 
     // ELSE IF Expr THEN Acts
     #[tactic(auto, unfolding(gq_grammar::specs::Parsers::after))]
-    fn next_branch(&self, at: usize) -> Read<(Node, List<Act>)>
+    fn next_branch(&self, at: usize) -> Read<Branch>
         requires nests { ActNests self.now.source.now self.now.levels (F.pre self.now.inner) (F.post self.now.inner) }
         requires at { at ≤ length self.now.source.now }
         ensures { IfOk result (Found (after (lexemes.word "ELSE") (spec.if_acts_parser (spec.nested_act_parser self.now.levels))) self.now.source.now at) }
@@ -109,7 +134,7 @@ impl<'s, 'a, F: Fn(Global, &Source<'_>, usize, usize) -> Read<Act>> Acts<'s, 'a,
 
     // { ELSE IF Expr THEN Acts }
     #[tactic(auto, using(gq_grammar::proofs::LoopLemmas::loops))]
-    fn more_branches(&self, from: usize) -> Result<(Vec<(Node, List<Act>)>, usize), Memory>
+    fn more_branches(&self, from: usize) -> Result<(Vec<Branch>, usize), Memory>
         requires nests { ActNests self.now.source.now self.now.levels (F.pre self.now.inner) (F.post self.now.inner) }
         requires at { from ≤ length self.now.source.now }
         ensures { IfOk result (λ read. Found (many (after (lexemes.word "ELSE") (spec.if_acts_parser (spec.nested_act_parser self.now.levels)))) self.now.source.now from (Some (read.0.items, read.1))) }
@@ -128,18 +153,28 @@ impl<'s, 'a, F: Fn(Global, &Source<'_>, usize, usize) -> Read<Act>> Acts<'s, 'a,
         Ok((found, at))
     }
 
+    // Acts, where the first act is no IF
+    #[tactic(auto, unfolding(crate::specs::Acts::last_acts_parser))]
+    fn last_acts(&self, at: usize) -> Read<List<Act>>
+        requires nests { ActNests self.now.source.now self.now.levels (F.pre self.now.inner) (F.post self.now.inner) }
+        requires at { at ≤ length self.now.source.now }
+        ensures { IfOk result (Found (spec.last_acts_parser (spec.nested_act_parser self.now.levels)) self.now.source.now at) }
+    {
+        match plain_act(self.alloc, self.source, at)? {
+            None => Ok(None),
+            Some((first, at)) => chained(first, self.more_acts(at)),
+        }
+    }
+
     // ELSE Acts, where the first act is no IF
-    #[tactic(auto, unfolding(crate::specs::Acts::else_acts_parser, crate::specs::Acts::last_acts_parser, gq_grammar::specs::Parsers::after))]
+    #[tactic(auto, unfolding(crate::specs::Acts::else_acts_parser, gq_grammar::specs::Parsers::after))]
     fn else_acts(&self, at: usize) -> Read<List<Act>>
         requires nests { ActNests self.now.source.now self.now.levels (F.pre self.now.inner) (F.post self.now.inner) }
         requires at { at ≤ length self.now.source.now }
         ensures { IfOk result (Found (spec.else_acts_parser (spec.nested_act_parser self.now.levels)) self.now.source.now at) }
     {
         let at = need!(self.source.keyword(at, "ELSE"));
-        let (first, at) = need!(plain_act(self.alloc, self.source, at)?);
-        let (mut all, at) = self.more_acts(at)?;
-        all.insert(0, first)?;
-        Ok(Some((List::from_vec(all), at)))
+        self.last_acts(at)
     }
 
     // [ ELSE Acts ]
@@ -164,18 +199,41 @@ impl<'s, 'a, F: Fn(Global, &Source<'_>, usize, usize) -> Read<Act>> Acts<'s, 'a,
         Ok(Some((last, at)))
     }
 
+    // IF Expr THEN Acts { ELSE IF Expr THEN Acts }
+    #[tactic(auto, unfolding(gq_grammar::specs::Series::chain))]
+    fn branches(&self, at: usize) -> Read<List<Branch>>
+        requires nests { ActNests self.now.source.now self.now.levels (F.pre self.now.inner) (F.post self.now.inner) }
+        requires at { at ≤ length self.now.source.now }
+        ensures { IfOk result (Found (chain (lexemes.word "ELSE") (spec.if_acts_parser (spec.nested_act_parser self.now.levels))) self.now.source.now at) }
+    {
+        match self.if_acts(at)? {
+            None => Ok(None),
+            Some((first, at)) => chained(first, self.more_branches(at)),
+        }
+    }
+
+    // IF Expr THEN Acts { ELSE IF Expr THEN Acts } [ ELSE Acts ] END, part by part
+    fn if_parts(&self, at: usize) -> Read<(List<Branch>, Option<List<Act>>)>
+        requires nests { ActNests self.now.source.now self.now.levels (F.pre self.now.inner) (F.post self.now.inner) }
+        requires at { at ≤ length self.now.source.now }
+        ensures { IfOk result (Found (both (chain (lexemes.word "ELSE") (spec.if_acts_parser (spec.nested_act_parser self.now.levels))) (spec.acts_end_parser (spec.nested_act_parser self.now.levels))) self.now.source.now at) }
+    {
+        match self.branches(at)? {
+            None => Ok(None),
+            Some((branches, at)) => paired(branches, self.acts_end(at)),
+        }
+    }
+
     // IF Expr THEN Acts { ELSE IF Expr THEN Acts } [ ELSE Acts ] END
-    #[tactic(auto, unfolding(crate::specs::Acts::act_branches_parser))]
     fn if_act(&self, at: usize) -> Read<Act>
         requires nests { ActNests self.now.source.now self.now.levels (F.pre self.now.inner) (F.post self.now.inner) }
         requires at { at ≤ length self.now.source.now }
         ensures { IfOk result (Found (made if_act (both (spec.if_acts_parser (spec.nested_act_parser self.now.levels)) (spec.act_branches_parser (spec.nested_act_parser self.now.levels)))) self.now.source.now at) }
     {
-        let (first, at) = need!(self.if_acts(at)?);
-        let (mut branches, at) = self.more_branches(at)?;
-        let (last, at) = need!(self.acts_end(at)?);
-        branches.insert(0, first)?;
-        Ok(Some((Act::If(List::from_vec(branches), last), at)))
+        match self.if_parts(at)? {
+            None => Ok(None),
+            Some(((branches, last), at)) => Ok(Some((Act::If(branches, last), at))),
+        }
     }
 
     /// An act that holds others of one level less.

@@ -6,10 +6,12 @@ ghost use Rattle.gq_grammar.specs.Parsers.{Found, token, both, made, after};
 ghost use Rattle.gq_block_read.specs.Acts as spec;
 
 use crate::input::input;
+use crate::stages::paired;
 use gq_grammar::Source;
 use gq_kind_read::value;
 use gq_part_read::{Read, attached, first_of, global, name, need};
 use gq_tree::{Act, Change, InputTree};
+use gq_value::Txt;
 use std::alloc::Global;
 
 // "+=" In
@@ -39,17 +41,56 @@ pub fn change(alloc: Global, source: &Source<'_>, at: usize) -> Read<Change>
     }
 }
 
-// Name "." Attached ( "+=" In | "=" Expr )
+// Attached ( "+=" In | "=" Expr )
+fn attached_change(alloc: Global, source: &Source<'_>, at: usize) -> Read<(Txt, Change)>
+    requires { at ≤ length source.now }
+    ensures { IfOk result (Found (both (token lexemes.Attached lexemes.spelling) spec.change_parser) source.now at) }
+{
+    match attached(alloc, source, at)? {
+        None => Ok(None),
+        Some((accum, at)) => paired(accum, change(alloc, source, at)),
+    }
+}
+
+// "." Attached ( "+=" In | "=" Expr )
 #[tactic(auto, unfolding(gq_grammar::specs::Parsers::after))]
+fn dotted_change(alloc: Global, source: &Source<'_>, at: usize) -> Read<(Txt, Change)>
+    requires { at ≤ length source.now }
+    ensures { IfOk result (Found (after (lexemes.sign ".") (both (token lexemes.Attached lexemes.spelling) spec.change_parser)) source.now at) }
+{
+    let at = need!(source.sign(at, "."));
+    attached_change(alloc, source, at)
+}
+
+// Name "." Attached ( "+=" In | "=" Expr ), part by part
+fn named_change(alloc: Global, source: &Source<'_>, at: usize) -> Read<(Txt, (Txt, Change))>
+    requires { at ≤ length source.now }
+    ensures { IfOk result (Found (both (token lexemes.Name lexemes.spelling) (after (lexemes.sign ".") (both (token lexemes.Attached lexemes.spelling) spec.change_parser))) source.now at) }
+{
+    match name(alloc, source, at)? {
+        None => Ok(None),
+        Some((alias, at)) => paired(alias, dotted_change(alloc, source, at)),
+    }
+}
+
+// Name "." Attached ( "+=" In | "=" Expr )
 fn attached_act(alloc: Global, source: &Source<'_>, at: usize) -> Read<Act>
     requires { at ≤ length source.now }
     ensures { IfOk result (Found (made attached_act (both (token lexemes.Name lexemes.spelling) (after (lexemes.sign ".") (both (token lexemes.Attached lexemes.spelling) spec.change_parser)))) source.now at) }
 {
-    let (alias, at) = need!(name(alloc, source, at)?);
-    let at = need!(source.sign(at, "."));
-    let (accum, at) = need!(attached(alloc, source, at)?);
-    let (change, at) = need!(change(alloc, source, at)?);
+    let ((alias, (accum, change)), at) = need!(named_change(alloc, source, at)?);
     Ok(Some((Act::Attached(alias, accum, change), at)))
+}
+
+// Global ( "+=" In | "=" Expr ), part by part
+fn global_change(alloc: Global, source: &Source<'_>, at: usize) -> Read<(Txt, Change)>
+    requires { at ≤ length source.now }
+    ensures { IfOk result (Found (both (token lexemes.Global lexemes.spelling) spec.change_parser) source.now at) }
+{
+    match global(alloc, source, at)? {
+        None => Ok(None),
+        Some((accum, at)) => paired(accum, change(alloc, source, at)),
+    }
 }
 
 // Global ( "+=" In | "=" Expr )
@@ -57,8 +98,7 @@ fn global_act(alloc: Global, source: &Source<'_>, at: usize) -> Read<Act>
     requires { at ≤ length source.now }
     ensures { IfOk result (Found (made global_act (both (token lexemes.Global lexemes.spelling) spec.change_parser)) source.now at) }
 {
-    let (accum, at) = need!(global(alloc, source, at)?);
-    let (change, at) = need!(change(alloc, source, at)?);
+    let ((accum, change), at) = need!(global_change(alloc, source, at)?);
     Ok(Some((Act::Global(accum, change), at)))
 }
 

@@ -1,18 +1,26 @@
 // Patterns of one hop.
 ghost use Rattle.std.specs.Prelude.{◌≤◌, length, IfOk};
-ghost use Rattle.gq_grammar.specs.Parsers.{Found};
+ghost use Rattle.gq_grammar.specs.Lexemes as lexemes;
+ghost use Rattle.gq_grammar.specs.Parsers.{Found, both, maybe};
+ghost use Rattle.gq_grammar.specs.Series.{ended};
 ghost use Rattle.gq_block_read.specs.Selects as spec;
 
 use crate::patterns::{edge_alias, some_alias, some_types};
+use crate::stages::beside;
 use gq_grammar::Source;
 use gq_part_read::{Read, need};
 use gq_tree::{HopTree, Types};
 use gq_value::Txt;
 use std::alloc::Global;
 
+// The edges of a hop, and where they lead.
+type EdgesTree = (Option<Types>, Option<Txt>);
+
+type TargetsTree = (EdgesTree, Option<Types>);
+
 // "-" "(" [ Types ] [ ":" Name ] ")"
 #[tactic(auto, unfolding(crate::specs::Selects::hop_edges_parser, gq_grammar::specs::Parsers::after))]
-fn hop_edges(alloc: Global, source: &Source<'_>, at: usize) -> Read<(Option<Types>, Option<Txt>)>
+fn hop_edges(alloc: Global, source: &Source<'_>, at: usize) -> Read<EdgesTree>
     requires { at ≤ length source.now }
     ensures { IfOk result (Found spec.hop_edges_parser source.now at) }
 {
@@ -23,16 +31,46 @@ fn hop_edges(alloc: Global, source: &Source<'_>, at: usize) -> Read<(Option<Type
     Ok(Some(((types, alias), at)))
 }
 
+// .. "->"
+#[tactic(auto, unfolding(gq_grammar::specs::Series::ended))]
+fn hop_arrow(alloc: Global, source: &Source<'_>, at: usize) -> Read<EdgesTree>
+    requires { at ≤ length source.now }
+    ensures { IfOk result (Found (ended (lexemes.sign "->") spec.hop_edges_parser) source.now at) }
+{
+    let (edges, at) = need!(hop_edges(alloc, source, at)?);
+    let at = need!(source.sign(at, "->"));
+    Ok(Some((edges, at)))
+}
+
+// .. [ Types ]
+fn hop_targets(alloc: Global, source: &Source<'_>, at: usize) -> Read<TargetsTree>
+    requires { at ≤ length source.now }
+    ensures { IfOk result (Found (both (ended (lexemes.sign "->") spec.hop_edges_parser) (maybe spec.types_parser)) source.now at) }
+{
+    match hop_arrow(alloc, source, at)? {
+        None => Ok(None),
+        Some((edges, at)) => beside(edges, some_types(alloc, source, at)),
+    }
+}
+
+// .. [ ":" Name ]
+fn hop_parts(alloc: Global, source: &Source<'_>, at: usize) -> Read<(TargetsTree, Option<Txt>)>
+    requires { at ≤ length source.now }
+    ensures { IfOk result (Found (both (both (ended (lexemes.sign "->") spec.hop_edges_parser) (maybe spec.types_parser)) (maybe spec.alias_parser)) source.now at) }
+{
+    match hop_targets(alloc, source, at)? {
+        None => Ok(None),
+        Some((targets, at)) => beside(targets, some_alias(alloc, source, at)),
+    }
+}
+
 /// `Hop = "-" "(" [ Types ] [ ":" Name ] ")" "->" [ Types ] [ ":" Name ]`.
-#[tactic(auto, unfolding(crate::specs::Selects::hop_parser, gq_grammar::specs::Series::ended))]
+#[tactic(auto, unfolding(crate::specs::Selects::hop_parser))]
 pub fn hop(alloc: Global, source: &Source<'_>, at: usize) -> Read<HopTree>
     requires { at ≤ length source.now }
     ensures { IfOk result (Found spec.hop_parser source.now at) }
 {
-    let ((edges, edge_alias), at) = need!(hop_edges(alloc, source, at)?);
-    let at = need!(source.sign(at, "->"));
-    let (targets, at) = some_types(alloc, source, at)?;
-    let (target_alias, at) = some_alias(alloc, source, at)?;
+    let ((((edges, edge_alias), targets), target_alias), at) = need!(hop_parts(alloc, source, at)?);
     Ok(Some((
         HopTree {
             edges,

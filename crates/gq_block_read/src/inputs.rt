@@ -1,12 +1,13 @@
 // What accumulators are fed with.
 ghost use Rattle.std.specs.Prelude.{◌≤◌, length, IfOk, Some};
 ghost use Rattle.gq_grammar.specs.Lexemes as lexemes;
-ghost use Rattle.gq_grammar.specs.Parsers.{Found, many, after};
+ghost use Rattle.gq_grammar.specs.Parsers.{Found, both, many, after};
 ghost use Rattle.gq_grammar.specs.Series.{chain};
 ghost use Rattle.gq_part_read.specs.Expression as part;
 ghost use Rattle.gq_block_read.specs.Acts as spec;
 ghost use Rattle.gq_block_read.specs.Nests.{InputNests};
 
+use crate::stages::{chained, paired};
 use gq_grammar::Source;
 use gq_list::{List, Memory};
 use gq_part_read::{Read, expression, list, need};
@@ -84,18 +85,40 @@ impl<'s, 'a, F: Fn(Global, &Source<'_>, usize, usize) -> Read<InputTree>> Inputs
         Ok((found, at))
     }
 
+    // In { "," In }
+    #[tactic(auto, unfolding(gq_grammar::specs::Series::chain))]
+    fn chain(&self, at: usize) -> Read<List<InputTree>>
+        requires nests { InputNests self.now.source.now self.now.levels (F.pre self.now.inner) (F.post self.now.inner) }
+        requires at { at ≤ length self.now.source.now }
+        ensures { IfOk result (Found (chain (lexemes.sign ",") (spec.nested_input_parser self.now.levels)) self.now.source.now at) }
+    {
+        match self.inner(at)? {
+            None => Ok(None),
+            Some((first, at)) => chained(first, self.more_inputs(at)),
+        }
+    }
+
     // "->" In { "," In }
-    #[tactic(auto, unfolding(crate::specs::Acts::inputs_parser, gq_grammar::specs::Parsers::after, gq_grammar::specs::Series::chain))]
+    #[tactic(auto, unfolding(crate::specs::Acts::inputs_parser, gq_grammar::specs::Parsers::after))]
     fn inputs(&self, at: usize) -> Read<List<InputTree>>
         requires nests { InputNests self.now.source.now self.now.levels (F.pre self.now.inner) (F.post self.now.inner) }
         requires at { at ≤ length self.now.source.now }
         ensures { IfOk result (Found (spec.inputs_parser (spec.nested_input_parser self.now.levels)) self.now.source.now at) }
     {
         let at = need!(self.source.sign(at, "->"));
-        let (first, at) = need!(self.inner(at)?);
-        let (mut all, at) = self.more_inputs(at)?;
-        all.insert(0, first)?;
-        Ok(Some((List::from_vec(all), at)))
+        self.chain(at)
+    }
+
+    // Expr { "," Expr } "->" In { "," In }
+    fn keyed_parts(&self, at: usize) -> Read<(List<Node>, List<InputTree>)>
+        requires nests { InputNests self.now.source.now self.now.levels (F.pre self.now.inner) (F.post self.now.inner) }
+        requires at { at ≤ length self.now.source.now }
+        ensures { IfOk result (Found (both (chain (lexemes.sign ",") part.expression) (spec.inputs_parser (spec.nested_input_parser self.now.levels))) self.now.source.now at) }
+    {
+        match keys(self.alloc, self.source, at)? {
+            None => Ok(None),
+            Some((keys, at)) => paired(keys, self.inputs(at)),
+        }
     }
 
     // "(" Expr { "," Expr } "->" In { "," In } ")"
@@ -106,8 +129,7 @@ impl<'s, 'a, F: Fn(Global, &Source<'_>, usize, usize) -> Read<InputTree>> Inputs
         ensures { IfOk result (Found (spec.keyed_input_parser (spec.nested_input_parser self.now.levels)) self.now.source.now at) }
     {
         let at = need!(self.source.sign(at, "("));
-        let (keys, at) = need!(keys(self.alloc, self.source, at)?);
-        let (inputs, at) = need!(self.inputs(at)?);
+        let ((keys, inputs), at) = need!(self.keyed_parts(at)?);
         let at = need!(self.source.sign(at, ")"));
         Ok(Some((InputTree::Keyed(keys, inputs), at)))
     }

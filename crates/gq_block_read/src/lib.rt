@@ -15,8 +15,10 @@ mod parts;
 mod paths;
 mod patterns;
 mod selects;
+mod stages;
 
 pub use act::acts;
 pub use changes::change;
 pub use laws::blocks_are_exact;
 pub use selects::select;
+pub use stages::{beside, chained, paired};

@@ -7,12 +7,18 @@ ghost use Rattle.gq_grammar.specs.Series.{chain};
 ghost use Rattle.gq_block_read.specs.Selects as spec;
 
 use crate::patterns::{edge_alias, some_alias, types};
+use crate::stages::{beside, chained, paired};
 use gq_grammar::Source;
 use gq_list::{List, Memory};
 use gq_part_read::{Read, first_of, name, need, run};
-use gq_tree::{StepTree, Way};
+use gq_tree::{StepTree, Types, Way};
 use gq_value::Txt;
 use std::alloc::Global;
+
+// The edges of a step, and where they lead.
+type EdgesTree = (List<(Way, Txt)>, Option<Txt>);
+
+type TargetsTree = (EdgesTree, Types);
 
 // Name [ ">" ]
 fn way_on(alloc: Global, source: &Source<'_>, at: usize) -> Read<(Way, Txt)>
@@ -74,19 +80,15 @@ fn ways(alloc: Global, source: &Source<'_>, at: usize) -> Read<List<(Way, Txt)>>
     requires { at ≤ length source.now }
     ensures { IfOk result (Found (chain (lexemes.sign "|") spec.way_parser) source.now at) }
 {
-    let (first, at) = need!(way(alloc, source, at)?);
-    let (mut all, at) = more_ways(alloc, source, at)?;
-    all.insert(0, first)?;
-    Ok(Some((List::from_vec(all), at)))
+    match way(alloc, source, at)? {
+        None => Ok(None),
+        Some((first, at)) => chained(first, more_ways(alloc, source, at)),
+    }
 }
 
 // "-" "(" Dir { "|" Dir } [ ":" Name ] ")"
 #[tactic(auto, unfolding(crate::specs::Selects::step_edges_parser, gq_grammar::specs::Parsers::after))]
-fn step_edges(
-    alloc: Global,
-    source: &Source<'_>,
-    at: usize,
-) -> Read<(List<(Way, Txt)>, Option<Txt>)>
+fn step_edges(alloc: Global, source: &Source<'_>, at: usize) -> Read<EdgesTree>
     requires { at ≤ length source.now }
     ensures { IfOk result (Found spec.step_edges_parser source.now at) }
 {
@@ -97,16 +99,45 @@ fn step_edges(
     Ok(Some(((ways, alias), at)))
 }
 
+// "-" Types
+#[tactic(auto, unfolding(gq_grammar::specs::Parsers::after))]
+fn step_types(alloc: Global, source: &Source<'_>, at: usize) -> Read<Types>
+    requires { at ≤ length source.now }
+    ensures { IfOk result (Found (after (lexemes.sign "-") spec.types_parser) source.now at) }
+{
+    let at = need!(source.sign(at, "-"));
+    types(alloc, source, at)
+}
+
+// "-" "(" Dir { "|" Dir } [ ":" Name ] ")" "-" Types
+fn step_targets(alloc: Global, source: &Source<'_>, at: usize) -> Read<TargetsTree>
+    requires { at ≤ length source.now }
+    ensures { IfOk result (Found (both spec.step_edges_parser (after (lexemes.sign "-") spec.types_parser)) source.now at) }
+{
+    match step_edges(alloc, source, at)? {
+        None => Ok(None),
+        Some((edges, at)) => paired(edges, step_types(alloc, source, at)),
+    }
+}
+
+// "-" "(" Dir { "|" Dir } [ ":" Name ] ")" "-" Types [ ":" Name ]
+fn step_parts(alloc: Global, source: &Source<'_>, at: usize) -> Read<(TargetsTree, Option<Txt>)>
+    requires { at ≤ length source.now }
+    ensures { IfOk result (Found (both (both spec.step_edges_parser (after (lexemes.sign "-") spec.types_parser)) (maybe spec.alias_parser)) source.now at) }
+{
+    match step_targets(alloc, source, at)? {
+        None => Ok(None),
+        Some((targets, at)) => beside(targets, some_alias(alloc, source, at)),
+    }
+}
+
 // Step = "-" "(" Dir { "|" Dir } [ ":" Name ] ")" "-" Types [ ":" Name ]
-#[tactic(auto, unfolding(crate::specs::Selects::step_parser, gq_grammar::specs::Parsers::after))]
+#[tactic(auto, unfolding(crate::specs::Selects::step_parser))]
 fn step(alloc: Global, source: &Source<'_>, at: usize) -> Read<StepTree>
     requires { at ≤ length source.now }
     ensures { IfOk result (Found spec.step_parser source.now at) }
 {
-    let ((ways, edge_alias), at) = need!(step_edges(alloc, source, at)?);
-    let at = need!(source.sign(at, "-"));
-    let (targets, at) = need!(types(alloc, source, at)?);
-    let (target_alias, at) = some_alias(alloc, source, at)?;
+    let ((((ways, edge_alias), targets), target_alias), at) = need!(step_parts(alloc, source, at)?);
     Ok(Some((
         StepTree {
             ways,

@@ -5,6 +5,7 @@ ghost use Rattle.gq_grammar.specs.Lexemes as lexemes;
 ghost use Rattle.gq_grammar.specs.Parsers.{Found, token, ◌or◌, maybe, many, stands, after, enclosed};
 ghost use Rattle.gq_block_read.specs.Selects as spec;
 
+use crate::stages::chained;
 use gq_grammar::Source;
 use gq_list::{List, Memory};
 use gq_part_read::{Read, name, need, of_words, run};
@@ -59,10 +60,10 @@ fn type_names(alloc: Global, source: &Source<'_>, at: usize) -> Read<List<Txt>>
     requires { at ≤ length source.now }
     ensures { IfOk result (Found spec.type_names_parser source.now at) }
 {
-    let (first, at) = need!(name(alloc, source, at)?);
-    let (mut all, at) = more_names(alloc, source, at)?;
-    all.insert(0, first)?;
-    Ok(Some((List::from_vec(all), at)))
+    match name(alloc, source, at)? {
+        None => Ok(None),
+        Some((first, at)) => chained(first, more_names(alloc, source, at)),
+    }
 }
 
 // "(" Name { "|" Name } ")"

@@ -1,10 +1,12 @@
 // SELECT.
 ghost use Rattle.std.specs.Prelude.{◌≤◌, length, IfOk};
-ghost use Rattle.gq_grammar.specs.Parsers.{Found};
+ghost use Rattle.gq_grammar.specs.Lexemes as lexemes;
+ghost use Rattle.gq_grammar.specs.Parsers.{Found, both, maybe, after, token};
 ghost use Rattle.gq_block_read.specs.Selects as spec;
 
 use crate::parts::{accum, filter, having, limit, order, post, some_walk};
 use crate::patterns::some_alias;
+use crate::stages::{beside, paired};
 use gq_grammar::Source;
 use gq_list::List;
 use gq_part_read::{Read, name, need};
@@ -12,63 +14,144 @@ use gq_tree::{Act, Node, SelectTree, Walk};
 use gq_value::Txt;
 use std::alloc::Global;
 
-// SELECT up to each of its parts, nested as the productions are: a function for each holds little at its exits.
+// SELECT up to each of its parts, nested as the productions are: a function for each part owns nothing at its exits.
 type FromTree = ((Txt, Txt), Option<Txt>);
 
-type FilterTree = ((FromTree, Option<Walk>), Option<Node>);
+type WalkTree = (FromTree, Option<Walk>);
 
-type ActingTree = ((FilterTree, Option<List<Act>>), Option<List<Act>>);
+type FilterTree = (WalkTree, Option<Node>);
 
-type OrderedTree = ((ActingTree, Option<Node>), Option<List<(Node, bool)>>);
+type FedTree = (FilterTree, Option<List<Act>>);
+
+type ActingTree = (FedTree, Option<List<Act>>);
+
+type KeptTree = (ActingTree, Option<Node>);
+
+type OrderedTree = (KeptTree, Option<List<(Node, bool)>>);
+
+type LimitedTree = (OrderedTree, Option<Node>);
+
+// FROM Name
+#[tactic(auto, unfolding(gq_grammar::specs::Parsers::after))]
+fn from_set(alloc: Global, source: &Source<'_>, at: usize) -> Read<Txt>
+    requires { at ≤ length source.now }
+    ensures { IfOk result (Found (after (lexemes.word "FROM") (token lexemes.Name lexemes.spelling)) source.now at) }
+{
+    let at = need!(source.keyword(at, "FROM"));
+    name(alloc, source, at)
+}
+
+// Name FROM Name
+fn name_from(alloc: Global, source: &Source<'_>, at: usize) -> Read<(Txt, Txt)>
+    requires { at ≤ length source.now }
+    ensures { IfOk result (Found (both (token lexemes.Name lexemes.spelling) (after (lexemes.word "FROM") (token lexemes.Name lexemes.spelling))) source.now at) }
+{
+    match name(alloc, source, at)? {
+        None => Ok(None),
+        Some((selected, at)) => paired(selected, from_set(alloc, source, at)),
+    }
+}
+
+// SELECT Name FROM Name
+#[tactic(auto, unfolding(gq_grammar::specs::Parsers::after))]
+fn selected(alloc: Global, source: &Source<'_>, at: usize) -> Read<(Txt, Txt)>
+    requires { at ≤ length source.now }
+    ensures { IfOk result (Found (after (lexemes.word "SELECT") (both (token lexemes.Name lexemes.spelling) (after (lexemes.word "FROM") (token lexemes.Name lexemes.spelling)))) source.now at) }
+{
+    let at = need!(source.keyword(at, "SELECT"));
+    name_from(alloc, source, at)
+}
 
 // SELECT Name FROM Name [ ":" Name ]
-#[tactic(auto, unfolding(crate::specs::Selects::from_parser, gq_grammar::specs::Parsers::after))]
+#[tactic(auto, unfolding(crate::specs::Selects::from_parser))]
 fn from(alloc: Global, source: &Source<'_>, at: usize) -> Read<FromTree>
     requires { at ≤ length source.now }
     ensures { IfOk result (Found spec.from_parser source.now at) }
 {
-    let at = need!(source.keyword(at, "SELECT"));
-    let (selected, at) = need!(name(alloc, source, at)?);
-    let at = need!(source.keyword(at, "FROM"));
-    let (set, at) = need!(name(alloc, source, at)?);
-    let (alias, at) = some_alias(alloc, source, at)?;
-    Ok(Some((((selected, set), alias), at)))
+    match selected(alloc, source, at)? {
+        None => Ok(None),
+        Some((selected, at)) => beside(selected, some_alias(alloc, source, at)),
+    }
 }
 
-// .. [ Hop | Path ] [ WHERE Expr ]
+// .. [ Hop | Path ]
+fn walked(alloc: Global, source: &Source<'_>, at: usize) -> Read<WalkTree>
+    requires { at ≤ length source.now }
+    ensures { IfOk result (Found (both spec.from_parser (maybe spec.walk_parser)) source.now at) }
+{
+    match from(alloc, source, at)? {
+        None => Ok(None),
+        Some((from, at)) => beside(from, some_walk(alloc, source, at)),
+    }
+}
+
+// .. [ WHERE Expr ]
 #[tactic(auto, unfolding(crate::specs::Selects::filtered_parser))]
 fn filtered(alloc: Global, source: &Source<'_>, at: usize) -> Read<FilterTree>
     requires { at ≤ length source.now }
     ensures { IfOk result (Found spec.filtered_parser source.now at) }
 {
-    let (from, at) = need!(from(alloc, source, at)?);
-    let (walk, at) = some_walk(alloc, source, at)?;
-    let (filter, at) = filter(alloc, source, at)?;
-    Ok(Some((((from, walk), filter), at)))
+    match walked(alloc, source, at)? {
+        None => Ok(None),
+        Some((walked, at)) => beside(walked, filter(alloc, source, at)),
+    }
 }
 
-// .. [ ACCUM Acts ] [ Post Acts ]
+// .. [ ACCUM Acts ]
+fn fed(alloc: Global, source: &Source<'_>, at: usize) -> Read<FedTree>
+    requires { at ≤ length source.now }
+    ensures { IfOk result (Found (both spec.filtered_parser (maybe spec.accum_acts_parser)) source.now at) }
+{
+    match filtered(alloc, source, at)? {
+        None => Ok(None),
+        Some((filtered, at)) => beside(filtered, accum(alloc, source, at)),
+    }
+}
+
+// .. [ Post Acts ]
 #[tactic(auto, unfolding(crate::specs::Selects::acting_parser))]
 fn acting(alloc: Global, source: &Source<'_>, at: usize) -> Read<ActingTree>
     requires { at ≤ length source.now }
     ensures { IfOk result (Found spec.acting_parser source.now at) }
 {
-    let (filtered, at) = need!(filtered(alloc, source, at)?);
-    let (accum, at) = accum(alloc, source, at)?;
-    let (post, at) = post(alloc, source, at)?;
-    Ok(Some((((filtered, accum), post), at)))
+    match fed(alloc, source, at)? {
+        None => Ok(None),
+        Some((fed, at)) => beside(fed, post(alloc, source, at)),
+    }
 }
 
-// .. [ HAVING Expr ] [ ORDER BY .. ]
+// .. [ HAVING Expr ]
+fn kept(alloc: Global, source: &Source<'_>, at: usize) -> Read<KeptTree>
+    requires { at ≤ length source.now }
+    ensures { IfOk result (Found (both spec.acting_parser (maybe spec.having_parser)) source.now at) }
+{
+    match acting(alloc, source, at)? {
+        None => Ok(None),
+        Some((acting, at)) => beside(acting, having(alloc, source, at)),
+    }
+}
+
+// .. [ ORDER BY .. ]
 #[tactic(auto, unfolding(crate::specs::Selects::ordered_parser))]
 fn ordered(alloc: Global, source: &Source<'_>, at: usize) -> Read<OrderedTree>
     requires { at ≤ length source.now }
     ensures { IfOk result (Found spec.ordered_parser source.now at) }
 {
-    let (acting, at) = need!(acting(alloc, source, at)?);
-    let (having, at) = having(alloc, source, at)?;
-    let (order, at) = order(alloc, source, at)?;
-    Ok(Some((((acting, having), order), at)))
+    match kept(alloc, source, at)? {
+        None => Ok(None),
+        Some((kept, at)) => beside(kept, order(alloc, source, at)),
+    }
+}
+
+// .. [ LIMIT Expr ]
+fn limited(alloc: Global, source: &Source<'_>, at: usize) -> Read<LimitedTree>
+    requires { at ≤ length source.now }
+    ensures { IfOk result (Found (both spec.ordered_parser (maybe spec.limit_parser)) source.now at) }
+{
+    match ordered(alloc, source, at)? {
+        None => Ok(None),
+        Some((ordered, at)) => beside(ordered, limit(alloc, source, at)),
+    }
 }
 
 /// `Select = SELECT Name FROM Name [ ":" Name ] [ Hop | Path ] [ WHERE Expr ] [ ACCUM Acts ] [ Post Acts ] [ HAVING Expr ]
@@ -80,8 +163,7 @@ pub fn select(alloc: Global, source: &Source<'_>, at: usize) -> Read<SelectTree>
     requires { at ≤ length source.now }
     ensures { IfOk result (Found spec.select_parser source.now at) }
 {
-    let (ordered, at) = need!(ordered(alloc, source, at)?);
-    let (limit, at) = limit(alloc, source, at)?;
+    let ((ordered, limit), at) = need!(limited(alloc, source, at)?);
     let ((acting, having), order) = ordered;
     let ((filtered, accum), post) = acting;
     let ((from, walk), filter) = filtered;

@@ -1,8 +1,8 @@
 -- BodyReads: bodies are read as the grammar says.
-use Rattle.std.proofs.Common.{ℕ, List, [], ◌∷◌, ◌++◌, refl}
+use Rattle.std.proofs.Common.{ℕ, [], ◌∷◌, ◌++◌, refl}
 use Rattle.gq_tree.specs.Bodies.{body_of}
 use Rattle.gq_tree.specs.Bodies as g
-use Rattle.gq_grammar.specs.Lexemes.{Terminal, sign}
+use Rattle.gq_grammar.specs.Lexemes.{sign}
 use Rattle.gq_grammar.specs.Reserved.{is_reserved}
 use Rattle.gq_grammar.proofs.Claims.{Reads}
 use Rattle.gq_grammar.proofs.ThenLemmas.{lead_reads}

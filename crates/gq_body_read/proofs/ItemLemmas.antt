@@ -1,10 +1,11 @@
 -- ItemLemmas: what was read, closed by a sign; and loops that put it into a list.
-use Rattle.std.proofs.Common.{◌≡◌, ℕ, ◌+◌, ◌-◌, ◌<◌, ◌≤◌, List, [], ◌∷◌, ◌++◌, length, drop, Option, Some, None, Result, Ok, Err, IfOk, refl, sym, ap, ◌∙◌, subst, arith}
+use Rattle.std.proofs.Common.{◌≡◌, ℕ, ◌+◌, ◌-◌, ◌<◌, List, [], ◌∷◌, ◌++◌, drop, Option, Some, None, Result, Ok, Err, IfOk, refl, sym, ap, ◌∙◌, subst, arith}
 use Rattle.std.specs.Option.{option_map}
 use Rattle.gq_list.specs.declared.memory.Memory.{Memory}
 use Rattle.gq_grammar.specs.Lexemes.{Lexemes, Terminal}
-use Rattle.gq_grammar.specs.Series.{first, ended}
-use Rattle.gq_grammar.specs.Parsers.{Parser, Found, and_then, both, made, one, many}
+use Rattle.gq_tree.specs.Literals.{listed, series}
+use Rattle.gq_grammar.specs.Series.{first, ended, one_and_all}
+use Rattle.gq_grammar.specs.Parsers.{Parser, Found, and_then, both, made, maybe_at, maybe, one, many}
 use Rattle.gq_grammar.proofs.LoopLemmas.{Turns, turns_found, turns_none}
 use Rattle.gq_body_read.specs.Items.{EndsWithin, Keeps}
 
@@ -46,6 +47,32 @@ not_closed k p all at read o x s was is e none f = ended_open k p all at x (outc
 pub is_closed : {A : Type 0} (k : Terminal) (p : Parser A) (all : Lexemes) (at : ℕ) (read : Result (Option (A × ℕ)) Memory) (o : Option (A × ℕ)) (x : A × ℕ) (s : Option ℕ) (next : ℕ) → read ≡ Ok o → o ≡ Some x → Found (one k) all x.1 (option_map (λ next. (tt, next)) s) → s ≡ Some next → IfOk read (Found p all at)
     → Found (ended k p) all at (Some (x.0, next))
 is_closed k p all at read o x s next was is e some f = ended_some k p all at x next (outcome p all at read o (Some x) was is f) (subst (λ s. Found (one k) all x.1 (option_map (λ next. (tt, next)) s)) some e)
+
+-- ---- a mark, and a first one with others, or nothing
+
+abbrev pub marked_of : {A : Type 0} → Unit {0} × Option (A × List A) → List A
+marked_of x = series x.1
+
+abbrev marked : {A : Type 0} → Parser A → Parser (List A) → Option (Unit {0} × Lexemes) → Option (List A × Lexemes)
+marked {A} p q o = and_then {A = Unit {0} × Option (A × List A)} (and_then o (λ a r. and_then (maybe (both p q) r) (λ b s. Some ((a, b), s)))) (λ x r. Some (marked_of x, r))
+
+abbrev marked_told : {A : Type 0} → Option (Option (A × List A) × Lexemes) → Option (List A × Lexemes)
+marked_told {A} o = and_then {A = Unit {0} × Option (A × List A)} (and_then {A = Option (A × List A)} {B = Unit {0} × Option (A × List A)} o (λ b s. Some ((tt, b), s))) (λ x r. Some (marked_of x, r))
+
+abbrev all_of : {A : Type 0} → Option ((A × List A) × Lexemes) → Option (List A × Lexemes)
+all_of o = and_then o (λ a r. Some (one_and_all a, r))
+
+abbrev listed_of : {A : Type 0} → Option (Option (List A) × Lexemes) → Option (List A × Lexemes)
+listed_of o = and_then o (λ x r. Some (listed x, r))
+
+series_or_not : {A : Type 0} (o : Option ((A × List A) × Lexemes)) (l : Lexemes) → marked_told (maybe_at o l) ≡ listed_of (maybe_at (all_of o) l)
+series_or_not None l = refl
+series_or_not (Some x) l = refl
+
+pub marked_series : {A : Type 0} (k : Terminal) (p : Parser A) (q : Parser (List A)) (all : Lexemes) (at next end : ℕ) (o : Option (List A)) (list : List A) → list ≡ listed o → Found (one k) all at (Some (tt, next)) → Found (maybe (made one_and_all (both p q))) all next (Some (o, end))
+    → Found (made marked_of (both (one k) (maybe (both p q)))) all at (Some (list, end))
+marked_series k p q all at next end o list is f g =
+    (ap (marked p q) f.0 ∙ series_or_not (both p q (drop next all)) (drop next all) ∙ ap listed_of g.0 ∙ ap (λ z. Some (z, drop end all)) (sym is), omega (arith, f.1, g.1), g.2)
 
 -- ---- put into a list
 

@@ -1,5 +1,5 @@
 -- Past: a name with what no expression goes on with is read past an expression that is this name.
-use Rattle.std.proofs.Common.{◌≡◌, ℕ, zero, suc, ◌≤◌, List, [], ◌∷◌, ◌++◌, length, Bool, true, false, Option, Some, None, ◌⊎◌, inl, inr, ⊎_elim, refl, sym, ap, ◌∙◌, subst, arith, append-nil}
+use Rattle.std.proofs.Common.{◌≡◌, ℕ, zero, suc, List, [], ◌∷◌, ◌++◌, length, Bool, true, false, Option, Some, None, inl, inr, ⊎_elim, refl, sym, ap, ◌∙◌, subst, arith, append-nil}
 use Rattle.gq_tree.specs.declared.expr.Node.{Node}
 use Rattle.gq_tree.specs.Shapes.{named, post_of, neg_of, mul_of, sum_of, cmp_of, not_of, and_of, or_of}
 use Rattle.gq_tree.specs.Expressions.{Named, Prim, PartOf, Post, Neg, MulOp, Mul, AddOp, Sum, CmpOp, Cmp, Not, And, Expr, Nested, Derives}
@@ -7,12 +7,12 @@ use Rattle.gq_grammar.specs.Lexemes.{Lexeme, Lexemes, Terminal, Name, is_of, wor
 use Rattle.gq_grammar.specs.Languages.{Language, ◌then◌, Many, Maybe, Made}
 use Rattle.gq_grammar.specs.Signs.{One, After}
 use Rattle.gq_grammar.specs.Parsers.{Parser, token_at, token, both, made}
-use Rattle.gq_grammar.proofs.Sets.{Starts, disjoint, clash, starts_on}
+use Rattle.gq_grammar.proofs.Sets.{Starts, disjoint, clash}
 use Rattle.gq_grammar.proofs.Claims.{Goes, Reads, some_inj}
 use Rattle.gq_grammar.proofs.ThenLemmas.{both_some}
 use Rattle.gq_grammar.proofs.MadeLemmas.{made_some}
 use Rattle.gq_grammar.proofs.WholeLemmas.{exactly}
-use Rattle.gq_expr_read.proofs.Productions.{firsts, goes}
+use Rattle.gq_expr_read.proofs.Productions.{goes}
 use Rattle.gq_part_read.specs.Expression.{expression}
 use Rattle.gq_part_read.proofs.Steps.{expression_reads}
 

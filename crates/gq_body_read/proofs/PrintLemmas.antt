@@ -1,13 +1,13 @@
 -- PrintLemmas: a value with its key, from what was found of each.
-use Rattle.std.proofs.Common.{◌≡◌, ℕ, ◌≤◌, List, length, drop, Option, Some, None, refl, ap, ◌∙◌, arith}
+use Rattle.std.proofs.Common.{◌≡◌, ℕ, List, drop, Option, Some, None, refl, ap, ◌∙◌, arith}
 use Rattle.gq_tree.specs.declared.expr.Node.{Node}
 use Rattle.gq_tree.specs.declared.body.Label.{Label}
 use Rattle.gq_tree.specs.declared.body.Label.TheVariants as label
 use Rattle.gq_tree.specs.Bodies.{labelled}
 use Rattle.gq_grammar.specs.Lexemes.{Lexemes}
 use Rattle.gq_grammar.specs.Reading.{between}
-use Rattle.gq_grammar.specs.Series.{joined, kept}
-use Rattle.gq_grammar.specs.Parsers.{Parser, Found, and_then, both, made, maybe_at, maybe}
+use Rattle.gq_grammar.specs.Series.{joined}
+use Rattle.gq_grammar.specs.Parsers.{Found, and_then, maybe_at, maybe}
 use Rattle.gq_grammar.proofs.SeriesLemmas.{kept_found, kept_missing}
 use Rattle.gq_part_read.specs.Expression.{expression}
 use Rattle.gq_body_read.specs.Bodies.{as_name_parser, labelled_parser}

@@ -1,5 +1,5 @@
 -- PrintReads: PRINT is read as the grammar says, a lemma for each production.
-use Rattle.std.proofs.Common.{◌≡◌, ℕ, List, [], ◌∷◌, ◌++◌, true, Option, Some, None, refl, sym, ap, ◌∙◌, subst}
+use Rattle.std.proofs.Common.{◌≡◌, ℕ, List, [], ◌∷◌, ◌++◌, true, Option, Some, None, refl, sym, subst}
 use Rattle.gq_tree.specs.declared.expr.Node.{Node}
 use Rattle.gq_tree.specs.declared.body.Label.{Label}
 use Rattle.gq_tree.specs.declared.body.Stmt.TheVariants as stmt
@@ -9,7 +9,7 @@ use Rattle.gq_tree.specs.Expressions.{Derives}
 use Rattle.gq_grammar.specs.Lexemes.{Lexeme, Lexemes, Terminal, Name, is_of, sign, word, spelling}
 use Rattle.gq_grammar.specs.Languages.{Maybe}
 use Rattle.gq_grammar.specs.Series.{Kept}
-use Rattle.gq_grammar.proofs.Sets.{Starts, disjoint, clash, starts_on}
+use Rattle.gq_grammar.proofs.Sets.{Starts, clash}
 use Rattle.gq_grammar.proofs.Claims.{Reads, widen}
 use Rattle.gq_grammar.proofs.TokenLemmas.{token_reads}
 use Rattle.gq_grammar.proofs.ThenLemmas.{then_reads, tail_reads}

@@ -1,11 +1,9 @@
 -- SetReads: Vertex sets and assignments are read as the grammar says, a lemma for each production.
 use Rattle.std.proofs.Common.{ℕ, List, [], ◌∷◌, ◌++◌, refl}
-use Rattle.gq_tree.specs.declared.expr.Node.{Node}
 use Rattle.gq_tree.specs.declared.body.Seed.TheVariants as seed
 use Rattle.gq_tree.specs.declared.body.SetTerm.TheVariants as term
 use Rattle.gq_tree.specs.declared.body.SetOp.TheVariants as op
 use Rattle.gq_tree.specs.declared.body.SetTypes.TheVariants as types
-use Rattle.gq_tree.specs.declared.body.Right.{Right}
 use Rattle.gq_tree.specs.declared.body.Right.TheVariants as right
 use Rattle.gq_tree.specs.Bodies.{named_seed, any_seed, seeds_chain, name_chain, assign_of, local_of, global_of}
 use Rattle.gq_tree.specs.Bodies as g

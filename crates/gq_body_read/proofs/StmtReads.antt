@@ -1,14 +1,13 @@
 -- StmtReads: statements are read as the grammar says, a lemma for each production.
-use Rattle.std.proofs.Common.{◌≡◌, ℕ, zero, suc, ◌≤◌, List, [], ◌∷◌, ◌++◌, length, true, Option, Some, None, refl, sym, ap, ◌∙◌, subst, arith, append_assoc}
+use Rattle.std.proofs.Common.{◌≡◌, ℕ, zero, suc, ◌≤◌, List, [], ◌∷◌, ◌++◌, length, Option, Some, None, refl, sym, ap, ◌∙◌, subst, arith}
 use Rattle.gq_tree.specs.declared.body.Stmt.{Stmt}
 use Rattle.gq_tree.specs.declared.body.Over.TheVariants as over
 use Rattle.gq_tree.specs.Bodies.{while_of, range_of, foreach_of, branch_of, else_of, if_of}
 use Rattle.gq_tree.specs.Bodies as g
-use Rattle.gq_tree.specs.Expressions.{Derives}
-use Rattle.gq_grammar.specs.Lexemes.{Lexeme, Lexemes, Terminal, Name, Global, sign, word, spelling}
+use Rattle.gq_grammar.specs.Lexemes.{Lexemes, Terminal, Name, Global, sign, word, spelling}
 use Rattle.gq_grammar.specs.Reserved.{is_reserved}
 use Rattle.gq_grammar.specs.Languages.{Language, ◌then◌, Maybe}
-use Rattle.gq_grammar.specs.Signs.{One, After}
+use Rattle.gq_grammar.specs.Signs.{One}
 use Rattle.gq_grammar.specs.Series.{Ended, ended}
 use Rattle.gq_grammar.specs.Parsers.{Parser, both, after}
 use Rattle.gq_grammar.proofs.Sets.{Starts, starts_left, starts_right, starts_on}
@@ -24,7 +23,7 @@ use Rattle.gq_expr_read.proofs.Productions.{firsts, goes}
 use Rattle.gq_part_read.proofs.Steps.{more, after_more, goes_as, expression_reads}
 use Rattle.gq_body_read.specs.Bodies as d
 use Rattle.gq_body_read.proofs.SetReads.{right_goes, assign_reads, local_reads, global_reads}
-use Rattle.gq_body_read.proofs.PrintReads.{item_goes, print_reads}
+use Rattle.gq_body_read.proofs.PrintReads.{print_reads}
 
 -- with what statements other than IF begin
 abbrev pub plain_firsts : List Terminal

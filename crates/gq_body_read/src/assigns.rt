@@ -3,21 +3,25 @@ ghost use Rattle.std.specs.Prelude.{◌≤◌, length, IfOk, Some};
 ghost use Rattle.gq_tree.specs.declared.body.Right.TheVariants as tree;
 ghost use Rattle.gq_tree.specs.declared.body.SetTypes.TheVariants as tree_types;
 ghost use Rattle.gq_grammar.specs.Lexemes as lexemes;
-ghost use Rattle.gq_grammar.specs.Parsers.{Found, ◌or◌, made, maybe, stands, token};
+ghost use Rattle.gq_grammar.specs.Parsers.{Found, ◌or◌, after, both, made, maybe, stands, token};
 ghost use Rattle.gq_grammar.specs.Series.{chain};
 ghost use Rattle.gq_kind_read.specs.Kinds as kinds;
 ghost use Rattle.gq_part_read.specs.Expression as part;
+ghost use Rattle.gq_block_read.specs.Acts as acts;
 ghost use Rattle.gq_body_read.specs.Bodies as spec;
 
 use crate::sets::{name_chain, seeds_chain};
-use gq_block_read::{change, select};
+use gq_block_read::{beside, change, paired, select};
 use gq_grammar::Source;
 use gq_kind_read::{base, value};
 use gq_list::{List, Memory};
 use gq_part_read::{Read, expression, global, list, name, need};
-use gq_tree::{Node, Right, SetTypes, Stmt};
+use gq_tree::{BaseTree, Change, Node, Right, SetTypes, Stmt};
 use gq_value::Txt;
 use std::alloc::Global;
+
+// New variables, each with its value where one is given.
+type NewNames = List<(Txt, Option<Node>)>;
 
 // Name SetOp SetTerm { SetOp SetTerm } | Expr
 fn name_chain_or_value(alloc: Global, source: &Source<'_>, at: usize) -> Read<Right>
@@ -90,16 +94,45 @@ fn some_set_types(
     Ok((Some(types), end))
 }
 
+// Name [ "(" ( Name | ANY ) ")" ]
+fn typed_name(alloc: Global, source: &Source<'_>, at: usize) -> Read<(Txt, Option<SetTypes>)>
+    requires { at ≤ length source.now }
+    ensures { IfOk result (Found (both (token lexemes.Name lexemes.spelling) (maybe spec.set_types_parser)) source.now at) }
+{
+    match name(alloc, source, at)? {
+        None => Ok(None),
+        Some((name, at)) => beside(name, some_set_types(alloc, source, at)),
+    }
+}
+
+// "=" ( Select | SetRhs | Expr )
+#[tactic(auto, unfolding(gq_grammar::specs::Parsers::after))]
+fn right_side(alloc: Global, source: &Source<'_>, at: usize) -> Read<Right>
+    requires { at ≤ length source.now }
+    ensures { IfOk result (Found (after (lexemes.sign "=") spec.right_parser) source.now at) }
+{
+    let at = need!(source.sign(at, "="));
+    right(alloc, source, at)
+}
+
+// Name [ "(" ( Name | ANY ) ")" ] "=" ( Select | SetRhs | Expr ), part by part
+fn assigned(alloc: Global, source: &Source<'_>, at: usize) -> Read<((Txt, Option<SetTypes>), Right)>
+    requires { at ≤ length source.now }
+    ensures { IfOk result (Found (both (both (token lexemes.Name lexemes.spelling) (maybe spec.set_types_parser)) (after (lexemes.sign "=") spec.right_parser)) source.now at) }
+{
+    match typed_name(alloc, source, at)? {
+        None => Ok(None),
+        Some((name, at)) => paired(name, right_side(alloc, source, at)),
+    }
+}
+
 /// `Name [ "(" ( Name | ANY ) ")" ] "=" ( Select | SetRhs | Expr )`.
-#[tactic(auto, unfolding(crate::specs::Bodies::assign_parser, gq_grammar::specs::Parsers::after))]
+#[tactic(auto, unfolding(crate::specs::Bodies::assign_parser))]
 pub fn assign(alloc: Global, source: &Source<'_>, at: usize) -> Read<Stmt>
     requires { at ≤ length source.now }
     ensures { IfOk result (Found spec.assign_parser source.now at) }
 {
-    let (name, at) = need!(name(alloc, source, at)?);
-    let (types, at) = some_set_types(alloc, source, at)?;
-    let at = need!(source.sign(at, "="));
-    let (right, at) = need!(right(alloc, source, at)?);
+    let (((name, types), right), at) = need!(assigned(alloc, source, at)?);
     Ok(Some((Stmt::Assign(name, types, right), at)))
 }
 
@@ -118,17 +151,29 @@ fn new_name(alloc: Global, source: &Source<'_>, at: usize) -> Read<(Txt, Option<
     requires { at ≤ length source.now }
     ensures { IfOk result (Found spec.new_name_parser source.now at) }
 {
-    let (name, at) = need!(name(alloc, source, at)?);
-    let (value, at) = opening(alloc, source, at)?;
-    Ok(Some(((name, value), at)))
+    match name(alloc, source, at)? {
+        None => Ok(None),
+        Some((name, at)) => beside(name, opening(alloc, source, at)),
+    }
 }
 
 // Name [ "=" Expr ] { "," Name [ "=" Expr ] }
-fn new_names(alloc: Global, source: &Source<'_>, at: usize) -> Read<List<(Txt, Option<Node>)>>
+fn new_names(alloc: Global, source: &Source<'_>, at: usize) -> Read<NewNames>
     requires { at ≤ length source.now }
     ensures { IfOk result (Found (chain (lexemes.sign ",") spec.new_name_parser) source.now at) }
 {
     list(alloc, source, at, new_name)
+}
+
+// Base Name [ "=" Expr ] { "," Name [ "=" Expr ] }, part by part
+fn base_and_names(alloc: Global, source: &Source<'_>, at: usize) -> Read<(BaseTree, NewNames)>
+    requires { at ≤ length source.now }
+    ensures { IfOk result (Found (both kinds.base_parser (chain (lexemes.sign ",") spec.new_name_parser)) source.now at) }
+{
+    match base(alloc, source, at)? {
+        None => Ok(None),
+        Some((base, at)) => paired(base, new_names(alloc, source, at)),
+    }
 }
 
 /// `Base Name [ "=" Expr ] { "," Name [ "=" Expr ] }`.
@@ -137,9 +182,19 @@ pub fn local(alloc: Global, source: &Source<'_>, at: usize) -> Read<Stmt>
     requires { at ≤ length source.now }
     ensures { IfOk result (Found spec.local_parser source.now at) }
 {
-    let (base, at) = need!(base(alloc, source, at)?);
-    let (names, at) = need!(new_names(alloc, source, at)?);
+    let ((base, names), at) = need!(base_and_names(alloc, source, at)?);
     Ok(Some((Stmt::Local(base, names), at)))
+}
+
+// Global "=" Expr | Global "+=" In, part by part
+fn global_and_change(alloc: Global, source: &Source<'_>, at: usize) -> Read<(Txt, Change)>
+    requires { at ≤ length source.now }
+    ensures { IfOk result (Found (both (token lexemes.Global lexemes.spelling) acts.change_parser) source.now at) }
+{
+    match global(alloc, source, at)? {
+        None => Ok(None),
+        Some((name, at)) => paired(name, change(alloc, source, at)),
+    }
 }
 
 /// `Global "=" Expr | Global "+=" In`.
@@ -148,7 +203,6 @@ pub fn global_change(alloc: Global, source: &Source<'_>, at: usize) -> Read<Stmt
     requires { at ≤ length source.now }
     ensures { IfOk result (Found spec.global_parser source.now at) }
 {
-    let (name, at) = need!(global(alloc, source, at)?);
-    let (change, at) = need!(change(alloc, source, at)?);
+    let ((name, change), at) = need!(global_and_change(alloc, source, at)?);
     Ok(Some((Stmt::Global(name, change), at)))
 }

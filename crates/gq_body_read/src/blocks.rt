@@ -1,20 +1,26 @@
 // Statements that hold others: WHILE, FOREACH, and chains of IF.
 ghost use Rattle.std.specs.Prelude.{◌≤◌, length, IfOk, Some};
 ghost use Rattle.gq_grammar.specs.Lexemes as lexemes;
-ghost use Rattle.gq_grammar.specs.Parsers.{Found, many, maybe, after};
-ghost use Rattle.gq_grammar.specs.Series.{ended};
+ghost use Rattle.gq_grammar.specs.Parsers.{Found, token, both, made, many, maybe, after};
+ghost use Rattle.gq_grammar.specs.Series.{chain, ended, one_and_all};
+ghost use Rattle.gq_part_read.specs.Expression as part;
 ghost use Rattle.gq_body_read.specs.Bodies as spec;
 ghost use Rattle.gq_body_read.specs.StmtNests.{Nests};
 
 use crate::assigns::{assign, global_change, local};
 use crate::items::{closed, keep};
-use crate::overs::{over, some_limit};
+use crate::overs::{in_over, while_head};
 use crate::prints::print;
+use gq_block_read::{chained, paired};
 use gq_grammar::Source;
 use gq_list::{List, Memory};
-use gq_part_read::{Read, expression, first_of, name, need};
-use gq_tree::{Node, Stmt};
+use gq_part_read::{Read, expression, first_of, listed, name, need};
+use gq_tree::{Node, Over, Stmt};
+use gq_value::Txt;
 use std::alloc::Global;
+
+// A condition, and the statements behind it.
+type Branch = (Node, List<Stmt>);
 
 /// Reads a statement that may hold others.
 #[derive(Drop)]
@@ -90,18 +96,51 @@ impl<'s, 'a, F: Fn(Global, &Source<'_>, usize, usize) -> Read<Stmt>> Blocks<'s, 
         Ok(Some((statements, at)))
     }
 
+    // WHILE Expr [ LIMIT Expr ] DO { Stmt ";" } END, part by part
+    fn while_parts(&self, at: usize) -> Read<((Node, Option<Node>), List<Stmt>)>
+        requires nests { Nests self.now.source.now self.now.levels (F.pre self.now.inner) (F.post self.now.inner) }
+        requires at { at ≤ length self.now.source.now }
+        ensures { IfOk result (Found (both (after (lexemes.word "WHILE") (both part.expression (maybe spec.limit_parser))) (spec.do_body_parser (spec.nested_parser self.now.levels))) self.now.source.now at) }
+    {
+        match while_head(self.alloc, self.source, at)? {
+            None => Ok(None),
+            Some((head, at)) => paired(head, self.do_body(at)),
+        }
+    }
+
     // WHILE Expr [ LIMIT Expr ] DO { Stmt ";" } END
-    #[tactic(auto, unfolding(crate::specs::Bodies::while_parser, gq_grammar::specs::Parsers::after))]
+    #[tactic(auto, unfolding(crate::specs::Bodies::while_parser))]
     fn while_loop(&self, at: usize) -> Read<Stmt>
         requires nests { Nests self.now.source.now self.now.levels (F.pre self.now.inner) (F.post self.now.inner) }
         requires at { at ≤ length self.now.source.now }
         ensures { IfOk result (Found (spec.while_parser (spec.nested_parser self.now.levels)) self.now.source.now at) }
     {
-        let at = need!(self.source.keyword(at, "WHILE"));
-        let (condition, at) = need!(expression(self.alloc, self.source, at)?);
-        let (limit, at) = some_limit(self.alloc, self.source, at)?;
-        let (body, at) = need!(self.do_body(at)?);
+        let (((condition, limit), body), at) = need!(self.while_parts(at)?);
         Ok(Some((Stmt::While(condition, limit, body), at)))
+    }
+
+    // IN ( Expr | RANGE "[" Expr "," Expr "]" ) DO { Stmt ";" } END
+    fn over_body(&self, at: usize) -> Read<(Over, List<Stmt>)>
+        requires nests { Nests self.now.source.now self.now.levels (F.pre self.now.inner) (F.post self.now.inner) }
+        requires at { at ≤ length self.now.source.now }
+        ensures { IfOk result (Found (both (after (lexemes.word "IN") spec.over_parser) (spec.do_body_parser (spec.nested_parser self.now.levels))) self.now.source.now at) }
+    {
+        match in_over(self.alloc, self.source, at)? {
+            None => Ok(None),
+            Some((over, at)) => paired(over, self.do_body(at)),
+        }
+    }
+
+    // Name IN ( Expr | RANGE "[" Expr "," Expr "]" ) DO { Stmt ";" } END
+    fn foreach_parts(&self, at: usize) -> Read<(Txt, (Over, List<Stmt>))>
+        requires nests { Nests self.now.source.now self.now.levels (F.pre self.now.inner) (F.post self.now.inner) }
+        requires at { at ≤ length self.now.source.now }
+        ensures { IfOk result (Found (both (token lexemes.Name lexemes.spelling) (both (after (lexemes.word "IN") spec.over_parser) (spec.do_body_parser (spec.nested_parser self.now.levels)))) self.now.source.now at) }
+    {
+        match name(self.alloc, self.source, at)? {
+            None => Ok(None),
+            Some((name, at)) => paired(name, self.over_body(at)),
+        }
     }
 
     // FOREACH Name IN ( Expr | RANGE "[" Expr "," Expr "]" ) DO { Stmt ";" } END
@@ -112,10 +151,7 @@ impl<'s, 'a, F: Fn(Global, &Source<'_>, usize, usize) -> Read<Stmt>> Blocks<'s, 
         ensures { IfOk result (Found (spec.foreach_parser (spec.nested_parser self.now.levels)) self.now.source.now at) }
     {
         let at = need!(self.source.keyword(at, "FOREACH"));
-        let (name, at) = need!(name(self.alloc, self.source, at)?);
-        let at = need!(self.source.keyword(at, "IN"));
-        let (over, at) = need!(over(self.alloc, self.source, at)?);
-        let (body, at) = need!(self.do_body(at)?);
+        let ((name, (over, body)), at) = need!(self.foreach_parts(at)?);
         Ok(Some((Stmt::Foreach(name, over, body), at)))
     }
 
@@ -138,7 +174,7 @@ impl<'s, 'a, F: Fn(Global, &Source<'_>, usize, usize) -> Read<Stmt>> Blocks<'s, 
 
     // IF Expr THEN { Stmt ";" }
     #[tactic(auto, unfolding(crate::specs::Bodies::if_branch_parser, crate::specs::Bodies::branch_parser, gq_grammar::specs::Parsers::after))]
-    fn branch(&self, at: usize) -> Read<(Node, List<Stmt>)>
+    fn branch(&self, at: usize) -> Read<Branch>
         requires nests { Nests self.now.source.now self.now.levels (F.pre self.now.inner) (F.post self.now.inner) }
         requires at { at ≤ length self.now.source.now }
         ensures { IfOk result (Found (spec.if_branch_parser (spec.nested_parser self.now.levels)) self.now.source.now at) }
@@ -152,7 +188,7 @@ impl<'s, 'a, F: Fn(Global, &Source<'_>, usize, usize) -> Read<Stmt>> Blocks<'s, 
 
     // ELSE IF Expr THEN { Stmt ";" }
     #[tactic(auto, unfolding(gq_grammar::specs::Parsers::after))]
-    fn else_if(&self, at: usize) -> Read<(Node, List<Stmt>)>
+    fn else_if(&self, at: usize) -> Read<Branch>
         requires nests { Nests self.now.source.now self.now.levels (F.pre self.now.inner) (F.post self.now.inner) }
         requires at { at ≤ length self.now.source.now }
         ensures { IfOk result (Found (after (lexemes.word "ELSE") (spec.if_branch_parser (spec.nested_parser self.now.levels))) self.now.source.now at) }
@@ -163,7 +199,7 @@ impl<'s, 'a, F: Fn(Global, &Source<'_>, usize, usize) -> Read<Stmt>> Blocks<'s, 
 
     // { ELSE IF Expr THEN { Stmt ";" } }
     #[tactic(auto, using(gq_grammar::proofs::LoopLemmas::loops))]
-    fn else_ifs(&self, from: usize) -> Result<(Vec<(Node, List<Stmt>)>, usize), Memory>
+    fn else_ifs(&self, from: usize) -> Result<(Vec<Branch>, usize), Memory>
         requires nests { Nests self.now.source.now self.now.levels (F.pre self.now.inner) (F.post self.now.inner) }
         requires at { from ≤ length self.now.source.now }
         ensures { IfOk result (λ read. Found (many (after (lexemes.word "ELSE") (spec.if_branch_parser (spec.nested_parser self.now.levels)))) self.now.source.now from (Some (read.0.items, read.1))) }
@@ -191,21 +227,40 @@ impl<'s, 'a, F: Fn(Global, &Source<'_>, usize, usize) -> Read<Stmt>> Blocks<'s, 
         closed(self.source, self.plain(at), ";")
     }
 
+    // Stmt ";" { Stmt ";" }, where the first statement is no IF
+    fn plain_and_more(&self, at: usize) -> Read<List<Stmt>>
+        requires nests { Nests self.now.source.now self.now.levels (F.pre self.now.inner) (F.post self.now.inner) }
+        requires at { at ≤ length self.now.source.now }
+        ensures { IfOk result (Found (made one_and_all (both (ended (lexemes.sign ";") (spec.plain_parser (spec.nested_parser self.now.levels))) (many (ended (lexemes.sign ";") (spec.nested_parser self.now.levels))))) self.now.source.now at) }
+    {
+        match self.first_plain(at)? {
+            None => Ok(None),
+            Some((first, at)) => chained(first, self.more(at)),
+        }
+    }
+
+    // [ Stmt ";" { Stmt ";" } ], where the first statement is no IF
+    fn some_plain_and_more(&self, at: usize) -> Result<(Option<List<Stmt>>, usize), Memory>
+        requires nests { Nests self.now.source.now self.now.levels (F.pre self.now.inner) (F.post self.now.inner) }
+        requires at { at ≤ length self.now.source.now }
+        ensures { IfOk result (λ read. Found (maybe (made one_and_all (both (ended (lexemes.sign ";") (spec.plain_parser (spec.nested_parser self.now.levels))) (many (ended (lexemes.sign ";") (spec.nested_parser self.now.levels)))))) self.now.source.now at (Some read)) }
+    {
+        let (statements, end) = need!(self.plain_and_more(at)?, else (None, at));
+        Ok((Some(statements), end))
+    }
+
     // ELSE { Stmt ";" }, where the first statement is no IF
-    #[tactic(auto, unfolding(crate::specs::Bodies::else_parser, crate::specs::Bodies::stmts_parser))]
+    #[tactic(auto, unfolding(crate::specs::Bodies::else_parser))]
     fn else_branch(&self, at: usize) -> Read<List<Stmt>>
         requires nests { Nests self.now.source.now self.now.levels (F.pre self.now.inner) (F.post self.now.inner) }
         requires at { at ≤ length self.now.source.now }
         ensures { IfOk result (Found (spec.else_parser (spec.nested_parser self.now.levels)) self.now.source.now at) }
     {
-        let at = need!(self.source.keyword(at, "ELSE"));
-        let mut all = Vec::new(self.alloc);
-        match keep(&mut all, self.first_plain(at))? {
-            None => Ok(Some((List::from_vec(all), at))),
+        match self.source.keyword(at, "ELSE") {
+            None => Ok(None),
             Some(next) => {
-                let (mut others, end) = self.more(next)?;
-                all.append(&mut others)?;
-                Ok(Some((List::from_vec(all), end)))
+                let (statements, end) = self.some_plain_and_more(next)?;
+                Ok(Some((listed(self.alloc, statements), end)))
             }
         }
     }
@@ -232,18 +287,41 @@ impl<'s, 'a, F: Fn(Global, &Source<'_>, usize, usize) -> Read<Stmt>> Blocks<'s, 
         Ok(Some((last, at)))
     }
 
+    // IF Expr THEN { Stmt ";" } { ELSE IF Expr THEN { Stmt ";" } }
+    #[tactic(auto, unfolding(gq_grammar::specs::Series::chain))]
+    fn branches(&self, at: usize) -> Read<List<Branch>>
+        requires nests { Nests self.now.source.now self.now.levels (F.pre self.now.inner) (F.post self.now.inner) }
+        requires at { at ≤ length self.now.source.now }
+        ensures { IfOk result (Found (chain (lexemes.word "ELSE") (spec.if_branch_parser (spec.nested_parser self.now.levels))) self.now.source.now at) }
+    {
+        match self.branch(at)? {
+            None => Ok(None),
+            Some((first, at)) => chained(first, self.else_ifs(at)),
+        }
+    }
+
+    // IF Expr THEN { Stmt ";" } { ELSE IF Expr THEN { Stmt ";" } } [ ELSE { Stmt ";" } ] END, part by part
+    fn if_parts(&self, at: usize) -> Read<(List<Branch>, Option<List<Stmt>>)>
+        requires nests { Nests self.now.source.now self.now.levels (F.pre self.now.inner) (F.post self.now.inner) }
+        requires at { at ≤ length self.now.source.now }
+        ensures { IfOk result (Found (both (chain (lexemes.word "ELSE") (spec.if_branch_parser (spec.nested_parser self.now.levels))) (spec.if_end_parser (spec.nested_parser self.now.levels))) self.now.source.now at) }
+    {
+        match self.branches(at)? {
+            None => Ok(None),
+            Some((branches, at)) => paired(branches, self.if_end(at)),
+        }
+    }
+
     // IF Expr THEN { Stmt ";" } { ELSE IF Expr THEN { Stmt ";" } } [ ELSE { Stmt ";" } ] END
-    #[tactic(auto, unfolding(crate::specs::Bodies::if_parser, crate::specs::Bodies::branches_parser))]
     fn if_chain(&self, at: usize) -> Read<Stmt>
         requires nests { Nests self.now.source.now self.now.levels (F.pre self.now.inner) (F.post self.now.inner) }
         requires at { at ≤ length self.now.source.now }
         ensures { IfOk result (Found (spec.if_parser (spec.nested_parser self.now.levels)) self.now.source.now at) }
     {
-        let (first, at) = need!(self.branch(at)?);
-        let (mut branches, at) = self.else_ifs(at)?;
-        let (last, at) = need!(self.if_end(at)?);
-        branches.insert(0, first)?;
-        Ok(Some((Stmt::If(List::from_vec(branches), last), at)))
+        match self.if_parts(at)? {
+            None => Ok(None),
+            Some(((branches, last), at)) => Ok(Some((Stmt::If(branches, last), at))),
+        }
     }
 
     /// A statement that holds others of one level less.

@@ -1,13 +1,14 @@
 // The body of a query.
 ghost use Rattle.std.specs.Prelude.{◌≤◌, length, IfOk, Some};
 ghost use Rattle.gq_grammar.specs.Lexemes as lexemes;
-ghost use Rattle.gq_grammar.specs.Parsers.{Found, many};
+ghost use Rattle.gq_grammar.specs.Parsers.{Found, both, many};
 ghost use Rattle.gq_grammar.specs.Series.{ended};
 ghost use Rattle.gq_kind_read.specs.Kinds as kinds;
 ghost use Rattle.gq_body_read.specs.Bodies as spec;
 
 use crate::items::closed;
 use crate::levels::statement;
+use gq_block_read::paired;
 use gq_grammar::Source;
 use gq_kind_read::definition;
 use gq_list::{List, Memory};
@@ -31,11 +32,12 @@ fn definitions(
     alloc: Global,
     source: &Source<'_>,
     at: usize,
-) -> Result<(Vec<Definition>, usize), Memory>
+) -> Result<(List<Definition>, usize), Memory>
     requires { at ≤ length source.now }
-    ensures { IfOk result (λ read. Found (many (ended (lexemes.sign ";") kinds.definition_parser)) source.now at (Some (read.0.items, read.1))) }
+    ensures { IfOk result (λ read. Found (many (ended (lexemes.sign ";") kinds.definition_parser)) source.now at (Some read)) }
 {
-    run(alloc, source, at, ended_definition)
+    let (definitions, at) = run(alloc, source, at, ended_definition)?;
+    Ok((List::from_vec(definitions), at))
 }
 
 // Stmt ";"
@@ -47,29 +49,48 @@ fn ended_statement(alloc: Global, source: &Source<'_>, at: usize) -> Read<Stmt>
 }
 
 // { Stmt ";" }
-fn statements(alloc: Global, source: &Source<'_>, at: usize) -> Result<(Vec<Stmt>, usize), Memory>
+fn statements(alloc: Global, source: &Source<'_>, at: usize) -> Result<(List<Stmt>, usize), Memory>
     requires { at ≤ length source.now }
-    ensures { IfOk result (λ read. Found (many (ended (lexemes.sign ";") spec.statement_parser)) source.now at (Some (read.0.items, read.1))) }
+    ensures { IfOk result (λ read. Found (many (ended (lexemes.sign ";") spec.statement_parser)) source.now at (Some read)) }
 {
-    run(alloc, source, at, ended_statement)
+    let (statements, at) = run(alloc, source, at, ended_statement)?;
+    Ok((List::from_vec(statements), at))
+}
+
+// { Stmt ";" } "}"
+#[tactic(auto, unfolding(crate::specs::Bodies::body_stmts_parser, gq_grammar::specs::Series::ended))]
+fn body_statements(alloc: Global, source: &Source<'_>, at: usize) -> Read<List<Stmt>>
+    requires { at ≤ length source.now }
+    ensures { IfOk result (Found spec.body_stmts_parser source.now at) }
+{
+    let (statements, at) = statements(alloc, source, at)?;
+    let at = need!(source.sign(at, "}"));
+    Ok(Some((statements, at)))
+}
+
+// { Def ";" } { Stmt ";" } "}"
+fn body_parts(alloc: Global, source: &Source<'_>, at: usize) -> Read<(List<Definition>, List<Stmt>)>
+    requires { at ≤ length source.now }
+    ensures { IfOk result (Found (both (many (ended (lexemes.sign ";") kinds.definition_parser)) spec.body_stmts_parser) source.now at) }
+{
+    let (definitions, at) = definitions(alloc, source, at)?;
+    paired(definitions, body_statements(alloc, source, at))
 }
 
 /// `Body = "{" { Def ";" } { Stmt ";" } "}"`.
 ///
 /// Each level of statements and of parentheses takes some frames of the stack.
-#[tactic(auto, unfolding(crate::specs::Bodies::body_parser, crate::specs::Bodies::body_stmts_parser, gq_grammar::specs::Parsers::after, gq_grammar::specs::Series::ended))]
+#[tactic(auto, unfolding(crate::specs::Bodies::body_parser, gq_grammar::specs::Parsers::after))]
 pub fn body(alloc: Global, source: &Source<'_>, at: usize) -> Read<Body>
     requires { at ≤ length source.now }
     ensures { IfOk result (Found spec.body_parser source.now at) }
 {
     let at = need!(source.sign(at, "{"));
-    let (definitions, at) = definitions(alloc, source, at)?;
-    let (statements, at) = statements(alloc, source, at)?;
-    let at = need!(source.sign(at, "}"));
+    let ((definitions, statements), at) = need!(body_parts(alloc, source, at)?);
     Ok(Some((
         Body {
-            definitions: List::from_vec(definitions),
-            statements: List::from_vec(statements),
+            definitions,
+            statements,
         },
         at,
     )))

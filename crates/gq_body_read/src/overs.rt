@@ -1,8 +1,11 @@
 // What FOREACH goes over, and the LIMIT of WHILE.
 ghost use Rattle.std.specs.Prelude.{◌≤◌, length, IfOk, Some};
-ghost use Rattle.gq_grammar.specs.Parsers.{Found, maybe};
+ghost use Rattle.gq_grammar.specs.Lexemes as lexemes;
+ghost use Rattle.gq_grammar.specs.Parsers.{Found, after, both, maybe};
+ghost use Rattle.gq_part_read.specs.Expression as part;
 ghost use Rattle.gq_body_read.specs.Bodies as spec;
 
+use gq_block_read::beside;
 use gq_grammar::Source;
 use gq_list::Memory;
 use gq_part_read::{Read, expression, need};
@@ -19,8 +22,8 @@ fn limit(alloc: Global, source: &Source<'_>, at: usize) -> Read<Node>
     expression(alloc, source, at)
 }
 
-/// `[ LIMIT Expr ]`.
-pub fn some_limit(
+// [ LIMIT Expr ]
+fn some_limit(
     alloc: Global,
     source: &Source<'_>,
     at: usize,
@@ -30,6 +33,27 @@ pub fn some_limit(
 {
     let (limit, end) = need!(limit(alloc, source, at)?, else (None, at));
     Ok((Some(limit), end))
+}
+
+// Expr [ LIMIT Expr ]
+fn condition(alloc: Global, source: &Source<'_>, at: usize) -> Read<(Node, Option<Node>)>
+    requires { at ≤ length source.now }
+    ensures { IfOk result (Found (both part.expression (maybe spec.limit_parser)) source.now at) }
+{
+    match expression(alloc, source, at)? {
+        None => Ok(None),
+        Some((condition, at)) => beside(condition, some_limit(alloc, source, at)),
+    }
+}
+
+/// `WHILE Expr [ LIMIT Expr ]`.
+#[tactic(auto, unfolding(gq_grammar::specs::Parsers::after))]
+pub fn while_head(alloc: Global, source: &Source<'_>, at: usize) -> Read<(Node, Option<Node>)>
+    requires { at ≤ length source.now }
+    ensures { IfOk result (Found (after (lexemes.word "WHILE") (both part.expression (maybe spec.limit_parser))) source.now at) }
+{
+    let at = need!(source.keyword(at, "WHILE"));
+    condition(alloc, source, at)
 }
 
 // RANGE "[" Expr "," Expr "]"
@@ -47,9 +71,9 @@ fn range(alloc: Global, source: &Source<'_>, at: usize) -> Read<Over>
     Ok(Some((Over::Range(first, last), at)))
 }
 
-/// `Expr | RANGE "[" Expr "," Expr "]"`.
+// Expr | RANGE "[" Expr "," Expr "]"
 #[tactic(auto, unfolding(crate::specs::Bodies::over_parser))]
-pub fn over(alloc: Global, source: &Source<'_>, at: usize) -> Read<Over>
+fn over(alloc: Global, source: &Source<'_>, at: usize) -> Read<Over>
     requires { at ≤ length source.now }
     ensures { IfOk result (Found spec.over_parser source.now at) }
 {
@@ -57,4 +81,14 @@ pub fn over(alloc: Global, source: &Source<'_>, at: usize) -> Read<Over>
         Some((elements, next)) => Ok(Some((Over::Elements(elements), next))),
         None => range(alloc, source, at),
     }
+}
+
+/// `IN ( Expr | RANGE "[" Expr "," Expr "]" )`.
+#[tactic(auto, unfolding(gq_grammar::specs::Parsers::after))]
+pub fn in_over(alloc: Global, source: &Source<'_>, at: usize) -> Read<Over>
+    requires { at ≤ length source.now }
+    ensures { IfOk result (Found (after (lexemes.word "IN") spec.over_parser) source.now at) }
+{
+    let at = need!(source.keyword(at, "IN"));
+    over(alloc, source, at)
 }

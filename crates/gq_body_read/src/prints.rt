@@ -6,6 +6,7 @@ ghost use Rattle.gq_grammar.specs.Parsers.{Found, both, made, maybe, token};
 ghost use Rattle.gq_grammar.specs.Series.{chain};
 ghost use Rattle.gq_body_read.specs.Bodies as spec;
 
+use gq_block_read::beside;
 use gq_grammar::Source;
 use gq_list::{List, Memory};
 use gq_part_read::{Read, expression, list, name, need};
@@ -68,15 +69,29 @@ fn item_columns(alloc: Global, source: &Source<'_>, at: usize) -> Read<List<(Nod
     Ok(Some((columns, at)))
 }
 
-// Name "[" Expr [ AS Name ] { "," Expr [ AS Name ] } "]" [ AS Name ]
+// "[" Expr [ AS Name ] { "," Expr [ AS Name ] } "]" [ AS Name ]
 #[tactic(auto, unfolding(crate::specs::Bodies::named_columns_parser))]
+fn named_columns(
+    alloc: Global,
+    source: &Source<'_>,
+    at: usize,
+) -> Read<(List<(Node, Label)>, Option<Txt>)>
+    requires { at ≤ length source.now }
+    ensures { IfOk result (Found spec.named_columns_parser source.now at) }
+{
+    match item_columns(alloc, source, at)? {
+        None => Ok(None),
+        Some((columns, at)) => beside(columns, some_name(alloc, source, at)),
+    }
+}
+
+// Name "[" Expr [ AS Name ] { "," Expr [ AS Name ] } "]" [ AS Name ]
 fn set_item(alloc: Global, source: &Source<'_>, at: usize) -> Read<Item>
     requires { at ≤ length source.now }
     ensures { IfOk result (Found (made columns_item (both (token lexemes.Name lexemes.spelling) spec.named_columns_parser)) source.now at) }
 {
     let (set, at) = need!(source.name(at));
-    let (columns, at) = need!(item_columns(alloc, source, at)?);
-    let (name, at) = some_name(alloc, source, at)?;
+    let ((columns, name), at) = need!(named_columns(alloc, source, at)?);
     Ok(Some((Item::Columns(Txt::of(alloc, set)?, columns, name), at)))
 }
 

@@ -11,8 +11,6 @@ mod command;
 mod line;
 mod number;
 mod read;
-#[cfg(test)]
-mod tests;
 
 pub use command::{Command, Task, USAGE, WordsFault};
 pub use read::read_words;

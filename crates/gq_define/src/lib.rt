@@ -6,7 +6,5 @@
 mod attributes;
 mod create;
 mod fault;
-#[cfg(test)]
-mod tests;
 
 pub use create::{create_edge, create_graph, create_vertex};

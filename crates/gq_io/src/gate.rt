@@ -72,3 +72,84 @@ impl Gate for HoldGate {
         }
     }
 }
+
+/// A gate at which one chosen worker waits at its first pass, but not for ever, until the others have passed often enough.
+///
+/// It is for tests: however late a worker is, the answer of a block stays the same. Contracts see `turns` alone.
+#[derive(Debug, Drop)]
+pub struct HeldGate {
+    worker: u32,
+    passes: u64,
+    turns: u64,
+    came: AtomicU64,
+    made: AtomicU64,
+    seen: AtomicU64,
+}
+
+impl Model for HeldGate {
+    ghost use Rattle.std.specs.Prelude.{ℕ};
+
+    ghost Value = { ℕ };
+
+    ghost view = { λ g. g.turns };
+}
+
+impl HeldGate {
+    /// A gate at which the first pass of `worker` looks up to `turns` times whether the others have made `passes` passes.
+    pub fn new(worker: u32, passes: u64, turns: u64) -> Self
+        ensures { result ≡ turns }
+    {
+        HeldGate {
+            worker,
+            passes,
+            turns,
+            came: AtomicU64::new(0),
+            made: AtomicU64::new(0),
+            seen: AtomicU64::new(0),
+        }
+    }
+
+    /// Whether the chosen worker came, and saw that the others had made their passes.
+    pub fn has_seen(&self) -> bool {
+        self.seen.load(Ordering::SeqCst) != 0
+    }
+}
+
+impl Gate for HeldGate {
+    fn pass(&self, worker: u32, _chunk: u64) {
+        if worker != self.worker {
+            self.made.fetch_add(1, Ordering::SeqCst);
+            return;
+        }
+        if self.came.fetch_or(1, Ordering::SeqCst) != 0 {
+            return;
+        }
+        for _ in 0..self.turns {
+            if self.made.load(Ordering::SeqCst) >= self.passes {
+                self.seen.fetch_or(1, Ordering::SeqCst);
+                return;
+            }
+        }
+    }
+}
+
+/// Any of the gates, for whoever runs a whole script: queries run behind traits, whose methods take one type of gate.
+#[derive(Clone, Copy, Debug)]
+pub enum AnyGate<'g> {
+    /// Nobody waits. This is the gate of the program.
+    Open,
+    /// Each worker waits for another one.
+    Hold(&'g HoldGate),
+    /// One worker waits for the others.
+    Held(&'g HeldGate),
+}
+
+impl<'g> Gate for AnyGate<'g> {
+    fn pass(&self, worker: u32, chunk: u64) {
+        match self {
+            AnyGate::Open => {}
+            AnyGate::Hold(gate) => gate.pass(worker, chunk),
+            AnyGate::Held(gate) => gate.pass(worker, chunk),
+        }
+    }
+}

@@ -19,7 +19,7 @@ mod shape;
 mod sink;
 
 pub use files::{FileFault, Files, MOST_BYTES};
-pub use gate::{Gate, HoldGate, OpenGate};
+pub use gate::{AnyGate, Gate, HeldGate, HoldGate, OpenGate};
 pub use host::{HostFiles, HostSink};
 pub use memory_files::{MemoryFiles, SureFiles};
 pub use memory_sink::{MemorySink, SureSink};

@@ -1,7 +1,7 @@
 // What the contracts leave open: that calls succeed, what gates do, and what the host's files give.
 use gq_io::{
-    FileFault, Files, Gate, HoldGate, HostFiles, MemoryFiles, MemorySink, OpenGate, Shape, Sink,
-    SinkFault, SureFiles, SureSink, write_all,
+    AnyGate, FileFault, Files, Gate, HeldGate, HoldGate, HostFiles, MemoryFiles, MemorySink,
+    OpenGate, Shape, Sink, SinkFault, SureFiles, SureSink, write_all,
 };
 use std::alloc::Global;
 use std::test::Fail;
@@ -106,6 +106,28 @@ fn two_workers_meet(rt: HostRuntime) {
     let gate = HoldGate::new(200_000_000);
     thread::join(&rt, || gate.pass(0, 0), || gate.pass(63, 1));
     assert!(rt; gate.met());
+}
+
+#[test]
+fn a_held_worker_sees_the_passes_of_the_others(rt: HostRuntime) {
+    let held = HeldGate::new(1, 2, 200_000_000);
+    let gate = AnyGate::Held(&held);
+    thread::join(
+        &rt,
+        || gate.pass(1, 0),
+        || {
+            gate.pass(0, 1);
+            gate.pass(2, 2);
+        },
+    );
+    assert!(rt; held.has_seen());
+}
+
+#[test]
+fn a_held_worker_waits_no_longer_than_its_turns(rt: HostRuntime) {
+    let held = HeldGate::new(0, 1, 1000);
+    AnyGate::Held(&held).pass(0, 0);
+    assert!(rt; !held.has_seen());
 }
 
 #[test]

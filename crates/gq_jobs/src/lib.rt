@@ -8,8 +8,6 @@ mod create;
 mod fault;
 mod laws;
 mod named;
-#[cfg(test)]
-mod tests;
 
 pub use create::create_job;
 pub use laws::jobs_stay_checked;

@@ -10,8 +10,6 @@
 mod average;
 mod line;
 mod out;
-#[cfg(test)]
-mod tests;
 mod text;
 mod value;
 

@@ -118,32 +118,3 @@ impl<T: Copy> List<T> {
         })
     }
 }
-
-#[cfg(test)]
-mod tests {
-    use super::*;
-    use crate::Boxed;
-    use std::test::Fail;
-
-    #[test]
-    fn a_list_keeps_its_items_in_order(rt: HostRuntime) -> Result<(), Fail> {
-        let mut list = List::new(rt.alloc());
-        for n in 0..100u64 {
-            list.push(n * n)?;
-        }
-        assert_eq!(rt; list.len(), 100);
-        assert_eq!(rt; *list.at(99), 9801);
-        list.set(0, 7);
-        list.truncate(2);
-        assert_eq!(rt; list.as_slice(), [7, 1].as_slice());
-        Ok(())
-    }
-
-    #[test]
-    fn a_box_gives_back_its_value(rt: HostRuntime) -> Result<(), Fail> {
-        let boxed = Boxed::new(rt.alloc(), 5u64)?;
-        assert_eq!(rt; *boxed.get(), 5);
-        assert_eq!(rt; boxed.into_inner(), 5);
-        Ok(())
-    }
-}

@@ -5,8 +5,6 @@
 
 mod refusing;
 mod status;
-#[cfg(test)]
-mod tests;
 
 pub use refusing::{refuse, refuse_file, refuse_statement};
 pub use status::Status;

@@ -4,7 +4,5 @@
 #![tactic(auto)]
 
 mod paths;
-#[cfg(test)]
-mod tests;
 
 pub use paths::{path_of, undefined};

@@ -4,7 +4,5 @@
 #![tactic(auto)]
 
 mod records;
-#[cfg(test)]
-mod tests;
 
 pub use records::Records;

@@ -4,7 +4,5 @@
 #![tactic(auto)]
 
 mod refusal;
-#[cfg(test)]
-mod tests;
 
 pub use refusal::{Refusal, StatementFault, refusal_line};

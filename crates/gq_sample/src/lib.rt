@@ -8,8 +8,6 @@
 
 mod files;
 mod script;
-#[cfg(test)]
-mod tests;
 
 pub use files::{knows_csv, people_csv};
 pub use script::sample_script;

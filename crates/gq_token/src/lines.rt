@@ -15,18 +15,3 @@ pub fn line_of(bytes: &[u8], at: usize) -> u64
     }
     line
 }
-
-#[cfg(test)]
-mod tests {
-    use super::line_of;
-    use std::test::Fail;
-
-    #[test]
-    fn only_an_lf_before_the_place_ends_a_line(rt: HostRuntime) -> Result<(), Fail> {
-        assert_eq!(rt; line_of(b"", 0), 1);
-        assert_eq!(rt; line_of(b"a\r\r\nb\n", 3), 1);
-        assert_eq!(rt; line_of(b"a\r\r\nb\n", 4), 2);
-        assert_eq!(rt; line_of(b"a\r\r\nb\n", 6), 3);
-        Ok(())
-    }
-}

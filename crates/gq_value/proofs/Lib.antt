@@ -4,3 +4,4 @@ pub mod ArithmeticLemmas
 pub mod AgreeLemmas
 pub mod CandidateExamples
 pub mod AccumLemmas
+pub mod CrossingLemmas

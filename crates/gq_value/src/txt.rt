@@ -40,19 +40,3 @@ impl Txt {
         self.text.as_str()
     }
 }
-
-#[cfg(test)]
-mod tests {
-    use super::*;
-    use std::test::Fail;
-
-    #[test]
-    fn a_text_is_kept_byte_for_byte(rt: HostRuntime) -> Result<(), Fail> {
-        for text in ["", "a b", "Jürgen \u{1F600}\n"] {
-            assert_eq!(rt; Txt::of(rt.alloc(), text)?.as_str(), text);
-            let string = String::from_str(rt.alloc(), text)?;
-            assert_eq!(rt; Txt::from_string(string).as_str(), text);
-        }
-        Ok(())
-    }
-}

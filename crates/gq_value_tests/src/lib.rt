@@ -1,5 +1,13 @@
-//! Tests of `gq_value`, in a crate of their own, so that the library isn't proved a second time with them.
+//! Tests: values, times, hashes, lines of JSON and copies of trees. They stand in a crate of their own, so that no library is proved a second time with its tests.
 #![tactic(auto)]
 
 #[cfg(test)]
-mod tests;
+mod hashes;
+#[cfg(test)]
+mod lines;
+#[cfg(test)]
+mod times;
+#[cfg(test)]
+mod trees;
+#[cfg(test)]
+mod values;

@@ -1,6 +1,0 @@
-use Rattle.gq_core.specs.Accounts.{IsInOrder}
-use Rattle.gq_core_tests.proofs.tests.goes_as.Given as goal
-
--- each event leaves the core in order
-abbrev pub invariant-loop-event : goal.invariant-loop-event
-invariant-loop-event l = IsInOrder l.job l.core

@@ -1,6 +1,0 @@
-use Rattle.std.proofs.Common.{ℕ, false}
-use Rattle.gq_value.specs.Edges.{Agrees, naming_with}
-use Rattle.gq_put_tests.proofs.tests.loaded.Given as goal
-
-abbrev pub invariant-loop-from : goal.invariant-loop-from
-invariant-loop-from l = (kind : ℕ) → Agrees l.store.edges.namings (naming_with kind false 0)
