@@ -16,7 +16,6 @@ use gq_answer::BlockFault;
 use gq_control::RunFault;
 use gq_frame::Frame;
 use gq_ground::{Ground, block_fault};
-use gq_io::Gate;
 use gq_names::Live;
 use gq_resolved::{Block, SetTypes, Walk};
 use gq_select::{Selected, Workers, select};
@@ -24,10 +23,11 @@ use gq_set::TypedSet;
 use gq_value::Memory;
 use gq_view::Clock;
 use std::alloc::Global;
+use std::thread::Threads;
 
 /// Assigns what a SELECT selects, and keeps its accumulators. Along a path it answers Memory.
-pub(crate) fn assign_select<C: Clock, G: Gate>(
-    workers: &Workers<'_, G>,
+pub(crate) fn assign_select<R: Threads + Sync, C: Clock + Sync>(
+    workers: &Workers<'_, R>,
     alloc: Global,
     ground: &Ground<'_, C>,
     place: u32,
@@ -60,8 +60,8 @@ fn is_path(walk: &Walk) -> bool
     }
 }
 
-fn select_over<C: Clock, G: Gate>(
-    workers: &Workers<'_, G>,
+fn select_over<R: Threads + Sync, C: Clock + Sync>(
+    workers: &Workers<'_, R>,
     alloc: Global,
     ground: &Ground<'_, C>,
     block: &Block,

@@ -13,19 +13,19 @@ use crate::named::assign_value;
 use crate::sets::assign_sets;
 use gq_control::RunFault;
 use gq_ground::Ground;
-use gq_io::Gate;
 use gq_names::Live;
 use gq_resolved::{Right, SetTypes};
 use gq_select::Workers;
 use gq_view::Clock;
 use std::alloc::Global;
+use std::thread::Threads;
 
 /// Assigns what stands on the right side to the variable at a place.
 ///
 /// A SELECT gives its accumulators too, and its vertices to a set variable, whose types are fixed where it comes into view. What doesn't fit the
 /// place is want of memory.
-pub fn assign<C: Clock, G: Gate>(
-    workers: &Workers<'_, G>,
+pub fn assign<R: Threads + Sync, C: Clock + Sync>(
+    workers: &Workers<'_, R>,
     alloc: Global,
     ground: &Ground<'_, C>,
     place: u32,

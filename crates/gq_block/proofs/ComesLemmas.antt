@@ -1,6 +1,6 @@
 -- ComesLemmas: what is read of a candidate is what comes of it.
 use Rattle.std.proofs.Common.{◌≡◌, ℕ, ◌+◌, ◌<◌, ◌==◌, Bool, true, false, if◌then◌else◌, List, [], ◌∷◌, ◌++◌, Option, Some, None, refl, ap, ap₂, subst, ◌∙◌, arith}
-use Rattle.std.specs.Prelude.{ℤ, ◌||◌, length, IfSome}
+use Rattle.std.specs.Prelude.{ℤ, ◌||◌, length}
 use Rattle.std.specs.Option.{option_map, option_or, option_to_list}
 use Rattle.std.proofs.lemmas.List.Elements.{All-nil, All-cons}
 use Rattle.gq_value.specs.Val.{Int}
@@ -52,7 +52,7 @@ use Rattle.gq_block.specs.Direct.{is_at, StandsAt, LeafStands, LeafSeen, ToStand
 use Rattle.gq_marks.specs.Marks.{is_marked}
 use Rattle.gq_start.specs.Starts.{IsWithin}
 use Rattle.gq_block.specs.declared.found.Found.{Found}
-use Rattle.gq_block.specs.Running.{comes, Done, IsShaped, Tried, marks_end}
+use Rattle.gq_block.specs.Running.{comes, AreDirect, Done, IsShaped, Tried, marks_end}
 use Rattle.gq_block.proofs.FoundLemmas.{ints_passed, shaped_still}
 
 -- ---- aliases by their places
@@ -193,18 +193,18 @@ module _ (clock : Calendar) (g : code.Graph) (plan : Plan) (tuples : List TupleT
   abbrev pub whole : Over
   whole = record { schema = g.catalog.now; vertices = g.store.now.vertices; edges = g.store.now.edges; plan = plan; tuples = tuples; frame = frame }
 
-  pub done_read : (ss : List Simple) (b : Bool) → b ≡ true → Gathered g c ss old.ints new.ints b → IsWithin (length g.store.now.vertices) c → IsShaped (length g.store.now.vertices) old → new.batches ≡ old.batches → new.accums ≡ old.accums → new.fed ≡ old.fed
+  pub done_read : (ss : List Simple) (b : Bool) → b ≡ true → Gathered g c ss old.ints new.ints b → IsWithin (length g.store.now.vertices) c → IsShaped (length g.store.now.vertices) old → new.batches ≡ old.batches
       → length new.sources ≡ length old.sources → length new.targets ≡ length old.targets → ((v : ℕ) → is_marked new.sources v ≡ (v == c.source || is_marked old.sources v)) → ((v : ℕ) → is_marked new.targets v ≡ (marks_end c.target v || is_marked old.targets v))
       → Done clock whole c (Some ss) old new true
-  done_read ss b e gathered within shaped batches accums fed long_sources long_targets sources targets = (
+  done_read ss b e gathered within shaped batches long_sources long_targets sources targets = (
     λ block ends edge direct.
         let h : Gathered g c ss old.ints new.ints true = subst (Gathered g c ss old.ints new.ints) e gathered in
         let m = match_read clock g plan tuples frame ends edge c block ss h.0 direct h.2 in
-        ints_passed whole c (comes clock whole block ends edge c) (contributions (look clock g plan tuples frame ends edge c) (slots_are frame.accums) (view_acts block.accum)) h.0 old new within m.0 m.1 h.1 batches accums fed sources targets,
+        ints_passed whole c (comes clock whole block ends edge c) (contributions (look clock g plan tuples frame ends edge c) (slots_are frame.accums) (view_acts block.accum)) h.0 old new within m.0 m.1 h.1 batches sources targets,
     shaped_still (length g.store.now.vertices) old new shaped (ap length batches) long_sources long_targets,
   )
 
-pub done_tried : (clock : Calendar) (o : Over) (block : Block) (ends : Ends) (edge : Option ℕ) (c : Candidate) (direct : Option (List Simple)) (old new : Found) (b : Bool) → b ≡ true → IfSome direct (IsDirect ends edge o.frame.accums.slots block) → Done clock o c direct old new b
+pub done_tried : (clock : Calendar) (o : Over) (block : Block) (ends : Ends) (edge : Option ℕ) (c : Candidate) (direct : Option (List Simple)) (old new : Found) (b : Bool) → b ≡ true → AreDirect ends edge o.frame.accums.slots block direct → Done clock o c direct old new b
     → Tried o (comes clock o block ends edge c) old new None × IsShaped (length o.vertices) new
 done_tried clock o block ends edge c None old new true e h done = absurd done
 done_tried clock o block ends edge c (Some ss) old new true e h done = (done.0 block ends edge h, done.1)

@@ -1,5 +1,5 @@
 -- EndLemmas: the sums judged, and what is left.
-use Rattle.std.proofs.Common.{◌≡◌, ℕ, ◌+◌, ◌<◌, List, [], length, Option, Some, None, Ok, Err, sym, ap, ◌∙◌, subst}
+use Rattle.std.proofs.Common.{◌≡◌, ℕ, ◌+◌, ◌<◌, List, length, Option, Some, None, Ok, Err, sym, ap, ◌∙◌, subst}
 use Rattle.gq_slots.specs.declared.accums.Accums.{Accums}
 use Rattle.gq_typing.specs.Patterns.{by_number}
 use Rattle.gq_meaning.specs.Answers.{Gives, Faults, ◌>>=◌}
@@ -14,34 +14,34 @@ use Rattle.gq_answer.specs.declared.after.BlockFault.TheVariants as fault
 use Rattle.gq_answer.specs.Answered.{after_is}
 use Rattle.gq_feed.specs.Feeding.{AreFed}
 use Rattle.gq_feed.proofs.FitLemmas.{fed_sound}
-use Rattle.gq_block.specs.declared.found.Found.{Found}
-use Rattle.gq_block.specs.Running.{gives_of, sources_of, targets_of, Holds}
-use Rattle.gq_block.specs.Results.{Leaves, IsJudged, AreListed}
+use Rattle.gq_block.specs.declared.run.Run.{Run}
+use Rattle.gq_block.specs.Running.{gives_of, sources_of, targets_of}
+use Rattle.gq_block.specs.Results.{Leaves, IsJudged, IsOver, AreListed}
 use Rattle.gq_block.proofs.ListLemmas.{once, below, sources_below, targets_below}
 
 -- the accumulators of the definitions, and which of them doesn't fit
-module _ (found : Found) (o : Over) (ms : List Match) (h : Holds o ms (gives_of ms) [] found) where
-  unfit_is : (n : Option ℕ) → ((f : ℕ) → AreFed f found.accums → n ≡ first_unfit 0 (slots_are found.accums)) → first_unfit 0 (slots_after (gives_of ms) 0 (slots_are o.frame.accums)) ≡ n
-  unfit_is n told = sym (told (1 + length (gives_of ms)) h.after.fed ∙ ap (first_unfit 0) h.after.after)
+module _ (run : Run) (o : Over) (ms : List Match) (h : IsOver o ms run) where
+  unfit_is : (n : Option ℕ) → ((f : ℕ) → AreFed f run.accums → n ≡ first_unfit 0 (slots_are run.accums)) → first_unfit 0 (slots_after (gives_of ms) 0 (slots_are o.frame.accums)) ≡ n
+  unfit_is n told = sym (told (1 + length (gives_of ms)) h.fed.after.fed ∙ ap (first_unfit 0) h.fed.after.after)
 
   abbrev left_of : List (states.Slot Reference) → blocks.After Reference
   left_of slots = record { slots = slots; sources = by_number (sources_of ms); targets = by_number (targets_of ms) }
 
-  after_none_unfit : ((f : ℕ) → AreFed f found.accums → None ≡ first_unfit 0 (slots_are found.accums)) → after_matches (slots_are o.frame.accums) ms ≡ Gives (left_of (slots_are found.accums))
+  after_none_unfit : ((f : ℕ) → AreFed f run.accums → None ≡ first_unfit 0 (slots_are run.accums)) → after_matches (slots_are o.frame.accums) ms ≡ Gives (left_of (slots_are run.accums))
   after_none_unfit told =
-      ap (λ n. unless_unfit n (slots_after (gives_of ms) 0 (slots_are o.frame.accums)) >>= λ fed. Gives (left_of fed)) (unfit_is None told) ∙ ap (λ l. Gives (left_of l)) (sym h.after.after)
+      ap (λ n. unless_unfit n (slots_after (gives_of ms) 0 (slots_are o.frame.accums)) >>= λ fed. Gives (left_of fed)) (unfit_is None told) ∙ ap (λ l. Gives (left_of l)) (sym h.fed.after.after)
 
-  after_unfit : (n : ℕ) → ((f : ℕ) → AreFed f found.accums → Some n ≡ first_unfit 0 (slots_are found.accums)) → after_matches (slots_are o.frame.accums) ms ≡ Faults (blocks.SumRange n)
+  after_unfit : (n : ℕ) → ((f : ℕ) → AreFed f run.accums → Some n ≡ first_unfit 0 (slots_are run.accums)) → after_matches (slots_are o.frame.accums) ms ≡ Faults (blocks.SumRange n)
   after_unfit n told = ap (λ u. unless_unfit u (slots_after (gives_of ms) 0 (slots_are o.frame.accums)) >>= λ fed. Gives (left_of fed)) (unfit_is (Some n) told)
 
-  leaves : (a : After) → a.accums ≡ found.accums → ((f : ℕ) → AreFed f found.accums → None ≡ first_unfit 0 (slots_are found.accums)) → AreListed found (a.sources, a.targets) → Leaves o a
+  leaves : (a : After) → a.accums ≡ run.accums → ((f : ℕ) → AreFed f run.accums → None ≡ first_unfit 0 (slots_are run.accums)) → AreListed run.found (a.sources, a.targets) → Leaves o a
   leaves a same told listed = record {
-    slots = ap (λ (x : Accums). x.slots) same ∙ h.after.slots;
-    sound = subst AreSound (sym same) (fed_sound (1 + length (gives_of ms)) found.accums h.after.fed (sym (told (1 + length (gives_of ms)) h.after.fed)));
-    sources = subst (Rattle.std.specs.List.All (λ v. v < length o.vertices)) (sym sources) (below (sources_of ms) (length o.vertices) (sources_below (length o.vertices) ms h.within));
-    sources_once = subst (Rattle.std.specs.List.IsDistinct Rattle.std.specs.Prelude.nat_eq) (sym sources) (once (sources_of ms) (length o.vertices) (sources_below (length o.vertices) ms h.within));
-    targets = subst (Rattle.std.specs.List.All (λ v. v < length o.vertices)) (sym targets) (below (targets_of ms) (length o.vertices) (targets_below (length o.vertices) ms h.within));
-    targets_once = subst (Rattle.std.specs.List.IsDistinct Rattle.std.specs.Prelude.nat_eq) (sym targets) (once (targets_of ms) (length o.vertices) (targets_below (length o.vertices) ms h.within));
+    slots = ap (λ (x : Accums). x.slots) same ∙ h.fed.after.slots;
+    sound = subst AreSound (sym same) (fed_sound (1 + length (gives_of ms)) run.accums h.fed.after.fed (sym (told (1 + length (gives_of ms)) h.fed.after.fed)));
+    sources = subst (Rattle.std.specs.List.All (λ v. v < length o.vertices)) (sym sources) (below (sources_of ms) (length o.vertices) (sources_below (length o.vertices) ms h.fed.within));
+    sources_once = subst (Rattle.std.specs.List.IsDistinct Rattle.std.specs.Prelude.nat_eq) (sym sources) (once (sources_of ms) (length o.vertices) (sources_below (length o.vertices) ms h.fed.within));
+    targets = subst (Rattle.std.specs.List.All (λ v. v < length o.vertices)) (sym targets) (below (targets_of ms) (length o.vertices) (targets_below (length o.vertices) ms h.fed.within));
+    targets_once = subst (Rattle.std.specs.List.IsDistinct Rattle.std.specs.Prelude.nat_eq) (sym targets) (once (targets_of ms) (length o.vertices) (targets_below (length o.vertices) ms h.fed.within));
   }
     where
       sources : a.sources ≡ by_number (sources_of ms)
@@ -50,24 +50,24 @@ module _ (found : Found) (o : Over) (ms : List Match) (h : Holds o ms (gives_of 
       targets : a.targets ≡ by_number (targets_of ms)
       targets = listed.targets (targets_of ms) h.targets
 
-  answered : (a : After) → a.accums ≡ found.accums → ((f : ℕ) → AreFed f found.accums → None ≡ first_unfit 0 (slots_are found.accums)) → AreListed found (a.sources, a.targets) → after_matches (slots_are o.frame.accums) ms ≡ Gives (after_is a)
-  answered a same told listed = after_none_unfit told ∙ ap Gives (made (slots_are found.accums) (ap slots_are (sym same)) (listed.sources (sources_of ms) h.sources) (listed.targets (targets_of ms) h.targets))
+  answered : (a : After) → a.accums ≡ run.accums → ((f : ℕ) → AreFed f run.accums → None ≡ first_unfit 0 (slots_are run.accums)) → AreListed run.found (a.sources, a.targets) → after_matches (slots_are o.frame.accums) ms ≡ Gives (after_is a)
+  answered a same told listed = after_none_unfit told ∙ ap Gives (made (slots_are run.accums) (ap slots_are (sym same)) (listed.sources (sources_of ms) h.sources) (listed.targets (targets_of ms) h.targets))
     where
       made : (l : List (states.Slot Reference)) → l ≡ slots_are a.accums → a.sources ≡ by_number (sources_of ms) → a.targets ≡ by_number (targets_of ms) → left_of l ≡ after_is a
       made l e p q = λ i. record { slots = e i; sources = sym p i; targets = sym q i }
 
 -- ---- as the code goes
 
-pub judged_fit : (found : Found) (a : After) → a.accums ≡ found.accums → ((f : ℕ) → AreFed f found.accums → None ≡ first_unfit 0 (slots_are found.accums)) → AreListed found (a.sources, a.targets) → IsJudged found (Ok a)
-judged_fit found a same told listed = record {
-  answered = λ o ms h. answered found o ms h a same told listed;
-  left = λ o ms h. leaves found o ms h a same told listed;
+pub judged_fit : (run : Run) (a : After) → a.accums ≡ run.accums → ((f : ℕ) → AreFed f run.accums → None ≡ first_unfit 0 (slots_are run.accums)) → AreListed run.found (a.sources, a.targets) → IsJudged run (Ok a)
+judged_fit run a same told listed = record {
+  answered = λ o ms h. answered run o ms h a same told listed;
+  left = λ o ms h. leaves run o ms h a same told listed;
 }
 
-pub judged_unfit : (found : Found) (n slot : ℕ) → ((f : ℕ) → AreFed f found.accums → Some n ≡ first_unfit 0 (slots_are found.accums)) → slot ≡ n → IsJudged found (Err (fault.SumRange slot))
-judged_unfit found n slot told e = record { answered = λ o ms h. after_unfit found o ms h n told ∙ ap (λ (m : ℕ). Faults (blocks.SumRange m)) (sym e); left = λ o ms h. tt }
+pub judged_unfit : (run : Run) (n slot : ℕ) → ((f : ℕ) → AreFed f run.accums → Some n ≡ first_unfit 0 (slots_are run.accums)) → slot ≡ n → IsJudged run (Err (fault.SumRange slot))
+judged_unfit run n slot told e = record { answered = λ o ms h. after_unfit run o ms h n told ∙ ap (λ (m : ℕ). Faults (blocks.SumRange m)) (sym e); left = λ o ms h. tt }
 
-pub judged_memory : (found : Found) → IsJudged found (Err fault.Memory)
-judged_memory found = record { answered = λ o ms h. tt; left = λ o ms h. tt }
+pub judged_memory : (run : Run) → IsJudged run (Err fault.Memory)
+judged_memory run = record { answered = λ o ms h. tt; left = λ o ms h. tt }
 
 pub ruleset judge_laws = (judged_fit, judged_unfit, judged_memory)

@@ -1,5 +1,5 @@
--- RunLemmas: candidate after candidate, in the words of the definitions.
-use Rattle.std.proofs.Common.{◌≡◌, ℕ, zero, suc, ◌+◌, ◌≤◌, List, [], ◌∷◌, ◌++◌, take, drop, length, slice_get, Option, Some, None, Result, Ok, Err, refl, sym, ap, ap₂, ◌∙◌, subst, arith, append-nil, append_assoc}
+-- RunLemmas: candidate after candidate and chunk after chunk, in the words of the definitions.
+use Rattle.std.proofs.Common.{◌≡◌, ℕ, ℤ, zero, suc, ◌+◌, ◌*◌, ◌<◌, ◌≤◌, ◌||◌, Bool, true, false, List, [], ◌∷◌, ◌++◌, take, drop, length, replicate, slice_get, Option, Some, None, Result, Ok, Err, refl, sym, ap, ap₂, ◌∙◌, subst, arith, append-nil, append_assoc}
 use Rattle.std.specs.Option.{option_map}
 use Rattle.gq_value.specs.declared.store.Candidate.{Candidate}
 use Rattle.gq_value.specs.declared.value.Wrong.{Wrong}
@@ -16,25 +16,29 @@ use Rattle.gq_resolved.specs.PlanView.{accum_names}
 use Rattle.gq_resolved.specs.Reference.{Reference, Place}
 use Rattle.gq_fields.specs.Tuples.{tuples_are}
 use Rattle.gq_frame.specs.Shows.{Shows}
-use Rattle.gq_frame.specs.Slots.{slots_are, AreSound}
+use Rattle.gq_frame.specs.Slots.{slots_are}
 use Rattle.gq_view.specs.Viewed.{Over, viewed}
 use Rattle.gq_view.specs.Looks.{look_of, world_over}
 use Rattle.gq_view.specs.LookLaws.{look_over}
 use Rattle.gq_ends.specs.declared.ends.Ends.{Ends}
 use Rattle.gq_ends.specs.Ends.{HasEnds}
-use Rattle.std.proofs.lemmas.List.Elements.{recursion_from_All}
+use Rattle.std.proofs.lemmas.List.Elements.{All-nil, recursion_from_All}
 use Rattle.gq_start.specs.Starts.{IsWithin, AreCandidates}
 use Rattle.gq_answer.specs.declared.after.After.{After}
 use Rattle.gq_answer.specs.declared.after.BlockFault.{BlockFault}
 use Rattle.gq_answer.specs.declared.after.BlockFault.TheVariants as fault
 use Rattle.gq_answer.specs.Answered.{Answered, after_is}
+use Rattle.gq_feed.specs.Taking.{MayTake}
 use Rattle.gq_feed.proofs.PlaceLemmas.{same_some, none_apart}
+use Rattle.gq_block.specs.declared.block.Ran.TheVariants as ran
 use Rattle.gq_block.specs.declared.found.Found.{Found}
-use Rattle.gq_block.specs.declared.run.Ran.TheVariants as ran
+use Rattle.gq_block.specs.declared.run.Run.{Run}
+use Rattle.gq_block.specs.declared.work.Work.{Work}
 use Rattle.gq_block.specs.Aliases.{bound_to}
-use Rattle.gq_block.specs.Running.{comes, matches_by, gives_of, Has, Holds, IsShaped, IsOpened, Keeps, Feeds, Tried}
-use Rattle.gq_block.specs.Results.{Answers, Leaves, IsJudged, RanTo, block_matches}
+use Rattle.gq_block.specs.Running.{comes, come, matches_by, sources_of, targets_of, MatchesTo, GoOn, FaultAt, Wait, AreFedTo, FedFrom, Mark, Cover, AreMarked, IsShaped, IsEmpty, IsOpened, Tried, IsWork, Came, GoneThrough, HasRun, Steps}
+use Rattle.gq_block.specs.Results.{Answers, Leaves, IsJudged, IsBegun, RanTo, block_matches}
 use Rattle.gq_block.proofs.AliasLemmas.{named_all}
+use Rattle.gq_block.proofs.MarkLemmas.{mark_first, cover_first, mark_next, cover_next, mark_wider, marked_first, marked_more, sources_over, targets_over}
 
 -- ---- one candidate more
 
@@ -107,7 +111,7 @@ module _ (clock : Calendar) (o : Over) (block : Block) (ends : Ends) (edge : Opt
   pub block_comes : (cs : List Candidate) → AreCandidates o block cs → block_matches clock o block s ≡ matches_by (comes clock o block ends edge) 0 cs
   block_comes cs are = ap (matches (world_over clock o) s (view_block block) the_from 0) (sym (are.each clock s shows)) ∙ all_come 0 cs
 
--- ---- the loop
+-- ---- the candidates before a place
 
 pub within_at : (n i : ℕ) (cs : List Candidate) (c : Candidate) → Rattle.std.specs.List.All (IsWithin n) cs → slice_get cs i ≡ Some c → IsWithin n c
 within_at n i cs c h e = go i cs (recursion_from_All (IsWithin n) cs h) e
@@ -117,62 +121,183 @@ within_at n i cs c h e = go i cs (recursion_from_All (IsWithin n) cs h) e
     go zero (x ∷ cs) r e = subst (IsWithin n) (same_some e) r.0
     go (suc i) (x ∷ cs) r e = go i cs r.1 e
 
--- after so many candidates
-pub record HasRun (clock : Calendar) (o : Over) (block : Block) (ends : Ends) (edge : Option ℕ) (cs : List Candidate) (n : ℕ) (found : Found) : Type 0 where
+take_next : (n : ℕ) (xs : List Candidate) (c : Candidate) → slice_get xs n ≡ Some c → take (n + 1) xs ≡ take n xs ++ c ∷ []
+take_next n [] c e = none_apart c e
+take_next zero (x ∷ xs) c e = ap (λ y. y ∷ []) (same_some e)
+take_next (suc n) (x ∷ xs) c e = (let z : suc n + 1 ≡ suc (n + 1) = omega arith in ap (λ (m : ℕ). take m (x ∷ xs)) z) ∙ ap (λ l. x ∷ l) (take_next n xs c e)
+
+split_at : (n : ℕ) (xs : List Candidate) (c : Candidate) → slice_get xs n ≡ Some c → (xs ≡ take n xs ++ c ∷ drop (suc n) xs) × (length (take n xs) ≡ n)
+split_at n [] c e = none_apart c e
+split_at zero (x ∷ xs) c e = (ap (λ y. y ∷ xs) (same_some e), refl)
+split_at (suc n) (x ∷ xs) c e = let r = split_at n xs c e in (ap (λ l. x ∷ l) r.0, ap suc r.1)
+
+take_all : (n : ℕ) (xs : List Candidate) → length xs ≤ n → take n xs ≡ xs
+take_all zero [] l = refl
+take_all (suc n) [] l = refl
+take_all zero (x ∷ xs) l = absurd (omega (arith, l))
+take_all (suc n) (x ∷ xs) l = ap (λ r. x ∷ r) (take_all n xs (omega (arith, l)))
+
+module _ (go : Candidate → Answer Wrong (List Match)) (cs : List Candidate) where
+  pub go_first : (s : ℕ) → GoOn go cs s s []
+  go_first s before h = h ∙ ap Gives (sym (append-nil before))
+
+  pub go_next : (s p : ℕ) (c : Candidate) (ms m : List Match) → slice_get cs p ≡ Some c → GoOn go cs s p ms → go c ≡ Gives m → GoOn go cs s (p + 1) (ms ++ m)
+  go_next s p c ms m at goes e before h = ap (matches_by go 0) (take_next p cs c at) ∙ one_more go (take p cs) c (before ++ ms) m (goes before h) e ∙ ap Gives (append_assoc before ms m)
+
+  pub go_fault : (s p : ℕ) (c : Candidate) (ms : List Match) (w : Wrong) → slice_get cs p ≡ Some c → GoOn go cs s p ms → go c ≡ Faults w → FaultAt go cs s p w
+  go_fault s p c ms w at goes e before h = let r = split_at p cs c at in ap (matches_by go 0) r.0 ∙ faulty go (take p cs) c (drop (suc p) cs) (before ++ ms) w (goes before h) e ∙ ap (λ (n : ℕ). Faults (AtPlace n w)) r.1
+
+-- ---- a chunk
+
+-- the candidates from one place to another are tried
+pub record ChunkTo (go : Candidate → Answer Wrong (List Match)) (cs : List Candidate) (o : Over) (start end p : ℕ) (old now : Found) : Type 0 where
+  pub low : start ≤ p
+  pub high : p ≤ end
   pub matched : List Match
-  pub ran : matches_by (comes clock o block ends edge) 0 (take n cs) ≡ Gives matched
-  pub has : Has o matched found
-  pub shaped : IsShaped (length o.vertices) found
+  pub goes : GoOn go cs start p matched
+  pub waits : Wait o matched now.batches now.ints
+  pub shaped : IsShaped (length o.vertices) now
+  pub sources : Mark sources_of go cs start p old.sources now.sources
+  pub targets : Mark targets_of go cs start p old.targets now.targets
+  pub cover_sources : Cover sources_of go cs start p now.sources
+  pub cover_targets : Cover targets_of go cs start p now.targets
 
-module _ (clock : Calendar) (o : Over) (block : Block) (ends : Ends) (edge : Option ℕ) (cs : List Candidate) where
-  pub run_first : (vertices : ℕ) (found : Found) → IsOpened o.frame.accums vertices found → AreSound o.frame.accums → vertices ≡ length o.vertices → length o.vertices ≤ 4194304 → HasRun clock o block ends edge cs 0 found
-  run_first vertices found opened sound e few = record {
+none_waits : (o : Over) (found : Found) → IsEmpty found → Wait o [] found.batches found.ints
+none_waits o found h = record {
+  may = All-nil (MayTake o.frame.accums.slots);
+  batch = [];
+  waiting = h.batches;
+  batched = ap (λ l. Rattle.std.proofs.Common.map Rattle.gq_feed.specs.Taking.as_given (Rattle.gq_ints.specs.Ints.as_inputs l)) h.ints;
+  within = All-nil (λ (m : Match). IsWithin (length o.vertices) m.candidate);
+}
+
+module _ (go : Candidate → Answer Wrong (List Match)) (cs : List Candidate) (o : Over) (start end : ℕ) where
+  pub chunk_first : (old now : Found) → start ≤ end → IsEmpty now → IsShaped (length o.vertices) now → now.sources ≡ old.sources → now.targets ≡ old.targets → ChunkTo go cs o start end start old now
+  chunk_first old now l empty shaped sources targets = record {
+    low = omega arith;
+    high = l;
     matched = [];
-    ran = refl;
-    has = opened.none o refl sound;
-    shaped = subst (λ (n : ℕ). IsShaped n found) e (opened.shaped (let l = few in omega (arith, e, l)));
-  }
-
-  take_next : (n : ℕ) (xs : List Candidate) (c : Candidate) → slice_get xs n ≡ Some c → take (n + 1) xs ≡ take n xs ++ c ∷ []
-  take_next n [] c e = none_apart c e
-  take_next zero (x ∷ xs) c e = ap (λ y. y ∷ []) (same_some e)
-  take_next (suc n) (x ∷ xs) c e = (let z : suc n + 1 ≡ suc (n + 1) = omega arith in ap (λ (m : ℕ). take m (x ∷ xs)) z) ∙ ap (λ l. x ∷ l) (take_next n xs c e)
-
-  pub run_next : (n : ℕ) (c : Candidate) (old mid new : Found) → slice_get cs n ≡ Some c → HasRun clock o block ends edge cs n old → Keeps old mid → Tried o (comes clock o block ends edge c) mid new None → IsShaped (length o.vertices) new
-      → HasRun clock o block ends edge cs (n + 1) new
-  run_next n c old mid new at h keeps tried shaped = record {
-    matched = h.matched ++ tried.0;
-    ran = ap (matches_by (comes clock o block ends edge) 0) (take_next n cs c at) ∙ one_more (comes clock o block ends edge) (take n cs) c h.matched tried.0 h.ran tried.1;
-    has = tried.2 h.matched (keeps.all o h.matched h.has);
+    goes = go_first go cs start;
+    waits = none_waits o now empty;
     shaped = shaped;
+    sources = subst (λ w. Mark sources_of go cs start start old.sources w) (sym sources) (mark_first sources_of go cs start old.sources);
+    targets = subst (λ w. Mark targets_of go cs start start old.targets w) (sym targets) (mark_first targets_of go cs start old.targets);
+    cover_sources = cover_first sources_of go cs start now.sources;
+    cover_targets = cover_first targets_of go cs start now.targets;
   }
 
-  split_at : (n : ℕ) (xs : List Candidate) (c : Candidate) → slice_get xs n ≡ Some c → (xs ≡ take n xs ++ c ∷ drop (suc n) xs) × (length (take n xs) ≡ n)
-  split_at n [] c e = none_apart c e
-  split_at zero (x ∷ xs) c e = (ap (λ y. y ∷ xs) (same_some e), refl)
-  split_at (suc n) (x ∷ xs) c e = let r = split_at n xs c e in (ap (λ l. x ∷ l) r.0, ap suc r.1)
+  pub chunk_next : (p : ℕ) (c : Candidate) (old mid new : Found) → p < end → slice_get cs p ≡ Some c → ChunkTo go cs o start end p old mid → Tried o (go c) mid new None → IsShaped (length o.vertices) new → ChunkTo go cs o start end (p + 1) old new
+  chunk_next p c old mid new l at h tried shaped = let low = h.low in record {
+    low = omega (arith, low);
+    high = omega (arith, l);
+    matched = h.matched ++ tried.0;
+    goes = go_next go cs start p c h.matched tried.0 at h.goes tried.1;
+    waits = tried.2 h.matched h.waits;
+    shaped = shaped;
+    sources = mark_next sources_of go cs start p c tried.0 old.sources mid.sources new.sources h.low at tried.1 h.sources tried.3;
+    targets = mark_next targets_of go cs start p c tried.0 old.targets mid.targets new.targets h.low at tried.1 h.targets tried.4;
+    cover_sources = cover_next sources_of go cs start p c tried.0 mid.sources new.sources at tried.1 h.cover_sources tried.3;
+    cover_targets = cover_next targets_of go cs start p c tried.0 mid.targets new.targets at tried.1 h.cover_targets tried.4;
+  }
 
-  pub run_faults : (n : ℕ) (c : Candidate) (w : Wrong) (old mid new : Found) → HasEnds o.schema o.plan o.frame.things block ends → option_map Place edge ≡ edge_alias (view_walk block.walk) → AreCandidates o block cs → slice_get cs n ≡ Some c → HasRun clock o block ends edge cs n old
-      → Tried o (comes clock o block ends edge c) mid new (Some w) → RanTo clock o block (ran.Fault n w)
-  run_faults n c w old mid new ends_are edge_is are at h tried = λ s shows.
-      let r = split_at n cs c at in
-      block_comes clock o block ends edge s shows ends_are edge_is cs are ∙ ap (matches_by (comes clock o block ends edge) 0) r.0
-      ∙ faulty (comes clock o block ends edge) (take n cs) c (drop (suc n) cs) h.matched w h.ran tried ∙ ap (λ (m : ℕ). Faults (AtPlace m w)) r.1
+  pub chunk_fault : (p : ℕ) (c : Candidate) (w : Wrong) (old mid new : Found) → slice_get cs p ≡ Some c → ChunkTo go cs o start end p old mid → Tried o (go c) mid new (Some w) → IsShaped (length o.vertices) new → GoneThrough go cs o start end old new (Some (p, w))
+  chunk_fault p c w old mid new at h tried shaped = record {
+    came = go_fault go cs start p c h.matched w at h.goes tried.0;
+    shaped = shaped;
+    sources = mark_wider sources_of go cs start p end old.sources mid.sources new.sources h.high h.sources tried.1;
+    targets = mark_wider targets_of go cs start p end old.targets mid.targets new.targets h.high h.targets tried.2;
+    cover_sources = tt;
+    cover_targets = tt;
+  }
 
-  take_all : (n : ℕ) (xs : List Candidate) → length xs ≤ n → take n xs ≡ xs
-  take_all zero [] l = refl
-  take_all (suc n) [] l = refl
-  take_all zero (x ∷ xs) l = absurd (omega (arith, l))
-  take_all (suc n) (x ∷ xs) l = ap (λ r. x ∷ r) (take_all n xs (omega (arith, l)))
+  pub chunk_done : (p : ℕ) (old new : Found) → end ≤ p → ChunkTo go cs o start end p old new → GoneThrough go cs o start end old new None
+  chunk_done p old new l h = let high = h.high in let e : p ≡ end = omega (arith, l, high) in record {
+    came = (h.matched, subst (λ (q : ℕ). GoOn go cs start q h.matched) e h.goes, h.waits);
+    shaped = h.shaped;
+    sources = subst (λ (q : ℕ). Mark sources_of go cs start q old.sources new.sources) e h.sources;
+    targets = subst (λ (q : ℕ). Mark targets_of go cs start q old.targets new.targets) e h.targets;
+    cover_sources = subst (λ (q : ℕ). Cover sources_of go cs start q new.sources) e h.cover_sources;
+    cover_targets = subst (λ (q : ℕ). Cover targets_of go cs start q new.targets) e h.cover_targets;
+  }
 
-  pub run_done : (n : ℕ) (old new : Found) → HasEnds o.schema o.plan o.frame.things block ends → option_map Place edge ≡ edge_alias (view_walk block.walk) → AreCandidates o block cs → length cs ≤ n → HasRun clock o block ends edge cs n old → Feeds old new
-      → RanTo clock o block (ran.Done new)
-  run_done n old new ends_are edge_is are l h feeds = (
-    h.matched,
-    (λ s shows. block_comes clock o block ends edge s shows ends_are edge_is cs are ∙ ap (matches_by (comes clock o block ends edge) 0) (sym (take_all n cs l)) ∙ h.ran),
-    feeds.all o h.matched h.has,
-    feeds.shaped (length o.vertices) h.shaped,
+-- ---- a run
+
+-- before the first candidate
+pub begun : (o : Over) (r : Run) (vertices : ℕ) → r.at ≡ 0 → AreFedTo o [] r.accums r.fed → IsOpened vertices r.found → vertices ≡ length o.vertices → length o.vertices ≤ 4194304 → IsBegun o r
+begun o r vertices at fed opened e few = record {
+  each = λ clock w. record {
+    matched = [];
+    ran = ap (λ (n : ℕ). matches_by (come clock o w) 0 (take n w.candidates)) at ∙ none (come clock o w) w.candidates;
+    fed = fed;
+    empty = opened.empty;
+    shaped = subst (λ (n : ℕ). IsShaped n r.found) e (opened.shaped (let l = few in omega (arith, e, l)));
+    sources = subst (λ (n : ℕ). AreMarked sources_of (come clock o w) w.candidates n r.found.sources) (sym at) (marked_first sources_of (come clock o w) w.candidates r.found.sources opened.sources);
+    targets = subst (λ (n : ℕ). AreMarked targets_of (come clock o w) w.candidates n r.found.targets) (sym at) (marked_first targets_of (come clock o w) w.candidates r.found.targets opened.targets);
+  };
+}
+  where
+    none : (go : Candidate → Answer Wrong (List Match)) (cs : List Candidate) → matches_by go 0 (take 0 cs) ≡ Gives []
+    none go [] = refl
+    none go (c ∷ cs) = refl
+
+module _ (clock : Calendar) (o : Over) (w : Work) (old new : Run) where
+  -- a chunk of this thread
+  pub chunk_steps : (end : ℕ) (mid : Found) (given : List (ℕ × ℤ)) → HasRun clock o w old → GoneThrough (come clock o w) w.candidates o old.at end old.found mid None → given ≡ mid.ints → FedFrom old.accums new.accums old.fed mid.batches given new.fed → old.at < end → new.at ≡ end
+      → new.found.batches ≡ replicate (length mid.batches) [] → new.found.ints ≡ take 0 mid.ints → new.found.sources ≡ mid.sources → new.found.targets ≡ mid.targets → Steps clock o w old new None
+  chunk_steps end mid given h gone listed took l at batches ints sources targets = (
+    record {
+      matched = h.matched ++ gone.came.0;
+      ran = ap (λ (n : ℕ). matches_by (come clock o w) 0 (take n w.candidates)) at ∙ gone.came.1 h.matched h.ran;
+      fed = fed.each o h.matched gone.came.0 h.fed gone.came.2;
+      empty = record { batches = emptied; ints = ints ∙ none mid.ints };
+      shaped = record {
+        one = ap length emptied;
+        sources = subst (λ w. length o.vertices ≤ length w * 64) (sym sources) gone.shaped.sources;
+        targets = subst (λ w. length o.vertices ≤ length w * 64) (sym targets) gone.shaped.targets;
+        short = record { sources = subst (λ w. length w ≤ 67108863) (sym sources) gone.shaped.short.sources; targets = subst (λ w. length w ≤ 67108863) (sym targets) gone.shaped.short.targets };
+      };
+      sources = subst2 sources_of (sym at) (sym sources) (marked_more sources_of (come clock o w) w.candidates old.at end old.found.sources mid.sources (omega (arith, l)) h.sources gone.sources gone.cover_sources);
+      targets = subst2 targets_of (sym at) (sym targets) (marked_more targets_of (come clock o w) w.candidates old.at end old.found.targets mid.targets (omega (arith, l)) h.targets gone.targets gone.cover_targets);
+    },
+    omega (arith, l, at),
   )
+    where
+      fed : FedFrom old.accums new.accums old.fed mid.batches mid.ints new.fed
+      fed = subst (λ x. FedFrom old.accums new.accums old.fed mid.batches x new.fed) listed took
+
+      subst2 : (f : List Match → List ℕ) {a b : ℕ} {u v : List ℕ} → a ≡ b → u ≡ v → AreMarked f (come clock o w) w.candidates a u → AreMarked f (come clock o w) w.candidates b v
+      subst2 f {a} {b} {u} {v} p q x = subst (λ (n : ℕ). AreMarked f (come clock o w) w.candidates n v) p (subst (λ l. AreMarked f (come clock o w) w.candidates a l) q x)
+
+      emptied : new.found.batches ≡ [] ∷ []
+      emptied = batches ∙ ap (λ (n : ℕ). replicate n []) gone.shaped.one
+
+      none : (xs : List (ℕ × ℤ)) → take 0 xs ≡ []
+      none [] = refl
+      none (x ∷ xs) = refl
+
+  pub chunk_faults : (end : ℕ) (mid : Found) (f : ℕ × Wrong) → HasRun clock o w old → GoneThrough (come clock o w) w.candidates o old.at end old.found mid (Some f) → Steps clock o w old new (Some f)
+  chunk_faults end mid f h gone = gone.came h.matched h.ran
+
+-- ---- all candidates
+
+module _ (clock : Calendar) (o : Over) (w : Work) (is : IsWork o w) where
+  pub run_faults : (old new : Run) (f : ℕ × Wrong) (n : ℕ) (x : Wrong) → f.0 ≡ n → f.1 ≡ x → Steps clock o w old new (Some f) → RanTo clock o w.block.now (ran.Fault n x)
+  run_faults old new f n x e d h s shows = block_comes clock o w.block.now w.ends w.edge s shows is.ends is.edge w.candidates is.candidates ∙ h ∙ ap₂ (λ (k : ℕ) (y : Wrong). Faults (AtPlace k y)) e d
+
+  pub run_done : (r : Run) → length w.candidates ≤ r.at → HasRun clock o w r → RanTo clock o w.block.now (ran.Done r)
+  run_done r l h = (
+    h.matched,
+    (λ s shows. block_comes clock o w.block.now w.ends w.edge s shows is.ends is.edge w.candidates is.candidates ∙ all),
+    record {
+      fed = h.fed;
+      sources = sources_over (come clock o w) w.candidates h.matched r.found.sources r.at l all h.sources;
+      targets = targets_over (come clock o w) w.candidates h.matched r.found.targets r.at l all h.targets;
+    },
+    h.shaped.short,
+  )
+    where
+      all : matches_by (come clock o w) 0 w.candidates ≡ Gives h.matched
+      all = ap (matches_by (come clock o w) 0) (sym (take_all r.at w.candidates l)) ∙ h.ran
 
 -- ---- the end
 
@@ -182,17 +307,17 @@ ends_memory clock o block = record { each = λ s shows. tt }
 pub ends_fault : (clock : Calendar) (o : Over) (block : Block) (n : ℕ) (w : Wrong) → RanTo clock o block (ran.Fault n w) → Answers clock o block (Err (fault.Eval n w))
 ends_fault clock o block n w h = record { each = λ s shows. ap (λ a. a >>= after_matches s.slots) (h s shows) }
 
-pub ends_judged : (clock : Calendar) (o : Over) (block : Block) (found : Found) (result : Result After BlockFault) → RanTo clock o block (ran.Done found) → IsJudged found result → Answers clock o block result
-ends_judged clock o block found result h judged = record {
+pub ends_judged : (clock : Calendar) (o : Over) (block : Block) (r : Run) (result : Result After BlockFault) → RanTo clock o block (ran.Done r) → IsJudged r result → Answers clock o block result
+ends_judged clock o block r result h judged = record {
   each = λ s shows.
       subst (λ a. Answered after_is a result) (sym (ap (λ a. a >>= after_matches s.slots) (h.1 s shows) ∙ ap (λ slots. after_matches slots h.0) shows.slots)) (judged.answered o h.0 h.2);
 }
 
-pub left_judged : (clock : Calendar) (o : Over) (block : Block) (found : Found) (result : Result After BlockFault) → RanTo clock o block (ran.Done found) → IsJudged found result → Rattle.std.specs.Prelude.IfOk result (Leaves o)
-left_judged clock o block found (Ok a) h judged = judged.left o h.0 h.2
-left_judged clock o block found (Err e) h judged = tt
+pub left_judged : (clock : Calendar) (o : Over) (block : Block) (r : Run) (result : Result After BlockFault) → RanTo clock o block (ran.Done r) → IsJudged r result → Rattle.std.specs.Prelude.IfOk result (Leaves o)
+left_judged clock o block r (Ok a) h judged = judged.left o h.0 h.2
+left_judged clock o block r (Err e) h judged = tt
 
-pub short_judged : (clock : Calendar) (o : Over) (block : Block) (found : Found) → RanTo clock o block (ran.Done found) → Rattle.gq_block.specs.Running.IsShort found
-short_judged clock o block found h = h.3.short
+pub short_judged : (clock : Calendar) (o : Over) (block : Block) (r : Run) → RanTo clock o block (ran.Done r) → Rattle.gq_block.specs.Running.IsShort r.found
+short_judged clock o block r h = h.3
 
 pub ruleset end_laws = (ends_memory, ends_fault, ends_judged, left_judged, short_judged)

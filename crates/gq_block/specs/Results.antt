@@ -1,5 +1,5 @@
 -- Results: how a block ends.
-use Rattle.std.specs.Prelude.{◌≡◌, ℕ, ◌<◌, List, [], length, nat_eq, Result, Ok, Err}
+use Rattle.std.specs.Prelude.{◌≡◌, ℕ, ◌<◌, List, length, nat_eq, Result, Ok, Err}
 use Rattle.std.specs.List.{All, IsDistinct}
 use Rattle.gq_typing.specs.Patterns.{by_number}
 use Rattle.gq_marks.specs.Marks.{Marks}
@@ -19,10 +19,12 @@ use Rattle.gq_view.specs.Looks.{world_over}
 use Rattle.gq_answer.specs.declared.after.After.{After}
 use Rattle.gq_answer.specs.declared.after.BlockFault.{BlockFault}
 use Rattle.gq_answer.specs.Answered.{Answered, after_is}
-use Rattle.gq_block.specs.declared.run.Ran.{Ran}
-use Rattle.gq_block.specs.declared.run.Ran.TheVariants as ran
+use Rattle.gq_block.specs.declared.block.Ran.{Ran}
+use Rattle.gq_block.specs.declared.block.Ran.TheVariants as ran
 use Rattle.gq_block.specs.declared.found.Found.{Found}
-use Rattle.gq_block.specs.Running.{Holds, IsShaped, gives_of}
+use Rattle.gq_block.specs.declared.run.Run.{Run}
+use Rattle.gq_block.specs.declared.work.Work.{Work}
+use Rattle.gq_block.specs.Running.{AreFedTo, HasRun, IsShort, IsWork, sources_of, targets_of}
 
 -- what a block leaves: the same slots, no content spoiled, vertices that are there, each once
 pub record Leaves (o : Over) (a : After) : Type 0 where
@@ -41,10 +43,16 @@ IfLeft o (Err e) = Unit {0}
 pub record Answers (clock : Calendar) (o : Over) (block : Block) (result : Result After BlockFault) : Type 0 where
   pub each : (s : State Reference) → Shows o.plan.places o.frame s → Answered after_is (accumulated (world_over clock o) s (view_block block)) result
 
+-- all that these matches contribute is fed, and the marks are those of their ends
+pub record IsOver (o : Over) (ms : List Match) (r : Run) : Type 0 where
+  pub fed : AreFedTo o ms r.accums r.fed
+  pub sources : Marks r.found.sources (sources_of ms)
+  pub targets : Marks r.found.targets (targets_of ms)
+
 -- of any block that has led here the answer is the one that was meant
-pub record IsJudged (found : Found) (result : Result After BlockFault) : Type 0 where
-  pub answered : (o : Over) (ms : List Match) → Holds o ms (gives_of ms) [] found → Answered after_is (after_matches (slots_are o.frame.accums) ms) result
-  pub left : (o : Over) (ms : List Match) → Holds o ms (gives_of ms) [] found → IfLeft o result
+pub record IsJudged (r : Run) (result : Result After BlockFault) : Type 0 where
+  pub answered : (o : Over) (ms : List Match) → IsOver o ms r → Answered after_is (after_matches (slots_are o.frame.accums) ms) result
+  pub left : (o : Over) (ms : List Match) → IsOver o ms r → IfLeft o result
 
 -- the marked vertices, by number
 pub record AreListed (found : Found) (lists : List ℕ × List ℕ) : Type 0 where
@@ -59,7 +67,16 @@ block_matches clock o block s =
     matches (world_over clock o) s (view_block block) (from (world_over clock o) s.names (view_block block)) 0
     (candidates_of (world_over clock o) (from (world_over clock o) s.names (view_block block)).start (view_block block).walk)
 
+-- what a run of this block goes through
+pub record IsWorkOf (o : Over) (block : Block) (w : Work) : Type 0 where
+  pub is : IsWork o w
+  pub same : w.block.now ≡ block
+
+-- before the first candidate, whatever the block
+pub record IsBegun (o : Over) (r : Run) : Type 0 where
+  pub each : (clock : Calendar) (w : Work) → HasRun clock o w r
+
 -- all candidates are gone through, and all is fed; or the first fault is told
 abbrev pub RanTo : Calendar → Over → Block → Ran → Type 0
-RanTo clock o block (ran.Done found) = (ms : List Match) × ((s : State Reference) → Shows o.plan.places o.frame s → block_matches clock o block s ≡ Gives ms) × Holds o ms (gives_of ms) [] found × IsShaped (length o.vertices) found
+RanTo clock o block (ran.Done r) = (ms : List Match) × ((s : State Reference) → Shows o.plan.places o.frame s → block_matches clock o block s ≡ Gives ms) × IsOver o ms r × IsShort r.found
 RanTo clock o block (ran.Fault n w) = (s : State Reference) → Shows o.plan.places o.frame s → block_matches clock o block s ≡ Faults (AtPlace n w)

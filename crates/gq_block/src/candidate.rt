@@ -1,16 +1,16 @@
 // What a candidate leaves.
-ghost use Rattle.std.specs.Prelude.{◌≡◌, ◌||◌, ◌*◌, ℕ, [], Some, length, map, IfOk, IfSome};
+ghost use Rattle.std.specs.Prelude.{◌≡◌, ◌||◌, ◌*◌, ℕ, [], Some, length, map, IfOk};
 ghost use Rattle.gq_contribute.specs.Passing.{Comes};
 ghost use Rattle.gq_marks.specs.Marks.{is_marked};
 ghost use Rattle.gq_start.specs.Starts.{IsBelow, IsWithin};
 ghost use Rattle.gq_frame.specs.Names.{alias_of};
-ghost use Rattle.gq_block.specs.Direct.{IsDirect};
-ghost use Rattle.gq_block.specs.Running.{ComesUnder, Done, IsShaped, Tried, comes, marks_end};
+ghost use Rattle.gq_block.specs.Running.{AreDirect, ComesUnder, Done, IsShaped, Tried, come, comes, marks_end};
 
 use crate::aliases::{bind, no_alias};
 use crate::direct::Simple;
 use crate::found::Found;
 use crate::gather::gather;
+use crate::work::Work;
 use gq_contribute::{Outcome, Room, contribute};
 use gq_core::Batches;
 use gq_ends::Ends;
@@ -22,30 +22,29 @@ use gq_value::{Candidate, Wrong};
 use gq_view::{Clock, Setting};
 use std::alloc::Global;
 
-/// Tries a candidate: what a match contributes waits, and its ends are marked; the fault of one that faults is told. Where these acts
-/// stand for the block's, what they read is all that it contributes; they are asked where INTs are at hand.
+/// Tries a candidate: what a match contributes waits, and its ends are marked; the fault of one that faults is told. Where acts stand for
+/// the block's, what they read is all that it contributes; they are asked where INTs are at hand.
 pub(crate) fn try_one<C: Clock>(
     alloc: Global,
-    block: &Block,
+    work: &Work<'_>,
     over: &Setting<'_, C>,
-    ends: &Ends,
-    edge: Option<u32>,
-    direct: &Option<List<Simple<'_>>>,
     at_hand: bool,
     candidate: Candidate,
     found: &mut Found,
 ) -> Result<Option<Wrong>, Memory>
     requires within { IsWithin (length over.now.vertices) candidate }
     requires shaped { IsShaped (length over.now.vertices) found.old }
-    requires direct { IfSome direct.now (IsDirect ends.now edge over.now.frame.accums.slots block.now) }
-    ensures tried { IfOk result (Tried over.now (comes C.clock over.now block.now ends.now edge candidate) found.old found.new) }
+    requires direct { AreDirect work.now.ends work.now.edge over.now.frame.accums.slots work.now.block.now work.now.direct }
+    ensures tried { IfOk result (Tried over.now (come C.clock over.now work.now candidate) found.old found.new) }
     ensures shaped { IfOk result (λ _. IsShaped (length over.now.vertices) found.new) }
 {
-    if is_done(direct, at_hand, over, candidate, found)? {
+    if is_done(&work.direct, at_hand, over, candidate, found)? {
         return Ok(None);
     }
-    found.settle(alloc)?;
-    try_candidate(alloc, block, over, ends, edge, candidate, found)
+    found.settle()?;
+    try_candidate(
+        alloc, work.block, over, &work.ends, work.edge, candidate, found,
+    )
 }
 
 /// Whether acts feed INTs that are at hand: then the candidate is done, and else nothing has changed.

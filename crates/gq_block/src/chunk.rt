@@ -1,82 +1,84 @@
 // Chunks of candidates, and the rows of their edges read ahead.
+ghost use Rattle.std.specs.Prelude.{◌≤◌, length, IfOk};
+ghost use Rattle.gq_block.specs.Running.{GoneThrough, IsEmpty, IsShaped, IsWork, come};
+
+use crate::candidate::try_one;
 use crate::direct::{Leaf, Part, Simple};
+use crate::found::Found;
+use crate::work::Work;
 use gq_index::{Candidates, Cursor, Graph};
 use gq_list::{List, Memory};
 use gq_resolved::Field;
-use gq_value::{EdgeRow, Value};
+use gq_value::{EdgeRow, Value, Wrong};
+use gq_view::{Clock, Setting};
 use std::alloc::Global;
 
-/// The chunk that a run is in.
-#[derive(Drop)]
-pub(crate) struct Chunk {
-    size: u64,
-
-    /// Its number, its first place, and the place behind it.
-    pub number: u64,
-    pub start: u64,
+/// Tries the candidates from `start` up to `end` in order, or up to the first that faults, whose place and fault are told. What they
+/// contribute waits.
+pub(crate) fn try_chunk<C: Clock>(
+    alloc: Global,
+    work: &Work<'_>,
+    over: &Setting<'_, C>,
+    start: u64,
     end: u64,
-
-    /// Its edges.
-    edges: List<u32>,
-
-    /// Whether INTs that acts feed are at hand here.
-    pub at_hand: bool,
+    found: &mut Found,
+) -> Result<Option<(u64, Wrong)>, Memory>
+    requires forward { start ≤ end }
+    requires within { end ≤ length work.now.candidates }
+    requires work { IsWork over.now work.now }
+    requires empty { IsEmpty found.old }
+    requires shaped { IsShaped (length over.now.vertices) found.old }
+    ensures { IfOk result (GoneThrough (come C.clock over.now work.now) work.now.candidates over.now start end found.old found.new) }
+{
+    let at_hand = has_ints_at_hand(work, over.graph, start, end, &mut found.edges)?;
+    let mut cursor = Cursor::new();
+    for place in start..end {
+        let candidate = work.candidates.near(place, &mut cursor);
+        match try_one(alloc, work, over, at_hand, candidate, found)? {
+            Some(fault) => return Ok(Some((place, fault))),
+            None => {}
+        }
+    }
+    Ok(None)
 }
 
-impl Chunk {
-    /// Before the first chunk of so many candidates each.
-    pub fn new(alloc: Global, size: u64) -> Chunk {
-        Chunk {
-            size,
-            number: 0,
-            start: 0,
-            end: 0,
-            edges: List::new(alloc),
-            at_hand: false,
-        }
-    }
-
-    /// Whether a place is behind it.
-    pub fn is_past(&self, place: u64) -> bool {
-        place >= self.end
-    }
-
-    /// Goes on to the chunk that begins at a place. Where acts feed an attribute of the edge, the rows of its edges are read ahead.
-    pub fn next(
-        &mut self,
-        place: u64,
-        direct: &Option<List<Simple<'_>>>,
-        graph: Graph<'_>,
-        candidates: &Candidates,
-    ) -> Result<(), Memory> {
-        self.number = place / self.size.max(1);
-        self.start = place;
-        self.end = place.saturating_add(self.size).min(candidates.count());
-        self.at_hand = match direct {
-            None => false,
-            Some(simple) => match edge_attribute(simple.as_slice()) {
-                None => true,
-                Some(field) => {
-                    self.list(candidates)?;
-                    has_ints(graph.store.edges.rows(), self.edges.as_slice(), field)
-                }
-            },
-        };
-        Ok(())
-    }
-
-    /// Lists its edges.
-    fn list(&mut self, candidates: &Candidates) -> Result<(), Memory> {
-        self.edges.truncate(0);
-        let mut cursor = Cursor::new();
-        for place in self.start..self.end.min(candidates.count()) {
-            match candidates.near(place, &mut cursor).edge {
-                Some(edge) => self.edges.push(edge)?,
-                None => {}
+/// Whether INTs that acts feed are at hand for these candidates. Where acts feed an attribute of the edge, the rows of the edges are
+/// read ahead.
+fn has_ints_at_hand(
+    work: &Work<'_>,
+    graph: Graph<'_>,
+    start: u64,
+    end: u64,
+    edges: &mut List<u32>,
+) -> Result<bool, Memory> {
+    match &work.direct {
+        None => Ok(false),
+        Some(simple) => match edge_attribute(simple.as_slice()) {
+            None => Ok(true),
+            Some(field) => {
+                list_edges(&work.candidates, start, end, edges)?;
+                Ok(has_ints(graph.store.edges.rows(), edges.as_slice(), field))
             }
-        }
-        Ok(())
+        },
     }
+}
+
+/// Lists the edges of these candidates.
+fn list_edges(
+    candidates: &Candidates,
+    start: u64,
+    end: u64,
+    edges: &mut List<u32>,
+) -> Result<(), Memory> {
+    edges.truncate(0);
+    let mut cursor = Cursor::new();
+    for place in start..end.min(candidates.count()) {
+        match candidates.near(place, &mut cursor).edge {
+            Some(edge) => edges.push(edge)?,
+            None => {}
+        }
+    }
+    Ok(())
 }
 
 /// The first attribute of an edge that acts feed.

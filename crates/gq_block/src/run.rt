@@ -1,147 +1,118 @@
-// The run.
-ghost use Rattle.std.specs.Prelude.{◌≡◌, ◌≤◌, ℕ, Option, length, IfOk, IfSome, OnOk};
-ghost use Rattle.std.specs.Option.{option_map};
-ghost use Rattle.gq_typing.specs.Patterns.{edge_alias};
-ghost use Rattle.gq_resolved.specs.BlockView.{view_walk};
-ghost use Rattle.gq_resolved.specs.Reference.{Place};
-ghost use Rattle.gq_block.specs.Direct.{IsDirect};
-ghost use Rattle.gq_ends.specs.Ends.{HasEnds};
-ghost use Rattle.gq_start.specs.Starts.{AreCandidates};
-ghost use Rattle.gq_block.specs.Results.{Answers, Leaves, RanTo};
-ghost use Rattle.gq_block.specs.Running.{Keeps};
+// A run as far as it has come.
+ghost use Rattle.std.specs.Prelude.{◌≡◌, IfOk, IfSome};
+ghost use Rattle.gq_block.specs.Running.{FedFrom, IsShort};
+ghost use Rattle.gq_block.specs.Results.{AreListed, IsJudged, IsBegun};
 
-use crate::aliases::edge_place;
-use crate::candidate::try_one;
-use crate::chunk::Chunk;
-use crate::direct::{Simple, direct_of};
-use crate::found::{Found, judged};
+use crate::found::Found;
 use gq_answer::{After, BlockFault};
-use gq_ends::{Ends, ends_of};
-use gq_index::{Candidates, Cursor};
-use gq_io::{Gate, Shape};
-use gq_list::{List, Memory};
-use gq_resolved::Block;
-use gq_start::candidates_of;
-use gq_value::Wrong;
-use gq_view::{Clock, Setting};
+use gq_core::Batches;
+use gq_feed::{feed_all, first_unfit};
+use gq_index::VertexList;
+use gq_ints::feed_ints;
+use gq_list::Memory;
+use gq_marks::listed;
+use gq_slots::Accums;
+use gq_view::Setting;
 use std::alloc::Global;
 
-/// How far a run came: all candidates are gone through, or one of them faults.
+/// A run as far as it has come: the candidates before a place are gone through, and what they contribute is fed.
 #[derive(Drop)]
-pub(crate) enum Ran {
-    Done(Found),
+pub(crate) struct Run {
+    pub at: u64,
+    pub accums: Accums,
 
-    /// The place of the first one, and its fault.
-    Fault(u64, Wrong),
+    /// How many inputs are fed.
+    pub fed: u64,
+
+    /// Marks of the matched vertices, and room for a chunk's inputs.
+    pub found: Found,
 }
 
-/// WHERE and ACCUM of a block: the accumulators after all contributions, and the distinct matched vertices, by number.
-///
-/// Candidates are gone through in order, and the first one that faults ends the run; sums are judged once all inputs are fed. The gate is
-/// passed as worker 0 before each chunk of `shape.chunk` candidates, a chunk of 0 counting as 1. Along a path it answers Memory. More than
-/// 2^60 inputs are want of memory too. The frame is lent, and stays as it is.
-#[tactic(auto, using(crate::proofs::RunLemmas::end_laws))]
-pub fn run_block<C: Clock, G: Gate>(
-    alloc: Global,
-    block: &Block,
-    over: &Setting<'_, C>,
-    shape: &Shape,
-    gate: &G,
-) -> Result<After, BlockFault>
-    ensures answered { Answers C.clock over.now block.now result }
-    ensures left { IfOk result (Leaves over.now) }
-{
-    match run_all(alloc, block, over, shape, gate) {
-        Err(Memory) => Err(BlockFault::Memory),
-        Ok(Ran::Fault(at, fault)) => Err(BlockFault::Eval { at, fault }),
-        Ok(Ran::Done(found)) => judged(alloc, found),
+impl Run {
+    /// Before the first candidate, over a copy of the frame's accumulators.
+    pub fn open<C>(alloc: Global, over: &Setting<'_, C>) -> Result<Run, Memory>
+        ensures { IfOk result (IsBegun over.now) }
+    {
+        Ok(Run {
+            at: 0,
+            accums: over.frame.accums.duplicate(alloc)?,
+            fed: 0,
+            found: Found::open(alloc, over.graph.store.vertices.len())?,
+        })
     }
 }
 
-/// Finds the candidates, and goes through them.
-fn run_all<C: Clock, G: Gate>(
+/// How many inputs a block may feed.
+const MOST_INPUTS: u64 = 1 << 60;
+
+/// Feeds what waits in the one batch and behind it, in order, and tells how many inputs are fed then. More than 2^60 inputs are want of
+/// memory too.
+#[tactic(auto, using(crate::proofs::FeedLemmas::feed_laws))]
+pub(crate) fn feed(
     alloc: Global,
-    block: &Block,
-    over: &Setting<'_, C>,
-    shape: &Shape,
-    gate: &G,
-) -> Result<Ran, Memory>
-    ensures { IfOk result (RanTo C.clock over.now block.now) }
+    accums: &mut Accums,
+    fed: u64,
+    batches: &Batches,
+    ints: &[(u64, i64)],
+) -> Result<u64, Memory>
+    ensures { IfOk result (FedFrom accums.old accums.new fed batches.now ints.now) }
 {
-    let catalog = over.graph.catalog;
-    let ends = ends_of(
-        alloc,
-        block,
-        catalog,
-        over.plan,
-        over.frame.things.as_slice(),
-    )?;
-    let candidates = candidates_of(alloc, block, over, &ends)?;
-    let edge = edge_place(&block.walk);
-    let direct = direct_of(alloc, block, &ends, edge, &over.frame.accums.slots)?;
-    through(alloc, block, over, &ends, &direct, &candidates, shape, gate)
+    if batches.stripes() > 1 {
+        return Err(Memory);
+    }
+    let batch = batches.at(0);
+    if batch.len() as u64 >= MOST_INPUTS || fed >= MOST_INPUTS {
+        return Err(Memory);
+    }
+    if ints.len() as u64 >= MOST_INPUTS {
+        return Err(Memory);
+    }
+    feed_all(alloc, accums, batch)?;
+    feed_ints(accums, ints)?;
+    Ok(fed + batch.len() as u64 + ints.len() as u64)
 }
 
-/// Goes through the candidates in order, up to the first that faults, and feeds what they contribute.
-fn through<C: Clock, G: Gate>(
-    alloc: Global,
-    block: &Block,
-    over: &Setting<'_, C>,
-    ends: &Ends,
-    direct: &Option<List<Simple<'_>>>,
-    candidates: &Candidates,
-    shape: &Shape,
-    gate: &G,
-) -> Result<Ran, Memory>
-    requires ends { HasEnds over.now.schema over.now.plan over.now.frame.things block.now ends.now }
-    requires candidates { AreCandidates over.now block.now candidates.now }
-    requires direct { (edge : Option ℕ) → option_map Place edge ≡ edge_alias (view_walk block.now.walk) → IfSome direct.now (IsDirect ends.now edge over.now.frame.accums.slots block.now) }
-    ensures { IfOk result (RanTo C.clock over.now block.now) }
+/// What the block leaves once all is fed, or the first accumulator with a sum out of range.
+#[tactic(auto, using(crate::proofs::EndLemmas::judge_laws))]
+pub(crate) fn judged(alloc: Global, run: Run) -> Result<After, BlockFault>
+    requires { IsShort run.found }
+    ensures { IsJudged run result }
 {
-    let mut found = Found::open(alloc, &over.frame.accums, over.graph.store.vertices.len())?;
-    let edge = edge_place(&block.walk);
-    let mut chunk = Chunk::new(alloc, shape.chunk.max(1));
-    let mut cursor = Cursor::new();
-    for place in 0..candidates.count() {
-        if chunk.is_past(place) {
-            chunk.next(place, direct, over.graph, candidates)?;
-        }
-        begin(alloc, place, &chunk, &mut found, gate)?;
-        let candidate = candidates.near(place, &mut cursor);
-        match try_one(
-            alloc,
-            block,
-            over,
-            ends,
-            edge,
-            direct,
-            chunk.at_hand,
-            candidate,
-            &mut found,
-        )? {
-            Some(fault) => return Ok(Ran::Fault(place, fault)),
-            None => {}
-        }
+    match first_unfit(&run.accums) {
+        Some(number) => match slot_number(number) {
+            Some(slot) => Err(BlockFault::SumRange { slot }),
+            None => Err(BlockFault::Memory),
+        },
+        None => match lists(alloc, &run.found) {
+            Ok((sources, targets)) => {
+                let accums = run.accums;
+                Ok(After {
+                    accums,
+                    sources,
+                    targets,
+                })
+            }
+            Err(Memory) => Err(BlockFault::Memory),
+        },
     }
-    found.feed(alloc)?;
-    Ok(Ran::Done(found))
 }
 
-/// At the first place of a chunk passes the gate, and feeds what the chunk before contributed.
-#[tactic(auto, using(crate::proofs::FoundLemmas::keep_laws))]
-fn begin<G: Gate>(
-    alloc: Global,
-    place: u64,
-    chunk: &Chunk,
-    found: &mut Found,
-    gate: &G,
-) -> Result<(), Memory>
-    requires one { length found.old.batches ≡ 1 }
-    ensures { OnOk result (Keeps found.old found.new) }
+/// The matched sources and targets, by number.
+fn lists(alloc: Global, found: &Found) -> Result<(VertexList, VertexList), Memory>
+    requires { IsShort found.now }
+    ensures { IfOk result (AreListed found.now) }
 {
-    if place == chunk.start {
-        gate.pass(0, chunk.number);
-        found.feed(alloc)?;
+    let sources = listed(alloc, found.sources.as_slice())?;
+    let targets = listed(alloc, found.targets.as_slice())?;
+    Ok((sources, targets))
+}
+
+/// A number of a slot, in 32 bits.
+fn slot_number(number: usize) -> Option<u32>
+    ensures { IfSome result (λ slot. slot ≡ number) }
+{
+    if number > u32::MAX as usize {
+        return None;
     }
-    Ok(())
+    Some(number as u32)
 }

@@ -18,9 +18,13 @@ pub trait Machine {
 
     ghost places: { Self → List Held };
 
+    /// What the runtime of a machine has to allow, so that a statement may be done by several threads.
+    ghost can: { Self → Type 0 };
+
     /// A declaration, an assignment, a change of a global accumulator, or PRINT.
     fn act(&self, step: &Step, r: &mut Running) -> Result<(), RunFault>
         requires sound { AreSound r.old.live.frame.accums }
+        requires can { can self.now }
         ensures does { Does (places self.now) (run (world self.now) (view_step step.now)) r.old r.new result }
         ensures sound { OnOk result (AreSound r.new.live.frame.accums) }
         ensures turns { r.new.turns ≡ r.old.turns };

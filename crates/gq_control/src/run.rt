@@ -32,6 +32,7 @@ pub fn run_steps<M: Machine>(
     r: &mut Running,
 ) -> Result<(), RunFault>
     requires sound { AreSound r.old.live.frame.accums }
+    requires can { M.can machine.now }
     ensures does { Does (M.places machine.now) (run_all (M.world machine.now) (view_steps steps.now)) r.old r.new result }
     ensures sound { OnOk result (AreSound r.new.live.frame.accums) }
     ensures turns { r.new.turns ≤ r.old.turns }
@@ -52,6 +53,7 @@ fn run_step<M: Machine>(
     r: &mut Running,
 ) -> Result<(), RunFault>
     requires sound { AreSound r.old.live.frame.accums }
+    requires can { M.can machine.now }
     ensures does { Does (M.places machine.now) (run (M.world machine.now) (view_step step.now)) r.old r.new result }
     ensures sound { OnOk result (AreSound r.new.live.frame.accums) }
     ensures turns { r.new.turns ≤ r.old.turns }
@@ -91,6 +93,7 @@ fn run_body<M: Machine>(
     r: &mut Running,
 ) -> Result<(), RunFault>
     requires sound { AreSound r.old.live.frame.accums }
+    requires can { M.can machine.now }
     ensures does { Does (M.places machine.now) (inner (run_all (M.world machine.now) (view_steps body.now))) r.old r.new result }
     ensures sound { OnOk result (AreSound r.new.live.frame.accums) }
     ensures turns { r.new.turns ≤ r.old.turns }
@@ -111,6 +114,7 @@ fn run_turn<M: Machine>(
     r: &mut Running,
 ) -> Result<(), RunFault>
     requires sound { AreSound r.old.live.frame.accums }
+    requires can { M.can machine.now }
     ensures does { Does (M.places machine.now) (enter (run_all (M.world machine.now) (view_steps body.now))) r.old r.new result }
     ensures sound { OnOk result (AreSound r.new.live.frame.accums) }
     ensures turns { r.new.turns ≤ r.old.turns }
@@ -146,6 +150,7 @@ fn run_while<M: Machine>(
     r: &mut Running,
 ) -> Result<(), RunFault>
     requires sound { AreSound r.old.live.frame.accums }
+    requires can { M.can machine.now }
     ensures does { Does (M.places machine.now) (while_of (M.world machine.now) (view condition.now) (option_map view limit.now) (run_all (M.world machine.now) (view_steps body.now))) r.old r.new result }
     ensures sound { OnOk result (AreSound r.new.live.frame.accums) }
     ensures turns { r.new.turns ≤ r.old.turns }
@@ -171,6 +176,7 @@ fn run_rounds<M: Machine>(
     r: &mut Running,
 ) -> Result<(), RunFault>
     requires sound { AreSound r.old.live.frame.accums }
+    requires can { M.can machine.now }
     ensures does { Does (M.places machine.now) (goes_round most (condition_of (M.world machine.now) (view condition.now)) (run_all (M.world machine.now) (view_steps body.now))) r.old r.new result }
     ensures sound { OnOk result (AreSound r.new.live.frame.accums) }
     ensures turns { r.new.turns ≤ r.old.turns }
@@ -217,6 +223,7 @@ fn run_foreach<M: Machine>(
     r: &mut Running,
 ) -> Result<(), RunFault>
     requires sound { AreSound r.old.live.frame.accums }
+    requires can { M.can machine.now }
     ensures does { Does (M.places machine.now) (foreach_of (M.world machine.now) (Place place) (view_over over.now) (run_all (M.world machine.now) (view_steps body.now))) r.old r.new result }
     ensures sound { OnOk result (AreSound r.new.live.frame.accums) }
     ensures turns { r.new.turns ≤ r.old.turns }
@@ -237,6 +244,7 @@ fn run_values<M: Machine>(
     r: &mut Running,
 ) -> Result<(), RunFault>
     requires sound { AreSound r.old.live.frame.accums }
+    requires can { M.can machine.now }
     ensures does { (base : BaseType) → slice_get (M.places machine.now) place ≡ Some (Variable base)
         → Does (M.places machine.now) (values_from (Place place) (run_all (M.world machine.now) (view_steps body.now)) (base_of base) (values_of values.now)) r.old r.new result }
     ensures sound { OnOk result (AreSound r.new.live.frame.accums) }
@@ -264,6 +272,7 @@ fn run_value<M: Machine>(
     r: &mut Running,
 ) -> Result<(), RunFault>
     requires sound { AreSound r.old.live.frame.accums }
+    requires can { M.can machine.now }
     ensures does { (base : BaseType) → slice_get (M.places machine.now) place ≡ Some (Variable base)
         → Does (M.places machine.now) (with_value (Place place) (run_all (M.world machine.now) (view_steps body.now)) (base_of base, val value)) r.old r.new result }
     ensures sound { OnOk result (AreSound r.new.live.frame.accums) }
@@ -288,6 +297,7 @@ fn run_named<M: Machine>(
     r: &mut Running,
 ) -> Result<(), RunFault>
     requires sound { AreSound r.old.live.frame.accums }
+    requires can { M.can machine.now }
     ensures does { (base : BaseType) → slice_get (M.places machine.now) place ≡ Some (Variable base)
         → Does (M.places machine.now) (inner (named_body (Place place) (base_of base, val value) (run_all (M.world machine.now) (view_steps body.now)))) r.old r.new result }
     ensures sound { OnOk result (AreSound r.new.live.frame.accums) }

@@ -8,19 +8,14 @@ use Rattle.gq_value.specs.declared.store.VertexRow.{VertexRow}
 use Rattle.gq_value.specs.declared.store.EdgeRow.{EdgeRow}
 use Rattle.gq_index.specs.declared.store.Store.{Store}
 use Rattle.gq_meaning.specs.Answers.{Answer}
-use Rattle.gq_meaning.specs.Calendars.{Calendar, IsCalendar}
+use Rattle.gq_meaning.specs.Calendars.{Calendar}
 use Rattle.gq_meaning.specs.Queries.{run_plan}
 use Rattle.gq_meaning.specs.Statements.{Fault}
-use Rattle.gq_calendar.specs.Gregorian.{gregorian}
-use Rattle.gq_calendar.proofs.GregorianLaws.{gregorian_is}
 use Rattle.gq_resolved.specs.declared.plan.Plan.{Plan}
 use Rattle.gq_resolved.specs.Belonging.{world_of}
 use Rattle.gq_resolved.specs.PlanView.{accum_names, view_plan}
 use Rattle.gq_view.specs.Looks.{graph_for}
 use Rattle.gq_flow.specs.Plans.{Objects}
-
-pub is_calendar : IsCalendar gregorian
-is_calendar = gregorian_is
 
 -- what a plan prints over a catalog and a store
 abbrev pub plan_over : Schema → Store → Calendar → Plan → List Val → ℕ → Answer Fault Objects

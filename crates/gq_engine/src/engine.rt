@@ -10,13 +10,13 @@ ghost use Rattle.gq_fields.specs.Worlds.{HaveAttributes};
 ghost use Rattle.gq_view.specs.Ends.{HaveEnds};
 ghost use Rattle.gq_flow.specs.Plans.{Objects, Prints};
 ghost use Rattle.gq_runs.specs.Runs.{Runs};
-ghost use Rattle.gq_engine.specs.Engines.{is_calendar, plan_over};
+ghost use Rattle.gq_engine.specs.Engines.{plan_over};
 
 use crate::whole::{has_attributes, has_ends};
 use gq_control::RunFault as PlanFault;
 use gq_flow::{Workers, run_query};
 use gq_index::{Graph, Index, Store};
-use gq_io::{OpenGate, Shape};
+use gq_io::{AnyGate, Shape};
 use gq_json::Printed;
 use gq_list::List;
 use gq_plan::plan;
@@ -25,25 +25,19 @@ use gq_runs::{RunFault, RunsQueries};
 use gq_schema::Catalog;
 use gq_tree::QueryTree;
 use gq_value::Row;
-use gq_view::Clock;
 use std::alloc::Global;
+use std::thread::Threads;
 
-/// Runs queries on the calling thread.
+/// Runs queries, whose workers pass a gate. No gate changes an answer.
 #[derive(Clone, Copy, Debug)]
-pub struct Engine;
-
-/// The calendar by which queries read and write times. No value has it.
-enum Gregorian {}
-
-impl Clock for Gregorian {
-    ghost clock = { gregorian };
-
-    ghost is = { is_calendar };
+pub struct Engine<'g> {
+    pub gate: AnyGate<'g>,
 }
 
-impl RunsQueries for Engine {
-    fn run(
+impl<'g> RunsQueries for Engine<'g> {
+    fn run<R: Threads + Sync>(
         &self,
+        rt: &R,
         alloc: Global,
         catalog: &Catalog,
         graph: Option<u32>,
@@ -53,10 +47,10 @@ impl RunsQueries for Engine {
         shape: &Shape,
         turns: u64,
     ) -> Result<List<Printed>, RunFault> {
-        let gate = OpenGate;
         let workers = Workers {
+            rt,
             shape: *shape,
-            gate: &gate,
+            gate: self.gate,
         };
         match plan(alloc, catalog, graph, query) {
             Err(_) => Err(RunFault::Memory),
@@ -66,8 +60,8 @@ impl RunsQueries for Engine {
 }
 
 /// Indexes a store, and runs a plan over it.
-fn run_plan(
-    workers: &Workers<'_, OpenGate>,
+fn run_plan<R: Threads + Sync>(
+    workers: &Workers<'_, R>,
     alloc: Global,
     catalog: &Catalog,
     store: &Store,
@@ -89,8 +83,8 @@ fn run_plan(
 }
 
 /// Runs a plan over an indexed store.
-fn run_indexed<'x>(
-    workers: &'x Workers<'x, OpenGate>,
+fn run_indexed<'x, R: Threads + Sync>(
+    workers: &'x Workers<'x, R>,
     alloc: Global,
     catalog: &'x Catalog,
     store: &'x Store,
@@ -109,7 +103,7 @@ fn run_indexed<'x>(
         store,
         index,
     };
-    told(run_query::<Gregorian>(workers, alloc, graph, plan, arguments, turns))
+    told(run_query(workers, alloc, graph, plan, arguments, turns))
 }
 
 /// What a run of a plan gives, as the run of a query.

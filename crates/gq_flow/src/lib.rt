@@ -4,10 +4,12 @@
 #![tactic(auto)]
 
 mod change;
+mod clock;
 mod print;
 mod program;
 mod query;
 
+pub use clock::Gregorian;
 pub use gq_assign::Workers;
 pub use program::Program;
 pub use query::run_query;

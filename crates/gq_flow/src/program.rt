@@ -1,30 +1,34 @@
 // What single statements do.
+ghost use Rattle.std.specs.Thread.{IsSync};
+ghost use Rattle.gq_calendar.specs.Gregorian.{gregorian};
 ghost use Rattle.gq_ground.specs.Grounds.{world_on};
 
 use crate::change::change;
+use crate::clock::Gregorian;
 use crate::print::print_more;
 use gq_assign::{Workers, assign};
 use gq_control::{Machine, Rounds, RunFault, Running};
 use gq_ground::Ground;
-use gq_io::OpenGate;
 use gq_local::declare;
 use gq_resolved::{Expr, Over, Step};
 use gq_rounds::{rounds, truth};
-use gq_view::Clock;
 use std::alloc::Global;
+use std::thread::Threads;
 
 /// A plan over a graph, as what does single statements.
 #[derive(Drop)]
-pub struct Program<'a, C> {
-    pub workers: &'a Workers<'a, OpenGate>,
+pub struct Program<'a, R> {
+    pub workers: &'a Workers<'a, R>,
     pub alloc: Global,
-    pub ground: Ground<'a, C>,
+    pub ground: Ground<'a, Gregorian>,
 }
 
-impl<'a, C: Clock> Machine for Program<'a, C> {
-    ghost world = { λ p. world_on C.clock p.ground };
+impl<'a, R: Threads + Sync> Machine for Program<'a, R> {
+    ghost world = { λ p. world_on gregorian p.ground };
 
     ghost places = { λ p. p.ground.plan.places };
+
+    ghost can = { λ p. IsSync R.row };
 
     fn act(&self, step: &Step, r: &mut Running) -> Result<(), RunFault> {
         match step {

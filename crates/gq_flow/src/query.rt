@@ -5,32 +5,33 @@ ghost use Rattle.gq_value.specs.Views.{val};
 ghost use Rattle.gq_index.specs.Sights.{sight_of};
 ghost use Rattle.gq_index.specs.Walks.{adjacency};
 ghost use Rattle.gq_meaning.specs.Queries.{run_plan};
+ghost use Rattle.gq_calendar.specs.Gregorian.{gregorian};
 ghost use Rattle.gq_resolved.specs.PlanView.{view_plan};
 ghost use Rattle.gq_fields.specs.Worlds.{HaveAttributes};
 ghost use Rattle.gq_frame.specs.Slots.{AreSound};
 ghost use Rattle.gq_view.specs.Ends.{HaveEnds};
 ghost use Rattle.gq_flow.specs.Plans.{Prints, RunsFrom, plan_world};
 
+use crate::clock::Gregorian;
 use crate::program::Program;
 use gq_assign::Workers;
 use gq_control::{RunFault, Running, run_steps};
 use gq_ground::{Ground, run_fault};
 use gq_index::Graph;
-use gq_io::OpenGate;
 use gq_json::Printed;
 use gq_list::List;
 use gq_opening::{Opened, open};
 use gq_resolved::Plan;
 use gq_value::Row;
-use gq_view::Clock;
 use std::alloc::Global;
 use std::marker::PhantomData;
+use std::thread::Threads;
 
 /// Runs a plan over its arguments, with so many turns: what each PRINT prints, in order. Each entry of a loop's body takes a turn.
 ///
 /// What is stuck in a plan that isn't that of a checked query is want of memory.
-pub fn run_query<'x, C: Clock>(
-    workers: &'x Workers<'x, OpenGate>,
+pub fn run_query<'x, R: Threads + Sync>(
+    workers: &'x Workers<'x, R>,
     alloc: Global,
     graph: Graph<'x>,
     plan: &'x Plan,
@@ -40,17 +41,17 @@ pub fn run_query<'x, C: Clock>(
     requires indexed { graph.index.now ≡ adjacency (sight_of graph.catalog.now graph.store.now.vertices graph.store.now.edges) }
     requires attributes { HaveAttributes graph.catalog.now graph.store.now.vertices }
     requires ends { HaveEnds graph.store.now.vertices graph.store.now.edges.rows }
-    ensures { Prints (run_plan (plan_world C.clock graph.entry plan.now) (view_plan plan.now) (map val arguments.now) turns) result }
+    ensures { Prints (run_plan (plan_world gregorian graph.entry plan.now) (view_plan plan.now) (map val arguments.now) turns) result }
 {
-    match open::<C>(alloc, graph, plan, arguments) {
+    match open::<Gregorian>(alloc, graph, plan, arguments) {
         Err(halt) => Err(run_fault(halt)),
-        Ok(opened) => run_opened::<C>(workers, alloc, graph, plan, opened, turns),
+        Ok(opened) => run_opened(workers, alloc, graph, plan, opened, turns),
     }
 }
 
 /// Runs the statements of a plan from what it opens with.
-fn run_opened<'x, C: Clock>(
-    workers: &'x Workers<'x, OpenGate>,
+fn run_opened<'x, R: Threads + Sync>(
+    workers: &'x Workers<'x, R>,
     alloc: Global,
     graph: Graph<'x>,
     plan: &'x Plan,
@@ -62,10 +63,10 @@ fn run_opened<'x, C: Clock>(
     requires ends { HaveEnds graph.store.now.vertices graph.store.now.edges.rows }
     requires few { length plan.now.edges ≤ most_types }
     requires sound { AreSound opened.live.frame.accums }
-    ensures { RunsFrom C.clock graph.entry plan.now opened turns result }
+    ensures { RunsFrom gregorian graph.entry plan.now opened turns result }
 {
     let Opened { live, tuples } = opened;
-    let ground: Ground<'_, C> = Ground {
+    let ground: Ground<'_, Gregorian> = Ground {
         graph,
         plan,
         tuples: tuples.as_slice(),

@@ -10,7 +10,7 @@ ghost use Rattle.std.specs.IoError.{error_kind};
 ghost use Rattle.gq_outcome.specs.Codes.{code_of};
 
 use gq_engine::Engine;
-use gq_io::{HostFiles, HostSink};
+use gq_io::{AnyGate, HostFiles, HostSink};
 use gq_outcome::Status;
 use gq_run::run;
 use std::io::ErrorKind;
@@ -22,8 +22,12 @@ fn main(rt: HostRuntime) -> ExitCode {
     if let Err(error) = read_words(&rt, &mut words) {
         return end_without_words(&rt, &error);
     }
+    let engine = Engine {
+        gate: AnyGate::Open,
+    };
     let status = run(
-        &Engine,
+        &rt,
+        &engine,
         rt.alloc(),
         &words,
         &mut HostFiles::new(&rt),

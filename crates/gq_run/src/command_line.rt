@@ -15,14 +15,16 @@ use gq_io::{Files, Sink};
 use gq_outcome::Status;
 use gq_runs::{Runner, RunsQueries};
 use std::alloc::Global;
+use std::thread::Threads;
 
 /// Runs what the words after the program's name ask for, over these files, and writes its lines to the sink. Its queries run on this
-/// machine.
+/// machine, on threads of this runtime.
 ///
 /// The words are read first, then the script's file, then that of the arguments, where one is named. The whole script is read before
 /// its first statement runs, and each line is written when its statement has ended. A sample has a script and files of its own.
-pub fn run<R: RunsQueries, F: Files, K: Sink>(
-    machine: &R,
+pub fn run<R: Threads + Sync, M: RunsQueries, F: Files, K: Sink>(
+    rt: &R,
+    machine: &M,
     alloc: Global,
     words: &[String],
     files: &mut F,
@@ -55,14 +57,15 @@ pub fn run<R: RunsQueries, F: Files, K: Sink>(
     ensures steady { (Rose (F.faults files.old) (F.faults files.new) → ⊥) → (Rose (K.faults out.old) (K.faults out.new) → ⊥) → IsFinal result ⊎ (result ≡ Status.Memory) }
 {
     match read_words(alloc, words) {
-        Ok(command) => run_command(machine, alloc, &command, files, out),
+        Ok(command) => run_command(rt, machine, alloc, &command, files, out),
         Err(WordsFault::Usage) => Status::Usage,
         Err(WordsFault::Memory) => Status::Memory,
     }
 }
 
-fn run_command<R: RunsQueries, F: Files, K: Sink>(
-    machine: &R,
+fn run_command<R: Threads + Sync, M: RunsQueries, F: Files, K: Sink>(
+    rt: &R,
+    machine: &M,
     alloc: Global,
     command: &Command,
     files: &mut F,
@@ -83,13 +86,14 @@ fn run_command<R: RunsQueries, F: Files, K: Sink>(
         shape: command.shape,
         turns: command.turns,
     };
-    run_task(alloc, &command.task, &runner, files, out)
+    run_task(rt, alloc, &command.task, &runner, files, out)
 }
 
-fn run_task<R: RunsQueries, F: Files, K: Sink>(
+fn run_task<R: Threads + Sync, M: RunsQueries, F: Files, K: Sink>(
+    rt: &R,
     alloc: Global,
     task: &Task,
-    runner: &Runner<'_, R>,
+    runner: &Runner<'_, M>,
     files: &mut F,
     out: &mut K,
 ) -> Status
@@ -105,6 +109,7 @@ fn run_task<R: RunsQueries, F: Files, K: Sink>(
 {
     match task {
         Task::Script { path, arguments } => run_file(
+            rt,
             alloc,
             path.as_str(),
             arguments,
@@ -112,6 +117,6 @@ fn run_task<R: RunsQueries, F: Files, K: Sink>(
             files,
             out,
         ),
-        Task::Sample(people) => run_sample(alloc, *people, runner, out),
+        Task::Sample(people) => run_sample(rt, alloc, *people, runner, out),
     }
 }

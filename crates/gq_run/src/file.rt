@@ -14,13 +14,15 @@ use gq_script_read::QueryBodies;
 use gq_source::run_script;
 use gq_value::Txt;
 use std::alloc::Global;
+use std::thread::Threads;
 
 /// Runs the script in this file, where the arguments for its queries are in that one, if any.
-pub fn run_file<R: RunsQueries, F: Files, K: Sink>(
+pub fn run_file<R: Threads + Sync, M: RunsQueries, F: Files, K: Sink>(
+    rt: &R,
     alloc: Global,
     path: &str,
     arguments: &Option<Txt>,
-    runner: &Runner<'_, R>,
+    runner: &Runner<'_, M>,
     files: &mut F,
     out: &mut K,
 ) -> Status
@@ -33,16 +35,17 @@ pub fn run_file<R: RunsQueries, F: Files, K: Sink>(
     ensures only_runs { OnlyRuns result (Rose (F.faults files.old) (F.faults files.new)) (Rose (K.faults out.old) (K.faults out.new)) }
 {
     match file_of(alloc, path, files, out) {
-        Ok(bytes) => run_bytes(alloc, &bytes, arguments, runner, files, out),
+        Ok(bytes) => run_bytes(rt, alloc, &bytes, arguments, runner, files, out),
         Err(status) => status,
     }
 }
 
-fn run_bytes<R: RunsQueries, F: Files, K: Sink>(
+fn run_bytes<R: Threads + Sync, M: RunsQueries, F: Files, K: Sink>(
+    rt: &R,
     alloc: Global,
     bytes: &[u8],
     arguments: &Option<Txt>,
-    runner: &Runner<'_, R>,
+    runner: &Runner<'_, M>,
     files: &mut F,
     out: &mut K,
 ) -> Status
@@ -54,16 +57,17 @@ fn run_bytes<R: RunsQueries, F: Files, K: Sink>(
     ensures only_runs { OnlyRuns result (Rose (F.faults files.old) (F.faults files.new)) (Rose (K.faults out.old) (K.faults out.new)) }
 {
     match arguments {
-        None => run_script::<QueryBodies, R, F, K>(alloc, bytes, None, runner, files, out),
-        Some(name) => run_with_arguments(alloc, bytes, name.as_str(), runner, files, out),
+        None => run_script::<QueryBodies, R, M, F, K>(rt, alloc, bytes, None, runner, files, out),
+        Some(name) => run_with_arguments(rt, alloc, bytes, name.as_str(), runner, files, out),
     }
 }
 
-fn run_with_arguments<R: RunsQueries, F: Files, K: Sink>(
+fn run_with_arguments<R: Threads + Sync, M: RunsQueries, F: Files, K: Sink>(
+    rt: &R,
     alloc: Global,
     bytes: &[u8],
     arguments: &str,
-    runner: &Runner<'_, R>,
+    runner: &Runner<'_, M>,
     files: &mut F,
     out: &mut K,
 ) -> Status
@@ -75,7 +79,8 @@ fn run_with_arguments<R: RunsQueries, F: Files, K: Sink>(
     ensures only_runs { OnlyRuns result (Rose (F.faults files.old) (F.faults files.new)) (Rose (K.faults out.old) (K.faults out.new)) }
 {
     match file_of(alloc, arguments, files, out) {
-        Ok(file) => run_script::<QueryBodies, R, F, K>(
+        Ok(file) => run_script::<QueryBodies, R, M, F, K>(
+            rt,
             alloc,
             bytes,
             Some(&file),

@@ -12,12 +12,14 @@ use gq_script_read::QueryBodies;
 use gq_source::run_script;
 use gq_value::Memory;
 use std::alloc::Global;
+use std::thread::Threads;
 
 /// Runs the sample of so many people, whose script and files are functions of their number.
-pub fn run_sample<R: RunsQueries, K: Sink>(
+pub fn run_sample<R: Threads + Sync, M: RunsQueries, K: Sink>(
+    rt: &R,
     alloc: Global,
     people: u32,
-    runner: &Runner<'_, R>,
+    runner: &Runner<'_, M>,
     out: &mut K,
 ) -> Status
     requires { (1 ≤ people) × (people ≤ 1000000) }
@@ -30,8 +32,8 @@ pub fn run_sample<R: RunsQueries, K: Sink>(
         Err(Memory) => return Status::Memory,
     };
     match files_of(alloc, people) {
-        Ok(mut files) => run_script::<QueryBodies, R, SureFiles, K>(
-            alloc, &script, None, runner, &mut files, out,
+        Ok(mut files) => run_script::<QueryBodies, R, M, SureFiles, K>(
+            rt, alloc, &script, None, runner, &mut files, out,
         ),
         Err(Memory) => Status::Memory,
     }

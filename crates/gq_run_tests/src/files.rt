@@ -46,6 +46,13 @@ const FRIENDS: &[u8] =
 pub const FRIENDS_LINES: &[u8] =
     b"{\"error\":false,\"message\":\"\",\"results\":[{\"file\":\"person.csv\",\"lines\":7,\"loaded\":7,\"short\":0,\"unreadable\":0},{\"file\":\"friendship.csv\",\"lines\":7,\"loaded\":7,\"short\":0,\"unreadable\":0}]}\n{\"error\":false,\"message\":\"\",\"results\":[{\"Theirs\":[{\"v_id\":\"Kevin\",\"v_type\":\"person\",\"attributes\":{\"name\":\"Kevin\",\"age\":28,\"@met\":false}},{\"v_id\":\"Amily\",\"v_type\":\"person\",\"attributes\":{\"name\":\"Amily\",\"age\":22,\"@met\":false}},{\"v_id\":\"Nancy\",\"v_type\":\"person\",\"attributes\":{\"name\":\"Nancy\",\"age\":20,\"@met\":false}}]},{\"@@age\":23.333333}]}\n";
 
+// The first edge faults in its sum, the third one by its divisor.
+const FAULT: &[u8] =
+    b"CREATE VERTEX person (PRIMARY_ID id STRING, age INT)\nCREATE DIRECTED EDGE knows (FROM person, TO person, w INT)\nCREATE GRAPH g (person, knows)\nCREATE LOADING JOB j FOR GRAPH g {\n  LOAD \"p.csv\" TO VERTEX person VALUES ($0, $1);\n  LOAD \"wide.csv\" TO EDGE knows VALUES ($0, $1, $2); }\nRUN LOADING JOB j\nINTERPRET QUERY () FOR GRAPH g {\n  SumAccum<INT> @@s;\n  S = {person.*};\n  T = SELECT t FROM S:s -(knows:e)-> person:t ACCUM @@s += e.w + 1, @@s += 1 / (e.w - 30); }\n";
+
+pub const FAULT_LINES: &[u8] =
+    b"{\"error\":false,\"message\":\"\",\"results\":[{\"file\":\"p.csv\",\"lines\":3,\"loaded\":3,\"short\":0,\"unreadable\":0},{\"file\":\"wide.csv\",\"lines\":3,\"loaded\":3,\"short\":0,\"unreadable\":0}]}\n{\"error\":true,\"message\":\"line 8: number out of range\"}\n";
+
 // The lines of the sample of three people.
 pub const SAMPLE_LINES: &[u8] =
     b"{\"error\":false,\"message\":\"\",\"results\":[{\"file\":\"people.csv\",\"lines\":3,\"loaded\":3,\"short\":0,\"unreadable\":0},{\"file\":\"knows.csv\",\"lines\":6,\"loaded\":6,\"short\":0,\"unreadable\":0}]}\n{\"error\":false,\"message\":\"\",\"results\":[{\"people\":3,\"reached\":3,\"total\":9,\"top\":4}]}\n";
@@ -54,6 +61,8 @@ const P_CSV: &[u8] = b"a,1\nb,2\nc,3\n";
 
 const K_CSV: &[u8] = b"a,b,10\na,c,20\nb,c,30\n";
 
+const WIDE_CSV: &[u8] = b"a,b,9223372036854775807\na,c,20\nb,c,30\n";
+
 const PERSONS: &[u8] =
     b"name,age\nTom,40\nDan,34\nJenny,25\nKevin,28\nAmily,22\nNancy,20\nJack,26\n";
 
@@ -61,7 +70,7 @@ const FRIENDSHIPS: &[u8] =
     b"person1,person2,date\nTom,Dan,2017-06-03\nTom,Jenny,2015-01-01\nDan,Jenny,2016-08-03\nJenny,Amily,2015-06-08\nDan,Nancy,2016-01-03\nNancy,Jack,2017-03-02\nDan,Kevin,2015-12-30\n";
 
 /// Each file, by its name and the parts that stand in it one after the other.
-pub const FILES: [(&str, &[&[u8]]); 15] = [
+pub const FILES: [(&str, &[&[u8]]); 17] = [
     ("seven", &[SEVEN]),
     ("twice", &[SEVEN, SEVEN]),
     ("loads", &[LOADS]),
@@ -70,11 +79,13 @@ pub const FILES: [(&str, &[&[u8]]); 15] = [
     ("sums", &[LOADS, SUMS]),
     ("insert", &[LOADS, INSERT]),
     ("friends", &[FRIENDS]),
+    ("fault", &[FAULT]),
     ("argument", &[ARGUMENT]),
     ("early", &[EARLY]),
     ("a.json", &[ARGUMENTS]),
     ("p.csv", &[P_CSV]),
     ("k.csv", &[K_CSV]),
+    ("wide.csv", &[WIDE_CSV]),
     ("person.csv", &[PERSONS]),
     ("friendship.csv", &[FRIENDSHIPS]),
 ];

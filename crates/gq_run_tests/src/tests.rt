@@ -1,15 +1,16 @@
 // What the clauses of `run` leave open: that runs succeed where there is memory, and that lines and answers are those that a reader of
 // the documents expects.
 use crate::files::{
-    EARLY_LINE, FILES, FRIENDS_LINES, GROUPS_LINE, INSERT_LINE, LOADS_LINE, SAMPLE_LINES, SEVEN,
-    SEVEN_LINE, SUMS_LINE,
+    EARLY_LINE, FAULT_LINES, FILES, FRIENDS_LINES, GROUPS_LINE, INSERT_LINE, LOADS_LINE,
+    SAMPLE_LINES, SEVEN, SEVEN_LINE, SUMS_LINE,
 };
 use gq_engine::Engine;
-use gq_io::{MemoryFiles, MemorySink, SureFiles, SureSink};
+use gq_io::{AnyGate, HeldGate, HoldGate, MemoryFiles, MemorySink, SureFiles, SureSink};
 use gq_outcome::Status;
 use gq_run::run;
 use std::alloc::Global;
 use std::test::Fail;
+use std::thread::Threads;
 
 // The words of a line, which are parted by blanks.
 fn words_of(alloc: Global, line: &str) -> Result<Vec<String>, Fail> {
@@ -29,22 +30,24 @@ fn joined(alloc: Global, parts: &[&[u8]]) -> Result<Vec<u8>, Fail> {
     Ok(bytes)
 }
 
-// Which read and which write fail, or 0, and how many bytes a write takes.
+// Which read and which write fail, or 0, how many bytes a write takes, and the gate that workers pass.
 #[derive(Clone, Copy)]
-struct Devices {
+struct Devices<'g> {
     failed_read: u64,
     failed_write: u64,
     most: usize,
+    gate: AnyGate<'g>,
 }
 
-const SURE: Devices = Devices {
+const SURE: Devices<'static> = Devices {
     failed_read: 0,
     failed_write: 0,
     most: 1000,
+    gate: AnyGate::Open,
 };
 
 // Devices of which a read fails.
-fn failing_read(call: u64) -> Devices {
+fn failing_read(call: u64) -> Devices<'static> {
     Devices {
         failed_read: call,
         ..SURE
@@ -52,11 +55,21 @@ fn failing_read(call: u64) -> Devices {
 }
 
 // Devices of which a write fails, and each takes so many bytes.
-fn failing_write(call: u64, most: usize) -> Devices {
+fn failing_write(call: u64, most: usize) -> Devices<'static> {
     Devices {
-        failed_read: 0,
         failed_write: call,
         most,
+        ..SURE
+    }
+}
+
+// Sure devices, with a gate.
+fn with_gate(gate: AnyGate<'_>) -> Devices<'_> {
+    Devices {
+        failed_read: 0,
+        failed_write: 0,
+        most: 1000,
+        gate,
     }
 }
 
@@ -71,18 +84,20 @@ fn files(alloc: Global, failed: u64) -> Result<MemoryFiles, Fail> {
 }
 
 // Whether a run of this line over these devices has this answer and prints these lines.
-fn ends(
-    alloc: Global,
+fn ends<R: Threads + AllocGlobal + Sync>(
+    rt: &R,
     line: &str,
-    devices: Devices,
+    devices: Devices<'_>,
     answer: Status,
     lines: &[u8],
 ) -> Result<bool, Fail> {
+    let alloc = rt.alloc();
     let words = words_of(alloc, line)?;
     let mut files = files(alloc, devices.failed_read)?;
     let mut out = MemorySink::new(alloc, devices.most.max(1));
     out.fail_at(devices.failed_write)?;
-    let status = run(&Engine, alloc, &words, &mut files, &mut out);
+    let engine = Engine { gate: devices.gate };
+    let status = run(rt, &engine, alloc, &words, &mut files, &mut out);
     Ok(status == answer && out.bytes() == lines)
 }
 
@@ -93,7 +108,10 @@ fn a_line_is_printed_where_no_device_can_fail(rt: HostRuntime) -> Result<(), Fai
     let mut files = SureFiles::new(alloc);
     files.add("seven", SEVEN)?;
     let mut out = SureSink::new(alloc, 100);
-    let status = run(&Engine, alloc, &words, &mut files, &mut out);
+    let engine = Engine {
+        gate: AnyGate::Open,
+    };
+    let status = run(&rt, &engine, alloc, &words, &mut files, &mut out);
     assert_eq!(rt; status, Status::Done);
     assert_eq!(rt; out.bytes(), SEVEN_LINE);
     Ok(())
@@ -129,22 +147,21 @@ fn the_lines_before_a_fault_stand(rt: HostRuntime) -> Result<(), Fail> {
             b"{\"error\":false,\"mess".as_slice(),
         ),
     ] {
-        assert!(rt; ends(rt.alloc(), line, devices, answer, lines)?, "{line}");
+        assert!(rt; ends(&rt, line, devices, answer, lines)?, "{line}");
     }
     Ok(())
 }
 
 #[test]
 fn the_bytes_before_a_failed_write_stand(rt: HostRuntime) -> Result<(), Fail> {
-    let alloc = rt.alloc();
     let sample = "--sample 3";
     let devices = failing_write(0, 1);
-    assert!(rt; ends(alloc, sample, devices, Status::Done, SAMPLE_LINES)?);
+    assert!(rt; ends(&rt, sample, devices, Status::Done, SAMPLE_LINES)?);
     for written in 0..SAMPLE_LINES.len() {
         let devices = failing_write(1 + written as u64, 1);
         let lines = &SAMPLE_LINES[..written];
         assert!(rt;
-            ends(alloc, sample, devices, Status::WriteFault, lines)?,
+            ends(&rt, sample, devices, Status::WriteFault, lines)?,
             "{written}"
         );
     }
@@ -167,8 +184,59 @@ fn scripts_print_their_lines(rt: HostRuntime) -> Result<(), Fail> {
         ),
     ] {
         let lines = joined(alloc, &lines)?;
-        assert!(rt; ends(alloc, line, SURE, Status::Done, &lines)?, "{line}");
+        assert!(rt; ends(&rt, line, SURE, Status::Done, &lines)?, "{line}");
     }
-    assert!(rt; ends(alloc, "early", SURE, Status::Refused, EARLY_LINE)?);
+    assert!(rt; ends(&rt, "early", SURE, Status::Refused, EARLY_LINE)?);
+    Ok(())
+}
+
+#[test]
+fn two_workers_run_a_block_and_one_runs_it_alone(rt: HostRuntime) -> Result<(), Fail> {
+    for (line, turns, met) in [
+        ("--chunk 1 --workers 2 friends", 200_000_000, true),
+        ("--chunk 1 --workers 1 friends", 1000, false),
+    ] {
+        let gate = HoldGate::new(turns);
+        let devices = with_gate(AnyGate::Hold(&gate));
+        assert!(rt;
+            ends(&rt, line, devices, Status::Done, FRIENDS_LINES)?,
+            "{line}"
+        );
+        assert_eq!(rt; gate.met(), met, "{line}");
+    }
+    Ok(())
+}
+
+// How often a late worker looks for the passes that it waits for.
+const LOOKS: u64 = 1_000_000;
+
+// A block of three candidates, and two of two and of seven. Two workers at most run the block of two; the others come to the last.
+#[test]
+fn a_late_worker_changes_no_byte(rt: HostRuntime) -> Result<(), Fail> {
+    for (script, early, later, answer, lines) in [
+        ("fault", 2, 2, Status::Refused, FAULT_LINES),
+        ("friends", 1, 8, Status::Done, FRIENDS_LINES),
+    ] {
+        for (workers, worker) in [
+            (2, 0),
+            (2, 1),
+            (3, 0),
+            (3, 1),
+            (3, 2),
+            (4, 0),
+            (4, 1),
+            (4, 2),
+            (4, 3),
+        ] {
+            let passes = if worker < 2 { early } else { later };
+            let gate = HeldGate::new(worker, passes, LOOKS);
+            let devices = with_gate(AnyGate::Held(&gate));
+            let line = format!(in rt.alloc(); "--chunk 1 --workers {workers} {script}")?;
+            assert!(rt;
+                ends(&rt, &line, devices, answer, lines)?,
+                "{line}, late is {worker}"
+            );
+        }
+    }
     Ok(())
 }

@@ -17,13 +17,15 @@ use gq_refusal::StatementFault;
 use gq_schema::Catalog;
 use gq_tree::QueryTree;
 use std::alloc::Global;
+use std::thread::Threads;
 
 /// INTERPRET QUERY, with the graph that is in use, by its number: the line that the query prints. The session stays as it is.
 ///
 /// Refused for its modes, else for a graph that isn't there, else by the first rule on queries that fails, else for the fault of its run.
-pub fn interpret_query<R: RunsQueries>(
+pub fn interpret_query<R: Threads + Sync, M: RunsQueries>(
+    rt: &R,
     alloc: Global,
-    runner: &Runner<'_, R>,
+    runner: &Runner<'_, M>,
     catalog: &Catalog,
     store: &Store,
     in_use: Option<u32>,
@@ -37,7 +39,7 @@ pub fn interpret_query<R: RunsQueries>(
         Ok(()) => {
             let graph = graph_of(catalog, in_use, tree);
             let none = List::new(alloc);
-            line_over(alloc, runner, catalog, graph, store, tree, &none)
+            line_over(rt, alloc, runner, catalog, graph, store, tree, &none)
         }
         Err(fault) => Err(fault),
     }

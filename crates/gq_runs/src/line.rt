@@ -23,11 +23,13 @@ use gq_schema::Catalog;
 use gq_tree::QueryTree;
 use gq_value::{Memory, Row, Txt, Wrong};
 use std::alloc::Global;
+use std::thread::Threads;
 
 /// The line of a query for the graph of this number, over values of its parameters.
-pub(crate) fn line_over<R: RunsQueries>(
+pub(crate) fn line_over<R: Threads + Sync, M: RunsQueries>(
+    rt: &R,
     alloc: Global,
-    runner: &Runner<'_, R>,
+    runner: &Runner<'_, M>,
     catalog: &Catalog,
     graph: Option<u32>,
     store: &Store,
@@ -38,6 +40,7 @@ pub(crate) fn line_over<R: RunsQueries>(
 {
     let turns = runner.turns;
     match runner.machine.run(
+        rt,
         alloc,
         catalog,
         graph,

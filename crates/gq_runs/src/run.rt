@@ -28,13 +28,15 @@ use gq_schema::Catalog;
 use gq_tree::{QueryTree, RunTree};
 use gq_value::{Memory, Txt};
 use std::alloc::Global;
+use std::thread::Threads;
 
 /// RUN QUERY: the line that the query prints. The session stays as it is.
 ///
 /// Refused where no query of the name is there, else where it isn't installed, else for its arguments, else for the fault of its run.
-pub fn run_query<R: RunsQueries>(
+pub fn run_query<R: Threads + Sync, M: RunsQueries>(
+    rt: &R,
     alloc: Global,
-    runner: &Runner<'_, R>,
+    runner: &Runner<'_, M>,
     catalog: &Catalog,
     store: &Store,
     queries: &[Stored<'_>],
@@ -46,14 +48,15 @@ pub fn run_query<R: RunsQueries>(
 {
     let name = tree.name.as_str();
     match query_named(queries, name) {
-        Some(query) => run_found(alloc, runner, catalog, store, query, file, tree),
+        Some(query) => run_found(rt, alloc, runner, catalog, store, query, file, tree),
         None => Err(unknown(alloc, name)),
     }
 }
 
-fn run_found<R: RunsQueries>(
+fn run_found<R: Threads + Sync, M: RunsQueries>(
+    rt: &R,
     alloc: Global,
-    runner: &Runner<'_, R>,
+    runner: &Runner<'_, M>,
     catalog: &Catalog,
     store: &Store,
     query: &Stored<'_>,
@@ -65,6 +68,7 @@ fn run_found<R: RunsQueries>(
     if query.is_installed() {
         let arguments = arguments_of(tree, file);
         run_with(
+            rt,
             alloc,
             runner,
             catalog,
@@ -89,9 +93,10 @@ fn arguments_of<'a>(tree: &'a RunTree, file: &'a Args) -> Arguments<'a>
     }
 }
 
-fn run_with<R: RunsQueries>(
+fn run_with<R: Threads + Sync, M: RunsQueries>(
+    rt: &R,
     alloc: Global,
-    runner: &Runner<'_, R>,
+    runner: &Runner<'_, M>,
     catalog: &Catalog,
     graph: Option<u32>,
     store: &Store,
@@ -113,7 +118,7 @@ fn run_with<R: RunsQueries>(
         parameters,
         arguments,
     ) {
-        Ok(row) => line_over(alloc, runner, catalog, graph, store, query, &row),
+        Ok(row) => line_over(rt, alloc, runner, catalog, graph, store, query, &row),
         Err(fault) => Err(fault),
     }
 }

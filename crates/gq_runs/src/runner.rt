@@ -1,5 +1,6 @@
 // What runs queries.
 ghost use Rattle.std.specs.Prelude.{map};
+ghost use Rattle.std.specs.Thread.{IsSync};
 ghost use Rattle.gq_value.specs.Views.{val};
 ghost use Rattle.gq_typing.specs.StatementViews.{view_query};
 ghost use Rattle.gq_meaning.specs.Queries as meaning;
@@ -15,6 +16,7 @@ use gq_schema::Catalog;
 use gq_tree::QueryTree;
 use gq_value::{Row, Wrong};
 use std::alloc::Global;
+use std::thread::Threads;
 use thiserror::Error;
 
 /// Why a query doesn't run to its end.
@@ -38,8 +40,8 @@ pub enum RunFault {
 
 /// What runs the queries of a session, and how.
 #[derive(Drop)]
-pub struct Runner<'r, R> {
-    pub machine: &'r R,
+pub struct Runner<'r, M> {
+    pub machine: &'r M,
 
     /// How the work of a block is cut. It changes no answer.
     pub shape: Shape,
@@ -50,10 +52,11 @@ pub struct Runner<'r, R> {
 
 /// Something that runs queries which were checked.
 pub trait RunsQueries {
-    /// Runs a query for the graph of this number, over a value of each parameter and with so many turns. The shape, by which the work of
-    /// its blocks is cut, changes no answer.
-    fn run(
+    /// Runs a query for the graph of this number, over a value of each parameter and with so many turns. The runtime's threads, and the
+    /// shape, by which the work of its blocks is cut, change no answer.
+    fn run<R: Threads + Sync>(
         &self,
+        rt: &R,
         alloc: Global,
         catalog: &Catalog,
         graph: Option<u32>,
@@ -63,5 +66,6 @@ pub trait RunsQueries {
         shape: &Shape,
         turns: u64,
     ) -> Result<List<Printed>, RunFault>
+        requires { IsSync R.row }
         ensures { Runs (meaning.run_query (graph_read catalog.now graph store.now) gregorian (view_query query.now) (map val arguments.now) turns) result };
 }

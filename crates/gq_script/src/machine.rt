@@ -1,5 +1,6 @@
 // What runs statements.
 ghost use Rattle.std.specs.Prelude.{◌≡◌, ◌≤◌, ℕ, IfOk, Err, IsErrOf};
+ghost use Rattle.std.specs.Thread.{IsSync};
 ghost use Rattle.gq_io.specs.Counts.{Rose};
 ghost use Rattle.gq_io.specs.Listing.{Listing};
 ghost use Rattle.gq_refusal.specs.declared.refusal.Refusal.{Refusal};
@@ -11,19 +12,23 @@ ghost use Rattle.gq_script.specs.Effects.{Effect, Becomes, Refused, lines_of};
 use gq_io::Files;
 use gq_refusal::StatementFault;
 use gq_tree::Statement;
+use std::thread::Threads;
 
 /// Something that runs the statements of a script, which are lent to it. Its value is what one statement leaves to the next.
 pub trait Machine<'s> {
     /// What a statement with this number, counted from 1, may do, by what is known of the files.
     ghost does: { Known → Self → ℕ → Statement → Effect Self → Type 0 };
 
-    /// Runs a statement, and gives the line that it prints, if any.
-    fn run_statement<F: Files>(
+    /// Runs a statement, on threads of this runtime, and gives the line that it prints, if any.
+    fn run_statement<R: Threads + Sync, F: Files>(
         &mut self,
+        rt: &R,
         files: &mut F,
         number: u64,
         statement: &'s Statement,
     ) -> Result<Option<Vec<u8>>, StatementFault>
+        requires { IsSync R.row }
+
         // A statement that runs got bytes for each file that it asked for, so that no count is needed.
         ensures done { (before now met : ℕ) → IfOk result (λ line.
             does (known_of (F.held files.old) before now met) self.old number statement.now (Becomes self.new (lines_of line))) }

@@ -17,10 +17,12 @@ use gq_refusal::StatementFault;
 use gq_token::line_of;
 use gq_tree::Placed;
 use std::alloc::Global;
+use std::thread::Threads;
 
 /// Runs the statements of the script with these bytes, from the machine's state on, and writes the line of each before the next
 /// begins. A refusal is the last line.
-pub fn run_statements<'s, M: Machine<'s>, F: Files, K: Sink>(
+pub fn run_statements<'s, R: Threads + Sync, M: Machine<'s>, F: Files, K: Sink>(
+    rt: &R,
     alloc: Global,
     bytes: &[u8],
     statements: &'s [Placed],
@@ -42,7 +44,16 @@ pub fn run_statements<'s, M: Machine<'s>, F: Files, K: Sink>(
     ensures only_runs { OnlyRuns result (Rose (F.faults files.old) (F.faults files.new)) (Rose (K.faults out.old) (K.faults out.new)) }
 {
     for (index, placed) in statements.iter().enumerate() {
-        match run_one(alloc, bytes, index as u64 + 1, placed, machine, files, out) {
+        match run_one(
+            rt,
+            alloc,
+            bytes,
+            index as u64 + 1,
+            placed,
+            machine,
+            files,
+            out,
+        ) {
             None => {}
             Some(status) => return status,
         }
@@ -51,7 +62,8 @@ pub fn run_statements<'s, M: Machine<'s>, F: Files, K: Sink>(
 }
 
 // Runs the statement of this number, and tells how the run ends, if it ends there.
-fn run_one<'s, M: Machine<'s>, F: Files, K: Sink>(
+fn run_one<'s, R: Threads + Sync, M: Machine<'s>, F: Files, K: Sink>(
+    rt: &R,
     alloc: Global,
     bytes: &[u8],
     number: u64,
@@ -76,7 +88,7 @@ fn run_one<'s, M: Machine<'s>, F: Files, K: Sink>(
     ensures absences_stay { F.absences files.old ≤ F.absences files.new }
     ensures sink_stays { IfNone result (K.faults out.old ≤ K.faults out.new) }
 {
-    match machine.run_statement(files, number, &placed.statement) {
+    match machine.run_statement(rt, files, number, &placed.statement) {
         Ok(line) => match print(&line, out) {
             Ok(()) => None,
             Err(SinkFault::Failed) => Some(Status::WriteFault),

@@ -9,7 +9,7 @@ use gq_answer::{After, BlockFault};
 use gq_block::run_block;
 use gq_ends::{Ends, ends_of, selects_target};
 use gq_index::VertexList;
-use gq_io::{Gate, Shape};
+use gq_io::{AnyGate, Shape};
 use gq_list::List;
 use gq_post::post;
 use gq_resolved::Block;
@@ -18,12 +18,14 @@ use gq_tail::tail;
 use gq_value::Memory;
 use gq_view::{Clock, Setting};
 use std::alloc::Global;
+use std::thread::Threads;
 
-/// How blocks are worked on: how the work is cut, and the gate that workers pass.
+/// How blocks are worked on: the runtime that has the threads, how the work is cut, and the gate that workers pass.
 #[derive(Drop)]
-pub struct Workers<'a, G> {
+pub struct Workers<'a, R> {
+    pub rt: &'a R,
     pub shape: Shape,
-    pub gate: &'a G,
+    pub gate: AnyGate<'a>,
 }
 
 /// What a SELECT gives: the accumulators behind it, and the selected vertices with the types that they may have.
@@ -37,8 +39,8 @@ pub struct Selected {
 /// A whole SELECT: WHERE and ACCUM of all candidates, then POST-ACCUM, then HAVING, ORDER BY and LIMIT. The frame stays as it is.
 ///
 /// Along a path it answers Memory.
-pub fn select<C: Clock, G: Gate>(
-    workers: &Workers<'_, G>,
+pub fn select<R: Threads + Sync, C: Clock + Sync>(
+    workers: &Workers<'_, R>,
     alloc: Global,
     block: &Block,
     over: &Setting<'_, C>,
@@ -46,7 +48,14 @@ pub fn select<C: Clock, G: Gate>(
     ensures selects { Selects C.clock over.now block.now result }
     ensures sound { IfOk result (λ selected. AreSound selected.accums) }
 {
-    match run_block(alloc, block, over, &workers.shape, workers.gate) {
+    match run_block(
+        workers.rt,
+        alloc,
+        block,
+        over,
+        &workers.shape,
+        &workers.gate,
+    ) {
         Err(fault) => Err(fault),
         Ok(after) => posted(alloc, block, over, after),
     }

@@ -33,11 +33,12 @@ use gq_value::{Memory, Txt};
 use gq_vertex::Vertices;
 use std::alloc::Global;
 use std::marker::Model;
+use std::thread::Threads;
 
 /// What the statements of a script leave to one another: the catalog, the graph in use, the loading jobs, the queries, whose trees the
 /// script lends, and the store. The file of arguments and what runs queries are lent to it too.
 #[derive(Drop)]
-pub struct Session<'s, R> {
+pub struct Session<'s, M> {
     alloc: Global,
     catalog: Catalog,
     in_use: Option<u32>,
@@ -45,10 +46,10 @@ pub struct Session<'s, R> {
     queries: List<Stored<'s>>,
     store: Store,
     file: ArgsFile<'s>,
-    runner: &'s Runner<'s, R>,
+    runner: &'s Runner<'s, M>,
 }
 
-impl<'s, R> Model for Session<'s, R> {
+impl<'s, M> Model for Session<'s, M> {
     ghost use Rattle.std.specs.Coded.{codes};
     ghost use Rattle.gq_value.specs.contracts.value.Value as value;
     ghost use Rattle.gq_value.specs.contracts.kind.BaseType as base;
@@ -65,9 +66,9 @@ impl<'s, R> Model for Session<'s, R> {
     ghost invariant = { λ s. SessionFits s.catalog s.in_use s.jobs s.store };
 }
 
-impl<'s, R: RunsQueries> Session<'s, R> {
+impl<'s, M: RunsQueries> Session<'s, M> {
     /// A session without types, graphs, jobs, queries and rows.
-    pub fn new(alloc: Global, file: ArgsFile<'s>, runner: &'s Runner<'s, R>) -> Session<'s, R>
+    pub fn new(alloc: Global, file: ArgsFile<'s>, runner: &'s Runner<'s, M>) -> Session<'s, M>
         ensures { result ≡ opening file.entry runner.now.turns }
     {
         Session {
@@ -82,12 +83,13 @@ impl<'s, R: RunsQueries> Session<'s, R> {
         }
     }
 
-    /// Runs the statement of this number, and gives the line that it prints, if any.
+    /// Runs the statement of this number, on threads of this runtime, and gives the line that it prints, if any.
     ///
     /// Where it doesn't run to its end the session is as it was. Only RUN LOADING JOB leaves upserts in the store: those of the LOADs
     /// that ended, and of a LOAD that didn't those before the one that was refused, or some of them for want of memory.
-    pub fn run<F: Files>(
+    pub fn run<R: Threads + Sync, F: Files>(
         &mut self,
+        rt: &R,
         files: &mut F,
         number: u64,
         statement: &'s Statement,
@@ -113,10 +115,10 @@ impl<'s, R: RunsQueries> Session<'s, R> {
             Statement::RunJob(tree) => self.run_job(files, tree),
             Statement::Query(replace, name, tree) => silent(self.make_query(*replace, name, tree)),
             Statement::Install(which) => silent(self.install(which)),
-            Statement::Interpret(tree) => self.interpret(number, tree),
+            Statement::Interpret(tree) => self.interpret(rt, number, tree),
             Statement::Insert(tree) => silent(self.insert(tree)),
             Statement::Begin | Statement::End => Ok(None),
-            Statement::Run(tree) => self.run_query(number, tree),
+            Statement::Run(tree) => self.run_query(rt, number, tree),
         }
     }
 
@@ -191,7 +193,12 @@ impl<'s, R: RunsQueries> Session<'s, R> {
         install_queries(self.alloc, &mut self.queries, which)
     }
 
-    fn run_query(&self, number: u64, tree: &RunTree) -> Result<Option<Vec<u8>>, StatementFault>
+    fn run_query<R: Threads + Sync>(
+        &self,
+        rt: &R,
+        number: u64,
+        tree: &RunTree,
+    ) -> Result<Option<Vec<u8>>, StatementFault>
         ensures { Prints self.now (query_ran self.now number tree.now) result }
     {
         let queries = self.queries.as_slice();
@@ -200,6 +207,7 @@ impl<'s, R: RunsQueries> Session<'s, R> {
         }
         let file = self.file.given();
         with_line(run_query(
+            rt,
             self.alloc,
             self.runner,
             &self.catalog,
@@ -210,13 +218,19 @@ impl<'s, R: RunsQueries> Session<'s, R> {
         ))
     }
 
-    fn interpret(&self, number: u64, tree: &QueryTree) -> Result<Option<Vec<u8>>, StatementFault>
+    fn interpret<R: Threads + Sync>(
+        &self,
+        rt: &R,
+        number: u64,
+        tree: &QueryTree,
+    ) -> Result<Option<Vec<u8>>, StatementFault>
         ensures { Prints self.now (query_interpreted self.now number tree.now) result }
     {
         if has_path(tree) {
             return self.judge_path(number, tree);
         }
         with_line(interpret_query(
+            rt,
             self.alloc,
             self.runner,
             &self.catalog,
@@ -270,19 +284,20 @@ impl<'s, R: RunsQueries> Session<'s, R> {
     }
 }
 
-impl<'s, R: RunsQueries> Machine<'s> for Session<'s, R> {
+impl<'s, M: RunsQueries> Machine<'s> for Session<'s, M> {
     ghost use Rattle.gq_session.specs.Statements.{Does};
     ghost use Rattle.gq_session.specs.StatementLaws.{does_one};
 
     ghost does = { Does };
 
-    fn run_statement<F: Files>(
+    fn run_statement<R: Threads + Sync, F: Files>(
         &mut self,
+        rt: &R,
         files: &mut F,
         number: u64,
         statement: &'s Statement,
     ) -> Result<Option<Vec<u8>>, StatementFault> {
-        self.run(files, number, statement)
+        self.run(rt, files, number, statement)
     }
 
     ghost determined = { does_one };

@@ -21,13 +21,16 @@ use gq_stmt_read::{ScriptFault, read_with};
 use gq_token::{LexFault, Token, tokens};
 use gq_tree::Placed;
 use std::alloc::Global;
+use std::thread::Threads;
 
-/// Runs the script with these bytes, where the file of arguments, if one is named, has those. Its queries run by what is given.
-pub fn run_script<B: Bodies, R: RunsQueries, F: Files, K: Sink>(
+/// Runs the script with these bytes, where the file of arguments, if one is named, has those. Its queries run by what is given, on
+/// threads of this runtime.
+pub fn run_script<B: Bodies, R: Threads + Sync, M: RunsQueries, F: Files, K: Sink>(
+    rt: &R,
     alloc: Global,
     bytes: &[u8],
     arguments: Option<&[u8]>,
-    runner: &Runner<'_, R>,
+    runner: &Runner<'_, M>,
     files: &mut F,
     out: &mut K,
 ) -> Status
@@ -40,8 +43,8 @@ pub fn run_script<B: Bodies, R: RunsQueries, F: Files, K: Sink>(
     ensures only_runs { OnlyRuns result (Rose (F.faults files.old) (F.faults files.new)) (Rose (K.faults out.old) (K.faults out.new)) }
 {
     match tokens(alloc, bytes) {
-        Ok(tokens) => run_tokens::<B, R, F, K>(
-            alloc, bytes, &tokens, arguments, runner, files, out,
+        Ok(tokens) => run_tokens::<B, R, M, F, K>(
+            rt, alloc, bytes, &tokens, arguments, runner, files, out,
         ),
         Err(fault) => {
             if fault == LexFault::Memory {
@@ -52,12 +55,13 @@ pub fn run_script<B: Bodies, R: RunsQueries, F: Files, K: Sink>(
     }
 }
 
-fn run_tokens<B: Bodies, R: RunsQueries, F: Files, K: Sink>(
+fn run_tokens<B: Bodies, R: Threads + Sync, M: RunsQueries, F: Files, K: Sink>(
+    rt: &R,
     alloc: Global,
     bytes: &[u8],
     tokens: &[Token],
     arguments: Option<&[u8]>,
-    runner: &Runner<'_, R>,
+    runner: &Runner<'_, M>,
     files: &mut F,
     out: &mut K,
 ) -> Status
@@ -71,7 +75,7 @@ fn run_tokens<B: Bodies, R: RunsQueries, F: Files, K: Sink>(
     ensures only_runs { OnlyRuns result (Rose (F.faults files.old) (F.faults files.new)) (Rose (K.faults out.old) (K.faults out.new)) }
 {
     match read_with::<B>(alloc, bytes, tokens) {
-        Ok(statements) => run_read(alloc, bytes, &statements, arguments, runner, files, out),
+        Ok(statements) => run_read(rt, alloc, bytes, &statements, arguments, runner, files, out),
         Err(ScriptFault::Syntax { statement, at }) => refuse_syntax(
             alloc, bytes, statement, at, out,
         ),
@@ -80,12 +84,13 @@ fn run_tokens<B: Bodies, R: RunsQueries, F: Files, K: Sink>(
     }
 }
 
-fn run_read<R: RunsQueries, F: Files, K: Sink>(
+fn run_read<R: Threads + Sync, M: RunsQueries, F: Files, K: Sink>(
+    rt: &R,
     alloc: Global,
     bytes: &[u8],
     statements: &[Placed],
     arguments: Option<&[u8]>,
-    runner: &Runner<'_, R>,
+    runner: &Runner<'_, M>,
     files: &mut F,
     out: &mut K,
 ) -> Status
@@ -101,18 +106,19 @@ fn run_read<R: RunsQueries, F: Files, K: Sink>(
         None => {
             let args = Args::none();
             let file = ArgsFile::none(&args);
-            run_opened(alloc, bytes, statements, file, runner, files, out)
+            run_opened(rt, alloc, bytes, statements, file, runner, files, out)
         }
-        Some(file) => run_with_file(alloc, bytes, file, statements, runner, files, out),
+        Some(file) => run_with_file(rt, alloc, bytes, file, statements, runner, files, out),
     }
 }
 
-fn run_with_file<R: RunsQueries, F: Files, K: Sink>(
+fn run_with_file<R: Threads + Sync, M: RunsQueries, F: Files, K: Sink>(
+    rt: &R,
     alloc: Global,
     bytes: &[u8],
     file: &[u8],
     statements: &[Placed],
-    runner: &Runner<'_, R>,
+    runner: &Runner<'_, M>,
     files: &mut F,
     out: &mut K,
 ) -> Status
@@ -127,19 +133,20 @@ fn run_with_file<R: RunsQueries, F: Files, K: Sink>(
     match Args::read(alloc, file) {
         Ok(args) => {
             let file = ArgsFile::read(&args, file);
-            run_opened(alloc, bytes, statements, file, runner, files, out)
+            run_opened(rt, alloc, bytes, statements, file, runner, files, out)
         }
         Err(ArgsFault::Unreadable) => refuse(alloc, "arguments unreadable", out),
         Err(ArgsFault::Memory) => Status::Memory,
     }
 }
 
-fn run_opened<R: RunsQueries, F: Files, K: Sink>(
+fn run_opened<R: Threads + Sync, M: RunsQueries, F: Files, K: Sink>(
+    rt: &R,
     alloc: Global,
     bytes: &[u8],
     statements: &[Placed],
     file: ArgsFile<'_>,
-    runner: &Runner<'_, R>,
+    runner: &Runner<'_, M>,
     files: &mut F,
     out: &mut K,
 ) -> Status
@@ -152,5 +159,5 @@ fn run_opened<R: RunsQueries, F: Files, K: Sink>(
     ensures only_runs { OnlyRuns result (Rose (F.faults files.old) (F.faults files.new)) (Rose (K.faults out.old) (K.faults out.new)) }
 {
     let mut session = Session::new(alloc, file, runner);
-    run_statements(alloc, bytes, statements, &mut session, files, out)
+    run_statements(rt, alloc, bytes, statements, &mut session, files, out)
 }

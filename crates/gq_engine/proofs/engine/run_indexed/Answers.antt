@@ -1,4 +1,4 @@
 use Rattle.gq_engine.proofs.engine.run_indexed.Goals as goal
 
 pub returns : goal.returns
-returns c = c.told.ensures _ c.run_query.ensures
+returns g c = c.told.ensures _ c.run_query.ensures

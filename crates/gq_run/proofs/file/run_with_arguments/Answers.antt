@@ -1,4 +1,4 @@
-use Rattle.std.proofs.Common.{◌≤◌, Some, ap, ◌∙◌, subst, arith}
+use Rattle.std.proofs.Common.{◌≤◌, Some, ap, ◌∙◌, rules, subst, arith}
 use Rattle.gq_outcome.specs.Outcome.{Ends}
 use Rattle.gq_script.specs.Known.{Told, known_of}
 use Rattle.gq_source.specs.Scripts.{ScriptMeans}
@@ -7,7 +7,7 @@ use Rattle.gq_run.proofs.CommandLemmas.{asks_never, asks_on, asks_whatever, keep
 use Rattle.gq_run.proofs.file.run_with_arguments.Goals as goal
 
 pub run_script-requires : goal.run_script-requires
-run_script-requires g c = reads_bodies
+run_script-requires g c = (search rules, reads_bodies)
 
 pub returns-in-Ok-clause-keeps : goal.returns-in-Ok-clause-keeps
 returns-in-Ok-clause-keeps g c = λ pairs told outcome asks.

@@ -1,4 +1,4 @@
-use Rattle.std.proofs.Common.{◌≤◌, None, Some, ap, sym, ◌∙◌, subst, arith}
+use Rattle.std.proofs.Common.{◌≤◌, None, Some, ap, sym, ◌∙◌, rules, subst, arith}
 use Rattle.gq_io.specs.Counts.{Rose}
 use Rattle.gq_outcome.proofs.OutcomeLemmas.{keeps_more}
 use Rattle.gq_sample.specs.Script.{script_text}
@@ -9,7 +9,7 @@ use Rattle.gq_run.specs.CommandLine.{sample_files}
 use Rattle.gq_run.proofs.sample.run_sample.Goals as goal
 
 pub run_script-requires : goal.run_script-requires
-run_script-requires g c = reads_bodies
+run_script-requires g c = (search rules, reads_bodies)
 
 pub returns-in-Ok-files_of-clause-keeps : goal.returns-in-Ok-files_of-clause-keeps
 returns-in-Ok-files_of-clause-keeps g c = λ outcome mean.

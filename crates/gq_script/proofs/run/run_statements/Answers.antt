@@ -71,3 +71,6 @@ pub returns-clause-is_meant : goal.returns-clause-is_meant
 returns-clause-is_meant g c = λ final before low.
     meant_last g.M.Machine.does c.args.bytes.now (g.F.Files.held c.args.files.now) c.args.machine.now c.args.statements.now c.loop-index.index c.loop-index.machine
     (g.K.Sink.written c.args.out.now) (g.K.Sink.written c.loop-index.out) c.loop-index.invariant.0 (omega arith) before _ _
+
+pub run_one-requires-sync-R : goal.run_one-requires-sync-R
+run_one-requires-sync-R g c κs within = (search rules, (search rules, search rules))

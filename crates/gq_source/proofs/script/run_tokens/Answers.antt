@@ -1,4 +1,4 @@
-use Rattle.std.proofs.Common.{refl, sym, ◌∙◌, inl, inr, subst}
+use Rattle.std.proofs.Common.{refl, sym, ◌∙◌, inl, inr, rules, subst}
 use Rattle.gq_tree.specs.Cutting.{IsScript}
 use Rattle.gq_stmt_read.specs.declared.fault.ScriptFault.TheVariants.{Syntax, TooDeep}
 use Rattle.gq_outcome.specs.Outcome.{refused_with}
@@ -10,9 +10,11 @@ use Rattle.gq_source.proofs.ScriptLemmas.{keeps_fault, keeps_statements}
 use Rattle.gq_source.proofs.script.run_tokens.Goals as goal
 
 pub run_read-requires : goal.run_read-requires
-run_read-requires g c =
-    script_within c.args.bytes.now c.args.tokens.now c.requires.tokens c.deref.result.now
-    (subst (IsScript c.args.bytes.now c.args.tokens.now) (sym c.deref.ensures.value) c.in-Ok.ensures.script.1)
+run_read-requires g c = (
+  search rules,
+  script_within c.args.bytes.now c.args.tokens.now c.requires.tokens c.deref.result.now
+      (subst (IsScript c.args.bytes.now c.args.tokens.now) (sym c.deref.ensures.value) c.in-Ok.ensures.script.1),
+)
 
 pub refuse_syntax-requires : goal.refuse_syntax-requires
 refuse_syntax-requires g c =

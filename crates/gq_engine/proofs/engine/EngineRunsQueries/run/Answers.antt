@@ -9,7 +9,7 @@ use Rattle.gq_engine.proofs.EngineLemmas.{runs_same}
 use Rattle.gq_engine.proofs.engine.EngineRunsQueries.run.Goals as goal
 
 pub returns-in-Ok : goal.returns-in-Ok
-returns-in-Ok c =
+returns-in-Ok g c =
     runs_same (plan_over c.args.catalog.now c.args.store.now gregorian c.in-Ok.plan (map val c.args.arguments.now) c.args.turns)
     (run_query (graph_read c.args.catalog.now c.args.graph c.args.store.now) gregorian (view_query c.args.query.now) (map val c.args.arguments.now) c.args.turns) c.run_plan.result
     (c.in-Ok.ensures.prints.same c.args.store.now.vertices c.args.store.now.edges.rows gregorian (map val c.args.arguments.now) c.args.turns) c.run_plan.ensures
