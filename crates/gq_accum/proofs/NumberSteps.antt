@@ -2,8 +2,8 @@
 use Rattle.std.proofs.Common.{◌≡◌, ℕ, min, max, ℤ, pos, sym, ap, ap₂, ◌∙◌, arith, FitsSigned, bit_and, bit_or, w64, to_z, of_z}
 use Rattle.std.specs.Int.{int_min, int_max}
 use Rattle.std.proofs.lemmas.Int.{ints, clamps, to_z-of_z}
-use Rattle.gq_content.specs.Inputs.{either_bits, both_bits}
-use Rattle.gq_content.proofs.NumberLaws.{word-is}
+use Rattle.gq_accum_laws.specs.Inputs.{either_bits, both_bits}
+use Rattle.gq_accum_laws.proofs.NumberLaws.{word-is}
 
 pub min_is : (a b r : ℤ) → FitsSigned w64 a → FitsSigned w64 b → FitsSigned w64 r → r ≡ int_min (to_z w64 (of_z w64 a)) (to_z w64 (of_z w64 b)) → to_z w64 (of_z w64 r) ≡ int_min a b
 min_is a b r f g h e = to_z-of_z w64 r h ∙ e ∙ ap₂ int_min (to_z-of_z w64 a f) (to_z-of_z w64 b g)

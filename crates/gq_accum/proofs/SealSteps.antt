@@ -12,8 +12,8 @@ use Rattle.gq_value.specs.Views.{val}
 use Rattle.gq_value.specs.Arithmetic.{is_within}
 use Rattle.gq_value.specs.Accums.{AvgAccum}
 use Rattle.gq_value.specs.ViewLaws.{val-Int, val-UInt, val-Bool, val-Fraction}
-use Rattle.gq_content.specs.Fits.{fits}
-use Rattle.gq_content.specs.Reads.{average}
+use Rattle.gq_accum_laws.specs.Fits.{fits}
+use Rattle.gq_accum_laws.specs.Reads.{average}
 use Rattle.gq_accum.specs.declared.scalar.Mean.{Mean}
 use Rattle.gq_accum.specs.declared.scalar.Scalar.{Scalar}
 use Rattle.gq_accum.specs.declared.scalar.Scalar.TheVariants.{MinInt, MinUInt, MaxInt, MaxUInt, Or, And, BitOr, BitAnd}

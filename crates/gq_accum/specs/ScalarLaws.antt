@@ -1,4 +1,4 @@
--- Scalar kinds hold no list.
+-- ScalarLaws: scalar kinds hold no list.
 use Rattle.std.specs.Prelude.{◌≡◌, true, refl}
 use Rattle.gq_value.specs.Typed.{has_no_list}
 use Rattle.gq_accum.specs.declared.scalar.Scalar.{Scalar}

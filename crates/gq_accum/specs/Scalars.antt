@@ -5,8 +5,8 @@ use Rattle.gq_value.specs.declared.kind.Number.TheVariants as number
 use Rattle.gq_value.specs.Accums.{Accum, SumAccum, MinAccum, MaxAccum, OrAccum, AndAccum, BitwiseOrAccum, BitwiseAndAccum, AvgAccum, Given, One}
 use Rattle.gq_value.specs.declared.value.Value.{Value}
 use Rattle.gq_value.specs.Views.{val}
-use Rattle.gq_content.specs.Holds.{Holds}
-use Rattle.gq_content.specs.After.{fresh}
+use Rattle.gq_accum_laws.specs.Holds.{Holds}
+use Rattle.gq_accum_laws.specs.After.{fresh}
 use Rattle.gq_accum.specs.declared.scalar.Scalar.{Scalar}
 use Rattle.gq_accum.specs.declared.scalar.Scalar.TheVariants.{SumInt, SumUInt, MinInt, MinUInt, MaxInt, MaxUInt, Or, And, BitOr, BitAnd, Avg}
 

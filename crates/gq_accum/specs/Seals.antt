@@ -3,9 +3,9 @@ use Rattle.std.specs.Prelude.{◌≡◌, true, false, Result, Ok, Err}
 use Rattle.gq_value.specs.Accums.{Accum}
 use Rattle.gq_value.specs.declared.value.Value.{Value}
 use Rattle.gq_value.specs.Views.{val}
-use Rattle.gq_content.specs.Holds.{Holds}
-use Rattle.gq_content.specs.Fits.{fits}
-use Rattle.gq_content.specs.Reads.{value_in}
+use Rattle.gq_accum_laws.specs.Holds.{Holds}
+use Rattle.gq_accum_laws.specs.Fits.{fits}
+use Rattle.gq_accum_laws.specs.Reads.{value_in}
 use Rattle.gq_accum.specs.declared.scalar.OutOfRange.{OutOfRange}
 
 -- its value where it fits, and exactly there

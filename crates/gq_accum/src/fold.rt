@@ -2,9 +2,9 @@
 ghost use Rattle.std.specs.Prelude.{◌≡◌, ◌∷◌, [], true};
 ghost use Rattle.gq_value.specs.Accums.{Accum, Given};
 ghost use Rattle.gq_value.specs.Typed.{suits};
-ghost use Rattle.gq_content.specs.Holds.{Holds};
-ghost use Rattle.gq_content.specs.After.{fresh, after, merged};
-ghost use Rattle.gq_content.specs.Fits.{HasRoom, IsProper};
+ghost use Rattle.gq_accum_laws.specs.Holds.{Holds};
+ghost use Rattle.gq_accum_laws.specs.After.{fresh, after, merged};
+ghost use Rattle.gq_accum_laws.specs.Fits.{HasRoom, IsProper};
 
 /// A content that takes inputs one by one, and contents of its own kind.
 pub trait Fold: Sized {

@@ -1,5 +1,5 @@
 // Scalars as folds.
-ghost use Rattle.gq_content.proofs.ProperLaws.{merge_law};
+ghost use Rattle.gq_accum_laws.proofs.ProperLaws.{merge_law};
 ghost use Rattle.gq_accum.specs.Scalars.{kind_of, content, alone};
 ghost use Rattle.gq_accum.specs.ScalarLaws.{no_list};
 

@@ -1,7 +1,10 @@
-//! The contents of accumulators that hold one number, truth or average.
+//! The contents of scalar accumulators: one number, truth value or average.
 //!
-//! `Fold` says what any content that is fed and merged promises; `Scalar` is one, and its sums have 128 bits, so that only the
-//! last one is judged. Read `fold.rt` first, and then `scalar.rt`.
+//! The trait `Fold` specifies any content that takes inputs and can be merged; `Scalar` implements it. Sums
+//! have 128 bits, so a sum is checked for overflow only at the end.
+//!
+//! Read the trait in `src/fold.rt` first, then `specs/Scalars.antt` and `specs/Seals.antt`, what a scalar
+//! holds and what becomes of it at the end. The code is in `src/scalar.rt` and `src/sums.rt`.
 #![tactic(auto)]
 
 mod fold;
@@ -12,3 +15,4 @@ mod sums;
 
 pub use fold::Fold;
 pub use scalar::{Mean, OutOfRange, Scalar};
+pub use sums::{count, total};

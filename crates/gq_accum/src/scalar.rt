@@ -4,8 +4,8 @@ ghost use Rattle.gq_value.specs.Accums.{AvgAccum};
 ghost use Rattle.gq_value.specs.AccumViews.{accum_of};
 ghost use Rattle.gq_value.specs.Views.{val};
 ghost use Rattle.gq_value.specs.Typed.{is_scalar, takes};
-ghost use Rattle.gq_content.specs.Fits.{fits};
-ghost use Rattle.gq_content.specs.Reads.{set_to};
+ghost use Rattle.gq_accum_laws.specs.Fits.{fits};
+ghost use Rattle.gq_accum_laws.specs.Reads.{set_to};
 ghost use Rattle.gq_accum.specs.Scalars.{kind_of, content, IsFresh};
 ghost use Rattle.gq_accum.specs.Seals.{Seals};
 

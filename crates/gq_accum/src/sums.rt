@@ -4,23 +4,23 @@ ghost use Rattle.gq_value.specs.declared.kind.Number.TheVariants as number;
 ghost use Rattle.gq_value.specs.Arithmetic.{is_within};
 ghost use Rattle.gq_value.specs.Accums.{AvgAccum};
 ghost use Rattle.gq_value.specs.Val as plain;
-ghost use Rattle.gq_content.specs.Fits.{fits};
-ghost use Rattle.gq_content.specs.Reads.{average};
+ghost use Rattle.gq_accum_laws.specs.Fits.{fits};
+ghost use Rattle.gq_accum_laws.specs.Reads.{average};
 ghost use Rattle.gq_accum.specs.Scalars.{IsFar};
 
 use crate::scalar::Mean;
 use gq_value::Fraction;
 
-// The sum of two that have room.
+/// The sum of two that have room, in 128 bits: every sum of numbers of 64 bits is added here.
 #[tactic(auto, using(crate::proofs::SumSteps::total_is))]
-pub(crate) fn total(a: i128, b: i128) -> i128
+pub fn total(a: i128, b: i128) -> i128
     ensures { IsFar a → IsFar b → result ≡ a +ℤ b }
 {
     a.wrapping_add(b)
 }
 
-// The count of two that have room.
-pub(crate) fn count(m: u128, n: u128) -> u128
+/// The count of two that have room.
+pub fn count(m: u128, n: u128) -> u128
     ensures { m + n < 2 ^ 128 → result ≡ m + n }
 {
     m.wrapping_add(n)

@@ -1,27 +1,27 @@
-// Worked contents, and what is left after want of memory.
+// Worked contents, and what is left after `OutOfMemory`.
 use gq_accum::Scalar;
-use gq_list::{Boxed, List, Memory};
+use gq_base::{Boxed, List, OutOfMemory};
 use gq_nest::Content;
 use gq_value::{BaseType, GroupShape, HeapShape, Input, Inputs, Kind, Number, Row, Txt, Value};
 use std::alloc::Global;
 use std::test::Fail;
 
 // A text as a key row.
-fn row_of(alloc: Global, key: &str) -> Result<Row, Memory> {
+fn row_of(alloc: Global, key: &str) -> Result<Row, OutOfMemory> {
     let mut row = List::new(alloc);
     row.push(Value::Text(Txt::of(alloc, key)?))?;
     Ok(row)
 }
 
 // One input under a key.
-fn keyed(alloc: Global, key: &str, n: i64) -> Result<Input, Memory> {
+fn keyed(alloc: Global, key: &str, n: i64) -> Result<Input, OutOfMemory> {
     let mut inputs: Inputs = List::new(alloc);
     inputs.push(Input::One(Value::Int(n)))?;
     Ok(Input::Keyed(row_of(alloc, key)?, inputs))
 }
 
 // A map from texts to sums, after inputs.
-fn sums_by_text(alloc: Global, inputs: &[(&str, i64)]) -> Result<Content, Memory> {
+fn sums_by_text(alloc: Global, inputs: &[(&str, i64)]) -> Result<Content, OutOfMemory> {
     let kind = Kind::Map(BaseType::Text, Boxed::new(alloc, Kind::Sum(Number::Int))?);
     let mut map = Content::fresh(alloc, &kind)?;
     for (key, n) in inputs {
@@ -31,7 +31,7 @@ fn sums_by_text(alloc: Global, inputs: &[(&str, i64)]) -> Result<Content, Memory
 }
 
 // The sum under a key.
-fn sum_under(alloc: Global, map: &Content, key: &str) -> Result<Option<i128>, Memory> {
+fn sum_under(alloc: Global, map: &Content, key: &str) -> Result<Option<i128>, OutOfMemory> {
     match map.get(&row_of(alloc, key)?) {
         Some(Content::Scalar(Scalar::SumInt(sum))) => Ok(Some(*sum)),
         _ => Ok(None),
@@ -39,7 +39,7 @@ fn sum_under(alloc: Global, map: &Content, key: &str) -> Result<Option<i128>, Me
 }
 
 // A content of whole numbers, after inputs.
-fn after(alloc: Global, kind: &Kind, inputs: &[i64]) -> Result<Content, Memory> {
+fn after(alloc: Global, kind: &Kind, inputs: &[i64]) -> Result<Content, OutOfMemory> {
     let mut content = Content::fresh(alloc, kind)?;
     for n in inputs {
         content.feed(alloc, &Input::One(Value::Int(*n)))?;
@@ -48,7 +48,7 @@ fn after(alloc: Global, kind: &Kind, inputs: &[i64]) -> Result<Content, Memory> 
 }
 
 // A score with a name.
-fn score(alloc: Global, n: i64, name: &str) -> Result<Value, Memory> {
+fn score(alloc: Global, n: i64, name: &str) -> Result<Value, OutOfMemory> {
     let mut row = List::new(alloc);
     row.push(Value::Int(n))?;
     row.push(Value::Text(Txt::of(alloc, name)?))?;
@@ -56,14 +56,14 @@ fn score(alloc: Global, n: i64, name: &str) -> Result<Value, Memory> {
 }
 
 // A whole number as a key row.
-fn number_row(alloc: Global, n: i64) -> Result<Row, Memory> {
+fn number_row(alloc: Global, n: i64) -> Result<Row, OutOfMemory> {
     let mut row = List::new(alloc);
     row.push(Value::Int(n))?;
     Ok(row)
 }
 
 // Groups by parity, with the total and the oldest of the ages.
-fn groups_by_parity(alloc: Global, ages: &[i64]) -> Result<Content, Memory> {
+fn groups_by_parity(alloc: Global, ages: &[i64]) -> Result<Content, OutOfMemory> {
     let mut keys = List::new(alloc);
     keys.push((Txt::of(alloc, "parity")?, BaseType::Int))?;
     let mut parts = List::new(alloc);
@@ -86,7 +86,7 @@ fn part_under(
     groups: &Content,
     parity: i64,
     at: u32,
-) -> Result<Option<i128>, Memory> {
+) -> Result<Option<i128>, OutOfMemory> {
     match groups.part(&number_row(alloc, parity)?, at) {
         Some(Content::Scalar(Scalar::SumInt(total))) => Ok(Some(*total)),
         Some(Content::Scalar(Scalar::MaxInt(oldest))) => Ok(Some(i128::from(*oldest))),
@@ -95,7 +95,7 @@ fn part_under(
 }
 
 // A kind of eight levels: seven maps, and a sum.
-fn eight_levels(alloc: Global) -> Result<Kind, Memory> {
+fn eight_levels(alloc: Global) -> Result<Kind, OutOfMemory> {
     let mut kind = Kind::Sum(Number::Int);
     for _ in 0..7 {
         kind = Kind::Map(BaseType::Int, Boxed::new(alloc, kind)?);
@@ -104,7 +104,7 @@ fn eight_levels(alloc: Global) -> Result<Kind, Memory> {
 }
 
 // A number under seven keys.
-fn under_seven_keys(alloc: Global, key: i64, n: i64) -> Result<Input, Memory> {
+fn under_seven_keys(alloc: Global, key: i64, n: i64) -> Result<Input, OutOfMemory> {
     let mut input = Input::One(Value::Int(n));
     for _ in 0..7 {
         let mut inputs: Inputs = List::new(alloc);
@@ -115,7 +115,7 @@ fn under_seven_keys(alloc: Global, key: i64, n: i64) -> Result<Input, Memory> {
 }
 
 // A content of eight levels, after numbers under a key each.
-fn nested(alloc: Global, inputs: &[(i64, i64)]) -> Result<Content, Memory> {
+fn nested(alloc: Global, inputs: &[(i64, i64)]) -> Result<Content, OutOfMemory> {
     let mut content = Content::fresh(alloc, &eight_levels(alloc)?)?;
     for (key, n) in inputs {
         content.feed(alloc, &under_seven_keys(alloc, *key, *n)?)?;
@@ -124,7 +124,7 @@ fn nested(alloc: Global, inputs: &[(i64, i64)]) -> Result<Content, Memory> {
 }
 
 // What stands under seven keys.
-fn lowest(alloc: Global, content: &Content, key: i64) -> Result<Option<i128>, Memory> {
+fn lowest(alloc: Global, content: &Content, key: i64) -> Result<Option<i128>, OutOfMemory> {
     let row = number_row(alloc, key)?;
     let mut level = content;
     for _ in 0..7 {
@@ -140,7 +140,7 @@ fn lowest(alloc: Global, content: &Content, key: i64) -> Result<Option<i128>, Me
 }
 
 // A heap of the two best scores, by number descending, after scores.
-fn best_two(alloc: Global, scores: &[(i64, &str)]) -> Result<Content, Memory> {
+fn best_two(alloc: Global, scores: &[(i64, &str)]) -> Result<Content, OutOfMemory> {
     let kind = Kind::Heap(HeapShape {
         tuple: 0,
         fields: List::new(alloc),

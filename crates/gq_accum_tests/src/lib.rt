@@ -1,4 +1,8 @@
-//! Tests: contents of accumulators of every kind. They stand in a crate of their own, so that no library is proved a second time with its tests.
+//! Tests of accumulator contents of every kind.
+//!
+//! They are a separate crate, so that the libraries aren't proved a second time with their tests.
+//!
+//! The tests are in `src/contents.rt`.
 #![tactic(auto)]
 
 #[cfg(test)]

@@ -4,13 +4,13 @@ use Rattle.std.proofs.lemmas.Bool.{lt-ltb}
 use Rattle.std.proofs.lemmas.Fmt.{decimal_digit}
 use Rattle.std.specs.Fmt.{decimal, signed_decimal}
 use Rattle.gq_value.specs.Val.{Val}
-use Rattle.gq_value.specs.Vertices.{vertex_number}
-use Rattle.gq_value.specs.declared.store.VertexRow.{VertexRow}
-use Rattle.gq_typing.specs.Statements.{Bytes}
-use Rattle.gq_typing.specs.Sorts.{Sorts}
-use Rattle.gq_typing.specs.Words.{by_name}
-use Rattle.gq_typing.specs.QueryTypes.{signed}
-use Rattle.gq_meaning.specs.Arguments.{a_vertex, vertex_in, number_id}
+use Rattle.gq_graph.specs.Vertices.{vertex_number}
+use Rattle.gq_graph.specs.declared.rows.VertexRow.{VertexRow}
+use Rattle.gq_rules_typing.specs.Statements.{Bytes}
+use Rattle.gq_rules_typing.specs.Sorts.{Sorts}
+use Rattle.gq_rules_typing.specs.Words.{by_name}
+use Rattle.gq_rules_typing.specs.QueryTypes.{signed}
+use Rattle.gq_rules_meaning.specs.Arguments.{a_vertex, vertex_in, number_id}
 
 abbrev of_type : List VertexRow → Bytes → Option ℕ → Option Val
 of_type rows id None = None

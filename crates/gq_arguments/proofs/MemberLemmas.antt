@@ -10,9 +10,9 @@ use Rattle.serde_json.specs.declared.value.Value.{Value}
 use Rattle.serde_json.specs.View.{view}
 use Rattle.serde_json.specs.Data.{Data, null, boolean, number, string, array, object, Members, no_members, member}
 use Rattle.serde_json.specs.Find.{get, get_member, as_str, as_bool, as_number, as_integer}
-use Rattle.gq_typing.specs.Statements.{Bytes}
-use Rattle.gq_typing.specs.Words.{under}
-use Rattle.gq_meaning.specs.Arguments.{Member}
+use Rattle.gq_rules_typing.specs.Statements.{Bytes}
+use Rattle.gq_rules_typing.specs.Words.{under}
+use Rattle.gq_rules_meaning.specs.Arguments.{Member}
 use Rattle.gq_arguments.specs.Members.{member_of, members_of, members_in, number_member, vertex_member, text_under}
 
 -- what is no text, no truth value and no whole number is a vertex or nothing

@@ -4,15 +4,15 @@ use Rattle.std.proofs.lemmas.List.{append-nil, drop_all}
 use Rattle.std.proofs.lemmas.Option.{slice_get-map}
 use Rattle.std.specs.Prelude.{slice_get, option_map, Err}
 use Rattle.gq_value.specs.Val.{Val}
-use Rattle.gq_value.specs.declared.store.VertexRow.{VertexRow}
-use Rattle.gq_typing.specs.Statements.{Bytes, Parameter}
-use Rattle.gq_typing.specs.Sorts.{Sorts}
-use Rattle.gq_typing.specs.StatementViews.{view_parameter}
-use Rattle.gq_tree.specs.declared.query.Parameter as tree
-use Rattle.gq_refusal.specs.declared.refusal.Refusal.TheVariants as refusal
-use Rattle.gq_refusal.specs.declared.refusal.StatementFault.{StatementFault}
-use Rattle.gq_refusal.specs.declared.refusal.StatementFault.TheVariants.{Refused, ReadFault, Memory}
-use Rattle.gq_meaning.specs.Arguments.{Argument, Member, Values, AllValues, BadArgument, argument_value, value_and, values_of, in_order, by_members}
+use Rattle.gq_graph.specs.declared.rows.VertexRow.{VertexRow}
+use Rattle.gq_rules_typing.specs.Statements.{Bytes, Parameter}
+use Rattle.gq_rules_typing.specs.Sorts.{Sorts}
+use Rattle.gq_rules_typing.specs.StatementViews.{view_parameter}
+use Rattle.gq_tree.specs.declared.query.ParameterTree as tree
+use Rattle.gq_diagnostics.specs.declared.refusal.Refusal.TheVariants as refusal
+use Rattle.gq_diagnostics.specs.declared.refusal.StatementFault.{StatementFault}
+use Rattle.gq_diagnostics.specs.declared.refusal.StatementFault.TheVariants.{Refused, ReadFault, OutOfMemory}
+use Rattle.gq_rules_meaning.specs.Arguments.{Argument, Member, Values, AllValues, BadArgument, argument_value, value_and, values_of, in_order, by_members}
 use Rattle.gq_arguments.specs.Rows.{Gives, Tells, of_values}
 use Rattle.gq_arguments.specs.Places.{listed_or, named_argument}
 
@@ -71,8 +71,8 @@ dropped [] i x is = absurd (cc)
 dropped (y ∷ xs) zero x is = ap (λ z. z ∷ xs) (some_inj y x is)
 dropped (y ∷ xs) (suc i) x is = dropped xs i x is
 
--- a parameter at a place, as gq_typing has it
-pub parameter_at : (ps : List tree.Parameter) (i : ℕ) (p : tree.Parameter) → i < length ps → p ≡ get_or ps i p → slice_get (map view_parameter ps) i ≡ Some (view_parameter p)
+-- a parameter at a place, as gq_rules_typing has it
+pub parameter_at : (ps : List tree.ParameterTree) (i : ℕ) (p : tree.ParameterTree) → i < length ps → p ≡ get_or ps i p → slice_get (map view_parameter ps) i ≡ Some (view_parameter p)
 parameter_at ps i p low is = slice_get-map view_parameter ps i ∙ ap (option_map view_parameter) (placed ps i p low is)
 
 next : {A : Type 0} (xs : List A) (i : ℕ) (x : A) → slice_get xs i ≡ Some x → drop i xs ≡ x ∷ drop (i + 1) xs
@@ -103,8 +103,8 @@ module _ (sorts : Sorts) (rows : List VertexRow) (ps : List (Parameter Bytes)) (
   at_end i before whole end so_far =
       so_far ∙ ap (λ xs. behind before (values_of sorts rows xs (drop i all))) (drop_all i ps end) ∙ ap AllValues (append-nil before)
 
--- the refusal, or want of memory for the parameter's name
+-- the refusal, or OutOfMemory for the parameter's name
 pub told : (w : Values) (name said : Bytes) (f : StatementFault) → w ≡ BadArgument name → said ≡ name → Tells (refusal.BadArgument said) f → Gives (of_values w) (Err f)
 told w name said (Refused found) bad same is = ap of_values bad ∙ ap (λ x. Err (refusal.BadArgument x)) (sym same) ∙ ap Err (sym is)
 told w name said ReadFault bad same is = is
-told w name said Memory bad same is = tt
+told w name said OutOfMemory bad same is = tt

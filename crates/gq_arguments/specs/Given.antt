@@ -1,9 +1,9 @@
--- Given: what stands for a parameter, as gq_meaning's definitions have it.
+-- Given: what stands for a parameter, as gq_rules_meaning's definitions have it.
 use Rattle.gq_tree.specs.declared.query.Argument as tree
 use Rattle.gq_tree.specs.declared.query.Argument.TheVariants as argument
-use Rattle.gq_typing.specs.Statements.{Signed, Quoted, Truthful}
-use Rattle.gq_typing.specs.StatementViews.{view_literal}
-use Rattle.gq_meaning.specs.Arguments.{Argument, OfLiteral, OfVertex, Nothing}
+use Rattle.gq_rules_typing.specs.Statements.{Signed, Quoted, Truthful}
+use Rattle.gq_rules_typing.specs.StatementViews.{view_literal}
+use Rattle.gq_rules_meaning.specs.Arguments.{Argument, OfLiteral, OfVertex, Nothing}
 use Rattle.gq_arguments.specs.declared.given.Given.{Given}
 use Rattle.gq_arguments.specs.declared.given.Given.TheVariants as given
 

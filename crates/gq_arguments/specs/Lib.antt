@@ -1,3 +1,5 @@
+pub mod Holds
+pub mod Objects
 pub mod Given
 pub mod Members
 pub mod Places

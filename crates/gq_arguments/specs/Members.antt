@@ -2,8 +2,8 @@
 use Rattle.std.specs.Prelude.{ℤ, List, [], ◌∷◌, codes, Option, Some, None, option_and_then}
 use Rattle.serde_json.specs.Data.{Data, null, boolean, number, string, array, object, Members, no_members, member}
 use Rattle.serde_json.specs.Find.{get, as_str, as_object, as_integer}
-use Rattle.gq_typing.specs.Statements.{Bytes}
-use Rattle.gq_meaning.specs.Arguments.{Member, NumberMember, TextMember, TruthMember, VertexMember, OtherMember}
+use Rattle.gq_rules_typing.specs.Statements.{Bytes}
+use Rattle.gq_rules_meaning.specs.Arguments.{Member, NumberMember, TextMember, TruthMember, VertexMember, OtherMember}
 
 -- a number that isn't whole, or that 64 bits don't hold, stands for nothing
 abbrev pub number_member : Option ℤ → Member

@@ -1,8 +1,8 @@
 -- Places: what stands for the parameter at one place.
 use Rattle.std.specs.Prelude.{List, Option, Some, None, bytes_eq}
-use Rattle.gq_typing.specs.Statements.{Bytes, Parameter}
-use Rattle.gq_typing.specs.Words.{under}
-use Rattle.gq_meaning.specs.Arguments.{Argument, Nothing, Member, default_or, of_member}
+use Rattle.gq_rules_typing.specs.Statements.{Bytes, Parameter}
+use Rattle.gq_rules_typing.specs.Words.{under}
+use Rattle.gq_rules_meaning.specs.Arguments.{Argument, Nothing, Member, default_or, of_member}
 
 -- the argument at the parameter's place, or its default
 abbrev pub listed_or : Parameter Bytes → Option Argument → Argument

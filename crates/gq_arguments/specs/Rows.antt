@@ -2,17 +2,17 @@
 use Rattle.std.specs.Prelude.{◌≡◌, if◌then◌else◌, Bool, false, List, map, option_map, Result, Ok, Err}
 use Rattle.gq_value.specs.Val.{Val}
 use Rattle.gq_value.specs.Views.{val}
-use Rattle.gq_value.specs.declared.store.VertexRow.{VertexRow}
+use Rattle.gq_graph.specs.declared.rows.VertexRow.{VertexRow}
 use Rattle.gq_value.specs.declared.value.Value.{Value}
 use Rattle.serde_json.specs.View.{view}
-use Rattle.gq_typing.specs.Statements.{Bytes, Parameter}
-use Rattle.gq_typing.specs.Sorts.{Sorts}
-use Rattle.gq_refusal.specs.declared.refusal.Refusal.{Refusal}
-use Rattle.gq_refusal.specs.declared.refusal.Refusal.TheVariants as refusal
-use Rattle.gq_refusal.specs.declared.refusal.StatementFault.{StatementFault}
-use Rattle.gq_refusal.specs.declared.refusal.StatementFault.TheVariants.{Refused, ReadFault, Memory}
-use Rattle.gq_meaning.specs.Arguments as meaning
-use Rattle.gq_meaning.specs.Arguments.{Values, AllValues, BadArgument, in_order, by_members, values_of}
+use Rattle.gq_rules_typing.specs.Statements.{Bytes, Parameter}
+use Rattle.gq_rules_typing.specs.Sorts.{Sorts}
+use Rattle.gq_diagnostics.specs.declared.refusal.Refusal.{Refusal}
+use Rattle.gq_diagnostics.specs.declared.refusal.Refusal.TheVariants as refusal
+use Rattle.gq_diagnostics.specs.declared.refusal.StatementFault.{StatementFault}
+use Rattle.gq_diagnostics.specs.declared.refusal.StatementFault.TheVariants.{Refused, ReadFault, OutOfMemory}
+use Rattle.gq_rules_meaning.specs.Arguments as meaning
+use Rattle.gq_rules_meaning.specs.Arguments.{Values, AllValues, BadArgument, in_order, by_members, values_of}
 use Rattle.gq_arguments.specs.declared.row.Arguments.{Arguments}
 use Rattle.gq_arguments.specs.declared.row.Arguments.TheVariants.{Listed, Named}
 use Rattle.gq_arguments.specs.Given.{view_argument}
@@ -46,10 +46,10 @@ abbrev pub Gives : Result (List Val) Refusal → Result (List Value) StatementFa
 Gives meant (Ok row) = meant ≡ Ok (map val row)
 Gives meant (Err (Refused found)) = meant ≡ Err found
 Gives meant (Err ReadFault) = ⊥
-Gives meant (Err Memory) = Unit {0}
+Gives meant (Err OutOfMemory) = Unit {0}
 
--- the refusal that is due, or want of memory for its name
+-- the refusal that is due, or OutOfMemory for its name
 abbrev pub Tells : Refusal → StatementFault → Type 0
 Tells due (Refused found) = found ≡ due
 Tells due ReadFault = ⊥
-Tells due Memory = Unit {0}
+Tells due OutOfMemory = Unit {0}

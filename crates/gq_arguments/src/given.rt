@@ -2,9 +2,9 @@
 ghost use Rattle.std.specs.Prelude.{◌≡◌, ℤ, option_and_then, option_map, unsigned_abs, codes};
 ghost use Rattle.serde_json.specs.View.{view};
 ghost use Rattle.serde_json.specs.Find.{as_integer, as_number};
-ghost use Rattle.gq_typing.specs.StatementViews.{view_base, view_literal};
-ghost use Rattle.gq_typing.specs.Statements.{Bytes, BaseTree as PlainBase};
-ghost use Rattle.gq_meaning.specs.Arguments.{Nothing, NumberMember, OfLiteral, default_or, is_negative, of_member};
+ghost use Rattle.gq_rules_typing.specs.StatementViews.{view_base, view_literal};
+ghost use Rattle.gq_rules_typing.specs.Statements.{Bytes, BaseTree as PlainBase};
+ghost use Rattle.gq_rules_meaning.specs.Arguments.{Nothing, NumberMember, OfLiteral, default_or, is_negative, of_member};
 ghost use Rattle.gq_arguments.specs.Given.{view_argument, view_given};
 ghost use Rattle.gq_arguments.specs.Members.{member_of, text_under, vertex_member};
 

@@ -4,8 +4,8 @@ ghost use Rattle.std.specs.Fmt.{signed_decimal};
 ghost use Rattle.std.specs.Option.{option_map};
 ghost use Rattle.gq_value.specs.Views.{val};
 ghost use Rattle.gq_scope.specs.Held.{sorts_in};
-ghost use Rattle.gq_typing.specs.QueryTypes.{signed as signed_number};
-ghost use Rattle.gq_meaning.specs.Arguments as spec;
+ghost use Rattle.gq_rules_typing.specs.QueryTypes.{signed as signed_number};
+ghost use Rattle.gq_rules_meaning.specs.Arguments as spec;
 
 use gq_scope::Scope;
 use gq_value::Value;

@@ -4,12 +4,12 @@ ghost use Rattle.std.specs.Option.{ForSome};
 ghost use Rattle.std.specs.List.{list_any};
 ghost use Rattle.serde_json.specs.View.{view};
 ghost use Rattle.gq_scope.specs.Held.{graph_in, sorts_in};
-ghost use Rattle.gq_typing.specs.Sorts.{sorts_of};
-ghost use Rattle.gq_typing.specs.Statements.{Bytes, Parameter as PlainParameter};
-ghost use Rattle.gq_typing.specs.StatementViews.{view_parameter};
-ghost use Rattle.gq_typing.specs.Words.{under};
-ghost use Rattle.gq_meaning.specs.Arguments as meaning;
-ghost use Rattle.gq_meaning.specs.Arguments.{values_of};
+ghost use Rattle.gq_rules_typing.specs.Sorts.{sorts_of};
+ghost use Rattle.gq_rules_typing.specs.Statements.{Bytes, Parameter as PlainParameter};
+ghost use Rattle.gq_rules_typing.specs.StatementViews.{view_parameter};
+ghost use Rattle.gq_rules_typing.specs.Words.{under};
+ghost use Rattle.gq_rules_meaning.specs.Arguments as meaning;
+ghost use Rattle.gq_rules_meaning.specs.Arguments.{values_of};
 ghost use Rattle.gq_arguments.specs.Given.{view_argument, view_given};
 ghost use Rattle.gq_arguments.specs.Members.{member_of, members_in};
 ghost use Rattle.gq_arguments.specs.Places.{listed_or, named_argument};
@@ -18,12 +18,12 @@ ghost use Rattle.gq_arguments.specs.Rows.{Gives, Tells, all_given, of_values, va
 
 use crate::given::{Given, default, listed, named};
 use crate::value::value_of;
-use gq_list::List;
-use gq_refusal::{Refusal, StatementFault};
+use gq_base::{List, OutOfMemory};
+use gq_diagnostics::{Refusal, StatementFault};
 use gq_schema::Catalog;
 use gq_scope::Scope;
-use gq_tree::{Argument, Parameter};
-use gq_value::{Memory, Row, Txt};
+use gq_tree::{Argument, ParameterTree};
+use gq_value::{Row, Txt};
 use gq_vertex::Vertices;
 use serde_json::Value as Json;
 use std::alloc::Global;
@@ -47,7 +47,7 @@ pub fn argument_row(
     catalog: &Catalog,
     graph: Option<u32>,
     vertices: &Vertices,
-    parameters: &[Parameter],
+    parameters: &[ParameterTree],
     arguments: Arguments<'_>,
 ) -> Result<Row, StatementFault>
     requires { ForSome graph (λ g. g < length catalog.now.graphs) }
@@ -61,7 +61,7 @@ pub fn argument_row(
 }
 
 // Whether there are too many in parentheses, or a parameter without default is left.
-fn wrong_number(parameters: &[Parameter], arguments: Arguments<'_>) -> bool
+fn wrong_number(parameters: &[ParameterTree], arguments: Arguments<'_>) -> bool
     ensures { result ≡ spec.wrong_number (map view_parameter parameters.now) arguments.entry }
 {
     match arguments {
@@ -70,14 +70,14 @@ fn wrong_number(parameters: &[Parameter], arguments: Arguments<'_>) -> bool
     }
 }
 
-fn wrong_count(parameters: &[Parameter], arguments: &[Argument]) -> bool
+fn wrong_count(parameters: &[ParameterTree], arguments: &[Argument]) -> bool
     ensures { result ≡ meaning.wrong_number (map view_parameter parameters.now) (map view_argument arguments.now) }
 {
     arguments.len() > parameters.len() || lacks_default(parameters, arguments.len())
 }
 
 // Whether a parameter behind the first so many has no default.
-fn lacks_default(parameters: &[Parameter], count: usize) -> bool
+fn lacks_default(parameters: &[ParameterTree], count: usize) -> bool
     ensures { result ≡ list_any (λ p. is_none p.default) (drop count parameters.now) }
 {
     parameters
@@ -91,7 +91,7 @@ fn fill(
     alloc: Global,
     types: &Scope<'_>,
     vertices: &Vertices,
-    parameters: &[Parameter],
+    parameters: &[ParameterTree],
     arguments: Arguments<'_>,
 ) -> Result<Row, StatementFault>
     ensures { Gives (of_values (values_of (sorts_in types.now) vertices.now (map view_parameter parameters.now) (all_given (map view_parameter parameters.now) arguments.entry))) result }
@@ -109,7 +109,7 @@ fn fill(
 }
 
 // What stands for the parameter at a place.
-fn given_at<'a>(arguments: Arguments<'a>, parameter: &'a Parameter, place: usize) -> Given<'a>
+fn given_at<'a>(arguments: Arguments<'a>, parameter: &'a ParameterTree, place: usize) -> Given<'a>
     ensures { (ps : List (PlainParameter Bytes)) → slice_get ps place ≡ Some (view_parameter parameter.now) → slice_get (all_given ps arguments.entry) place ≡ Some (view_given result) }
 {
     match arguments {
@@ -118,7 +118,7 @@ fn given_at<'a>(arguments: Arguments<'a>, parameter: &'a Parameter, place: usize
     }
 }
 
-fn listed_at<'a>(arguments: &'a [Argument], parameter: &'a Parameter, place: usize) -> Given<'a>
+fn listed_at<'a>(arguments: &'a [Argument], parameter: &'a ParameterTree, place: usize) -> Given<'a>
     ensures { view_given result ≡ listed_or (view_parameter parameter.now) (slice_get (map view_argument arguments.now) place) }
 {
     match arguments.get(place) {
@@ -127,7 +127,7 @@ fn listed_at<'a>(arguments: &'a [Argument], parameter: &'a Parameter, place: usi
     }
 }
 
-fn named_at<'a>(found: Option<&'a Json>, parameter: &'a Parameter) -> Given<'a>
+fn named_at<'a>(found: Option<&'a Json>, parameter: &'a ParameterTree) -> Given<'a>
     ensures { view_given result ≡ named_argument (members_in (option_map (λ m. view m.now) found.entry)) (view_parameter parameter.now) }
 {
     match member(found, parameter.name.as_str()) {
@@ -152,6 +152,6 @@ fn bad(alloc: Global, name: &str) -> StatementFault
 {
     match Txt::of(alloc, name) {
         Ok(name) => StatementFault::Refused(Refusal::BadArgument(name)),
-        Err(Memory) => StatementFault::Memory,
+        Err(OutOfMemory) => StatementFault::OutOfMemory,
     }
 }

@@ -6,19 +6,20 @@ ghost use Rattle.gq_value.specs.Val.{Int, UInt};
 ghost use Rattle.gq_value.specs.Views.{val};
 ghost use Rattle.gq_value.specs.declared.kind.Number.TheVariants as numbers;
 ghost use Rattle.gq_scope.specs.Held.{sorts_in};
-ghost use Rattle.gq_typing.specs.Statements.{AnyVertex, Bools, Ints, Strings, UInts, VertexOf};
-ghost use Rattle.gq_typing.specs.StatementViews.{view_base};
-ghost use Rattle.gq_typing.specs.Sorts.{Sorts};
-ghost use Rattle.gq_value.specs.declared.store.VertexRow.{VertexRow};
-ghost use Rattle.gq_typing.specs.QueryTypes.{signed as signed_number};
-ghost use Rattle.gq_meaning.specs.Arguments as spec;
+ghost use Rattle.gq_rules_typing.specs.Statements.{AnyVertex, Bools, Ints, Strings, UInts, VertexOf};
+ghost use Rattle.gq_rules_typing.specs.StatementViews.{view_base};
+ghost use Rattle.gq_rules_typing.specs.Sorts.{Sorts};
+ghost use Rattle.gq_graph.specs.declared.rows.VertexRow.{VertexRow};
+ghost use Rattle.gq_rules_typing.specs.QueryTypes.{signed as signed_number};
+ghost use Rattle.gq_rules_meaning.specs.Arguments as spec;
 ghost use Rattle.gq_arguments.specs.Given.{view_given};
 
 use crate::given::Given;
 use crate::lookup::{numbered_vertex, signed, vertex_in};
+use gq_base::OutOfMemory;
 use gq_scope::Scope;
 use gq_tree::BaseTree;
-use gq_value::{Memory, Txt, Value};
+use gq_value::{Txt, Value};
 use gq_vertex::Vertices;
 use std::alloc::Global;
 
@@ -29,7 +30,7 @@ pub(crate) fn value_of(
     vertices: &Vertices,
     base: &BaseTree,
     given: Given<'_>,
-) -> Result<Option<Value>, Memory>
+) -> Result<Option<Value>, OutOfMemory>
     ensures { IfOk result (λ v. option_map val v ≡ spec.argument_value (sorts_in types.now) vertices.now (view_base base.now) (view_given given.entry)) }
 {
     match base {
@@ -91,7 +92,7 @@ fn truth_value(given: Given<'_>) -> Option<Value>
 }
 
 #[tactic(auto, using(gq_value::specs::ViewLaws::view_laws))]
-fn text_value(alloc: Global, given: Given<'_>) -> Result<Option<Value>, Memory>
+fn text_value(alloc: Global, given: Given<'_>) -> Result<Option<Value>, OutOfMemory>
     ensures { (types : Sorts) (rows : List VertexRow) → IfOk result (λ v. option_map val v ≡ spec.argument_value types rows Strings (view_given given.entry)) }
 {
     match given {

@@ -6,9 +6,9 @@ use Rattle.std.specs.Str.{bytes_eq}
 use Rattle.std.proofs.lemmas.Slice.Eq.{bytes_eq-Decides}
 use Rattle.std.proofs.lemmas.List.{length-map, get_or-map, length-append, map_push, reverse-append}
 use Rattle.std.proofs.lemmas.List.Folds.{list_any-append}
-use Rattle.gq_hash.specs.Last.{IsLast}
-use Rattle.gq_hash.proofs.Seeks.{Seeks, Hits, seek_starts, seek_goes}
-use Rattle.gq_typing.specs.Statements.{Bytes}
+use Rattle.gq_base.specs.Last.{IsLast}
+use Rattle.gq_base.proofs.Seeks.{Seeks, Hits, seek_starts, seek_goes}
+use Rattle.gq_rules_typing.specs.Statements.{Bytes}
 use Rattle.gq_check.specs.Keyed.{texts, key_hash, IsHashed, IsKept}
 
 -- what stands of the walk for a key

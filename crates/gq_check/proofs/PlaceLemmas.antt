@@ -1,7 +1,7 @@
 -- PlaceLemmas: where expressions of statements stand.
 use Rattle.std.proofs.Common.{◌≡◌, ap}
-use Rattle.gq_typing.specs.Scopes as typing
-use Rattle.gq_typing.specs.SetTypes.{here}
+use Rattle.gq_rules_typing.specs.Scopes as typing
+use Rattle.gq_rules_typing.specs.SetTypes.{here}
 use Rattle.gq_scope.specs.Held.{Held, sorts_in, setting_in, scope_in, names_in}
 
 pub names_here : (h : Held) → h.place ≡ typing.InStatement → names_in h ≡ here (scope_in h)

@@ -2,19 +2,19 @@
 use Rattle.std.proofs.Common.{ℕ, ◌≡◌, Bool, true, false, [], map, Option, Ok, Err, refl}
 use Rattle.std.specs.List.{list_any}
 use Rattle.gq_value.specs.Accums.{Base, INT, UINT}
-use Rattle.gq_value.specs.Catalog.{Schema}
+use Rattle.gq_graph.specs.Catalog.{Schema}
 use Rattle.gq_tree.specs.declared.query.QueryTree.{QueryTree}
-use Rattle.gq_typing.specs.Statements.{Bytes, Over, Stmts, Foreach}
-use Rattle.gq_typing.specs.StatementViews.{is_v2, view_parameter, view_definition, view_stmts, view_query}
-use Rattle.gq_typing.specs.Sorts.{sorts_of}
-use Rattle.gq_typing.specs.Judging.{Judged, ◌>>=◌, ◌>>◌}
-use Rattle.gq_typing.specs.Types.{number_of_both}
-use Rattle.gq_typing.specs.Scopes as typing
-use Rattle.gq_typing.specs.SetTypes.{here}
-use Rattle.gq_typing.specs.StatementTypes.{typing_stmt, typing_stmts, variable_type}
-use Rattle.gq_typing.specs.QueryTypes.{typing_query}
+use Rattle.gq_rules_typing.specs.Statements.{Bytes, Over, Stmts, Foreach}
+use Rattle.gq_rules_typing.specs.StatementViews.{is_v2, view_parameter, view_definition, view_stmts, view_query}
+use Rattle.gq_rules_typing.specs.Sorts.{sorts_of}
+use Rattle.gq_rules_typing.specs.Judging.{Judged, ◌>>=◌, ◌>>◌}
+use Rattle.gq_rules_typing.specs.Types.{number_of_both}
+use Rattle.gq_rules_typing.specs.Scopes as typing
+use Rattle.gq_rules_typing.specs.SetTypes.{here}
+use Rattle.gq_rules_typing.specs.StatementTypes.{typing_stmt, typing_stmts, variable_type}
+use Rattle.gq_rules_typing.specs.QueryTypes.{typing_query}
 use Rattle.gq_scope.specs.Held.{Held, graph_in, sorts_in, setting_in, scope_in}
-use Rattle.gq_kind_check.specs.Counts.{accum_count}
+use Rattle.gq_check_decls.specs.Counts.{accum_count}
 use Rattle.gq_check.specs.Rules.{is_uint, loop_variable, query}
 
 -- ---- FOREACH

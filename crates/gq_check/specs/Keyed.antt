@@ -1,8 +1,8 @@
 -- Keyed: keys that were given, and what the code keeps beside them.
 use Rattle.std.specs.Prelude.{ℕ, ◌≡◌, ◌<◌, List, map, length}
 use Rattle.std.specs.Borrow.{Bor}
-use Rattle.gq_hash.specs.Hash.{hash_from}
-use Rattle.gq_typing.specs.Statements.{Bytes}
+use Rattle.gq_base.specs.Hash.{hash_from}
+use Rattle.gq_rules_typing.specs.Statements.{Bytes}
 
 -- what lent texts say
 abbrev pub texts : List (Bor Bytes) → List Bytes

@@ -1,18 +1,18 @@
--- Rules: rules of gq_typing on statements in the pieces in which the code has them.
+-- Rules: rules of gq_rules_typing on statements in the pieces in which the code has them.
 use Rattle.std.specs.Prelude.{Bool, true, false, if◌then◌else◌, List, [], Option, Ok}
 use Rattle.std.specs.Option.{unwrap_or}
 use Rattle.gq_value.specs.Accums.{Base, UINT}
 use Rattle.gq_tree.specs.Tree.{Tree, Name}
-use Rattle.gq_typing.specs.Statements.{Bytes, KindTree, Item, Over, Stmts, Definition, Parameter}
-use Rattle.gq_typing.specs.Judging.{Typed, SetOf, Judged, Mismatch, NotAllowedHere, ◌>>=◌, ◌>>◌, unless, or_fault, through_judged}
-use Rattle.gq_typing.specs.Types.{printable}
-use Rattle.gq_typing.specs.ExpressionTypes.{Names, typing, number, converting}
-use Rattle.gq_typing.specs.Scopes.{Scope, Variable, InSelection, entry, with_entry, new_name, names_at}
-use Rattle.gq_typing.specs.SelectTypes.{optional}
-use Rattle.gq_typing.specs.SetTypes.{here, is_set, set_types}
-use Rattle.gq_typing.specs.StatementTypes.{typing_item, typing_stmts, variable_type}
-use Rattle.gq_typing.specs.KindTypes.{kind_written}
-use Rattle.gq_typing.specs.QueryTypes.{typing_parameter, typing_definition}
+use Rattle.gq_rules_typing.specs.Statements.{Bytes, KindTree, Item, Over, Stmts, Definition, Parameter}
+use Rattle.gq_rules_typing.specs.Judging.{Typed, SetOf, Judged, Mismatch, NotAllowedHere, ◌>>=◌, ◌>>◌, unless, or_fault, through_judged}
+use Rattle.gq_rules_typing.specs.Types.{printable}
+use Rattle.gq_rules_typing.specs.ExpressionTypes.{Names, typing, number, converting}
+use Rattle.gq_rules_typing.specs.Scopes.{Scope, Variable, InSelection, entry, with_entry, new_name, names_at}
+use Rattle.gq_rules_typing.specs.SelectTypes.{optional}
+use Rattle.gq_rules_typing.specs.SetTypes.{here, is_set, set_types}
+use Rattle.gq_rules_typing.specs.StatementTypes.{typing_item, typing_stmts, variable_type}
+use Rattle.gq_rules_typing.specs.KindTypes.{kind_written}
+use Rattle.gq_rules_typing.specs.QueryTypes.{typing_parameter, typing_definition}
 
 abbrev pub allowed : Bool → Judged Bool
 allowed test = unless NotAllowedHere test

@@ -1,23 +1,23 @@
 // Statements, one after another. What a body declares ends with it.
 ghost use Rattle.std.specs.Prelude.{◌≡◌, IfOk};
-ghost use Rattle.gq_typing.specs.Scopes as typing;
-ghost use Rattle.gq_typing.specs.StatementTypes as rules;
-ghost use Rattle.gq_typing.specs.StatementViews.{view_stmt, view_stmts};
+ghost use Rattle.gq_rules_typing.specs.Scopes as typing;
+ghost use Rattle.gq_rules_typing.specs.StatementTypes as rules;
+ghost use Rattle.gq_rules_typing.specs.StatementViews.{view_stmt, view_stmts};
 ghost use Rattle.gq_scope.specs.Held.{scope_in};
-ghost use Rattle.gq_fault.specs.Faults.{Judges, Grows};
+ghost use Rattle.gq_check_from.specs.Faults.{Judges, Grows};
 
 use crate::locals::{change_global, locals};
 use crate::looping::{limited, loop_variable, tested};
 use crate::printing::printed;
-use gq_fault::CheckFault;
+use gq_check_from::CheckFault;
+use gq_check_select::assignment;
 use gq_scope::Scope;
-use gq_select_check::assignment;
 use gq_tree::Stmt;
 use std::alloc::Global;
 
 /// Statements, one after another; what they declare stays in view.
 #[cycle(statements)]
-#[tactic(auto, using(gq_typing::proofs::ViewLaws::statement_laws, gq_fault::proofs::GrowLemmas::grow_laws))]
+#[tactic(auto, using(gq_rules_typing::proofs::ViewLaws::statement_laws, gq_check_from::proofs::GrowLemmas::grow_laws))]
 pub(crate) fn statements<'q>(
     trees: &'q [Stmt],
     alloc: Global,
@@ -35,7 +35,7 @@ pub(crate) fn statements<'q>(
 
 /// A statement. What its bodies declare ends with each.
 #[cycle(statements)]
-#[tactic(auto, using(gq_typing::proofs::ViewLaws::statement_laws, gq_fault::proofs::GrowLemmas::grow_laws, crate::proofs::RuleLemmas::foreach_laws))]
+#[tactic(auto, using(gq_rules_typing::proofs::ViewLaws::statement_laws, gq_check_from::proofs::GrowLemmas::grow_laws, crate::proofs::RuleLemmas::foreach_laws))]
 fn statement<'q>(tree: &'q Stmt, alloc: Global, scope: &mut Scope<'q>) -> Result<(), CheckFault>
     requires { scope.old.place ≡ typing.InStatement }
     ensures judged { Judges (λ _. scope_in scope.new) (rules.typing_stmt (scope_in scope.old) (view_stmt tree.now)) result }

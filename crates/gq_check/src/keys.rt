@@ -2,24 +2,23 @@
 ghost use Rattle.std.specs.Prelude.{◌≡◌, ◌<◌, ◌++◌, ◌∷◌, [], length, map, IfOk, MatchResult, vec_len, vec_capacity};
 ghost use Rattle.std.specs.List.{list_any};
 ghost use Rattle.std.specs.Str.{bytes_eq};
-ghost use Rattle.gq_typing.specs.StatementTypes as spec;
-ghost use Rattle.gq_fault.specs.Faults.{Judges};
+ghost use Rattle.gq_rules_typing.specs.StatementTypes as spec;
+ghost use Rattle.gq_check_from.specs.Faults.{Judges};
 ghost use Rattle.gq_check.specs.Keyed.{IsHashed, texts};
 
-use gq_fault::{CheckFault, name_twice};
-use gq_hash::{Hashes, text_hash};
-use gq_value::Memory;
+use gq_base::{Hashes, OutOfMemory, text_hash};
+use gq_check_from::{CheckFault, name_twice};
 use std::alloc::Global;
 use std::marker::Model;
 
-/// Keys, each given once. Contracts see them as a list, of which the last one comes first.
+/// PrintKeys, each given once. Contracts see them as a list, of which the last one comes first.
 #[derive(Drop)]
-pub(crate) struct Keys<'q> {
+pub(crate) struct PrintKeys<'q> {
     given: Vec<&'q str>,
     hashes: Hashes,
 }
 
-impl<'q> Model for Keys<'q> {
+impl<'q> Model for PrintKeys<'q> {
     ghost use Rattle.std.specs.Prelude.{List, ℕ, reverse};
     ghost use Rattle.gq_check.specs.Keyed.{IsKept, texts};
 
@@ -30,12 +29,12 @@ impl<'q> Model for Keys<'q> {
     ghost invariant = { λ k. IsKept (texts k.given.items) k.hashes };
 }
 
-impl<'q> Keys<'q> {
+impl<'q> PrintKeys<'q> {
     /// No keys.
-    pub(crate) fn new(alloc: Global) -> Keys<'q>
+    pub(crate) fn new(alloc: Global) -> PrintKeys<'q>
         ensures { result ≡ [] }
     {
-        Keys {
+        PrintKeys {
             given: Vec::new(alloc),
             hashes: Hashes::new(alloc),
         }
@@ -53,13 +52,13 @@ impl<'q> Keys<'q> {
         Ok(())
     }
 
-    /// Puts a key last. Memory comes too where there are some four thousand million keys.
+    /// Puts a key last. OutOfMemory comes too where there are some four thousand million keys.
     #[tactic(auto, using(crate::proofs::KeyLemmas::give_laws))]
-    fn push(&mut self, key: &'q str) -> Result<(), Memory>
+    fn push(&mut self, key: &'q str) -> Result<(), OutOfMemory>
         ensures { IfOk result (λ _. self.new ≡ key.now ∷ self.old) }
     {
         if self.given.len() >= u32::MAX as usize {
-            return Err(Memory);
+            return Err(OutOfMemory);
         }
         self.given.reserve(1)?;
         self.hashes.push(text_hash(0, key))?;

@@ -1,7 +1,12 @@
-//! Whether a query is well typed: `check` answers for a query as it is written, or gives the fault of the first rule that fails in
-//! order of text.
+//! The type checker of queries: `check` accepts a query, or returns the fault of the first rule that fails.
 //!
-//! Each function is one rule of `gq_typing`, by `Judges` of `gq_fault`: read its `specs/Faults.antt` first.
+//! Rules are tried in the order of the text. Each function implements one rule of `gq_rules_typing`;
+//! expressions, SELECT and declarations are checked by the crates below.
+//!
+//! Read `QueryTypes.antt` and `StatementTypes.antt` of `gq_rules_typing` first, then `Faults.antt` of
+//! `gq_check_from` (when an answer is that of a rule), `specs/Checks.antt` and `specs/Rules.antt`. The code
+//! begins in `src/queries.rt`; `src/bodies.rt` checks statements, `src/looping.rt` loops and
+//! `src/printing.rt` PRINT.
 #![tactic(auto)]
 
 mod bodies;

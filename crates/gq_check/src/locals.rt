@@ -3,24 +3,24 @@ ghost use Rattle.std.specs.Prelude.{◌≡◌, true, IfOk, is_some};
 ghost use Rattle.std.specs.Option.{option_map, option_copied};
 ghost use Rattle.gq_value.specs.AccumViews.{base_of, accum_of};
 ghost use Rattle.gq_tree.specs.View.{view};
-ghost use Rattle.gq_typing.specs.Statements.{Local, ChangeGlobal};
-ghost use Rattle.gq_typing.specs.Judging.{through_judged};
-ghost use Rattle.gq_typing.specs.ExpressionTypes as forms;
-ghost use Rattle.gq_typing.specs.Scopes as typing;
-ghost use Rattle.gq_typing.specs.SetTypes.{here};
-ghost use Rattle.gq_typing.specs.StatementTypes.{typing_stmt, typing_local, typing_change, may_lack_value};
-ghost use Rattle.gq_typing.specs.SelectViews.{view_change};
-ghost use Rattle.gq_typing.specs.StatementViews.{view_base, view_locals};
+ghost use Rattle.gq_rules_typing.specs.Statements.{Local, ChangeGlobal};
+ghost use Rattle.gq_rules_typing.specs.Judging.{through_judged};
+ghost use Rattle.gq_rules_typing.specs.ExpressionTypes as forms;
+ghost use Rattle.gq_rules_typing.specs.Scopes as typing;
+ghost use Rattle.gq_rules_typing.specs.SetTypes.{here};
+ghost use Rattle.gq_rules_typing.specs.StatementTypes.{typing_stmt, typing_local, typing_change, may_lack_value};
+ghost use Rattle.gq_rules_typing.specs.SelectViews.{view_change};
+ghost use Rattle.gq_rules_typing.specs.StatementViews.{view_base, view_locals};
 ghost use Rattle.gq_scope.specs.Held.{scope_in};
-ghost use Rattle.gq_fault.specs.Faults.{Judges, Grows};
+ghost use Rattle.gq_check_from.specs.Faults.{Judges, Grows};
 ghost use Rattle.gq_check.specs.Rules as spec;
 
-use gq_act_check::{input, settable};
-use gq_fault::{CheckFault, add, new_name};
-use gq_kind_check::base_written;
-use gq_scope::{Entry, Scope};
-use gq_tree::{BaseTree, Change, Node};
-use gq_type::{Base, converting, declared_kind, is_vertex};
+use gq_check_decls::base_written;
+use gq_check_from::{CheckFault, add, new_name};
+use gq_check_select::{input, settable};
+use gq_scope::{Base, Entry, Scope};
+use gq_tree::{BaseTree, ChangeTree, Node};
+use gq_type::{converting, declared_kind, is_vertex};
 use gq_value::{BaseType, Kind, Txt};
 use std::alloc::Global;
 
@@ -40,7 +40,7 @@ pub(crate) fn locals(
     all_locals(alloc, scope, &base, trees)
 }
 
-#[tactic(auto, using(gq_fault::proofs::GrowLemmas::grow_laws))]
+#[tactic(auto, using(gq_check_from::proofs::GrowLemmas::grow_laws))]
 fn all_locals(
     alloc: Global,
     scope: &mut Scope<'_>,
@@ -131,7 +131,7 @@ pub(crate) fn change_global(
     alloc: Global,
     scope: &Scope<'_>,
     name: &str,
-    change: &Change,
+    change: &ChangeTree,
 ) -> Result<(), CheckFault>
     requires { scope.now.place ≡ typing.InStatement }
     ensures { Judges (λ _. scope_in scope.now)
@@ -144,13 +144,18 @@ pub(crate) fn change_global(
 
 /// A change of an accumulator of a kind.
 #[tactic(auto, using(crate::proofs::PlaceLemmas::here_laws))]
-fn changed(alloc: Global, scope: &Scope<'_>, kind: &Kind, change: &Change) -> Result<(), CheckFault>
+fn changed(
+    alloc: Global,
+    scope: &Scope<'_>,
+    kind: &Kind,
+    change: &ChangeTree,
+) -> Result<(), CheckFault>
     requires { scope.now.place ≡ typing.InStatement }
     ensures { Judges (λ _. true) (typing_change (scope_in scope.now) (accum_of kind.now) (view_change change.now)) result }
 {
     match change {
-        Change::Feed(tree) => input(tree, alloc, scope, Some(kind)),
-        Change::Set(node) => {
+        ChangeTree::Feed(tree) => input(tree, alloc, scope, Some(kind)),
+        ChangeTree::Set(node) => {
             let base = settable(kind)?;
             converting(alloc, scope, base, node)?;
             Ok(())

@@ -3,21 +3,21 @@ ghost use Rattle.std.specs.Prelude.{◌≡◌, true, IfOk};
 ghost use Rattle.std.specs.Option.{option_map, option_copied};
 ghost use Rattle.gq_value.specs.AccumViews.{base_of};
 ghost use Rattle.gq_tree.specs.View.{view};
-ghost use Rattle.gq_typing.specs.Types as types;
-ghost use Rattle.gq_typing.specs.ExpressionTypes as forms;
-ghost use Rattle.gq_typing.specs.Scopes as typing;
-ghost use Rattle.gq_typing.specs.SetTypes.{here};
-ghost use Rattle.gq_typing.specs.StatementTypes as rules;
-ghost use Rattle.gq_typing.specs.StatementViews.{view_over};
+ghost use Rattle.gq_rules_typing.specs.Types as types;
+ghost use Rattle.gq_rules_typing.specs.ExpressionTypes as forms;
+ghost use Rattle.gq_rules_typing.specs.Scopes as typing;
+ghost use Rattle.gq_rules_typing.specs.SetTypes.{here};
+ghost use Rattle.gq_rules_typing.specs.StatementTypes as rules;
+ghost use Rattle.gq_rules_typing.specs.StatementViews.{view_over};
 ghost use Rattle.gq_scope.specs.Held.{scope_in, names_in};
-ghost use Rattle.gq_type.specs.Views.{base_is, typed_is};
-ghost use Rattle.gq_fault.specs.Faults.{Judges, Grows};
+ghost use Rattle.gq_scope.specs.Views.{base_is, typed_is};
+ghost use Rattle.gq_check_from.specs.Faults.{Judges, Grows};
 ghost use Rattle.gq_check.specs.Rules as spec;
 
-use gq_fault::{CheckFault, add, new_name};
-use gq_scope::{Entry, Scope};
-use gq_tree::{Node, Over};
-use gq_type::{Base, Typed, condition, element_type, number, type_of};
+use gq_check_from::{CheckFault, add, new_name};
+use gq_scope::{Base, Entry, Scope, Typed, element_type};
+use gq_tree::{Node, OverTree};
+use gq_type::{condition, number, type_of};
 use gq_value::BaseType;
 use std::alloc::Global;
 
@@ -65,7 +65,7 @@ pub(crate) fn loop_variable(
     alloc: Global,
     scope: &mut Scope<'_>,
     name: &str,
-    over: &Over,
+    over: &OverTree,
 ) -> Result<(), CheckFault>
     requires { scope.old.place ≡ typing.InStatement }
     ensures judged { Judges (λ _. scope_in scope.new) (spec.loop_variable (scope_in scope.old) name.now (view_over over.now)) result }
@@ -78,16 +78,16 @@ pub(crate) fn loop_variable(
 }
 
 /// The type of an element, or of both ends of a range.
-fn variable_type(alloc: Global, scope: &Scope<'_>, over: &Over) -> Result<BaseType, CheckFault>
+fn variable_type(alloc: Global, scope: &Scope<'_>, over: &OverTree) -> Result<BaseType, CheckFault>
     ensures { Judges base_of (rules.variable_type (names_in scope.now) (view_over over.now)) result }
 {
     match over {
-        Over::Elements(node) => {
+        OverTree::Elements(node) => {
             let x = type_of(alloc, scope, node)?;
             let base = element_of(x)?;
             Ok(base.keep(alloc)?)
         }
-        Over::Range(from, to) => {
+        OverTree::Range(from, to) => {
             let low = number(alloc, scope, from)?;
             let high = number(alloc, scope, to)?;
             Ok(number_of_both(low, high))
@@ -117,7 +117,7 @@ fn elements(base: Option<Base<'_>>) -> Result<Base<'_>, CheckFault>
 }
 
 /// Two UINT give UINT, other numbers INT.
-#[tactic(auto, using(gq_type::proofs::BaseLemmas::base_laws, crate::proofs::RuleLemmas::both_laws))]
+#[tactic(auto, using(gq_scope::proofs::BaseLemmas::base_laws, crate::proofs::RuleLemmas::both_laws))]
 fn number_of_both(low: Base<'_>, high: Base<'_>) -> BaseType
     ensures { base_of result ≡ types.number_of_both (base_is low.entry) (base_is high.entry) }
 {

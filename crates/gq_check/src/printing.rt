@@ -3,36 +3,37 @@ ghost use Rattle.std.specs.Prelude.{◌≡◌, true, IfOk, map};
 ghost use Rattle.std.specs.Option.{option_map, option_copied};
 ghost use Rattle.gq_tree.specs.Tree.{Name};
 ghost use Rattle.gq_tree.specs.View.{view};
-ghost use Rattle.gq_typing.specs.Statements.{Print};
-ghost use Rattle.gq_typing.specs.Scopes as typing;
-ghost use Rattle.gq_typing.specs.SetTypes as sets;
-ghost use Rattle.gq_typing.specs.StatementTypes as rules;
-ghost use Rattle.gq_typing.specs.StatementViews.{key_of, view_item, view_labelled};
+ghost use Rattle.gq_rules_typing.specs.Statements.{Print};
+ghost use Rattle.gq_rules_typing.specs.Scopes as typing;
+ghost use Rattle.gq_rules_typing.specs.SetTypes as sets;
+ghost use Rattle.gq_rules_typing.specs.StatementTypes as rules;
+ghost use Rattle.gq_rules_typing.specs.StatementViews.{key_of, view_item, view_labelled};
 ghost use Rattle.gq_scope.specs.Held.{entry_of, scope_in, names_in};
-ghost use Rattle.gq_type.specs.Views.{typed_is};
-ghost use Rattle.gq_fault.specs.Faults.{Judges};
+ghost use Rattle.gq_scope.specs.Views.{typed_is};
+ghost use Rattle.gq_check_from.specs.Faults.{Judges};
 ghost use Rattle.gq_check.specs.Rules as spec;
 
-use crate::keys::Keys;
-use gq_fault::CheckFault;
-use gq_scope::{Entry, Place, Scope};
-use gq_select_check::set_types;
-use gq_tree::{Item, Label, Node};
-use gq_type::{Typed, printable, type_of};
-use gq_value::{Memory, Txt};
+use crate::keys::PrintKeys;
+use gq_base::OutOfMemory;
+use gq_check_from::CheckFault;
+use gq_check_select::set_types;
+use gq_scope::{Entry, Place, Scope, Typed};
+use gq_tree::{ItemTree, Label, Node};
+use gq_type::{printable, type_of};
+use gq_value::Txt;
 use std::alloc::Global;
 
 /// All items of a PRINT. The scope is as it was.
 pub(crate) fn printed<'q>(
     alloc: Global,
     scope: &mut Scope<'q>,
-    items: &'q [Item],
+    items: &'q [ItemTree],
 ) -> Result<(), CheckFault>
     requires { scope.old.place ≡ typing.InStatement }
     ensures judged { Judges (λ _. scope_in scope.old) (rules.typing_stmt (scope_in scope.old) (Print (map view_item items.now))) result }
     ensures same { IfOk result (λ _. scope.new ≡ scope.old) }
 {
-    let mut keys = Keys::new(alloc);
+    let mut keys = PrintKeys::new(alloc);
     for item in items {
         one_item(alloc, scope, &mut keys, item)?;
     }
@@ -42,34 +43,34 @@ pub(crate) fn printed<'q>(
 fn one_item<'q>(
     alloc: Global,
     scope: &mut Scope<'q>,
-    keys: &mut Keys<'q>,
-    item: &'q Item,
+    keys: &mut PrintKeys<'q>,
+    item: &'q ItemTree,
 ) -> Result<(), CheckFault>
     requires { scope.old.place ≡ typing.InStatement }
     ensures judged { Judges (λ _. keys.new) (rules.typing_printed (scope_in scope.old) keys.old (view_item item.now)) result }
     ensures same { IfOk result (λ _. scope.new ≡ scope.old) }
 {
     match item {
-        Item::Value(node, label) => {
+        ItemTree::Value(node, label) => {
             whole(alloc, scope, node)?;
             keys.give(alloc, key_text(label)?)
         }
-        Item::Columns(set, columns, name) => {
+        ItemTree::Columns(set, columns, name) => {
             selection(alloc, scope, set.as_str(), columns.as_slice())?;
             keys.give(alloc, selection_key(set, name))
         }
     }
 }
 
-/// The key of a label. Memory comes too where a spelling isn't UTF-8; tokens of a script spell texts alone.
-fn key_text(label: &Label) -> Result<&str, Memory>
+/// The key of a label. OutOfMemory comes too where a spelling isn't UTF-8; tokens of a script spell texts alone.
+fn key_text(label: &Label) -> Result<&str, OutOfMemory>
     ensures { IfOk result (λ key. key.now ≡ key_of label.now) }
 {
     match label {
         Label::Named(name) => Ok(name.as_str()),
         Label::Spelled(spelling) => match std::str::from_utf8(spelling.as_slice()) {
             Ok(key) => Ok(key),
-            Err(_) => Err(Memory),
+            Err(_) => Err(OutOfMemory),
         },
     }
 }
@@ -150,13 +151,13 @@ fn whole_value<'s>(
 // ---- selections
 
 /// `S[..]`: the columns are judged at each vertex of the set. Their keys.
-#[tactic(auto, using(gq_kind_check::proofs::HeadLemmas::place_laws))]
+#[tactic(auto, using(gq_check_decls::proofs::HeadLemmas::place_laws))]
 fn selection<'q>(
     alloc: Global,
     scope: &mut Scope<'q>,
     set: &'q str,
     columns: &'q [(Node, Label)],
-) -> Result<Keys<'q>, CheckFault>
+) -> Result<PrintKeys<'q>, CheckFault>
     requires { scope.old.place ≡ typing.InStatement }
     ensures judged { Judges (λ keys. keys) (spec.selection (scope_in scope.old) set.now (map view_labelled columns.now)) result }
     ensures same { IfOk result (λ _. scope.new ≡ scope.old) }
@@ -172,10 +173,10 @@ fn all_columns<'k>(
     alloc: Global,
     scope: &Scope<'_>,
     columns: &'k [(Node, Label)],
-) -> Result<Keys<'k>, CheckFault>
+) -> Result<PrintKeys<'k>, CheckFault>
     ensures { Judges (λ keys. keys) (spec.columns (names_in scope.now) (map view_labelled columns.now)) result }
 {
-    let mut keys = Keys::new(alloc);
+    let mut keys = PrintKeys::new(alloc);
     for column in columns {
         one_column(alloc, scope, &mut keys, column)?;
     }
@@ -185,7 +186,7 @@ fn all_columns<'k>(
 fn one_column<'k>(
     alloc: Global,
     scope: &Scope<'_>,
-    keys: &mut Keys<'k>,
+    keys: &mut PrintKeys<'k>,
     column: &'k (Node, Label),
 ) -> Result<(), CheckFault>
     ensures { Judges (λ _. keys.new) (rules.typing_item (names_in scope.now) keys.old (view_labelled column.now)) result }

@@ -2,26 +2,26 @@
 ghost use Rattle.std.specs.Prelude.{◌≡◌, ◌<◌, length, map};
 ghost use Rattle.std.specs.Option.{ForSome};
 ghost use Rattle.std.specs.List.{list_any};
-ghost use Rattle.gq_typing.specs.Sorts.{sorts_of};
-ghost use Rattle.gq_typing.specs.Scopes as typing;
-ghost use Rattle.gq_typing.specs.QueryTypes.{typing_query};
-ghost use Rattle.gq_typing.specs.StatementViews.{is_v2, view_parameter, view_definition, view_stmts, view_query};
+ghost use Rattle.gq_rules_typing.specs.Sorts.{sorts_of};
+ghost use Rattle.gq_rules_typing.specs.Scopes as typing;
+ghost use Rattle.gq_rules_typing.specs.QueryTypes.{typing_query};
+ghost use Rattle.gq_rules_typing.specs.StatementViews.{is_v2, view_parameter, view_definition, view_stmts, view_query};
 ghost use Rattle.gq_scope.specs.Held.{graph_in, scope_in};
-ghost use Rattle.gq_fault.specs.Faults.{Judges};
-ghost use Rattle.gq_kind_check.specs.Counts.{accum_count};
+ghost use Rattle.gq_check_from.specs.Faults.{Judges};
+ghost use Rattle.gq_check_decls.specs.Counts.{accum_count};
 ghost use Rattle.gq_check.specs.Checks.{Checks, ChecksQuery};
 ghost use Rattle.gq_check.specs.Rules as spec;
 
 use crate::bodies::statements;
-use gq_fault::CheckFault;
-use gq_kind_check::{definitions, parameters};
+use gq_check_decls::{definitions, parameters};
+use gq_check_from::CheckFault;
 use gq_schema::Catalog;
 use gq_scope::Scope;
 use gq_tree::{Mode, QueryTree};
 use std::alloc::Global;
 
 /// Whether a query is well typed that sees the types of a graph of the catalog, by the graph's number; a query for no graph sees
-/// none. A fault is that of the first rule that fails in order of text. Memory may come at any time.
+/// none. A fault is that of the first rule that fails in order of text. OutOfMemory may come at any time.
 ///
 /// A query that is taken is never stuck over arguments of its parameters' types, in any store of the catalog or of one that it
 /// grows into: it prints something, or ends with a fault.
@@ -54,7 +54,7 @@ fn well_typed<'q>(
 }
 
 /// Parameters, definitions and statements.
-#[tactic(auto, using(gq_fault::proofs::GrowLemmas::grow_laws))]
+#[tactic(auto, using(gq_check_from::proofs::GrowLemmas::grow_laws))]
 fn all_of<'q>(alloc: Global, scope: &mut Scope<'q>, query: &'q QueryTree) -> Result<(), CheckFault>
     requires place { scope.old.place ≡ typing.InStatement }
     requires none { accum_count (scope_in scope.old) ≡ 0 }

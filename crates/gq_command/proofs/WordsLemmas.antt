@@ -23,7 +23,7 @@ pub taken : (words : List Text) (rows : List Row) → fault_of gsql words ≡ []
 unfolding matched
 taken words rows no_fault same = ap (λ kinds. unless_faulty kinds (matches_of gsql words)) no_fault ∙ ap Some (sym same)
 
--- an error that isn't want of memory refuses the words
+-- an error that isn't OutOfMemory refuses the words
 pub refusal : (words : List Text) (kind : ErrorKind) → (kind ≡ OutOfMemory) ⊎ IsAmong kind (fault_of gsql words) → (kind ≡ OutOfMemory → ⊥) → matched words ≡ None
 refusal words kind (inl memory) other = absurd (other memory)
 refusal words kind (inr among) other = refused words kind among

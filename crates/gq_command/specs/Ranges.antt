@@ -1,4 +1,5 @@
--- Ranges: what every command that words ask for keeps to. It follows from `specs/Words.antt`, and is told for callers.
+-- Ranges: the ranges of a command's numbers, which every command that words ask for keeps to. They follow from
+-- `specs/Words.antt`, and are told for callers.
 use Rattle.std.specs.Prelude.{ℕ, ◌≤◌}
 use Rattle.gq_io.specs.declared.shape.Shape.{Shape}
 use Rattle.gq_command.specs.declared.command.Command.{Command}

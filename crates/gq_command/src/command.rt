@@ -1,8 +1,9 @@
 // What the words ask for.
 ghost use Rattle.std.specs.Prelude.{◌≡◌};
 
+use gq_base::OutOfMemory;
 use gq_io::Shape;
-use gq_value::{Memory, Txt};
+use gq_value::Txt;
 use thiserror::Error;
 
 /// How `gsql` is used: what users read where the words are no use of it.
@@ -39,15 +40,15 @@ pub enum WordsFault {
     Usage,
 
     #[error("out of memory")]
-    Memory,
+    OutOfMemory,
 }
 
-impl From<Memory> for WordsFault {
+impl From<OutOfMemory> for WordsFault {
     ghost use Rattle.gq_command.specs.declared.command.WordsFault.TheVariants as fault;
 
-    ghost from_gives = { λ _ e. e ≡ fault.Memory };
+    ghost from_gives = { λ _ e. e ≡ fault.OutOfMemory };
 
-    fn from(_: Memory) -> Self {
-        WordsFault::Memory
+    fn from(_: OutOfMemory) -> Self {
+        WordsFault::OutOfMemory
     }
 }

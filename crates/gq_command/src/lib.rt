@@ -1,16 +1,24 @@
-//! The words of the command line, read into a command.
+//! The command line: parses the arguments of the program into a command, and generates the input of sample
+//! mode.
 //!
-//! The words are those after the program's name. `clap` says which of them it takes and what stands where; the numbers,
-//! their ranges and their defaults, and which words go together, are told here.
+//! `clap` parses options and positionals; this crate checks numbers, ranges, defaults and which options go
+//! together. Sample mode needs no files: its script and the two CSV files that it loads are functions of a
+//! number of people.
 //!
-//! Read `specs/Words.antt` first: it is the whole meaning of a list of words, by way of `specs/Line.antt`, the command as
-//! `clap` sees it, and `specs/Number.antt`. The code begins in `read.rt`.
+//! Read `specs/Words.antt` first: the whole meaning of a list of arguments, by way of `specs/Line.antt` (the
+//! command as `clap` sees it) and `specs/Number.antt`. For sample mode, read `specs/Sample.antt` and
+//! `specs/Script.antt`. The code begins in `src/read.rt`; the sample is in `src/files.rt` and
+//! `src/script.rt`.
 #![tactic(auto)]
 
 mod command;
+mod files;
 mod line;
 mod number;
 mod read;
+mod script;
 
-pub use command::{Command, Task, USAGE, WordsFault};
+pub use command::{Command, Task, WordsFault};
+pub use files::{knows_csv, people_csv};
 pub use read::read_words;
+pub use script::sample_script;

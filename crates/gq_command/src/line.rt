@@ -3,7 +3,7 @@ ghost use Rattle.std.specs.Prelude.{◌≡◌, ◌≢◌, Some, None, IfOk, IsEr
 ghost use Rattle.clap.specs.Words.{app_of, first_of, found_of, kind_of, new_rule, rows_of, with_rule, fault_of, FailsBy, matches_of};
 ghost use Rattle.gq_command.specs.Line.{bare, gsql, matched, option};
 
-use crate::WordsFault;
+use crate::command::WordsFault;
 use clap::error::ErrorKind;
 use clap::{Arg, ArgMatches, Command, Error};
 use std::alloc::{AllocError, Global};
@@ -38,7 +38,7 @@ fn words_fault(error: &Error) -> WordsFault
     ensures { result ≡ WordsFault.Usage → kind_of error.now ≢ ErrorKind.OutOfMemory }
 {
     match error.kind() {
-        ErrorKind::OutOfMemory => WordsFault::Memory,
+        ErrorKind::OutOfMemory => WordsFault::OutOfMemory,
         _ => WordsFault::Usage,
     }
 }

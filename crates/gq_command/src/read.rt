@@ -5,12 +5,13 @@ ghost use Rattle.gq_command.specs.Words.{command_from, command_of, shape_of, tas
 ghost use Rattle.gq_command.specs.Number.{number_to};
 ghost use Rattle.gq_command.specs.Ranges.{InRange, IsUpTo, ShapeInRange, TaskInRange};
 
+use crate::command::{Command, Task, WordsFault};
 use crate::line::{matches_in, value_of};
 use crate::number::{number_or, number_to};
-use crate::{Command, Task, WordsFault};
 use clap::ArgMatches;
+use gq_base::OutOfMemory;
 use gq_io::Shape;
-use gq_value::{Memory, Txt};
+use gq_value::Txt;
 use std::alloc::Global;
 
 /// The command that the words after the program's name ask for.
@@ -31,7 +32,7 @@ pub fn read_words(alloc: Global, words: &[String]) -> Result<Command, WordsFault
     }
 }
 
-fn command_in(alloc: Global, found: &ArgMatches<'_>) -> Result<Option<Command>, Memory>
+fn command_in(alloc: Global, found: &ArgMatches<'_>) -> Result<Option<Command>, OutOfMemory>
     ensures command { IfOk result (λ command. command ≡ command_from (rows_of (found_of found.now))) }
     ensures range { IfOk result (λ command. IfSome command (λ found. InRange found)) }
 {
@@ -70,7 +71,7 @@ fn turns_in(found: &ArgMatches<'_>) -> Option<u64>
     number_or(value_of(found, "turns"), 1_000_000, 1_000_000_000)
 }
 
-fn task_in(alloc: Global, found: &ArgMatches<'_>) -> Result<Option<Task>, Memory>
+fn task_in(alloc: Global, found: &ArgMatches<'_>) -> Result<Option<Task>, OutOfMemory>
     ensures task { IfOk result (λ task. task ≡ task_of (rows_of (found_of found.now))) }
     ensures range { IfOk result (λ task. IfSome task TaskInRange) }
 {
@@ -89,7 +90,7 @@ fn task_in(alloc: Global, found: &ArgMatches<'_>) -> Result<Option<Task>, Memory
     }
 }
 
-fn copied(alloc: Global, text: Option<&str>) -> Result<Option<Txt>, Memory>
+fn copied(alloc: Global, text: Option<&str>) -> Result<Option<Txt>, OutOfMemory>
     ensures { IfOk result (λ copy. copy ≡ option_map (λ t. t.now) text.entry) }
 {
     match text {

@@ -5,7 +5,7 @@ use Rattle.std.proofs.lemmas.Option.{none-some, same_Some}
 use Rattle.std.proofs.lemmas.List.{flat_map_more, length-replicate}
 use mathlib.Core.Logic.{dite}
 use native.Mathlib.Decide.{ℕ_discrete, dec_lt}
-use Rattle.gq_core.specs.declared.job.Job.{Job}
+use Rattle.gq_core.specs.declared.job.FeedJob.{FeedJob}
 use Rattle.gq_core.specs.declared.stripe.Stripe.{Stripe}
 use Rattle.gq_core.specs.declared.worker.Turn.{Turn}
 use Rattle.gq_core.specs.declared.worker.Phase.{Phase}
@@ -63,12 +63,12 @@ here (x ∷ xs) zero s h = refl
 here (x ∷ xs) (suc j) s h = here xs j s (omega arith)
 
 -- a stripe with other numbers, and the same book and inputs
-fed_same : (job : Job) (m : Machine) → IsInOrder job m → (j : ℕ) (s : Stripe) → s.book ≡ (stripe_at m j).book → s.inputs ≡ (stripe_at m j).inputs
+fed_same : (job : FeedJob) (m : Machine) → IsInOrder job m → (j : ℕ) (s : Stripe) → s.book ≡ (stripe_at m j).book → s.inputs ≡ (stripe_at m j).inputs
     → (i : ℕ) → i < job.stripes → (unwrap_or (slice_get (set m.stripes j s) i) fresh).inputs ≡ batches_of job.chunks job.stripes i (unwrap_or (slice_get (set m.stripes j s) i) fresh).book
 fed_same job m r j s book inputs i h =
     stays (λ s. s.inputs) m.stripes j s inputs i ∙ (r.fed i h ∙ ap (batches_of job.chunks job.stripes i) (sym (stays (λ s. s.book) m.stripes j s book i)))
 
-module _ (job : Job) (m : Machine) (r : IsInOrder job m) (w : ℕ) where
+module _ (job : FeedJob) (m : Machine) (r : IsInOrder job m) (w : ℕ) where
   abbrev v : Worker
   v = worker_at m w
 
@@ -241,7 +241,7 @@ is_plain stripes Joined h = cc
 pub not_joined : (p : Phase) → is_free p ≡ true → p ≢ Joined
 not_joined p h e = let d : is_free Joined ≡ true = ap is_free (sym e) ∙ h in cc
 
-split_after : (job : Job) (m : Machine) → IsInOrder job m → (p : Phase) → IfSome (split m p) (IsInOrder job)
+split_after : (job : FeedJob) (m : Machine) → IsInOrder job m → (p : Phase) → IfSome (split m p) (IsInOrder job)
 split_after job m r p = choose (λ o. IfSome o (IsInOrder job)) (is_live p && nat_lt (length m.workers) 1024) (Some (record m { workers = m.workers ++ newcomer Idle ∷ [] })) None
     (λ t. record {
       wide = r.wide;
@@ -250,7 +250,7 @@ split_after job m r p = choose (λ o. IfSome o (IsInOrder job)) (is_live p && na
     })
     (λ _. tt)
 
-join_after : (job : Job) (m : Machine) → IsInOrder job m → (w x : ℕ) → IfSome (join m w x) (IsInOrder job)
+join_after : (job : FeedJob) (m : Machine) → IsInOrder job m → (w x : ℕ) → IfSome (join m w x) (IsInOrder job)
 join_after job m r w x =
     let v : Worker = worker_at m w in let u : Worker = worker_at m x in
     choose (λ o. IfSome o (IsInOrder job)) (not (w == x) && is_free v.phase && is_free u.phase) (Some (with_worker x (newcomer Joined) (with_worker w (gathered v u) m))) None
@@ -263,7 +263,7 @@ join_after job m r w x =
     (λ _. tt)
 
 -- each event
-pub order_after : (job : Job) (m : Machine) → IsInOrder job m → (e : Event) → IfSome (happens job m e) (IsInOrder job)
+pub order_after : (job : FeedJob) (m : Machine) → IsInOrder job m → (e : Event) → IfSome (happens job m e) (IsInOrder job)
 order_after job m r (Draw w) = draw_after job m r w (worker_at m w).phase refl
 order_after job m r (Ticket w) = ticket_after job m r w (worker_at m w).phase refl
 order_after job m r (Look w) = look_after job m r w (worker_at m w).phase refl
@@ -273,12 +273,12 @@ order_after job m r (Leave w) = leave_after job m r w (worker_at m w).phase refl
 order_after job m r (Split w) = split_after job m r (worker_at m w).phase
 order_after job m r (Join w x) = join_after job m r w x
 
-kept : (job : Job) (m : Machine) → IsInOrder job m → (o : Option Machine) → IfSome o (IsInOrder job) → IsInOrder job (unwrap_or o m)
+kept : (job : FeedJob) (m : Machine) → IsInOrder job m → (o : Option Machine) → IfSome o (IsInOrder job) → IsInOrder job (unwrap_or o m)
 kept job m r None h = r
 kept job m r (Some x) h = h
 
 -- any events
-pub order_run : (job : Job) (m : Machine) → IsInOrder job m → (es : List Event) → IsInOrder job (run job m es)
+pub order_run : (job : FeedJob) (m : Machine) → IsInOrder job m → (es : List Event) → IsInOrder job (run job m es)
 order_run job m r [] = r
 order_run job m r (e ∷ es) = order_run job (unwrap_or (happens job m e) m) (kept job m r (happens job m e) (order_after job m r e)) es
 
@@ -288,7 +288,7 @@ fresh_at zero j = refl
 fresh_at (suc n) zero = refl
 fresh_at (suc n) (suc j) = fresh_at n j
 
-pub order_opening : (job : Job) → IsInOrder job (opening job)
+pub order_opening : (job : FeedJob) → IsInOrder job (opening job)
 order_opening job =
     let n : ℕ = job.stripes in let one : List Worker = newcomer Idle ∷ [] in
     let at : (j : ℕ) → unwrap_or (slice_get (replicate n fresh) j) fresh ≡ fresh = fresh_at n in record {

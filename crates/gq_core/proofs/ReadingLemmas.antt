@@ -2,7 +2,7 @@
 use Rattle.std.proofs.Common.{◌≡◌, ℕ, ◌+◌, ◌<◌, ◌≤◌, ◌≢◌, ◌==◌, nat_lt, min, length, Some, slice_get, arith, lt-ltb, eq-eqb, ne_eqb}
 use mathlib.Core.Logic.{dite}
 use native.Mathlib.Decide.{ℕ_discrete}
-use Rattle.gq_core.specs.declared.job.Job.{Job}
+use Rattle.gq_core.specs.declared.job.FeedJob.{FeedJob}
 use Rattle.gq_core.specs.declared.worker.Phase.{Phase}
 use Rattle.gq_core.specs.declared.worker.Phase.TheVariants.{Idle, Ended, Holds, Waits, Served, Lifted, Laid, Joined}
 use Rattle.gq_core.specs.declared.worker.Worker.{Worker}
@@ -23,7 +23,7 @@ laid_owed c j (Laid t) = dite (ℕ_discrete j t.stripe)
     (λ (ne : j ≢ t.stripe). let a = second_other (c == t.chunk) (j == t.stripe) (ne_eqb j t.stripe ne) in omega arith)
 laid_owed c j Joined = omega arith
 
-module _ (job : Job) (m : Machine) (r : IsInOrder job m) where
+module _ (job : FeedJob) (m : Machine) (r : IsInOrder job m) where
   -- no chunk is drawn by two
   pub drawn_by_one : (w x : ℕ) (v u : Worker) → x ≢ w → slice_get m.workers w ≡ Some v → slice_get m.workers x ≡ Some u → (c : ℕ) → times c v.draws + times c u.draws ≤ 1
   drawn_by_one w x v u apart at there c =

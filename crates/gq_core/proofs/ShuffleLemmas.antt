@@ -10,7 +10,7 @@ use Rattle.std.proofs.lemmas.List.Elements.{filter-append}
 use Rattle.std.proofs.lemmas.List.Sorted.{IsPermutation-refl, IsPermutation-trans, IsPermutation-append_left, IsPermutation-append_right, IsPermutation-append_comm}
 use mathlib.Core.Logic.{dite}
 use native.Mathlib.Decide.{ℕ_discrete}
-use Rattle.gq_core.specs.declared.job.Job.{Job}
+use Rattle.gq_core.specs.declared.job.FeedJob.{FeedJob}
 use Rattle.gq_core.specs.declared.worker.Phase.{Phase}
 use Rattle.gq_core.specs.declared.worker.Phase.TheVariants.{Idle, Ended, Holds, Waits, Served, Lifted, Laid, Joined}
 use Rattle.gq_core.specs.Batches.{batch_of, chunk_at, batches_of}
@@ -113,7 +113,7 @@ laid_none (Lifted t) h c j = refl
 laid_none (Laid t) h c j = cc
 laid_none Joined h c j = refl
 
-module _ (job : Job) (m : Machine) (r : IsInOrder job m) (done : IsFinished job m) where
+module _ (job : FeedJob) (m : Machine) (r : IsInOrder job m) (done : IsFinished job m) where
   put_counts : (j : ℕ) → j < job.stripes → (c : ℕ) → put_times m c j ≡ below c (length job.chunks)
   put_counts j h c =
       let same : put_times m c j ≡ total (λ v. times c v.draws) m.workers = total_agrees (λ v. put_of c j v.puts) (λ v. times c v.draws) m.workers

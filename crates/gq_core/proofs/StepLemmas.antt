@@ -5,7 +5,7 @@ use Rattle.std.proofs.lemmas.Option.{slice_get_within, slice_get_read}
 use Rattle.std.proofs.lemmas.List.{set_comm, set-get_or, set-set}
 use mathlib.Core.Logic.{dite}
 use native.Mathlib.Decide.{ℕ_discrete, dec_lt}
-use Rattle.gq_core.specs.declared.job.Job.{Job}
+use Rattle.gq_core.specs.declared.job.FeedJob.{FeedJob}
 use Rattle.gq_core.specs.declared.stripe.Stripe.{Stripe}
 use Rattle.gq_core.specs.declared.worker.Turn.{Turn}
 use Rattle.gq_core.specs.declared.worker.Phase.{Phase}
@@ -32,7 +32,7 @@ ticket_owed j (Lifted t) = here_owed j t.stripe
 ticket_owed j (Laid t) = here_owed j t.stripe
 ticket_owed j Joined = omega arith
 
-module _ (job : Job) (m : Machine) (r : IsInOrder job m) (w : ℕ) where
+module _ (job : FeedJob) (m : Machine) (r : IsInOrder job m) (w : ℕ) where
   at : (worker_at m w).phase ≢ Joined → slice_get m.workers w ≡ Some (worker_at m w)
   at h = made (slice_get m.workers w) h
 
@@ -88,11 +88,11 @@ pub free_within : (m : Machine) (w : ℕ) → is_free (worker_at m w).phase ≡ 
 free_within m w free = made_within m w (worker_at m w).phase refl (not_joined (worker_at m w).phase free)
 
 -- the machine behind an event is in order, whatever the event answered
-pub tells_order : (job : Job) (m m' : Machine) (o : Option Machine) (b : Bool) → IsInOrder job m → IfSome o (IsInOrder job) → Tells o b m m' → IsInOrder job m'
+pub tells_order : (job : FeedJob) (m m' : Machine) (o : Option Machine) (b : Bool) → IsInOrder job m → IfSome o (IsInOrder job) → Tells o b m m' → IsInOrder job m'
 tells_order job m m' None b r after told = subst (IsInOrder job) (sym told.1) r
 tells_order job m m' (Some x) b r after told = subst (IsInOrder job) (sym told.1) after
 
-pub answer_order : {E : Type 0} (job : Job) (m m' : Machine) (o : Option Machine) (answer : Result Bool E) → IsInOrder job m → IfSome o (IsInOrder job)
+pub answer_order : {E : Type 0} (job : FeedJob) (m m' : Machine) (o : Option Machine) (answer : Result Bool E) → IsInOrder job m → IfSome o (IsInOrder job)
     → IfOk answer (λ b. Tells o b m m') → OnErr answer (m' ≡ m) → IsInOrder job m'
 answer_order job m m' o (Ok b) r after told same = tells_order job m m' o b r after told
 answer_order job m m' o (Err e) r after told same = subst (IsInOrder job) (sym same) r
@@ -142,7 +142,7 @@ module _ (next : ℕ) (ss : List Stripe) (ws : List Worker) (w : ℕ) where
       some_from None h = cc
       some_from (Some x) h = refl
 
-  pub lay_told : (job : Job) (t : Turn) (s s' : Stripe) (v : Worker) → (worker_at whole w).phase ≡ Lifted t → t.stripe < length ss → w < length ws → s ≡ get_or ss t.stripe s → v ≡ get_or ws w v → s' ≡ laid job t s
+  pub lay_told : (job : FeedJob) (t : Turn) (s s' : Stripe) (v : Worker) → (worker_at whole w).phase ≡ Lifted t → t.stripe < length ss → w < length ws → s ≡ get_or ss t.stripe s → v ≡ get_or ws w v → s' ≡ laid job t s
       → Tells (lay job whole w (worker_at whole w).phase) true whole (record { next = next; stripes = set ss t.stripe s'; workers = set ws w (in_phase (Laid t) v) })
   lay_told job t s s' v e inside made is_s is_v up =
       subst (λ p. Tells (lay job whole w p) true whole (record { next = next; stripes = set ss t.stripe s'; workers = set ws w (in_phase (Laid t) v) })) (sym e) (
@@ -151,7 +151,7 @@ module _ (next : ℕ) (ss : List Stripe) (ws : List Worker) (w : ℕ) where
             (up ∙ ap (laid job t) (sym (stripe_read t.stripe s inside is_s))) (sym (worker_read w v made is_v)),
       )
 
-  pub leave_told : (job : Job) (t : Turn) (s : Stripe) (v v' : Worker) (p : Phase) → (worker_at whole w).phase ≡ Laid t → t.stripe < length ss → w < length ws → s ≡ get_or ss t.stripe s → v ≡ get_or ws w v
+  pub leave_told : (job : FeedJob) (t : Turn) (s : Stripe) (v v' : Worker) (p : Phase) → (worker_at whole w).phase ≡ Laid t → t.stripe < length ss → w < length ws → s ≡ get_or ss t.stripe s → v ≡ get_or ws w v
       → p ≡ behind job t → v' ≡ record { phase = p; draws = v.draws; puts = v.puts ++ (t.chunk, t.stripe) ∷ [] }
       → Tells (leave job whole w (worker_at whole w).phase) true whole (record { next = next; stripes = set ss t.stripe (record s { serving = s.serving + 1 }); workers = set ws w v' })
   leave_told job t s v v' p e inside made is_s is_v goes up =

@@ -1,7 +1,7 @@
 -- Accounts: what is true of a machine between any two events, in numbers: who drew, holds and put what, and how often.
 -- They speak of plain numbers and of workers, so that another machine with the same workers may keep the same accounts.
 use Rattle.std.specs.Prelude.{◌≡◌, ℕ, ◌+◌, ◌<◌, ◌≤◌, ◌==◌, nat_lt, ◌&&◌, Bool, if◌then◌else◌, min, List, [], ◌∷◌, length, slice_get, Option, Some, None}
-use Rattle.gq_core.specs.declared.job.Job.{Job}
+use Rattle.gq_core.specs.declared.job.FeedJob.{FeedJob}
 use Rattle.gq_core.specs.declared.worker.Turn.{Turn}
 use Rattle.gq_core.specs.declared.worker.Phase.{Phase}
 use Rattle.gq_core.specs.declared.worker.Phase.TheVariants.{Holds, Waits, Served, Lifted, Laid}
@@ -137,7 +137,7 @@ state_of m = record {
 }
 
 -- a machine that meets the accounts for its job, and whose inputs are the batches of its books, in their order
-pub record IsInOrder (job : Job) (m : Machine) : Type 0 where
+pub record IsInOrder (job : FeedJob) (m : Machine) : Type 0 where
   pub wide : length m.stripes ≡ job.stripes
   pub accounts : Accounts (length job.chunks) job.stripes (state_of m)
   pub fed : (j : ℕ) → j < job.stripes → (stripe_at m j).inputs ≡ batches_of job.chunks job.stripes j (stripe_at m j).book

@@ -6,10 +6,10 @@ use Rattle.gq_value.specs.declared.kind.Input.{Input}
 use Rattle.gq_value.specs.Accums.{Accum, Given}
 use Rattle.gq_value.specs.AccumViews.{given}
 use Rattle.gq_value.specs.Typed.{has_no_list}
-use Rattle.gq_content.specs.Holds.{Holds}
-use Rattle.gq_content.specs.After.{fresh, after, merged}
-use Rattle.gq_content.specs.Fits.{IsProper}
-use Rattle.gq_core.specs.declared.job.Job.{Job}
+use Rattle.gq_accum_laws.specs.Holds.{Holds}
+use Rattle.gq_accum_laws.specs.After.{fresh, after, merged}
+use Rattle.gq_accum_laws.specs.Fits.{IsProper}
+use Rattle.gq_core.specs.declared.job.FeedJob.{FeedJob}
 use Rattle.gq_core.specs.declared.worker.Phase.{Phase}
 use Rattle.gq_core.specs.declared.worker.Phase.TheVariants.{Idle, Ended, Joined}
 use Rattle.gq_core.specs.declared.worker.Worker.{Worker}
@@ -25,7 +25,7 @@ has_chunk Joined = false
 has_chunk _ = true
 
 -- every chunk was drawn, and no worker holds one
-pub record IsFinished (job : Job) (m : Machine) : Type 0 where
+pub record IsFinished (job : FeedJob) (m : Machine) : Type 0 where
   pub drawn : length job.chunks ≤ m.next
   pub free : (w : ℕ) (v : Worker) → slice_get m.workers w ≡ Some v → has_chunk v.phase ≡ false
 
@@ -47,7 +47,7 @@ abbrev pub put_times : Machine → ℕ → ℕ → ℕ
 put_times m chunk stripe = total (λ v. put_of chunk stripe v.puts) m.workers
 
 -- the chunks that were laid at a stripe are all chunks, and its inputs are what of all contributions goes to it, in another order
-pub record IsShuffled (job : Job) (m : Machine) (stripe : ℕ) : Type 0 where
+pub record IsShuffled (job : FeedJob) (m : Machine) (stripe : ℕ) : Type 0 where
   pub book : IsPermutation (numbers (length job.chunks)) (stripe_at m stripe).book
   pub inputs : IsPermutation (batch_of job.stripes stripe (all_of job.chunks)) (stripe_at m stripe).inputs
 
@@ -57,6 +57,6 @@ given_to target inputs = map given (inputs_to target inputs)
 
 -- a target's opening, merged with the content of what its stripe has for it, is the content after all inputs to it in chunk
 -- order. It is of a kind with no ListAccum at any level, and its opening is what inputs can lead to
-abbrev pub HasAll : Job → Machine → ℕ → Type 0
+abbrev pub HasAll : FeedJob → Machine → ℕ → Type 0
 HasAll job m target = (k : Accum) (c : Holds k) → has_no_list k ≡ true → IsProper k c
     → merged k c (after k (fresh k) (given_to target (stripe_at m (target % job.stripes)).inputs)) ≡ after k c (given_to target (all_of job.chunks))

@@ -1,6 +1,6 @@
 -- The machine: its state, when each event is enabled, and what it does. The code changes its tables in place.
 use Rattle.std.specs.Prelude.{◌≡◌, ℕ, ◌+◌, ◌==◌, nat_lt, ◌&&◌, not, Bool, true, false, if◌then◌else◌, List, [], ◌∷◌, ◌++◌, length, replicate, slice_get, slice_set, is_none, unwrap_or, Option, Some, None}
-use Rattle.gq_core.specs.declared.job.Job.{Job}
+use Rattle.gq_core.specs.declared.job.FeedJob.{FeedJob}
 use Rattle.gq_core.specs.declared.stripe.Stripe.{Stripe}
 use Rattle.gq_core.specs.declared.worker.Turn.{Turn}
 use Rattle.gq_core.specs.declared.worker.Phase.{Phase}
@@ -25,7 +25,7 @@ abbrev pub newcomer : Phase → Worker
 newcomer phase = record { phase = phase; draws = []; puts = [] }
 
 -- one worker, and nothing drawn
-abbrev pub opening : Job → Machine
+abbrev pub opening : FeedJob → Machine
 opening job = record { next = 0; stripes = replicate job.stripes fresh; workers = newcomer Idle ∷ [] }
 
 -- a worker by its number; one that was never made counts as joined
@@ -53,11 +53,11 @@ abbrev pub moved : ℕ → Phase → Machine → Machine
 moved w phase m = with_worker w (in_phase phase (worker_at m w)) m
 
 -- the worker with the number n as its own: it holds that chunk at the first stripe, or ends where there is no such chunk
-abbrev pub drawn : Job → ℕ → Worker → Worker
+abbrev pub drawn : FeedJob → ℕ → Worker → Worker
 drawn job n v = if nat_lt n (length job.chunks) then record v { phase = Holds n 0; draws = v.draws ++ n ∷ [] } else in_phase Ended v
 
 -- Draw: an idle worker gets the next number
-abbrev pub draw : Job → Machine → ℕ → Phase → Option Machine
+abbrev pub draw : FeedJob → Machine → ℕ → Phase → Option Machine
 draw job m w Idle = Some (record (with_worker w (drawn job m.next (worker_at m w)) m) { next = m.next + 1 })
 draw job m w _ = None
 
@@ -79,7 +79,7 @@ lift m w (Served t) = let s = stripe_at m t.stripe in if is_none s.away then Som
 lift m w _ = None
 
 -- a stripe that is at home again, with this chunk and its batch behind what was there
-abbrev pub laid : Job → Turn → Stripe → Stripe
+abbrev pub laid : FeedJob → Turn → Stripe → Stripe
 laid job t s = record s {
   away = None;
   book = s.book ++ t.chunk ∷ [];
@@ -87,16 +87,16 @@ laid job t s = record s {
 }
 
 -- Lay: one that has the stripe away brings it back with its chunk
-abbrev pub lay : Job → Machine → ℕ → Phase → Option Machine
+abbrev pub lay : FeedJob → Machine → ℕ → Phase → Option Machine
 lay job m w (Lifted t) = Some (with_stripe t.stripe (laid job t (stripe_at m t.stripe)) (moved w (Laid t) m))
 lay job m w _ = None
 
 -- where a chunk is put after a stripe: at the next one, and after the last one nowhere
-abbrev pub behind : Job → Turn → Phase
+abbrev pub behind : FeedJob → Turn → Phase
 behind job t = if nat_lt (t.stripe + 1) job.stripes then Holds t.chunk (t.stripe + 1) else Idle
 
 -- Leave: one that has laid its chunk has put it there, and lets the next ticket be served
-abbrev pub leave : Job → Machine → ℕ → Phase → Option Machine
+abbrev pub leave : FeedJob → Machine → ℕ → Phase → Option Machine
 leave job m w (Laid t) =
     let s = stripe_at m t.stripe in let v = worker_at m w in
     Some (with_stripe t.stripe (record s { serving = s.serving + 1 }) (with_worker w (record v { phase = behind job t; puts = v.puts ++ (t.chunk, t.stripe) ∷ [] }) m))
@@ -128,7 +128,7 @@ join m w x =
     if not (w == x) && is_free v.phase && is_free u.phase then Some (with_worker x (newcomer Joined) (with_worker w (gathered v u) m)) else None
 
 -- the machine after an event, or None where the event isn't enabled
-abbrev pub happens : Job → Machine → Event → Option Machine
+abbrev pub happens : FeedJob → Machine → Event → Option Machine
 happens job m (Draw w) = draw job m w (worker_at m w).phase
 happens job m (Ticket w) = ticket m w (worker_at m w).phase
 happens job m (Look w) = look m w (worker_at m w).phase
@@ -144,6 +144,6 @@ Tells None answer old new = (answer ≡ false) × (new ≡ old)
 Tells (Some after) answer old new = (answer ≡ true) × (new ≡ after)
 
 -- the machine after these events, of which those that are not enabled change nothing
-abbrev pub run : Job → Machine → List Event → Machine
+abbrev pub run : FeedJob → Machine → List Event → Machine
 run job m [] = m
 run job m (e ∷ es) = run job (unwrap_or (happens job m e) m) es

@@ -2,7 +2,7 @@
 ghost use Rattle.std.specs.Prelude.{◌≡◌, ◌<◌, [], length, replicate, slice_get, Some, IfOk, OnOk, OnErr};
 ghost use Rattle.gq_core.specs.Batches.{Gains};
 
-use gq_list::Memory;
+use gq_base::OutOfMemory;
 use gq_value::Input;
 use std::alloc::Global;
 use std::marker::Model;
@@ -32,7 +32,7 @@ impl Model for Batches {
 
 impl Batches {
     /// Lists without contributions, one for each stripe.
-    pub fn new(alloc: Global, stripes: u32) -> Result<Batches, Memory>
+    pub fn new(alloc: Global, stripes: u32) -> Result<Batches, OutOfMemory>
         requires { 0 < stripes }
         ensures { IfOk result (λ b. b ≡ replicate stripes []) }
     {
@@ -59,9 +59,9 @@ impl Batches {
         self.lists[stripe].as_slice()
     }
 
-    /// Adds one contribution to the list of its stripe. After want of memory the lists are as they were, and the input is
+    /// Adds one contribution to the list of its stripe. After `OutOfMemory` the lists are as they were, and the input is
     /// given up.
-    pub fn add(&mut self, target: u64, input: Input) -> Result<(), Memory>
+    pub fn add(&mut self, target: u64, input: Input) -> Result<(), OutOfMemory>
         ensures ok { OnOk result (Gains self.old self.new target input) }
         ensures err { OnErr result (self.new ≡ self.old) }
     {

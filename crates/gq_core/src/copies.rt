@@ -2,13 +2,13 @@
 ghost use Rattle.std.specs.Prelude.{◌≡◌, ◌<◌, ◌++◌, IfOk, OnOk, OnErr};
 ghost use Rattle.gq_core.specs.Batches.{batch_of};
 
-use crate::Contributions;
-use gq_list::{List, Memory};
+use crate::job::Contributions;
+use gq_base::{List, OutOfMemory};
 use gq_value::{Input, Inputs, duplicate_row};
 use std::alloc::Global;
 
 #[cycle(inputs)]
-fn copy_of_input(alloc: Global, input: &Input) -> Result<Input, Memory>
+fn copy_of_input(alloc: Global, input: &Input) -> Result<Input, OutOfMemory>
     ensures { IfOk result (λ copy. copy ≡ input.now) }
 {
     match input {
@@ -21,7 +21,7 @@ fn copy_of_input(alloc: Global, input: &Input) -> Result<Input, Memory>
 }
 
 #[cycle(inputs)]
-fn copy_of_inputs(alloc: Global, inputs: &[Input]) -> Result<Inputs, Memory>
+fn copy_of_inputs(alloc: Global, inputs: &[Input]) -> Result<Inputs, OutOfMemory>
     ensures { IfOk result (λ copy. copy ≡ inputs.now) }
 {
     let mut copy = List::new(alloc);
@@ -32,7 +32,7 @@ fn copy_of_inputs(alloc: Global, inputs: &[Input]) -> Result<Inputs, Memory>
 }
 
 /// A copy of contributions, in order.
-pub fn copy_of_all(alloc: Global, inputs: &[(u64, Input)]) -> Result<Contributions, Memory>
+pub fn copy_of_all(alloc: Global, inputs: &[(u64, Input)]) -> Result<Contributions, OutOfMemory>
     ensures { IfOk result (λ copy. copy ≡ inputs.now) }
 {
     let mut copy = List::new(alloc);
@@ -42,14 +42,14 @@ pub fn copy_of_all(alloc: Global, inputs: &[(u64, Input)]) -> Result<Contributio
     Ok(copy)
 }
 
-/// Puts a copy of what of `inputs` goes to a stripe behind `list`. After Memory part of it may be there.
+/// Puts a copy of what of `inputs` goes to a stripe behind `list`. After OutOfMemory part of it may be there.
 fn push_batch(
     alloc: Global,
     list: &mut Contributions,
     inputs: &[(u64, Input)],
     stripes: u32,
     stripe: u32,
-) -> Result<(), Memory>
+) -> Result<(), OutOfMemory>
     requires { 0 < stripes }
     ensures ok { OnOk result (list.new ≡ list.old ++ batch_of stripes stripe inputs.now) }
     ensures err { OnErr result ((part : _) × (list.new ≡ list.old ++ part)) }
@@ -62,14 +62,14 @@ fn push_batch(
     Ok(())
 }
 
-/// Puts a copy of what of `inputs` goes to a stripe behind `list`, which after Memory is as it was.
+/// Puts a copy of what of `inputs` goes to a stripe behind `list`, which after OutOfMemory is as it was.
 pub fn add_batch(
     alloc: Global,
     list: &mut Contributions,
     inputs: &[(u64, Input)],
     stripes: u32,
     stripe: u32,
-) -> Result<(), Memory>
+) -> Result<(), OutOfMemory>
     requires { 0 < stripes }
     ensures ok { OnOk result (list.new ≡ list.old ++ batch_of stripes stripe inputs.now) }
     ensures err { OnErr result (list.new ≡ list.old) }

@@ -2,7 +2,7 @@
 ghost use Rattle.std.specs.Prelude.{◌≡◌, ◌<◌, [], ◌∷◌, ◌++◌, OnOk, OnErr};
 
 use crate::copies::copy_of_all;
-use gq_list::{List, Memory};
+use gq_base::{List, OutOfMemory};
 use gq_value::Input;
 use std::alloc::Global;
 
@@ -11,27 +11,27 @@ pub type Contributions = List<(u64, Input)>;
 
 /// What is to be fed: chunks of contributions, in order, and the number of stripes, at least 1.
 #[derive(Debug, Drop)]
-pub struct Job {
+pub struct FeedJob {
     pub chunks: List<Contributions>,
     pub stripes: u32,
     ghost some: { 0 < stripes },
 }
 
-impl Job {
+impl FeedJob {
     /// A job without chunks, which takes no memory.
-    pub fn new(alloc: Global, stripes: u32) -> Job
+    pub fn new(alloc: Global, stripes: u32) -> FeedJob
         requires { 0 < stripes }
         ensures chunks { result.chunks ≡ [] }
         ensures stripes { result.stripes ≡ stripes }
     {
-        Job {
+        FeedJob {
             chunks: List::new(alloc),
             stripes,
         }
     }
 
-    /// Puts a copy of `inputs` behind the chunks. After want of memory the job is as it was.
-    pub fn add_chunk(&mut self, alloc: Global, inputs: &Contributions) -> Result<(), Memory>
+    /// Puts a copy of `inputs` behind the chunks. After `OutOfMemory` the job is as it was.
+    pub fn add_chunk(&mut self, alloc: Global, inputs: &Contributions) -> Result<(), OutOfMemory>
         ensures ok { OnOk result (self.new.chunks ≡ self.old.chunks ++ inputs.now ∷ []) }
         ensures err { OnErr result (self.new.chunks ≡ self.old.chunks) }
         ensures stripes { self.new.stripes ≡ self.old.stripes }

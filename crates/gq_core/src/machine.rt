@@ -5,8 +5,11 @@ ghost use Rattle.gq_core.specs.Accounts.{IsInOrder};
 
 mod events;
 
-use crate::{Event, Job, Phase, Stripe, Worker};
-use gq_list::Memory;
+use crate::event::Event;
+use crate::job::FeedJob;
+use crate::stripe::Stripe;
+use crate::worker::{Phase, Worker};
+use gq_base::OutOfMemory;
 use std::alloc::Global;
 use std::marker::Model;
 
@@ -33,7 +36,7 @@ impl Model for Core {
 
 impl Core {
     /// A core with worker 0 alone, which has drawn nothing.
-    pub fn open(alloc: Global, job: &Job) -> Result<Core, Memory>
+    pub fn open(alloc: Global, job: &FeedJob) -> Result<Core, OutOfMemory>
         ensures opening { IfOk result (λ core. core ≡ opening job.now) }
         ensures order { IfOk result (IsInOrder job.now) }
     {
@@ -51,8 +54,13 @@ impl Core {
     }
 }
 
-/// Takes one event, and answers whether it was enabled. After false and after want of memory the core is as it was.
-pub fn step(alloc: Global, core: &mut Core, job: &Job, event: Event) -> Result<bool, Memory>
+/// Takes one event, and answers whether it was enabled. After false and after `OutOfMemory` the core is as it was.
+pub fn step(
+    alloc: Global,
+    core: &mut Core,
+    job: &FeedJob,
+    event: Event,
+) -> Result<bool, OutOfMemory>
     requires { IsInOrder job.now core.old }
     ensures happens { IfOk result (λ done. Tells (happens job.now core.old event) done core.old core.new) }
     ensures err { OnErr result (core.new ≡ core.old) }

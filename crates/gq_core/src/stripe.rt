@@ -2,8 +2,9 @@
 ghost use Rattle.std.specs.Prelude.{◌≡◌, ◌+◌, ◌^◌, ◌<◌, length, OnOk, OnErr};
 
 use crate::copies::add_batch;
-use crate::{Contributions, Job, Turn};
-use gq_list::{List, Memory};
+use crate::job::{Contributions, FeedJob};
+use crate::worker::Turn;
+use gq_base::{List, OutOfMemory};
 use std::alloc::Global;
 
 /// One stripe: its tickets, the chunks that were laid there, with their inputs, and who has it away.
@@ -52,8 +53,8 @@ impl Stripe {
         ticket
     }
 
-    /// Lays a chunk's batch behind what was there, and is at home again. After want of memory nothing has changed.
-    pub fn lay(&mut self, alloc: Global, job: &Job, turn: Turn) -> Result<(), Memory>
+    /// Lays a chunk's batch behind what was there, and is at home again. After `OutOfMemory` nothing has changed.
+    pub fn lay(&mut self, alloc: Global, job: &FeedJob, turn: Turn) -> Result<(), OutOfMemory>
         requires { turn.chunk < length job.now.chunks }
         ensures ok { OnOk result (self.new ≡ laid job.now turn self.old) }
         ensures err { OnErr result (self.new ≡ self.old) }

@@ -2,7 +2,7 @@
 ghost use Rattle.std.specs.Prelude.{◌≡◌, [], ◌∷◌, ◌++◌, OnOk, OnErr};
 ghost use Rattle.gq_core.specs.declared.worker.Phase.TheVariants.{Holds};
 
-use gq_list::{List, Memory};
+use gq_base::{List, OutOfMemory};
 use std::alloc::Global;
 
 /// A chunk at a stripe, with the ticket that was taken for it there.
@@ -75,7 +75,7 @@ impl Worker {
     }
 
     /// Draws a chunk, and holds it at the first stripe.
-    pub fn draw(&mut self, chunk: u64) -> Result<(), Memory>
+    pub fn draw(&mut self, chunk: u64) -> Result<(), OutOfMemory>
         ensures ok { OnOk result (self.new ≡ record self.old { phase = Holds chunk 0; draws = self.old.draws ++ chunk ∷ [] }) }
         ensures err { OnErr result (self.new ≡ self.old) }
     {
@@ -85,7 +85,7 @@ impl Worker {
     }
 
     /// Has put its chunk at a stripe, and goes on to another phase.
-    pub fn put(&mut self, chunk: u64, stripe: u32, next: Phase) -> Result<(), Memory>
+    pub fn put(&mut self, chunk: u64, stripe: u32, next: Phase) -> Result<(), OutOfMemory>
         ensures ok { OnOk result (self.new ≡ record self.old { phase = next; puts = self.old.puts ++ (chunk, stripe) ∷ [] }) }
         ensures err { OnErr result (self.new ≡ self.old) }
     {
@@ -95,7 +95,7 @@ impl Worker {
     }
 
     /// Takes the draws and puts of another worker beside its own, or none of them.
-    pub fn gather(&mut self, other: &Worker) -> Result<(), Memory>
+    pub fn gather(&mut self, other: &Worker) -> Result<(), OutOfMemory>
         ensures ok { OnOk result (self.new ≡ gathered self.old other.now) }
         ensures err { OnErr result (self.new ≡ self.old) }
     {
@@ -111,8 +111,8 @@ impl Worker {
     }
 }
 
-/// Puts copies of `items` behind a list. After want of memory some of them may be there.
-fn push_all<T: Copy>(list: &mut List<T>, items: &[T]) -> Result<(), Memory>
+/// Puts copies of `items` behind a list. After `OutOfMemory` some of them may be there.
+fn push_all<T: Copy>(list: &mut List<T>, items: &[T]) -> Result<(), OutOfMemory>
     ensures ok { OnOk result (list.new ≡ list.old ++ items.now) }
     ensures err { OnErr result ((part : _) × (list.new ≡ list.old ++ part)) }
 {
@@ -122,8 +122,8 @@ fn push_all<T: Copy>(list: &mut List<T>, items: &[T]) -> Result<(), Memory>
     Ok(())
 }
 
-/// Puts copies of `items` behind a list, which after want of memory is as it was.
-fn append<T: Copy>(list: &mut List<T>, items: &[T]) -> Result<(), Memory>
+/// Puts copies of `items` behind a list, which after `OutOfMemory` is as it was.
+fn append<T: Copy>(list: &mut List<T>, items: &[T]) -> Result<(), OutOfMemory>
     ensures ok { OnOk result (list.new ≡ list.old ++ items.now) }
     ensures err { OnErr result (list.new ≡ list.old) }
 {

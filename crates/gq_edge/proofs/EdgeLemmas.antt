@@ -1,11 +1,11 @@
 -- Edges under their names: the walk to the row of a name.
 use Rattle.std.proofs.Common.{ℕ, ◌≡◌, Bool, true, false, List, length, get_or, Option, Some, None, ap, sym, ◌∙◌, subst}
 use Rattle.std.proofs.lemmas.List.{get_or_read}
-use Rattle.gq_hash.specs.Last.{IsLast}
-use Rattle.gq_hash.proofs.Seeks.{Seeks, seek_starts, seek_goes, seek_none, seek_found}
-use Rattle.gq_value.specs.declared.store.EdgeRow.{EdgeRow}
-use Rattle.gq_value.specs.declared.store.Naming.{Naming}
-use Rattle.gq_value.specs.Edges.{is_edge, edge_number, no_edge}
+use Rattle.gq_base.specs.Last.{IsLast}
+use Rattle.gq_base.proofs.Seeks.{Seeks, seek_starts, seek_goes, seek_none, seek_found}
+use Rattle.gq_graph.specs.declared.rows.EdgeRow.{EdgeRow}
+use Rattle.gq_graph.specs.declared.rows.Naming.{Naming}
+use Rattle.gq_graph.specs.Edges.{is_edge, edge_number, no_edge}
 use Rattle.gq_edge.specs.Hashed.{edge_hash}
 use Rattle.gq_edge.specs.Named.{IsFindable}
 

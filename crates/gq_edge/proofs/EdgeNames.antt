@@ -6,14 +6,14 @@ use Rattle.std.specs.declared.cmp.Ordering.TheVariants.{Less, Equal, Greater}
 use Rattle.std.specs.Ordering.{is_eq, ordering_reverse}
 use Rattle.std.proofs.lemmas.Bool.Decides.{nat_tests}
 use Rattle.gq_value.specs.declared.value.Value.{Value}
-use Rattle.gq_value.specs.declared.store.EdgeRow.{EdgeRow}
-use Rattle.gq_value.specs.declared.store.Naming.{Naming}
+use Rattle.gq_graph.specs.declared.rows.EdgeRow.{EdgeRow}
+use Rattle.gq_graph.specs.declared.rows.Naming.{Naming}
 use Rattle.gq_value.specs.Val.{Val}
 use Rattle.gq_value.specs.Views.{val}
 use Rattle.gq_value.specs.Order.{place}
 use Rattle.gq_value.specs.OrderLaws.{place_same, place_total}
-use Rattle.gq_value.specs.Edges.{same_value, same_values, same_ends, is_edge}
-use Rattle.gq_hash.specs.Hash.{mixed}
+use Rattle.gq_graph.specs.Edges.{same_value, same_values, same_ends, is_edge}
+use Rattle.gq_base.specs.Hash.{mixed}
 use Rattle.gq_edge.specs.Hashed.{first_end, second_end, values_hash, edge_hash}
 
 pub record EdgeName : Type 0 where

@@ -7,10 +7,10 @@ use Rattle.std.proofs.lemmas.Bool.Decides.{eqb_tells, nat_tests}
 use Rattle.std.proofs.lemmas.List.{length-map, get_or-map, map_push, get_or_append_left, get_or_push, length_push, get_or-set_same, get_or-set_other}
 use Rattle.std.proofs.lemmas.List.Folds.{find-append}
 use Rattle.std.proofs.lemmas.List.Quantifiers.{position-Some}
-use Rattle.gq_hash.proofs.Seeks.{nowhere}
-use Rattle.gq_value.specs.declared.store.EdgeRow.{EdgeRow}
-use Rattle.gq_value.specs.declared.store.Naming.{Naming}
-use Rattle.gq_value.specs.Edges.{EdgeTable, is_edge, edge_number, edge_put, upsert_edge, no_edge, edge_at, naming_of, noted, Agrees, most_edges}
+use Rattle.gq_base.proofs.Seeks.{nowhere}
+use Rattle.gq_graph.specs.declared.rows.EdgeRow.{EdgeRow}
+use Rattle.gq_graph.specs.declared.rows.Naming.{Naming}
+use Rattle.gq_graph.specs.Edges.{EdgeTable, is_edge, edge_number, edge_put, upsert_edge, no_edge, edge_at, naming_of, noted, Agrees, most_edges}
 use Rattle.gq_value.specs.Val.{Val}
 use Rattle.gq_value.specs.Views.{val}
 use Rattle.gq_edge.specs.Hashed.{edge_hash}

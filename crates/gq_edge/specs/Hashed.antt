@@ -1,9 +1,9 @@
 -- Hashed: the hash of an edge's name. The same names have the same hash; nothing else is promised of it.
 use Rattle.std.specs.Prelude.{ℕ, ◌/◌, ◌%◌, nat_le, ◌||◌, Bool, if◌then◌else◌, List, [], ◌∷◌, take, map, fold}
 use Rattle.std.specs.Int.{cast_unsigned, w64}
-use Rattle.gq_hash.specs.Hash.{mixed, hash_from}
-use Rattle.gq_value.specs.declared.store.EdgeRow.{EdgeRow}
-use Rattle.gq_value.specs.declared.store.Naming.{Naming}
+use Rattle.gq_base.specs.Hash.{mixed, hash_from}
+use Rattle.gq_graph.specs.declared.rows.EdgeRow.{EdgeRow}
+use Rattle.gq_graph.specs.declared.rows.Naming.{Naming}
 use Rattle.gq_value.specs.Val.{Val, Int, UInt, Truth, Text, Vertex, Tuple, Fraction, bit}
 use Rattle.gq_value.specs.Views.{val}
 

@@ -1,8 +1,8 @@
 -- Named: what the table of edges keeps beside its rows, namely how each type is named, and the hash of each row's name.
 use Rattle.std.specs.Prelude.{ℕ, ◌≡◌, ◌<◌, ◌≤◌, false, true, is_some, unwrap_or, List, length, map, slice_index}
-use Rattle.gq_value.specs.declared.store.EdgeRow.{EdgeRow}
-use Rattle.gq_value.specs.declared.store.Naming.{Naming}
-use Rattle.gq_value.specs.Edges.{is_edge, edge_at, naming_of, most_edges}
+use Rattle.gq_graph.specs.declared.rows.EdgeRow.{EdgeRow}
+use Rattle.gq_graph.specs.declared.rows.Naming.{Naming}
+use Rattle.gq_graph.specs.Edges.{is_edge, edge_at, naming_of, most_edges}
 use Rattle.gq_edge.specs.Hashed.{edge_hash}
 
 -- how the edges of a type that has rows are named

@@ -1,13 +1,14 @@
 // The table of edges.
 ghost use Rattle.std.specs.Prelude.{◌≡◌, ◌<◌, ◌≤◌, ◌↔◌, ◌++◌, [], ◌∷◌, length, slice_set, take, is_some, vec_len, vec_capacity, Some, None, Err, IfOk, MatchResult};
 ghost use Rattle.std.specs.Option.{unwrap_or};
-ghost use Rattle.gq_value.specs.Edges.{Agrees, edge_with, naming_with, edge_number, upsert_edge, edge_at, noted, naming_of, most_edges};
+ghost use Rattle.gq_graph.specs.Edges.{Agrees, edge_with, naming_with, edge_number, upsert_edge, edge_at, noted, naming_of, most_edges};
 ghost use Rattle.gq_edge.specs.Named.{AreNamed};
 
 use crate::find::find;
 use crate::hash::edge_hash;
-use gq_hash::Hashes;
-use gq_value::{EdgeRow, Memory, Naming, Row, StoreFault, duplicate_row};
+use gq_base::{Hashes, OutOfMemory};
+use gq_graph::{EdgeRow, Naming, StoreFault};
+use gq_value::{Row, duplicate_row};
 use std::alloc::Global;
 use std::marker::Model;
 
@@ -25,7 +26,7 @@ pub struct Edges {
 impl Model for Edges {
     ghost use Rattle.std.specs.Coded.{codes};
     ghost use Rattle.gq_value.specs.contracts.value.Value as value;
-    ghost use Rattle.gq_value.specs.Edges.{EdgeTable};
+    ghost use Rattle.gq_graph.specs.Edges.{EdgeTable};
     ghost use Rattle.gq_edge.specs.Named.{AreNamed};
 
     ghost Value = { EdgeTable };
@@ -123,14 +124,14 @@ impl Edges {
                     edge,
                 ) {
                     Ok(number) => Ok(number),
-                    Err(Memory) => Err(StoreFault::Memory),
+                    Err(OutOfMemory) => Err(StoreFault::OutOfMemory),
                 }
             }
         }
     }
 
     /// An equal table with memory of its own.
-    pub fn duplicate(&self) -> Result<Edges, Memory>
+    pub fn duplicate(&self) -> Result<Edges, OutOfMemory>
         ensures { IfOk result (λ copy. copy ≡ self.now) }
     {
         let alloc = *self.rows.allocator();
@@ -142,7 +143,7 @@ impl Edges {
     }
 }
 
-fn copied(alloc: Global, rows: &[EdgeRow]) -> Result<Vec<EdgeRow>, Memory>
+fn copied(alloc: Global, rows: &[EdgeRow]) -> Result<Vec<EdgeRow>, OutOfMemory>
     ensures { IfOk result (λ copy. copy.items ≡ rows.now) }
 {
     let mut copy = Vec::with_capacity(alloc, rows.len())?;
@@ -164,7 +165,7 @@ fn add(
     hashes: &mut Hashes,
     naming: Naming,
     edge: EdgeRow,
-) -> Result<u32, Memory>
+) -> Result<u32, OutOfMemory>
     requires named { AreNamed rows.old.items namings.old.items hashes.old }
     requires agrees { Agrees namings.old.items naming }
     requires kind { edge.kind ≡ naming.kind }

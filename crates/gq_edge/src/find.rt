@@ -1,11 +1,11 @@
 // Edges by name.
 ghost use Rattle.std.specs.Prelude.{◌≡◌, ◌≤◌, length, take};
-ghost use Rattle.gq_value.specs.Edges as edges;
+ghost use Rattle.gq_graph.specs.Edges as edges;
 ghost use Rattle.gq_edge.specs.Named.{IsFindable};
 
 use crate::hash::edge_hash;
-use gq_hash::Hashes;
-use gq_value::{EdgeRow, Naming};
+use gq_base::Hashes;
+use gq_graph::{EdgeRow, Naming};
 
 /// The number of the row of an edge's name.
 pub(crate) fn find(rows: &[EdgeRow], hashes: &Hashes, naming: Naming, edge: &EdgeRow) -> Option<u32>

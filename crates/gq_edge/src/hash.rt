@@ -3,8 +3,9 @@ ghost use Rattle.std.specs.Prelude.{◌≡◌, ◌≤◌, length, map};
 ghost use Rattle.gq_value.specs.Views.{val};
 ghost use Rattle.gq_edge.specs.Hashed as spec;
 
-use gq_hash::{mixed, text_hash, wide_hash};
-use gq_value::{EdgeRow, Naming, Value};
+use gq_base::{mixed, text_hash, wide_hash};
+use gq_graph::{EdgeRow, Naming};
+use gq_value::Value;
 
 /// The hash of an edge's name.
 pub(crate) fn edge_hash(naming: Naming, edge: &EdgeRow) -> u32

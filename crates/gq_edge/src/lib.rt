@@ -1,10 +1,11 @@
-//! The edges of a store, each under one name.
+//! The edges of a store, each with a name of its own.
 //!
-//! An edge is named by its type, its two ends, which have no order in an undirected type, and the values of its
-//! discriminators. `Edges` keeps the rows in a list and finds a row by the hash of its name, so that many edges between two
-//! vertices, told apart by discriminators, are found as fast as any others.
+//! The name of an edge is its type, its two ends (unordered if the type is undirected) and the values of its
+//! discriminators. `Edges` keeps its rows in a list and finds a row by the hash of its name, so edges that
+//! differ only in their discriminators are found as fast as others.
 //!
-//! Read `Edges.antt` of `gq_value` first: what an upsert does to a list of rows.
+//! Read `Edges.antt` of `gq_graph` first: what an upsert does to a list of rows. Then read `specs/Named.antt`
+//! and `specs/Hashed.antt`. The table is in `src/edges.rt`, the lookup in `src/find.rt`.
 #![tactic(auto)]
 
 mod edges;

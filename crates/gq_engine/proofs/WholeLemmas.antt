@@ -3,13 +3,13 @@ use Rattle.std.proofs.Common.{◌≡◌, ℕ, ◌+◌, ◌<◌, ◌≤◌, inl, 
 use Rattle.std.specs.List.{slice_get}
 use Rattle.std.proofs.lemmas.Option.{slice_get-get_or, slice_get_past}
 use Rattle.std.proofs.lemmas.Bool.{cases_lt}
-use Rattle.gq_value.specs.Catalog.{Schema}
-use Rattle.gq_value.specs.Vertices.{vertex_at}
-use Rattle.gq_value.specs.declared.catalog.VertexType.{VertexType}
-use Rattle.gq_value.specs.declared.store.VertexRow.{VertexRow}
-use Rattle.gq_value.specs.declared.store.EdgeRow.{EdgeRow}
-use Rattle.gq_fields.specs.Worlds.{HaveAttributes}
-use Rattle.gq_view.specs.Ends.{HaveEnds}
+use Rattle.gq_graph.specs.Catalog.{Schema}
+use Rattle.gq_graph.specs.Vertices.{vertex_at}
+use Rattle.gq_graph.specs.declared.types.VertexType.{VertexType}
+use Rattle.gq_graph.specs.declared.rows.VertexRow.{VertexRow}
+use Rattle.gq_graph.specs.declared.rows.EdgeRow.{EdgeRow}
+use Rattle.gq_eval_attributes.specs.Worlds.{HaveAttributes}
+use Rattle.gq_eval_context.specs.Ends.{HaveEnds}
 use Rattle.gq_engine.specs.Engines.{HasAttributes, HasEnds}
 
 -- ---- attributes

@@ -1,20 +1,20 @@
 -- Engines: the run of a plan over a catalog and a store, and rows that are whole.
 use Rattle.std.specs.Prelude.{◌≡◌, ℕ, ◌<◌, ◌≤◌, List, [], length, slice_get, Some}
-use Rattle.gq_value.specs.Catalog.{Schema}
-use Rattle.gq_value.specs.Vertices.{vertex_at}
+use Rattle.gq_graph.specs.Catalog.{Schema}
+use Rattle.gq_graph.specs.Vertices.{vertex_at}
 use Rattle.gq_value.specs.Val.{Val}
-use Rattle.gq_value.specs.declared.catalog.VertexType.{VertexType}
-use Rattle.gq_value.specs.declared.store.VertexRow.{VertexRow}
-use Rattle.gq_value.specs.declared.store.EdgeRow.{EdgeRow}
+use Rattle.gq_graph.specs.declared.types.VertexType.{VertexType}
+use Rattle.gq_graph.specs.declared.rows.VertexRow.{VertexRow}
+use Rattle.gq_graph.specs.declared.rows.EdgeRow.{EdgeRow}
 use Rattle.gq_index.specs.declared.store.Store.{Store}
-use Rattle.gq_meaning.specs.Answers.{Answer}
-use Rattle.gq_meaning.specs.Calendars.{Calendar}
-use Rattle.gq_meaning.specs.Queries.{run_plan}
-use Rattle.gq_meaning.specs.Statements.{Fault}
-use Rattle.gq_resolved.specs.declared.plan.Plan.{Plan}
-use Rattle.gq_resolved.specs.Belonging.{world_of}
-use Rattle.gq_resolved.specs.PlanView.{accum_names, view_plan}
-use Rattle.gq_view.specs.Looks.{graph_for}
+use Rattle.gq_rules_meaning.specs.Answers.{Answer}
+use Rattle.gq_rules_meaning.specs.Calendars.{Calendar}
+use Rattle.gq_rules_meaning.specs.Queries.{run_plan}
+use Rattle.gq_rules_meaning.specs.Statements.{Fault}
+use Rattle.gq_plan_ir.specs.declared.plan.Plan.{Plan}
+use Rattle.gq_plan_ir.specs.Belonging.{world_of}
+use Rattle.gq_plan_ir.specs.PlanView.{accum_names, view_plan}
+use Rattle.gq_eval_context.specs.Looks.{graph_for}
 use Rattle.gq_flow.specs.Plans.{Objects}
 
 -- what a plan prints over a catalog and a store

@@ -3,25 +3,25 @@ ghost use Rattle.std.specs.Prelude.{◌≡◌, map};
 ghost use Rattle.gq_value.specs.Views.{val};
 ghost use Rattle.gq_index.specs.Sights.{sight_of};
 ghost use Rattle.gq_index.specs.Walks.{adjacency};
-ghost use Rattle.gq_meaning.specs.Answers.{Answer};
-ghost use Rattle.gq_meaning.specs.Statements.{Fault};
-ghost use Rattle.gq_calendar.specs.Gregorian.{gregorian};
-ghost use Rattle.gq_fields.specs.Worlds.{HaveAttributes};
-ghost use Rattle.gq_view.specs.Ends.{HaveEnds};
+ghost use Rattle.gq_rules_meaning.specs.Answers.{Answer};
+ghost use Rattle.gq_rules_meaning.specs.Statements.{Fault};
+ghost use Rattle.gq_rules_calendar.specs.Gregorian.{gregorian};
+ghost use Rattle.gq_eval_attributes.specs.Worlds.{HaveAttributes};
+ghost use Rattle.gq_eval_context.specs.Ends.{HaveEnds};
 ghost use Rattle.gq_flow.specs.Plans.{Objects, Prints};
-ghost use Rattle.gq_runs.specs.Runs.{Runs};
+ghost use Rattle.gq_query_run.specs.Runs.{Runs};
 ghost use Rattle.gq_engine.specs.Engines.{plan_over};
 
 use crate::whole::{has_attributes, has_ends};
-use gq_control::RunFault as PlanFault;
+use gq_base::List;
+use gq_exec_control::RunFault as PlanFault;
 use gq_flow::{Workers, run_query};
 use gq_index::{Graph, Index, Store};
 use gq_io::{AnyGate, Shape};
 use gq_json::Printed;
-use gq_list::List;
 use gq_plan::plan;
-use gq_resolved::Plan;
-use gq_runs::{RunFault, RunsQueries};
+use gq_plan_ir::Plan;
+use gq_query_run::{QueryFault, RunsQueries};
 use gq_schema::Catalog;
 use gq_tree::QueryTree;
 use gq_value::Row;
@@ -46,14 +46,14 @@ impl<'g> RunsQueries for Engine<'g> {
         arguments: &Row,
         shape: &Shape,
         turns: u64,
-    ) -> Result<List<Printed>, RunFault> {
+    ) -> Result<List<Printed>, QueryFault> {
         let workers = Workers {
             rt,
             shape: *shape,
             gate: self.gate,
         };
         match plan(alloc, catalog, graph, query) {
-            Err(_) => Err(RunFault::Memory),
+            Err(_) => Err(QueryFault::OutOfMemory),
             Ok(plan) => run_plan(&workers, alloc, catalog, store, &plan, arguments, turns),
         }
     }
@@ -68,14 +68,14 @@ fn run_plan<R: Threads + Sync>(
     plan: &Plan,
     arguments: &Row,
     turns: u64,
-) -> Result<List<Printed>, RunFault>
+) -> Result<List<Printed>, QueryFault>
     ensures { Runs (plan_over catalog.now store.now gregorian plan.now (map val arguments.now) turns) result }
 {
     if !has_attributes(catalog, &store.vertices) || !has_ends(store) {
-        return Err(RunFault::Memory);
+        return Err(QueryFault::OutOfMemory);
     }
     match Index::build(alloc, catalog, store) {
-        Err(_) => Err(RunFault::Memory),
+        Err(_) => Err(QueryFault::OutOfMemory),
         Ok(index) => run_indexed(
             workers, alloc, catalog, store, &index, plan, arguments, turns,
         ),
@@ -92,7 +92,7 @@ fn run_indexed<'x, R: Threads + Sync>(
     plan: &'x Plan,
     arguments: &Row,
     turns: u64,
-) -> Result<List<Printed>, RunFault>
+) -> Result<List<Printed>, QueryFault>
     requires indexed { index.now ≡ adjacency (sight_of catalog.now store.now.vertices store.now.edges) }
     requires attributes { HaveAttributes catalog.now store.now.vertices }
     requires ends { HaveEnds store.now.vertices store.now.edges.rows }
@@ -107,15 +107,15 @@ fn run_indexed<'x, R: Threads + Sync>(
 }
 
 /// What a run of a plan gives, as the run of a query.
-fn told(answer: Result<List<Printed>, PlanFault>) -> Result<List<Printed>, RunFault>
+fn told(answer: Result<List<Printed>, PlanFault>) -> Result<List<Printed>, QueryFault>
     ensures { (o : Answer Fault Objects) → Prints o answer → Runs o result }
 {
     match answer {
         Ok(printed) => Ok(printed),
-        Err(PlanFault::Eval(wrong)) => Err(RunFault::Wrong(wrong)),
-        Err(PlanFault::SumRange(slot)) => Err(RunFault::SumRange(slot)),
-        Err(PlanFault::LoopBound) => Err(RunFault::LoopBound),
-        Err(PlanFault::PathBound) => Err(RunFault::PathBound),
-        Err(PlanFault::Memory) => Err(RunFault::Memory),
+        Err(PlanFault::Eval(wrong)) => Err(QueryFault::Wrong(wrong)),
+        Err(PlanFault::SumRange(slot)) => Err(QueryFault::SumRange(slot)),
+        Err(PlanFault::LoopBound) => Err(QueryFault::LoopBound),
+        Err(PlanFault::PathBound) => Err(QueryFault::PathBound),
+        Err(PlanFault::OutOfMemory) => Err(QueryFault::OutOfMemory),
     }
 }

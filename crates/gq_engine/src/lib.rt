@@ -1,6 +1,9 @@
 //! The engine: runs the queries of a session over its catalog and store.
 //!
-//! A query is planned, the store is indexed, and the plan runs. Read `specs/Engines.antt` first.
+//! It plans a query, builds the index over the store, and executes the plan. It implements the trait
+//! `RunsQueries` of `gq_query_run`.
+//!
+//! Read `specs/Engines.antt` first. The implementation is in `src/engine.rt`.
 #![tactic(auto)]
 
 mod engine;

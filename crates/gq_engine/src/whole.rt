@@ -1,13 +1,13 @@
 // Rows that are whole.
 ghost use Rattle.std.specs.Prelude.{◌≡◌, ◌<◌, Some, length, slice_get, true};
 ghost use Rattle.std.specs.Option.{option_copied};
-ghost use Rattle.gq_fields.specs.Worlds.{HaveAttributes};
-ghost use Rattle.gq_view.specs.Ends.{HaveEnds};
+ghost use Rattle.gq_eval_attributes.specs.Worlds.{HaveAttributes};
+ghost use Rattle.gq_eval_context.specs.Ends.{HaveEnds};
 ghost use Rattle.gq_engine.specs.Engines.{HasAttributes, HasEnds};
 
+use gq_graph::{EdgeRow, VertexType};
 use gq_index::Store;
 use gq_schema::Catalog;
-use gq_value::{EdgeRow, VertexType};
 use gq_vertex::Vertices;
 
 /// Whether each vertex has a value for each attribute of its type.
@@ -36,7 +36,7 @@ fn has_own(catalog: &Catalog, vertices: &Vertices, vertex: u32) -> bool
 }
 
 /// A vertex type by its number, if there is one.
-#[tactic(auto, using(gq_fields::proofs::VertexLemmas::type_laws))]
+#[tactic(auto, using(gq_eval_attributes::proofs::VertexLemmas::type_laws))]
 fn vertex_type(catalog: &Catalog, kind: u32) -> Option<&VertexType>
     ensures { slice_get catalog.now.vertex_types kind ≡ option_copied result }
 {

@@ -1,5 +1,2 @@
-pub mod RunLemmas
-pub mod CallSteps
-pub mod MethodSteps
-pub mod ListSteps
 pub mod SoundSteps
+pub mod TypedLemmas

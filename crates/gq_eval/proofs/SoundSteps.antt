@@ -9,19 +9,19 @@ use Rattle.gq_value.specs.declared.value.Wrong.{Wrong}
 use Rattle.gq_value.specs.Val.{Val, Int, UInt, Truth, Text, Vertex, Tuple, Fraction}
 use Rattle.gq_value.specs.Accums.{STRING}
 use Rattle.gq_value.specs.Arithmetic.{multiplied, divided, remainder, added, subtracted, negated}
-use Rattle.gq_typing.specs.Words.{DatetimeAdd, unit_named}
-use Rattle.gq_resolved.specs.Reference.{Reference}
-use Rattle.gq_meaning.specs.Answers.{Answer, Gives, Faults, Stuck, ◌>>=◌, found, of_result}
-use Rattle.gq_meaning.specs.Calendars.{IsCalendar}
-use Rattle.gq_meaning.specs.Calls.{function_of}
-use Rattle.gq_meaning.specs.Meanings.{Meant, Is, Outcome, numbered, as_number, as_bytes, at_time}
-use Rattle.gq_meaning.specs.Expressions.{Look, calculated, product, summed, minus}
-use Rattle.gq_seen.specs.declared.seen.Seen.{Seen}
-use Rattle.gq_seen.specs.declared.seen.Seen.TheVariants as seen
-use Rattle.gq_seen.specs.declared.halt.Halt.{Halt}
-use Rattle.gq_seen.specs.Meant.{meant, Tells}
-use Rattle.gq_seen.specs.Sound.{Sound}
-use Rattle.gq_call.specs.Clock.{ByClock}
+use Rattle.gq_rules_typing.specs.Words.{DatetimeAdd, unit_named}
+use Rattle.gq_plan_ir.specs.Reference.{Reference}
+use Rattle.gq_rules_meaning.specs.Answers.{Answer, Gives, Faults, Stuck, ◌>>=◌, found, of_result}
+use Rattle.gq_rules_meaning.specs.Calendars.{IsCalendar}
+use Rattle.gq_rules_meaning.specs.Calls.{function_of}
+use Rattle.gq_rules_meaning.specs.Meanings.{Meant, Is, Outcome, numbered, as_number, as_bytes, at_time}
+use Rattle.gq_rules_meaning.specs.Expressions.{Look, calculated, product, summed, minus}
+use Rattle.gq_eval_operand.specs.declared.seen.Seen.{Seen}
+use Rattle.gq_eval_operand.specs.declared.seen.Seen.TheVariants as seen
+use Rattle.gq_eval_operand.specs.declared.halt.Halt.{Halt}
+use Rattle.gq_eval_operand.specs.Meant.{meant, Tells}
+use Rattle.gq_eval_operand.specs.Sound.{Sound}
+use Rattle.gq_eval_builtins.specs.Clock.{ByClock}
 
 -- a value, of a type
 abbrev pub IsValue : Meant → Type 0

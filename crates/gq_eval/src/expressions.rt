@@ -2,34 +2,35 @@
 ghost use Rattle.std.specs.Prelude.{◌≡◌, IfOk, map, Some};
 ghost use Rattle.gq_value.specs.Views.{val};
 ghost use Rattle.gq_tree.specs.Tree as plain;
-ghost use Rattle.gq_typing.specs.Words as words;
-ghost use Rattle.gq_meaning.specs.Answers.{Gives};
-ghost use Rattle.gq_meaning.specs.Meanings.{literal};
-ghost use Rattle.gq_meaning.specs.Expressions.{value_of, truth_of, meaning, arguments};
-ghost use Rattle.gq_meaning.specs.Expressions.{meaning_parts, meaning_part, meaning_factors, meaning_terms, meaning_all, meaning_any};
-ghost use Rattle.gq_resolved.specs.Reference.{TupleType, Calls, Does};
-ghost use Rattle.gq_resolved.specs.ExprView.{view, views, view_behind, view_parts, view_factors, view_terms, function_of, method_of};
-ghost use Rattle.gq_seen.specs.Meant.{meant, valued, itself, Tells};
-ghost use Rattle.gq_seen.specs.Sound.{Sound};
-ghost use Rattle.gq_call.specs.Wants.{wants_are};
-ghost use Rattle.gq_eval.specs.Steps.{true_meant, times_meaning, plus_meaning, int_value};
+ghost use Rattle.gq_rules_typing.specs.Words as words;
+ghost use Rattle.gq_rules_meaning.specs.Answers.{Gives};
+ghost use Rattle.gq_rules_meaning.specs.Meanings.{literal};
+ghost use Rattle.gq_rules_meaning.specs.Expressions.{value_of, truth_of, meaning, arguments};
+ghost use Rattle.gq_rules_meaning.specs.Expressions.{meaning_parts, meaning_part, meaning_factors, meaning_terms, meaning_all, meaning_any};
+ghost use Rattle.gq_plan_ir.specs.Reference.{TupleType, Calls, Does};
+ghost use Rattle.gq_plan_ir.specs.ExprView.{view, views, view_behind, view_parts, view_factors, view_terms, function_of, method_of};
+ghost use Rattle.gq_eval_operand.specs.Meant.{meant, valued, itself, Tells};
+ghost use Rattle.gq_eval_operand.specs.Sound.{Sound};
+ghost use Rattle.gq_eval_builtins.specs.Wants.{wants_are};
+ghost use Rattle.gq_eval_builtins.specs.Steps.{true_meant, times_meaning, plus_meaning, int_value};
 
-use crate::call::{is_single, units_later};
-use crate::method::{attached, degree_of, earlier, sized};
-use gq_call::{Wants, contained, contains, contains_key, datetime_diff, get, key_wants, one};
-use gq_list::List;
-use gq_resolved::{Behind, Expr, Function, Method};
-use gq_seen::{
+use gq_base::List;
+use gq_eval_builtins::{
+    Wants, attached, contained, contains, contains_key, datetime_diff, degree_of, earlier, get,
+    is_single, key_wants, one, sized, units_later,
+};
+use gq_eval_operand::{
     Halt, Operand, Seen, Sees, Sort, compared, converted, converted_to, minus, nots, own, product,
     summed, truly, truth, value,
 };
+use gq_plan_ir::{Behind, Expr, Function, Method};
 use gq_tree::{AddSign, MulSign};
 use gq_value::{Number, Row, Value};
 use std::alloc::Global;
 
 /// What an expression is, or the first fault in order of text.
 #[cycle(eval)]
-#[tactic(auto, using(gq_resolved::proofs::ViewLaws::view_laws, gq_value::specs::ViewLaws::view_laws, crate::proofs::RunLemmas::run_laws, crate::proofs::RunLemmas::cmp_laws, crate::proofs::SoundSteps::minus_sound))]
+#[tactic(auto, using(gq_plan_ir::proofs::ViewLaws::view_laws, gq_value::specs::ViewLaws::view_laws, gq_eval_builtins::proofs::RunLemmas::run_laws, gq_eval_builtins::proofs::RunLemmas::cmp_laws, crate::proofs::SoundSteps::minus_sound))]
 pub fn run<'v, V: Sees>(expr: &'v Expr, alloc: Global, sight: &'v V) -> Result<Seen<'v>, Halt>
     ensures told { Tells meant (meaning (V.look sight.entry.now) (view expr.entry.now)) result }
     ensures sound { IfOk result Sound }
@@ -53,7 +54,7 @@ pub fn run<'v, V: Sees>(expr: &'v Expr, alloc: Global, sight: &'v V) -> Result<S
 
 /// What an operation on operands gives. A function of its own, since the common names and fields are to pay for no operand's room.
 #[cycle(eval)]
-#[tactic(auto, using(gq_resolved::proofs::ViewLaws::view_laws, crate::proofs::RunLemmas::run_laws, crate::proofs::RunLemmas::cmp_laws, crate::proofs::SoundSteps::minus_sound))]
+#[tactic(auto, using(gq_plan_ir::proofs::ViewLaws::view_laws, gq_eval_builtins::proofs::RunLemmas::run_laws, gq_eval_builtins::proofs::RunLemmas::cmp_laws, crate::proofs::SoundSteps::minus_sound))]
 fn operated<'v, V: Sees>(expr: &'v Expr, alloc: Global, sight: &'v V) -> Result<Seen<'v>, Halt>
     ensures told { Tells meant (meaning (V.look sight.entry.now) (view expr.entry.now)) result }
     ensures sound { IfOk result Sound }
@@ -109,7 +110,7 @@ fn literal<'a>(n: u64) -> Seen<'a>
 
 /// The value that an expression is.
 #[cycle(eval)]
-#[tactic(auto, using(crate::proofs::RunLemmas::run_laws))]
+#[tactic(auto, using(gq_eval_builtins::proofs::RunLemmas::run_laws))]
 pub fn run_value<'v, V: Sees>(
     expr: &'v Expr,
     alloc: Global,
@@ -123,7 +124,7 @@ pub fn run_value<'v, V: Sees>(
 
 /// The truth that an expression is.
 #[cycle(eval)]
-#[tactic(auto, using(crate::proofs::RunLemmas::run_laws))]
+#[tactic(auto, using(gq_eval_builtins::proofs::RunLemmas::run_laws))]
 pub fn run_truth<V: Sees>(expr: &Expr, alloc: Global, sight: &V) -> Result<bool, Halt>
     ensures { Tells itself (truth_of (V.look sight.now) (view expr.now)) result }
 {
@@ -133,7 +134,7 @@ pub fn run_truth<V: Sees>(expr: &Expr, alloc: Global, sight: &V) -> Result<bool,
 
 /// A product, from what stands before.
 #[cycle(eval)]
-#[tactic(auto, using(crate::proofs::RunLemmas::chain_laws))]
+#[tactic(auto, using(gq_eval_builtins::proofs::RunLemmas::chain_laws))]
 fn run_factors<'v, V: Sees>(
     factors: &'v [(MulSign, Expr)],
     alloc: Global,
@@ -151,7 +152,7 @@ fn run_factors<'v, V: Sees>(
 }
 
 #[cycle(eval)]
-#[tactic(auto, using(crate::proofs::RunLemmas::step_laws, crate::proofs::SoundSteps::sound_laws))]
+#[tactic(auto, using(gq_eval_builtins::proofs::RunLemmas::step_laws, crate::proofs::SoundSteps::sound_laws))]
 fn times<'v, V: Sees>(
     factor: &'v Expr,
     sign: MulSign,
@@ -169,7 +170,7 @@ fn times<'v, V: Sees>(
 
 /// A sum, from what stands before.
 #[cycle(eval)]
-#[tactic(auto, using(crate::proofs::RunLemmas::chain_laws))]
+#[tactic(auto, using(gq_eval_builtins::proofs::RunLemmas::chain_laws))]
 fn run_terms<'v, V: Sees>(
     terms: &'v [(AddSign, Expr)],
     alloc: Global,
@@ -187,7 +188,7 @@ fn run_terms<'v, V: Sees>(
 }
 
 #[cycle(eval)]
-#[tactic(auto, using(crate::proofs::RunLemmas::step_laws, crate::proofs::SoundSteps::sound_laws))]
+#[tactic(auto, using(gq_eval_builtins::proofs::RunLemmas::step_laws, crate::proofs::SoundSteps::sound_laws))]
 fn plus<'v, V: Sees>(
     term: &'v Expr,
     sign: AddSign,
@@ -205,7 +206,7 @@ fn plus<'v, V: Sees>(
 
 /// AND, from a truth; what stands behind a false operand isn't evaluated.
 #[cycle(eval)]
-#[tactic(auto, using(crate::proofs::ListSteps::truth_at))]
+#[tactic(auto, using(gq_eval_builtins::proofs::ListSteps::truth_at))]
 fn run_all<'v, V: Sees>(
     others: &[Expr],
     alloc: Global,
@@ -228,7 +229,7 @@ fn run_all<'v, V: Sees>(
 
 /// OR, from a truth; what stands behind a true operand isn't evaluated.
 #[cycle(eval)]
-#[tactic(auto, using(crate::proofs::ListSteps::truth_at))]
+#[tactic(auto, using(gq_eval_builtins::proofs::ListSteps::truth_at))]
 fn run_any<'v, V: Sees>(
     others: &[Expr],
     alloc: Global,
@@ -250,7 +251,7 @@ fn run_any<'v, V: Sees>(
 
 /// What stands behind dots, from what stands before.
 #[cycle(eval)]
-#[tactic(auto, using(crate::proofs::RunLemmas::chain_laws))]
+#[tactic(auto, using(gq_eval_builtins::proofs::RunLemmas::chain_laws))]
 fn run_parts<'v, V: Sees>(
     parts: &'v [Behind],
     alloc: Global,
@@ -269,7 +270,7 @@ fn run_parts<'v, V: Sees>(
 }
 
 #[cycle(eval)]
-#[tactic(auto, using(gq_resolved::proofs::ViewLaws::view_laws, crate::proofs::RunLemmas::part_laws))]
+#[tactic(auto, using(gq_plan_ir::proofs::ViewLaws::view_laws, gq_eval_builtins::proofs::RunLemmas::part_laws))]
 fn run_part<'v, V: Sees>(
     part: &'v Behind,
     alloc: Global,
@@ -293,7 +294,7 @@ fn run_part<'v, V: Sees>(
 
 /// Arguments from left to right, each converted before the next is evaluated.
 #[cycle(eval)]
-#[tactic(auto, using(crate::proofs::RunLemmas::row_laws, crate::proofs::ListSteps::row_at))]
+#[tactic(auto, using(gq_eval_builtins::proofs::RunLemmas::row_laws, gq_eval_builtins::proofs::ListSteps::row_at))]
 fn run_row<V: Sees>(exprs: &[Expr], alloc: Global, sight: &V, wants: Wants<'_>) -> Result<Row, Halt>
     ensures { Tells (map val) (arguments (V.look sight.now) (map Some (wants_are wants.entry)) (views exprs.now)) result }
 {
@@ -340,7 +341,7 @@ fn called<'v, V: Sees>(
 
 /// A tuple of a type.
 #[cycle(eval)]
-#[tactic(auto, using(gq_value::specs::ViewLaws::view_laws, crate::proofs::CallSteps::made_laws))]
+#[tactic(auto, using(gq_value::specs::ViewLaws::view_laws, gq_eval_builtins::proofs::CallSteps::made_laws))]
 fn made<'v, V: Sees>(
     arguments: &'v [Expr],
     number: u32,
@@ -361,7 +362,7 @@ fn made<'v, V: Sees>(
 
 /// A function of one argument. Of another number of arguments nothing is said.
 #[cycle(eval)]
-#[tactic(auto, using(crate::proofs::ListSteps::one_found))]
+#[tactic(auto, using(gq_eval_builtins::proofs::ListSteps::one_found))]
 fn single<'v, V: Sees>(
     arguments: &'v [Expr],
     function: &'v Function,
@@ -384,7 +385,7 @@ fn single<'v, V: Sees>(
 }
 
 #[cycle(eval)]
-#[tactic(auto, using(crate::proofs::ListSteps::two_found))]
+#[tactic(auto, using(gq_eval_builtins::proofs::ListSteps::two_found))]
 fn difference<'v, V: Sees>(
     arguments: &'v [Expr],
     alloc: Global,
@@ -404,7 +405,7 @@ fn difference<'v, V: Sees>(
 }
 
 #[cycle(eval)]
-#[tactic(auto, using(crate::proofs::ListSteps::three_laws))]
+#[tactic(auto, using(gq_eval_builtins::proofs::ListSteps::three_laws))]
 fn later<'v, V: Sees>(arguments: &'v [Expr], alloc: Global, sight: &'v V) -> Result<Seen<'v>, Halt>
     ensures told { Tells meant (meaning (V.look sight.entry.now) (plain.Call (Calls words.DatetimeAdd) (views arguments.entry.now))) result }
     ensures sound { IfOk result Sound }
@@ -453,7 +454,7 @@ fn method_called<'v, V: Sees>(
 }
 
 #[cycle(eval)]
-#[tactic(auto, using(crate::proofs::MethodSteps::contains_stuck, crate::proofs::ListSteps::contains_found))]
+#[tactic(auto, using(gq_eval_builtins::proofs::MethodSteps::contains_stuck, gq_eval_builtins::proofs::ListSteps::contains_found))]
 fn containing<'v, V: Sees>(
     arguments: &'v [Expr],
     alloc: Global,
@@ -478,7 +479,7 @@ fn containing<'v, V: Sees>(
 }
 
 #[cycle(eval)]
-#[tactic(auto, using(crate::proofs::MethodSteps::key_laws))]
+#[tactic(auto, using(gq_eval_builtins::proofs::MethodSteps::key_laws))]
 fn containing_key<'v, V: Sees>(
     arguments: &'v [Expr],
     alloc: Global,
@@ -494,7 +495,7 @@ fn containing_key<'v, V: Sees>(
 }
 
 #[cycle(eval)]
-#[tactic(auto, using(crate::proofs::MethodSteps::key_laws))]
+#[tactic(auto, using(gq_eval_builtins::proofs::MethodSteps::key_laws))]
 fn gotten<'v, V: Sees>(
     arguments: &'v [Expr],
     alloc: Global,

@@ -1,11 +1,20 @@
-//! Evaluation: what an expression of a plan is, of whatever it looks at.
+//! The evaluator of expressions: the value of a plan's expression, over any type with the trait `Sees`.
 //!
-//! `run` mirrors the definition of what an expression means, `Expressions.antt` of `gq_meaning`: a function for each list of parts.
-//! It takes any expression; one that isn't well typed ends with `Stuck` or `Outside`.
+//! `run` mirrors the definition in `Expressions.antt` of `gq_rules_meaning`, with a function for each list of
+//! operands. It lends values where it can; `eval` and `eval_whole` return owned ones. It accepts any
+//! expression: one that isn't well typed ends with `Stuck` or `Outside`.
+//!
+//! Read `Meant.antt` of `gq_eval_operand` first, then `specs/Typed.antt`: what a well-typed expression gives.
+//! The code begins in `src/expressions.rt`. `src/values.rt` and `src/collections.rt` have the owned results,
+//! and `src/laws.rt` the law that typed expressions are never stuck.
 #![tactic(auto)]
 
-mod call;
+mod collections;
 mod expressions;
-mod method;
+mod laws;
+mod values;
 
+pub use collections::eval_whole;
 pub use expressions::{run, run_truth, run_value};
+pub use laws::{no_typed_collection_is_stuck, no_typed_value_is_stuck};
+pub use values::eval;

@@ -5,7 +5,7 @@ use Rattle.gq_tree.specs.declared.expr.Node.TheVariants as node
 use Rattle.gq_tree.specs.declared.expr.Part.{Part}
 use Rattle.gq_tree.specs.declared.expr.AddSign.{AddSign}
 use Rattle.gq_tree.specs.declared.expr.MulSign.{MulSign}
-use Rattle.gq_tree.specs.Shapes.{post_at, neg_at, mul_at, sum_at, not_at, and_at, or_at}
+use Rattle.gq_grammar.specs.Shapes.{post_at, neg_at, mul_at, sum_at, not_at, and_at, or_at}
 
 -- a tree that is made of a first part and of others, where there are others
 module _ {A : Type 0} (at : Node → List A → Node) (tree : Node → List A → Node)

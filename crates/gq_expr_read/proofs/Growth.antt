@@ -1,9 +1,9 @@
 -- Growth: the grammar without its count of levels. An expression derives exactly where its production does over expressions that derive.
 use Rattle.std.proofs.Common.{ℕ, zero, suc}
 use Rattle.gq_tree.specs.declared.expr.Node.{Node}
-use Rattle.gq_tree.specs.Shapes.{named, part_of, post_of, neg_of, mul_of, sum_of, cmp_of, not_of, and_of, or_of}
-use Rattle.gq_tree.specs.Expressions as g
-use Rattle.gq_tree.specs.Expressions.{Nested, Derives}
+use Rattle.gq_grammar.specs.Shapes.{named, part_of, post_of, neg_of, mul_of, sum_of, cmp_of, not_of, and_of, or_of}
+use Rattle.gq_grammar.specs.Expressions as g
+use Rattle.gq_grammar.specs.Expressions.{Nested, Derives}
 use Rattle.gq_grammar.specs.Lexemes.{Lexemes, sign, word}
 use Rattle.gq_grammar.specs.Languages.{Language}
 use Rattle.gq_grammar.proofs.GrowthLemmas.{Grows, fixed, then_grows, many_grows, maybe_grows, either_grows, made_grows, after_grows, enclosed_grows, separated_grows, step_grows}

@@ -5,9 +5,9 @@ use Rattle.gq_tree.specs.declared.expr.Node.TheVariants as node
 use Rattle.gq_tree.specs.declared.expr.AddSign.TheVariants as add
 use Rattle.gq_tree.specs.declared.expr.MulSign.TheVariants as mul
 use Rattle.gq_tree.specs.declared.expr.CmpSign.TheVariants as cmp
-use Rattle.gq_tree.specs.Shapes.{named, part_of, attached_of, post_of, neg_of, mul_of, sum_of, cmp_of, not_of, and_of, or_of}
-use Rattle.gq_tree.specs.Expressions as g
-use Rattle.gq_tree.specs.Expressions.{Nested, Derives}
+use Rattle.gq_grammar.specs.Shapes.{named, part_of, attached_of, post_of, neg_of, mul_of, sum_of, cmp_of, not_of, and_of, or_of}
+use Rattle.gq_grammar.specs.Expressions as g
+use Rattle.gq_grammar.specs.Expressions.{Nested, Derives}
 use Rattle.gq_grammar.specs.Lexemes.{Lexemes, Terminal, Name, Number, Text, Global, Attached, sign, word, spelling, number, said}
 use Rattle.gq_grammar.specs.Reserved.{is_reserved}
 use Rattle.gq_grammar.specs.Languages.{Language, ◌then◌}

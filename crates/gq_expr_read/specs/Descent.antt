@@ -10,7 +10,7 @@ use Rattle.gq_tree.specs.declared.expr.MulSign.{MulSign}
 use Rattle.gq_tree.specs.declared.expr.MulSign.TheVariants as times
 use Rattle.gq_tree.specs.declared.expr.CmpSign.{CmpSign}
 use Rattle.gq_tree.specs.declared.expr.CmpSign.TheVariants as compare
-use Rattle.gq_tree.specs.Shapes.{named, part_of, attached_of, post_of, neg_of, mul_of, sum_of, cmp_of, not_of, and_of, or_of}
+use Rattle.gq_grammar.specs.Shapes.{named, part_of, attached_of, post_of, neg_of, mul_of, sum_of, cmp_of, not_of, and_of, or_of}
 use Rattle.gq_grammar.specs.Lexemes.{Name, Number, Text, Global, Attached, sign, word, spelling, number, said}
 use Rattle.gq_grammar.specs.Parsers.{Parser, token, both, made, ◌or◌, maybe, many, one, stands, after, enclosed, separated}
 

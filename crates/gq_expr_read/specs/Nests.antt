@@ -2,7 +2,7 @@
 use Rattle.std.specs.Prelude.{ℕ, ◌≤◌, length, Option, Result, IfOk}
 use Rattle.std.specs.Borrow.{Bor}
 use Rattle.std.specs.declared.alloc.Global.{Global}
-use Rattle.gq_list.specs.declared.memory.Memory.{Memory}
+use Rattle.gq_base.specs.declared.memory.OutOfMemory.{OutOfMemory}
 use Rattle.gq_tree.specs.declared.expr.Node.{Node}
 use Rattle.gq_grammar.specs.Lexemes.{Lexemes}
 use Rattle.gq_grammar.specs.Parsers.{Found}
@@ -10,7 +10,7 @@ use Rattle.gq_expr_read.specs.Descent.{expr}
 
 -- it reads expressions of so many levels, from any place
 pub record Nests (all : Lexemes) (levels : ℕ) (pre : Global → Bor Lexemes → ℕ → ℕ → Type 0)
-    (post : Global → Bor Lexemes → ℕ → ℕ → Result (Option (Node × ℕ)) Memory → Type 0) : Type 0 where
+    (post : Global → Bor Lexemes → ℕ → ℕ → Result (Option (Node × ℕ)) OutOfMemory → Type 0) : Type 0 where
   pub callable : (alloc : Global) (source : Bor Lexemes) (at : ℕ) → at ≤ length source.now → pre alloc source levels at
-  pub reads : (alloc : Global) (source : Bor Lexemes) (at : ℕ) (r : Result (Option (Node × ℕ)) Memory) → post alloc source levels at r
+  pub reads : (alloc : Global) (source : Bor Lexemes) (at : ℕ) (r : Result (Option (Node × ℕ)) OutOfMemory) → post alloc source levels at r
       → IfOk r (Found (expr levels) source.now at)

@@ -1,8 +1,8 @@
 // The tree that each production makes of its parts. A chain of one is what it consists of.
 ghost use Rattle.std.specs.Prelude.{◌≡◌, IfOk};
-ghost use Rattle.gq_tree.specs.Shapes as shapes;
+ghost use Rattle.gq_grammar.specs.Shapes as shapes;
 
-use gq_list::{Boxed, List, Memory};
+use gq_base::{Boxed, List, OutOfMemory};
 use gq_tree::{AddSign, CmpSign, MulSign, Node, Part};
 use gq_value::Txt;
 use std::alloc::Global;
@@ -26,7 +26,7 @@ pub fn part(name: Txt, arguments: Option<List<Node>>) -> Part
 }
 
 #[tactic(auto, using(crate::proofs::ChainLemmas::chains))]
-pub fn post(alloc: Global, first: Node, parts: List<Part>) -> Result<Node, Memory>
+pub fn post(alloc: Global, first: Node, parts: List<Part>) -> Result<Node, OutOfMemory>
     ensures { IfOk result (λ tree. tree ≡ shapes.post_at first parts) }
 {
     if parts.len() == 0 {
@@ -37,7 +37,7 @@ pub fn post(alloc: Global, first: Node, parts: List<Part>) -> Result<Node, Memor
 }
 
 #[tactic(auto, using(crate::proofs::ChainLemmas::chains))]
-pub fn neg(alloc: Global, signs: usize, operand: Node) -> Result<Node, Memory>
+pub fn neg(alloc: Global, signs: usize, operand: Node) -> Result<Node, OutOfMemory>
     ensures { IfOk result (λ tree. tree ≡ shapes.neg_at signs operand) }
 {
     if signs == 0 {
@@ -48,7 +48,7 @@ pub fn neg(alloc: Global, signs: usize, operand: Node) -> Result<Node, Memory>
 }
 
 #[tactic(auto, using(crate::proofs::ChainLemmas::chains))]
-pub fn mul(alloc: Global, first: Node, factors: List<(MulSign, Node)>) -> Result<Node, Memory>
+pub fn mul(alloc: Global, first: Node, factors: List<(MulSign, Node)>) -> Result<Node, OutOfMemory>
     ensures { IfOk result (λ tree. tree ≡ shapes.mul_at first factors) }
 {
     if factors.len() == 0 {
@@ -59,7 +59,7 @@ pub fn mul(alloc: Global, first: Node, factors: List<(MulSign, Node)>) -> Result
 }
 
 #[tactic(auto, using(crate::proofs::ChainLemmas::chains))]
-pub fn sum(alloc: Global, first: Node, terms: List<(AddSign, Node)>) -> Result<Node, Memory>
+pub fn sum(alloc: Global, first: Node, terms: List<(AddSign, Node)>) -> Result<Node, OutOfMemory>
     ensures { IfOk result (λ tree. tree ≡ shapes.sum_at first terms) }
 {
     if terms.len() == 0 {
@@ -69,7 +69,7 @@ pub fn sum(alloc: Global, first: Node, terms: List<(AddSign, Node)>) -> Result<N
     }
 }
 
-pub fn cmp(alloc: Global, left: Node, sign: CmpSign, right: Node) -> Result<Node, Memory>
+pub fn cmp(alloc: Global, left: Node, sign: CmpSign, right: Node) -> Result<Node, OutOfMemory>
     ensures { IfOk result (λ tree. tree ≡ Node.Cmp left sign right) }
 {
     let left = Boxed::new(alloc, left)?;
@@ -77,7 +77,7 @@ pub fn cmp(alloc: Global, left: Node, sign: CmpSign, right: Node) -> Result<Node
 }
 
 #[tactic(auto, using(crate::proofs::ChainLemmas::chains))]
-pub fn not(alloc: Global, words: usize, operand: Node) -> Result<Node, Memory>
+pub fn not(alloc: Global, words: usize, operand: Node) -> Result<Node, OutOfMemory>
     ensures { IfOk result (λ tree. tree ≡ shapes.not_at words operand) }
 {
     if words == 0 {
@@ -88,7 +88,7 @@ pub fn not(alloc: Global, words: usize, operand: Node) -> Result<Node, Memory>
 }
 
 #[tactic(auto, using(crate::proofs::ChainLemmas::chains))]
-pub fn and(alloc: Global, first: Node, others: List<Node>) -> Result<Node, Memory>
+pub fn and(alloc: Global, first: Node, others: List<Node>) -> Result<Node, OutOfMemory>
     ensures { IfOk result (λ tree. tree ≡ shapes.and_at first others) }
 {
     if others.len() == 0 {
@@ -99,7 +99,7 @@ pub fn and(alloc: Global, first: Node, others: List<Node>) -> Result<Node, Memor
 }
 
 #[tactic(auto, using(crate::proofs::ChainLemmas::chains))]
-pub fn or(alloc: Global, first: Node, others: List<Node>) -> Result<Node, Memory>
+pub fn or(alloc: Global, first: Node, others: List<Node>) -> Result<Node, OutOfMemory>
     ensures { IfOk result (λ tree. tree ≡ shapes.or_at first others) }
 {
     if others.len() == 0 {

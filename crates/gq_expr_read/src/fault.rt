@@ -1,7 +1,7 @@
 // Why nothing was read.
 ghost use Rattle.std.specs.Prelude.{◌≡◌};
 
-use gq_list::Memory;
+use gq_base::OutOfMemory;
 use thiserror::Error;
 
 /// Why nothing was read.
@@ -12,15 +12,15 @@ pub enum ReadFault {
     NoDerivation,
 
     #[error("out of memory")]
-    Memory,
+    OutOfMemory,
 }
 
-impl From<Memory> for ReadFault {
-    ghost use Rattle.gq_expr_read.specs.declared.fault.ReadFault.TheVariants.{Memory};
+impl From<OutOfMemory> for ReadFault {
+    ghost use Rattle.gq_expr_read.specs.declared.fault.ReadFault.TheVariants.{OutOfMemory};
 
-    ghost from_gives = { λ _ e. e ≡ Memory };
+    ghost from_gives = { λ _ e. e ≡ OutOfMemory };
 
-    fn from(_: Memory) -> Self {
-        ReadFault::Memory
+    fn from(_: OutOfMemory) -> Self {
+        ReadFault::OutOfMemory
     }
 }

@@ -6,8 +6,8 @@ ghost use Rattle.gq_expr_read.specs.Descent as spec;
 ghost use Rattle.gq_expr_read.specs.Nests.{Nests};
 
 use crate::read::Read;
+use gq_base::{List, OutOfMemory};
 use gq_grammar::Source;
-use gq_list::{List, Memory};
 use gq_tree::Node;
 use gq_value::Txt;
 use std::alloc::Global;
@@ -44,7 +44,7 @@ impl<'s, 'a, F: Fn(Global, &Source<'_>, usize, usize) -> Read<Node>> Grammar<'s,
     }
 
     #[tactic(auto, using(gq_grammar::proofs::LoopLemmas::loops))]
-    fn more_arguments(&self, from: usize) -> Result<(Vec<Node>, usize), Memory>
+    fn more_arguments(&self, from: usize) -> Result<(Vec<Node>, usize), OutOfMemory>
         requires nests { Nests self.now.source.now self.now.levels (F.pre self.now.expr) (F.post self.now.expr) }
         requires at { from ≤ length self.now.source.now }
         ensures { IfOk result (λ read. Found (many (after (lexemes.sign ",") (spec.expr self.now.levels))) self.now.source.now from (Some (read.0.items, read.1))) }
@@ -64,7 +64,7 @@ impl<'s, 'a, F: Fn(Global, &Source<'_>, usize, usize) -> Read<Node>> Grammar<'s,
     }
 
     #[tactic(auto, unfolding(gq_grammar::specs::Parsers::separated))]
-    fn arguments(&self, at: usize) -> Result<(List<Node>, usize), Memory>
+    fn arguments(&self, at: usize) -> Result<(List<Node>, usize), OutOfMemory>
         requires nests { Nests self.now.source.now self.now.levels (F.pre self.now.expr) (F.post self.now.expr) }
         requires at { at ≤ length self.now.source.now }
         ensures { IfOk result (λ read. Found (separated (spec.expr self.now.levels)) self.now.source.now at (Some read)) }

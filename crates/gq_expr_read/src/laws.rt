@@ -2,7 +2,7 @@
 ghost use Rattle.gq_grammar.specs.Lexemes.{Lexemes};
 ghost use Rattle.gq_grammar.specs.Reading.{HasOneTree};
 ghost use Rattle.gq_tree.specs.declared.expr.Node.{Node};
-ghost use Rattle.gq_tree.specs.Expressions.{Derives, Expr};
+ghost use Rattle.gq_grammar.specs.Expressions.{Derives, Expr};
 
 /// Does nothing. Its contract is a law: a list of tokens is one expression at most.
 pub fn one_tree()

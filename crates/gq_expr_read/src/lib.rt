@@ -1,8 +1,12 @@
-//! Reads the tokens of an expression into its tree.
+//! Parses expressions.
 //!
-//! The grammar is `gq_tree`'s `specs/Expressions.antt`. A function stands for each production, and no function but `expr` calls
-//! itself: `grammar.rt` has the reader that they are methods of, with the function for nested expressions in a field. Operands of
-//! one level are read by loops, so a long chain neither nests nor takes more than linear time.
+//! Each production of the grammar has one function, and only `expr` is recursive. The functions are methods
+//! of a parser that holds the function for nested expressions in a field. Operands of one precedence level
+//! are read by loops, so a long chain uses linear time and no stack.
+//!
+//! Read `Expressions.antt` of `gq_grammar` first, then `specs/Descent.antt`: what each function computes.
+//! `src/grammar.rt` has the parser, `src/logic.rt`, `src/sums.rt` and `src/primary.rt` the productions from
+//! loose to tight, and `src/read.rt` the entry point.
 #![tactic(auto)]
 
 mod chains;

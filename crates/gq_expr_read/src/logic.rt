@@ -8,8 +8,8 @@ ghost use Rattle.gq_expr_read.specs.Nests.{Nests};
 use crate::chains;
 use crate::grammar::Grammar;
 use crate::read::Read;
+use gq_base::{List, OutOfMemory};
 use gq_grammar::Source;
-use gq_list::{List, Memory};
 use gq_tree::{CmpSign, Node};
 use std::alloc::Global;
 
@@ -108,7 +108,7 @@ impl<'s, 'a, F: Fn(Global, &Source<'_>, usize, usize) -> Read<Node>> Grammar<'s,
     }
 
     #[tactic(auto, using(gq_grammar::proofs::LoopLemmas::loops))]
-    fn negations(&self, from: usize) -> Result<(List<Node>, usize), Memory>
+    fn negations(&self, from: usize) -> Result<(List<Node>, usize), OutOfMemory>
         requires nests { Nests self.now.source.now self.now.levels (F.pre self.now.expr) (F.post self.now.expr) }
         requires at { from ≤ length self.now.source.now }
         ensures { IfOk result (λ read. Found (many (after (lexemes.word "AND") (spec.negation (spec.expr self.now.levels)))) self.now.source.now from (Some read)) }
@@ -155,7 +155,7 @@ impl<'s, 'a, F: Fn(Global, &Source<'_>, usize, usize) -> Read<Node>> Grammar<'s,
     }
 
     #[tactic(auto, using(gq_grammar::proofs::LoopLemmas::loops))]
-    fn conjunctions(&self, from: usize) -> Result<(List<Node>, usize), Memory>
+    fn conjunctions(&self, from: usize) -> Result<(List<Node>, usize), OutOfMemory>
         requires nests { Nests self.now.source.now self.now.levels (F.pre self.now.expr) (F.post self.now.expr) }
         requires at { from ≤ length self.now.source.now }
         ensures { IfOk result (λ read. Found (many (after (lexemes.word "OR") (spec.conjunction (spec.expr self.now.levels)))) self.now.source.now from (Some read)) }

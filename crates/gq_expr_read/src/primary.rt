@@ -8,8 +8,8 @@ ghost use Rattle.gq_expr_read.specs.Nests.{Nests};
 use crate::chains;
 use crate::grammar::Grammar;
 use crate::read::Read;
+use gq_base::{List, OutOfMemory};
 use gq_grammar::Source;
-use gq_list::{List, Memory};
 use gq_tree::{Node, Part};
 use gq_value::Txt;
 use std::alloc::Global;
@@ -87,7 +87,7 @@ impl<'s, 'a, F: Fn(Global, &Source<'_>, usize, usize) -> Read<Node>> Grammar<'s,
     }
 
     #[tactic(auto, using(gq_grammar::proofs::LoopLemmas::loops))]
-    fn parts(&self, from: usize) -> Result<(List<Part>, usize), Memory>
+    fn parts(&self, from: usize) -> Result<(List<Part>, usize), OutOfMemory>
         requires nests { Nests self.now.source.now self.now.levels (F.pre self.now.expr) (F.post self.now.expr) }
         requires at { from ≤ length self.now.source.now }
         ensures { IfOk result (λ read. Found (many (spec.part (spec.expr self.now.levels))) self.now.source.now from (Some read)) }

@@ -4,19 +4,19 @@ ghost use Rattle.gq_token.specs.Cut.{IsSpelledIn};
 ghost use Rattle.gq_grammar.specs.Lexemes.{lexemes_of};
 ghost use Rattle.gq_grammar.specs.Parsers.{Found};
 ghost use Rattle.gq_grammar.specs.Reading.{IsLongest, HasNone};
-ghost use Rattle.gq_tree.specs.Expressions.{Derives};
+ghost use Rattle.gq_grammar.specs.Expressions.{Derives};
 ghost use Rattle.gq_expr_read.specs.Descent as spec;
 
 use crate::fault::ReadFault;
 use crate::grammar::Grammar;
+use gq_base::OutOfMemory;
 use gq_grammar::Source;
-use gq_list::Memory;
 use gq_token::Token;
 use gq_tree::Node;
 use std::alloc::Global;
 
 /// What is read, with the place after it, or None where there is nothing of its kind.
-pub type Read<T> = Result<Option<(T, usize)>, Memory>;
+pub type Read<T> = Result<Option<(T, usize)>, OutOfMemory>;
 
 /// The longest expression from `at` on, and the place after it, where it nests in no more than `levels` levels.
 ///

@@ -7,8 +7,8 @@ ghost use Rattle.gq_expr_read.specs.Nests.{Nests};
 use crate::chains;
 use crate::grammar::Grammar;
 use crate::read::Read;
+use gq_base::{List, OutOfMemory};
 use gq_grammar::Source;
-use gq_list::{List, Memory};
 use gq_tree::{AddSign, MulSign, Node};
 use std::alloc::Global;
 
@@ -41,7 +41,7 @@ impl<'s, 'a, F: Fn(Global, &Source<'_>, usize, usize) -> Read<Node>> Grammar<'s,
     }
 
     #[tactic(auto, using(gq_grammar::proofs::LoopLemmas::loops))]
-    fn factors(&self, from: usize) -> Result<(List<(MulSign, Node)>, usize), Memory>
+    fn factors(&self, from: usize) -> Result<(List<(MulSign, Node)>, usize), OutOfMemory>
         requires nests { Nests self.now.source.now self.now.levels (F.pre self.now.expr) (F.post self.now.expr) }
         requires at { from ≤ length self.now.source.now }
         ensures { IfOk result (λ read. Found (many (spec.factor (spec.expr self.now.levels))) self.now.source.now from (Some read)) }
@@ -102,7 +102,7 @@ impl<'s, 'a, F: Fn(Global, &Source<'_>, usize, usize) -> Read<Node>> Grammar<'s,
     }
 
     #[tactic(auto, using(gq_grammar::proofs::LoopLemmas::loops))]
-    fn terms(&self, from: usize) -> Result<(List<(AddSign, Node)>, usize), Memory>
+    fn terms(&self, from: usize) -> Result<(List<(AddSign, Node)>, usize), OutOfMemory>
         requires nests { Nests self.now.source.now self.now.levels (F.pre self.now.expr) (F.post self.now.expr) }
         requires at { from ≤ length self.now.source.now }
         ensures { IfOk result (λ read. Found (many (spec.term (spec.expr self.now.levels))) self.now.source.now from (Some read)) }

@@ -3,34 +3,34 @@ use Rattle.std.proofs.Common.{◌≡◌, ℕ, true, false, List, reverse, Some, 
 use Rattle.std.specs.Prelude.{slice_get}
 use Rattle.gq_value.specs.declared.kind.Slot as code
 use Rattle.gq_value.specs.AccumViews.{accum_of}
-use Rattle.gq_typing.specs.Selecting as plain
-use Rattle.gq_meaning.specs.Answers.{Answer, Gives, ◌>>=◌, blaming}
-use Rattle.gq_meaning.specs.Calendars.{Calendar}
-use Rattle.gq_meaning.specs.Expressions.{Look}
-use Rattle.gq_meaning.specs.States as states
-use Rattle.gq_meaning.specs.States.{State}
-use Rattle.gq_meaning.specs.Statements.{of_write}
-use Rattle.gq_meaning.specs.Writes.{WriteFault, made_by, slots_changed}
-use Rattle.gq_resolved.specs.Reference.{Reference, Slot}
-use Rattle.gq_slots.specs.declared.accums.Accums.{Accums}
-use Rattle.gq_seen.specs.declared.halt.Halt.{Halt}
-use Rattle.gq_seen.specs.declared.halt.Halt.TheVariants as halt
-use Rattle.gq_seen.specs.Meant.{Tells}
+use Rattle.gq_rules_typing.specs.Selecting as plain
+use Rattle.gq_rules_meaning.specs.Answers.{Answer, Gives, ◌>>=◌, blaming}
+use Rattle.gq_rules_meaning.specs.Calendars.{Calendar}
+use Rattle.gq_rules_meaning.specs.Expressions.{Look}
+use Rattle.gq_rules_meaning.specs.States as states
+use Rattle.gq_rules_meaning.specs.States.{State}
+use Rattle.gq_rules_meaning.specs.Statements.{of_write}
+use Rattle.gq_rules_meaning.specs.Writes.{WriteFault, made_by, slots_changed}
+use Rattle.gq_plan_ir.specs.Reference.{Reference, Slot}
+use Rattle.gq_frame.specs.declared.accums.Accums.{Accums}
+use Rattle.gq_eval_operand.specs.declared.halt.Halt.{Halt}
+use Rattle.gq_eval_operand.specs.declared.halt.Halt.TheVariants as halt
+use Rattle.gq_eval_operand.specs.Meant.{Tells}
 use Rattle.gq_frame.specs.Slots.{AreSound, slots_are}
-use Rattle.gq_names.specs.declared.live.Live.{Live}
-use Rattle.gq_names.specs.Lives.{Lives, Unwinds}
-use Rattle.gq_control.specs.declared.running.RunFault.{RunFault}
-use Rattle.gq_control.specs.declared.running.RunFault.TheVariants as fault
-use Rattle.gq_control.specs.Standing.{Ends}
-use Rattle.gq_control.proofs.ControlLemmas.{ends_bind, ends_same}
-use Rattle.gq_write.specs.declared.making.Made.{Made}
-use Rattle.gq_write.specs.Changing.{Changed}
-use Rattle.gq_write.specs.Making.{making_of}
-use Rattle.gq_write.proofs.WriteLaws.{change_faults, change_made}
-use Rattle.gq_ground.specs.Grounds.{Basis, look_on, world_on}
-use Rattle.gq_ground.specs.Faults.{fault_of}
-use Rattle.gq_ground.specs.Changes.{Becomes}
-use Rattle.gq_ground.proofs.GroundLemmas.{look_there, shows_of}
+use Rattle.gq_frame.specs.declared.live.Live.{Live}
+use Rattle.gq_frame.specs.Lives.{Lives, Unwinds}
+use Rattle.gq_exec_control.specs.declared.running.RunFault.{RunFault}
+use Rattle.gq_exec_control.specs.declared.running.RunFault.TheVariants as fault
+use Rattle.gq_exec_control.specs.Standing.{Ends}
+use Rattle.gq_exec_control.proofs.ControlLemmas.{ends_bind, ends_same}
+use Rattle.gq_exec_post.specs.declared.making.Made.{Made}
+use Rattle.gq_exec_post.specs.Changing.{Changed}
+use Rattle.gq_exec_post.specs.Making.{making_of}
+use Rattle.gq_exec_post.proofs.WriteLaws.{change_faults, change_made}
+use Rattle.gq_exec_control.specs.Grounds.{Basis, look_on, world_on}
+use Rattle.gq_exec_control.specs.Faults.{fault_of}
+use Rattle.gq_exec_control.specs.Changes.{Becomes}
+use Rattle.gq_exec_control.proofs.GroundLemmas.{look_there, shows_of}
 use Rattle.gq_flow.specs.Steps.{Makes, global_so}
 
 -- ---- what is made
@@ -41,7 +41,7 @@ makes_told look a n change s (Ok m) e t = (s, e, t)
 makes_told look a n change s (Err (halt.Wrong w)) e t = (s, e, t)
 makes_told look a n change s (Err halt.Stuck) e t = tt
 makes_told look a n change s (Err halt.Outside) e t = tt
-makes_told look a n change s (Err halt.Memory) e t = tt
+makes_told look a n change s (Err halt.OutOfMemory) e t = tt
 
 pub ruleset makes_laws = (makes_told)
 
@@ -61,7 +61,7 @@ module _ (clock : Calendar) (b : Basis) (n : ℕ) (change : plain.Change Referen
   ends_so (halt.Wrong w) m = ap (blaming of_write) (change_faults (look_on clock b old.frame) old.frame.accums n 0 change m.0 refl m.1 w m.2)
   ends_so halt.Stuck m = tt
   ends_so halt.Outside m = tt
-  ends_so halt.Memory m = tt
+  ends_so halt.OutOfMemory m = tt
 
   pub change_stops : (new : Live) (h : Halt) (e : RunFault) → e ≡ fault_of h → Makes (look_on clock b old.frame) old.frame.accums n change (Err h) → Becomes b.plan.places (global_so (world_on clock b) n change) old new (Err e)
   change_stops new h e is m = record {

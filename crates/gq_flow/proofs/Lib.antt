@@ -1,3 +1,5 @@
+pub mod SelectLemmas
+pub mod AssignLemmas
 pub mod ChangeLemmas
 pub mod PrintLemmas
 pub mod ProgramLemmas

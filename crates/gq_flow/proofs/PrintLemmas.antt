@@ -3,34 +3,34 @@ use Rattle.std.proofs.Common.{◌≡◌, List, [], ◌∷◌, ◌++◌, map, Res
 use Rattle.std.proofs.lemmas.List.{map-append}
 use Rattle.gq_json.specs.declared.out.Printed.{Printed}
 use Rattle.gq_value.specs.declared.value.Wrong.{Wrong}
-use Rattle.gq_typing.specs.Statements as plain
-use Rattle.gq_typing.specs.Statements.{Bytes}
-use Rattle.gq_meaning.specs.Answers.{Answer, Gives, ◌>>=◌, blaming}
-use Rattle.gq_meaning.specs.Built.{built_print}
-use Rattle.gq_meaning.specs.Calendars.{Calendar}
-use Rattle.gq_meaning.specs.Expressions.{World}
-use Rattle.gq_meaning.specs.Outs.{Out}
-use Rattle.gq_meaning.specs.States.{State}
-use Rattle.gq_meaning.specs.Statements.{Evaluation}
-use Rattle.gq_meaning.specs.Runs.{run}
-use Rattle.gq_resolved.specs.declared.plan.Held.{Held}
-use Rattle.gq_resolved.specs.Reference.{Reference}
-use Rattle.gq_seen.specs.declared.halt.Halt.{Halt}
+use Rattle.gq_rules_typing.specs.Statements as plain
+use Rattle.gq_rules_typing.specs.Statements.{Bytes}
+use Rattle.gq_rules_meaning.specs.Answers.{Answer, Gives, ◌>>=◌, blaming}
+use Rattle.gq_rules_meaning.specs.Built.{built_print}
+use Rattle.gq_rules_meaning.specs.Calendars.{Calendar}
+use Rattle.gq_rules_meaning.specs.Expressions.{World}
+use Rattle.gq_rules_meaning.specs.Outs.{Out}
+use Rattle.gq_rules_meaning.specs.States.{State}
+use Rattle.gq_rules_meaning.specs.Statements.{Evaluation}
+use Rattle.gq_rules_meaning.specs.Runs.{run}
+use Rattle.gq_plan_ir.specs.declared.plan.PlaceType.{PlaceType}
+use Rattle.gq_plan_ir.specs.Reference.{Reference}
+use Rattle.gq_eval_operand.specs.declared.halt.Halt.{Halt}
 use Rattle.gq_frame.specs.declared.frame.Frame.{Frame}
 use Rattle.gq_frame.specs.Shows.{Shows}
-use Rattle.gq_view.specs.Viewed.{Over}
-use Rattle.gq_view.specs.Looks.{world_over}
+use Rattle.gq_eval_context.specs.Viewed.{Over}
+use Rattle.gq_eval_context.specs.Looks.{world_over}
 use Rattle.gq_frame.specs.Slots.{AreSound}
-use Rattle.gq_names.specs.declared.live.Live.{Live}
-use Rattle.gq_names.specs.Lives.{Lives}
-use Rattle.gq_control.specs.declared.running.Running.{Running}
-use Rattle.gq_control.specs.declared.running.RunFault.{RunFault}
-use Rattle.gq_control.specs.Standing.{Does}
-use Rattle.gq_control.proofs.ControlLemmas.{ends_bind}
-use Rattle.gq_print.specs.Prints.{Prints}
-use Rattle.gq_ground.specs.Faults.{faults_of}
-use Rattle.gq_ground.specs.Grounds.{Basis, over_of, world_on}
-use Rattle.gq_ground.proofs.GroundLemmas.{ends_told, shows_of}
+use Rattle.gq_frame.specs.declared.live.Live.{Live}
+use Rattle.gq_frame.specs.Lives.{Lives}
+use Rattle.gq_exec_control.specs.declared.running.Running.{Running}
+use Rattle.gq_exec_control.specs.declared.running.RunFault.{RunFault}
+use Rattle.gq_exec_control.specs.Standing.{Does}
+use Rattle.gq_exec_control.proofs.ControlLemmas.{ends_bind}
+use Rattle.gq_output.specs.Prints.{Prints}
+use Rattle.gq_exec_control.specs.Faults.{faults_of}
+use Rattle.gq_exec_control.specs.Grounds.{Basis, over_of, world_on}
+use Rattle.gq_exec_control.proofs.GroundLemmas.{ends_told, shows_of}
 use Rattle.gq_flow.specs.Steps.{PrintsOn, PrintsOne, PrintsSo, members_of}
 
 -- what one PRINT prints over the setting of a frame
@@ -42,10 +42,10 @@ told_one : (o : Answer Wrong (List (Bytes × Out))) (told : Result Printed Halt)
 told_one o (Ok p) t = (t.members, ap (blaming Evaluation) t.gives, t.built)
 told_one o (Err h) t = ends_told o h t
 
-pub one_printed : (places : List Held) (world : World Reference) (items : List (plain.Printed Reference)) (f : Frame) (told : Result Printed Halt) (r : Result Printed RunFault) → r ≡ faults_of told → PrintsOn places world items f told → PrintsOne places world items f r
+pub one_printed : (places : List PlaceType) (world : World Reference) (items : List (plain.Printed Reference)) (f : Frame) (told : Result Printed Halt) (r : Result Printed RunFault) → r ≡ faults_of told → PrintsOn places world items f told → PrintsOne places world items f r
 one_printed places world items f told r e p = record { each = λ s shows. subst (PrintsSo (blaming Evaluation (members_of world s items))) (sym e) (told_one (members_of world s items) told (p.each s shows)) }
 
-module _ (places : List Held) (world : World Reference) (items : List (plain.Printed Reference)) (old new : Running) where
+module _ (places : List PlaceType) (world : World Reference) (items : List (plain.Printed Reference)) (old new : Running) where
   pub print_stops : (e : RunFault) → PrintsOne places world items old.live.frame (Err e) → Does places (run world (plain.Print items)) old new (Err e)
   print_stops e p = record {
     each = λ q s.

@@ -1,43 +1,43 @@
 -- ProgramLemmas: single statements, as the definitions run them.
 use Rattle.std.proofs.Common.{◌≡◌, ℕ, Bool, List, Option, Some, Result, Ok, Err, OnOk, refl, sym, subst}
 use Rattle.gq_tree.specs.Tree.{Tree}
-use Rattle.gq_typing.specs.Selecting as selecting
-use Rattle.gq_typing.specs.Statements as plain
-use Rattle.gq_typing.specs.Statements.{BaseTree, SetTypes, Right}
-use Rattle.gq_meaning.specs.Answers.{Gives, blaming, through}
-use Rattle.gq_meaning.specs.Expressions.{World, truth_of}
-use Rattle.gq_meaning.specs.States.{seen}
-use Rattle.gq_meaning.specs.Statements.{Evaluation, of_write, base_of_tree, with_local, assigned}
-use Rattle.gq_meaning.specs.Writes.{slots_changed}
-use Rattle.gq_meaning.specs.Runs.{with_state, run, condition_of, limit_of}
-use Rattle.gq_resolved.specs.declared.plan.Held.{Held}
-use Rattle.gq_resolved.specs.declared.step.Step.{Step}
-use Rattle.gq_resolved.specs.PlanView.{view_step}
-use Rattle.gq_resolved.specs.Reference.{Reference, Slot}
-use Rattle.gq_seen.specs.Meant.{itself}
-use Rattle.gq_slots.specs.declared.accums.Accums.{Accums}
+use Rattle.gq_rules_typing.specs.Selecting as selecting
+use Rattle.gq_rules_typing.specs.Statements as plain
+use Rattle.gq_rules_typing.specs.Statements.{BaseTree, SetTypes, Right}
+use Rattle.gq_rules_meaning.specs.Answers.{Gives, blaming, through}
+use Rattle.gq_rules_meaning.specs.Expressions.{World, truth_of}
+use Rattle.gq_rules_meaning.specs.States.{seen}
+use Rattle.gq_rules_meaning.specs.Statements.{Evaluation, of_write, base_of_tree, with_local, assigned}
+use Rattle.gq_rules_meaning.specs.Writes.{slots_changed}
+use Rattle.gq_rules_meaning.specs.Runs.{with_state, run, condition_of, limit_of}
+use Rattle.gq_plan_ir.specs.declared.plan.PlaceType.{PlaceType}
+use Rattle.gq_plan_ir.specs.declared.step.Step.{Step}
+use Rattle.gq_plan_ir.specs.PlanView.{view_step}
+use Rattle.gq_plan_ir.specs.Reference.{Reference, Slot}
+use Rattle.gq_eval_operand.specs.Meant.{itself}
+use Rattle.gq_frame.specs.declared.accums.Accums.{Accums}
 use Rattle.gq_frame.specs.Slots.{AreSound}
-use Rattle.gq_control.specs.declared.running.Running.{Running}
-use Rattle.gq_control.specs.declared.running.RunFault.{RunFault}
-use Rattle.gq_control.specs.declared.running.Rounds.{Rounds}
-use Rattle.gq_control.specs.Standing.{Does, GoesOver, Limits, Tests}
-use Rattle.gq_ground.specs.Changes.{Becomes, Reads}
-use Rattle.gq_ground.proofs.GroundLemmas.{becomes_does, shows_of}
-use Rattle.gq_ground.proofs.Steps.{joined}
-use Rattle.gq_local.specs.Locals.{declared_all}
-use Rattle.gq_rounds.specs.Rounds.{GoesRound}
+use Rattle.gq_exec_control.specs.declared.running.Running.{Running}
+use Rattle.gq_exec_control.specs.declared.running.RunFault.{RunFault}
+use Rattle.gq_exec_control.specs.declared.running.Rounds.{Rounds}
+use Rattle.gq_exec_control.specs.Standing.{Does, GoesOver, Limits, Tests}
+use Rattle.gq_exec_control.specs.Changes.{Becomes, Reads}
+use Rattle.gq_exec_control.proofs.GroundLemmas.{becomes_does, shows_of}
+use Rattle.gq_exec_control.proofs.Steps.{joined}
+use Rattle.gq_exec_control.specs.Locals.{declared_all}
+use Rattle.gq_exec_control.specs.Rounds.{GoesRound}
 use Rattle.gq_flow.specs.Steps.{global_so}
 
 -- ---- statements
 
-stated : (places : List Held) (world : World Reference) (step : Step) (stmt : plain.Stmt Reference) (old new : Running) (r : Result (Unit {0}) RunFault) → view_step step ≡ stmt → Does places (run world stmt) old new r → Does places (run world (view_step step)) old new r
+stated : (places : List PlaceType) (world : World Reference) (step : Step) (stmt : plain.Stmt Reference) (old new : Running) (r : Result (Unit {0}) RunFault) → view_step step ≡ stmt → Does places (run world stmt) old new r → Does places (run world (view_step step)) old new r
 stated places world step stmt old new r e d = subst (λ s. Does places (run world s) old new r) (sym e) d
 
 sound_on : (r : Result (Unit {0}) RunFault) (a : Accums) → OnOk r (AreSound a) → r ≡ Ok tt → AreSound a
 sound_on (Ok u) a h e = h
 sound_on (Err x) a h e = absurd (let no : ⊥ = cc in no)
 
-module _ (places : List Held) (world : World Reference) (step : Step) (old new : Running) (r : Result (Unit {0}) RunFault) (turns : new.turns ≡ old.turns) (printed : new.printed ≡ old.printed) where
+module _ (places : List PlaceType) (world : World Reference) (step : Step) (old new : Running) (r : Result (Unit {0}) RunFault) (turns : new.turns ≡ old.turns) (printed : new.printed ≡ old.printed) where
   pub local_does : (base : BaseTree Reference) (xs : List (Reference × Option (Tree Reference))) → view_step step ≡ plain.Local base xs → new.live.frame.accums ≡ old.live.frame.accums → AreSound old.live.frame.accums
       → Becomes places (declared_all world base xs) old.live new.live r → Does places (run world (view_step step)) old new r
   local_does base xs e accums sound d =
@@ -60,19 +60,19 @@ module _ (places : List Held) (world : World Reference) (step : Step) (old new :
       (λ q. sym (joined (blaming of_write (slots_changed (seen world q.state) q.state.slots (Slot n) 0 change)) (λ slots. Gives (record (q.state) { slots = slots })) (λ s. Gives (with_state s q))))
       turns printed (sound_on r new.live.frame.accums sound) d)
 
-pub print_does : (places : List Held) (world : World Reference) (step : Step) (old new : Running) (r : Result (Unit {0}) RunFault) (items : List (plain.Printed Reference)) → view_step step ≡ plain.Print items
+pub print_does : (places : List PlaceType) (world : World Reference) (step : Step) (old new : Running) (r : Result (Unit {0}) RunFault) (items : List (plain.Printed Reference)) → view_step step ≡ plain.Print items
     → Does places (run world (plain.Print items)) old new r → Does places (run world (view_step step)) old new r
 print_does places world step old new r items e d = stated places world step (plain.Print items) old new r e d
 
 -- ---- what is read
 
-pub truth_tests : (places : List Held) (world : World Reference) (t : Tree Reference) (r : Running) (result : Result Bool RunFault)
+pub truth_tests : (places : List PlaceType) (world : World Reference) (t : Tree Reference) (r : Running) (result : Result Bool RunFault)
     → Reads places (itself {A = Bool}) (λ s. blaming Evaluation (truth_of (seen world s) t)) r.live.frame result → Tests places (condition_of world t) r result
 truth_tests places world t r result d = record { each = λ q s. d.each q.state (shows_of places r.live q.state s.lives) }
 
-pub limit_limits : (places : List Held) (world : World Reference) (t : Tree Reference) (r : Running) (result : Result ℕ RunFault)
+pub limit_limits : (places : List PlaceType) (world : World Reference) (t : Tree Reference) (r : Running) (result : Result ℕ RunFault)
     → Reads places Some (λ s. blaming Evaluation (limit_of world s (Some t))) r.live.frame result → Limits places world t r result
 limit_limits places world t r result d = record { each = λ q s. d.each q.state (shows_of places r.live q.state s.lives) }
 
-pub rounds_go : (places : List Held) (world : World Reference) (place : ℕ) (over : plain.Over Reference) (r : Running) (result : Result Rounds RunFault) → GoesRound places world place over r.live.frame result → GoesOver places world place over r result
+pub rounds_go : (places : List PlaceType) (world : World Reference) (place : ℕ) (over : plain.Over Reference) (r : Running) (result : Result Rounds RunFault) → GoesRound places world place over r.live.frame result → GoesOver places world place over r result
 rounds_go places world place over r result d = record { each = λ q s. d.each q.state (shows_of places r.live q.state s.lives) }

@@ -3,30 +3,30 @@ use Rattle.std.proofs.Common.{◌≡◌, ℕ, List, [], map, Result, Ok, Err, re
 use Rattle.gq_index.specs.declared.store.Graph as code
 use Rattle.gq_json.specs.declared.out.Printed.{Printed}
 use Rattle.gq_value.specs.Val.{Val}
-use Rattle.gq_meaning.specs.Answers.{Answer, Gives, ◌>>=◌, blaming}
-use Rattle.gq_meaning.specs.Calendars.{Calendar}
-use Rattle.gq_meaning.specs.Queries.{Defining, run_plan, with_tuples}
-use Rattle.gq_meaning.specs.Runs as runs
-use Rattle.gq_meaning.specs.Runs.{run_all}
-use Rattle.gq_meaning.specs.Statements.{Fault, Evaluation}
-use Rattle.gq_resolved.specs.declared.plan.Plan.{Plan}
-use Rattle.gq_resolved.specs.declared.step.Step.{Step}
-use Rattle.gq_resolved.specs.PlanView.{view_plan, view_steps}
-use Rattle.gq_resolved.specs.Reference.{Reference}
-use Rattle.gq_seen.specs.declared.halt.Halt.{Halt}
-use Rattle.gq_fields.specs.declared.tuple_type.TupleType.{TupleType}
-use Rattle.gq_fields.specs.Tuples.{tuples_are}
+use Rattle.gq_rules_meaning.specs.Answers.{Answer, Gives, ◌>>=◌, blaming}
+use Rattle.gq_rules_meaning.specs.Calendars.{Calendar}
+use Rattle.gq_rules_meaning.specs.Queries.{Defining, run_plan, with_tuples}
+use Rattle.gq_rules_meaning.specs.Runs as runs
+use Rattle.gq_rules_meaning.specs.Runs.{run_all}
+use Rattle.gq_rules_meaning.specs.Statements.{Fault, Evaluation}
+use Rattle.gq_plan_ir.specs.declared.plan.Plan.{Plan}
+use Rattle.gq_plan_ir.specs.declared.step.Step.{Step}
+use Rattle.gq_plan_ir.specs.PlanView.{view_plan, view_steps}
+use Rattle.gq_plan_ir.specs.Reference.{Reference}
+use Rattle.gq_eval_operand.specs.declared.halt.Halt.{Halt}
+use Rattle.gq_eval_attributes.specs.declared.tuple_type.TupleType.{TupleType}
+use Rattle.gq_eval_attributes.specs.Tuples.{tuples_are}
 use Rattle.gq_frame.specs.Slots.{AreSound}
-use Rattle.gq_names.specs.declared.live.Live.{Live}
-use Rattle.gq_control.specs.declared.running.Running.{Running}
-use Rattle.gq_control.specs.declared.running.RunFault.{RunFault}
-use Rattle.gq_control.specs.Standing.{Does, Ends, Stands as standing}
-use Rattle.gq_control.proofs.ControlLemmas.{ends_bind, ends_same}
-use Rattle.gq_opening.specs.declared.opening.Opened.{Opened}
-use Rattle.gq_opening.specs.Begun.{Begins, Stands, begins}
-use Rattle.gq_ground.specs.Grounds.{Basis, world_on}
-use Rattle.gq_ground.specs.Faults.{fault_of}
-use Rattle.gq_ground.proofs.GroundLemmas.{ends_told}
+use Rattle.gq_frame.specs.declared.live.Live.{Live}
+use Rattle.gq_exec_control.specs.declared.running.Running.{Running}
+use Rattle.gq_exec_control.specs.declared.running.RunFault.{RunFault}
+use Rattle.gq_exec_control.specs.Standing.{Does, Ends, Stands as standing}
+use Rattle.gq_exec_control.proofs.ControlLemmas.{ends_bind, ends_same}
+use Rattle.gq_exec_vars.specs.declared.opening.Opened.{Opened}
+use Rattle.gq_exec_vars.specs.Begun.{Begins, Stands, begins}
+use Rattle.gq_exec_control.specs.Grounds.{Basis, world_on}
+use Rattle.gq_exec_control.specs.Faults.{fault_of}
+use Rattle.gq_exec_control.proofs.GroundLemmas.{ends_told}
 use Rattle.gq_flow.specs.Plans.{Objects, Prints, RunsFrom, plan_world, printed_from}
 
 -- ---- the opening

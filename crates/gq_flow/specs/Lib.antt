@@ -1,3 +1,5 @@
+pub mod Selecting
+pub mod Assigning
 pub mod Plans
 pub mod Steps
 pub mod Times

@@ -4,30 +4,30 @@ use Rattle.gq_json.specs.declared.out.Printed as json
 use Rattle.gq_value.specs.declared.kind.Slot as code
 use Rattle.gq_value.specs.declared.value.Wrong.{Wrong}
 use Rattle.gq_value.specs.AccumViews.{accum_of}
-use Rattle.gq_typing.specs.Selecting as plain
-use Rattle.gq_typing.specs.Statements as statements
-use Rattle.gq_typing.specs.Statements.{Bytes}
-use Rattle.gq_meaning.specs.Answers.{Answer, Gives, Faults, ◌>>=◌, blaming, each}
-use Rattle.gq_meaning.specs.Built.{built_print}
-use Rattle.gq_meaning.specs.Expressions.{World, Look}
-use Rattle.gq_meaning.specs.Outs.{Out}
-use Rattle.gq_meaning.specs.Printing.{printed}
-use Rattle.gq_meaning.specs.States.{State, seen}
-use Rattle.gq_meaning.specs.Statements.{Fault, Evaluation, of_write}
-use Rattle.gq_meaning.specs.Writes.{made_by, slots_changed}
-use Rattle.gq_resolved.specs.declared.plan.Held.{Held}
-use Rattle.gq_resolved.specs.Reference.{Reference, Slot}
-use Rattle.gq_seen.specs.declared.halt.Halt.{Halt}
-use Rattle.gq_seen.specs.declared.halt.Halt.TheVariants as halt
-use Rattle.gq_slots.specs.declared.accums.Accums.{Accums}
+use Rattle.gq_rules_typing.specs.Selecting as plain
+use Rattle.gq_rules_typing.specs.Statements as statements
+use Rattle.gq_rules_typing.specs.Statements.{Bytes}
+use Rattle.gq_rules_meaning.specs.Answers.{Answer, Gives, Faults, ◌>>=◌, blaming, each}
+use Rattle.gq_rules_meaning.specs.Built.{built_print}
+use Rattle.gq_rules_meaning.specs.Expressions.{World, Look}
+use Rattle.gq_rules_meaning.specs.Outs.{Out}
+use Rattle.gq_rules_meaning.specs.Printing.{printed}
+use Rattle.gq_rules_meaning.specs.States.{State, seen}
+use Rattle.gq_rules_meaning.specs.Statements.{Fault, Evaluation, of_write}
+use Rattle.gq_rules_meaning.specs.Writes.{made_by, slots_changed}
+use Rattle.gq_plan_ir.specs.declared.plan.PlaceType.{PlaceType}
+use Rattle.gq_plan_ir.specs.Reference.{Reference, Slot}
+use Rattle.gq_eval_operand.specs.declared.halt.Halt.{Halt}
+use Rattle.gq_eval_operand.specs.declared.halt.Halt.TheVariants as halt
+use Rattle.gq_frame.specs.declared.accums.Accums.{Accums}
 use Rattle.gq_frame.specs.declared.frame.Frame.{Frame}
 use Rattle.gq_frame.specs.Shows.{Shows}
-use Rattle.gq_control.specs.declared.running.RunFault.{RunFault}
-use Rattle.gq_control.specs.Standing.{Ends}
-use Rattle.gq_write.specs.declared.making.Made.{Made}
-use Rattle.gq_write.specs.Making.{making_of}
-use Rattle.gq_print.specs.Prints.{Prints}
-use Rattle.gq_ground.specs.Changes.{Change}
+use Rattle.gq_exec_control.specs.declared.running.RunFault.{RunFault}
+use Rattle.gq_exec_control.specs.Standing.{Ends}
+use Rattle.gq_exec_post.specs.declared.making.Made.{Made}
+use Rattle.gq_exec_post.specs.Making.{making_of}
+use Rattle.gq_output.specs.Prints.{Prints}
+use Rattle.gq_exec_control.specs.Changes.{Change}
 
 -- ---- changes of global accumulators
 
@@ -48,7 +48,7 @@ abbrev pub members_of : World Reference → State Reference → List (statements
 members_of world s items = each (printed world s) items
 
 -- what one PRINT prints of each state that the frame shows
-pub record PrintsOn (places : List Held) (world : World Reference) (items : List (statements.Printed Reference)) (f : Frame) (result : Result json.Printed Halt) : Type 0 where
+pub record PrintsOn (places : List PlaceType) (world : World Reference) (items : List (statements.Printed Reference)) (f : Frame) (result : Result json.Printed Halt) : Type 0 where
   pub each : (s : State Reference) → Shows places f s → Prints (members_of world s items) result
 
 -- the same as an answer of a run
@@ -56,5 +56,5 @@ abbrev pub PrintsSo : Answer Fault (List (Bytes × Out)) → Result json.Printed
 PrintsSo o (Ok p) = (ms : List (Bytes × Out)) × (o ≡ Gives ms) × (p.members ≡ built_print ms)
 PrintsSo o (Err e) = Ends o e
 
-pub record PrintsOne (places : List Held) (world : World Reference) (items : List (statements.Printed Reference)) (f : Frame) (result : Result json.Printed RunFault) : Type 0 where
+pub record PrintsOne (places : List PlaceType) (world : World Reference) (items : List (statements.Printed Reference)) (f : Frame) (result : Result json.Printed RunFault) : Type 0 where
   pub each : (s : State Reference) → Shows places f s → PrintsSo (blaming Evaluation (members_of world s items)) result

@@ -1,7 +1,7 @@
--- Times: the calendar by which queries read and write times.
-use Rattle.gq_meaning.specs.Calendars.{IsCalendar}
-use Rattle.gq_calendar.specs.Gregorian.{gregorian}
-use Rattle.gq_calendar.proofs.GregorianLaws.{gregorian_is}
+-- Times: a law: what queries read and write times by is a calendar.
+use Rattle.gq_rules_meaning.specs.Calendars.{IsCalendar}
+use Rattle.gq_rules_calendar.specs.Gregorian.{gregorian}
+use Rattle.gq_rules_calendar.proofs.GregorianLaws.{gregorian_is}
 
 pub is_calendar : IsCalendar gregorian
 is_calendar = gregorian_is

@@ -2,25 +2,23 @@
 ghost use Rattle.std.specs.Prelude.{◌≡◌, OnOk, slice_get};
 ghost use Rattle.std.specs.Option.{option_copied};
 ghost use Rattle.gq_value.specs.AccumViews.{accum_of};
-ghost use Rattle.gq_meaning.specs.Writes.{made_by};
-ghost use Rattle.gq_resolved.specs.BlockView.{view_change};
-ghost use Rattle.gq_seen.specs.Meant.{Tells};
+ghost use Rattle.gq_rules_meaning.specs.Writes.{made_by};
+ghost use Rattle.gq_plan_ir.specs.BlockView.{view_change};
+ghost use Rattle.gq_eval_operand.specs.Meant.{Tells};
 ghost use Rattle.gq_frame.specs.Slots.{AreSound};
-ghost use Rattle.gq_ground.specs.Changes.{Becomes};
-ghost use Rattle.gq_ground.specs.Grounds.{look_on, world_on};
-ghost use Rattle.gq_write.specs.Making.{making_of};
+ghost use Rattle.gq_exec_control.specs.Changes.{Becomes};
+ghost use Rattle.gq_exec_control.specs.Grounds.{look_on, world_on};
+ghost use Rattle.gq_exec_post.specs.Making.{making_of};
 ghost use Rattle.gq_flow.specs.Steps.{Makes, global_so};
 
-use gq_control::RunFault;
-use gq_frame::Frame;
-use gq_ground::{Ground, run_fault};
-use gq_list::List;
-use gq_names::Live;
-use gq_resolved::Change;
-use gq_seen::Halt;
+use gq_base::List;
+use gq_eval_context::Clock;
+use gq_eval_operand::Halt;
+use gq_exec_control::{Ground, RunFault, run_fault};
+use gq_exec_post::{ChangeFault, Made, change_at, made_by};
+use gq_frame::{Frame, Live};
+use gq_plan_ir::Change;
 use gq_value::Kind;
-use gq_view::Clock;
-use gq_write::{ChangeFault, Made, change_at, made_by};
 use std::alloc::Global;
 
 /// Changes the global accumulator in a slot at once. A sum out of range is judged at once too.
@@ -40,7 +38,7 @@ pub(crate) fn change<C: Clock>(
         Ok(made) => match change_at(alloc, &mut live.frame.accums, slot, 0, &made) {
             Ok(()) => Ok(()),
             Err(ChangeFault::TooBig) => Err(RunFault::SumRange(slot)),
-            Err(ChangeFault::Memory) => Err(RunFault::Memory),
+            Err(ChangeFault::OutOfMemory) => Err(RunFault::OutOfMemory),
         },
     }
 }

@@ -1,28 +1,27 @@
 // PRINT.
 ghost use Rattle.std.specs.Prelude.{◌≡◌, map};
-ghost use Rattle.gq_typing.specs.Statements as plain;
-ghost use Rattle.gq_meaning.specs.Runs.{run};
-ghost use Rattle.gq_resolved.specs.PlanView.{view_item};
+ghost use Rattle.gq_rules_typing.specs.Statements as plain;
+ghost use Rattle.gq_rules_meaning.specs.Runs.{run};
+ghost use Rattle.gq_plan_ir.specs.PlanView.{view_item};
 ghost use Rattle.gq_frame.specs.Slots.{AreSound};
-ghost use Rattle.gq_control.specs.Standing.{Does};
-ghost use Rattle.gq_ground.specs.Grounds.{world_on};
+ghost use Rattle.gq_exec_control.specs.Standing.{Does};
+ghost use Rattle.gq_exec_control.specs.Grounds.{world_on};
 ghost use Rattle.gq_flow.specs.Steps.{PrintsOn, PrintsOne};
 
-use gq_control::{RunFault, Running};
+use gq_eval_context::Clock;
+use gq_eval_operand::Halt;
+use gq_exec_control::{Ground, RunFault, Running, or_fault};
 use gq_frame::Frame;
-use gq_ground::{Ground, or_fault};
 use gq_json::Printed;
-use gq_print::print;
-use gq_resolved::Item;
-use gq_seen::Halt;
-use gq_view::Clock;
+use gq_output::print;
+use gq_plan_ir::PrintItem;
 use std::alloc::Global;
 
 /// Prints an object more.
 pub(crate) fn print_more<C: Clock>(
     alloc: Global,
     ground: &Ground<'_, C>,
-    items: &[Item],
+    items: &[PrintItem],
     r: &mut Running,
 ) -> Result<(), RunFault>
     requires { AreSound r.old.live.frame.accums }
@@ -33,7 +32,7 @@ pub(crate) fn print_more<C: Clock>(
     match printed(alloc, ground, items, &r.live.frame) {
         Err(fault) => Err(fault),
         Ok(printed) => match r.printed.push(printed) {
-            Err(_) => Err(RunFault::Memory),
+            Err(_) => Err(RunFault::OutOfMemory),
             Ok(()) => Ok(()),
         },
     }
@@ -43,7 +42,7 @@ pub(crate) fn print_more<C: Clock>(
 fn printed<C: Clock>(
     alloc: Global,
     ground: &Ground<'_, C>,
-    items: &[Item],
+    items: &[PrintItem],
     frame: &Frame,
 ) -> Result<Printed, RunFault>
     requires { AreSound frame.now.accums }
@@ -55,7 +54,7 @@ fn printed<C: Clock>(
 fn print_over<C: Clock>(
     alloc: Global,
     ground: &Ground<'_, C>,
-    items: &[Item],
+    items: &[PrintItem],
     frame: &Frame,
 ) -> Result<Printed, Halt>
     requires { AreSound frame.now.accums }

@@ -1,17 +1,15 @@
 // What single statements do.
 ghost use Rattle.std.specs.Thread.{IsSync};
-ghost use Rattle.gq_calendar.specs.Gregorian.{gregorian};
-ghost use Rattle.gq_ground.specs.Grounds.{world_on};
+ghost use Rattle.gq_rules_calendar.specs.Gregorian.{gregorian};
+ghost use Rattle.gq_exec_control.specs.Grounds.{world_on};
 
 use crate::change::change;
 use crate::clock::Gregorian;
 use crate::print::print_more;
-use gq_assign::{Workers, assign};
-use gq_control::{Machine, Rounds, RunFault, Running};
-use gq_ground::Ground;
-use gq_local::declare;
-use gq_resolved::{Expr, Over, Step};
-use gq_rounds::{rounds, truth};
+use crate::rights::assign;
+use crate::whole::Workers;
+use gq_exec_control::{Ground, Rounds, RunFault, Running, StepExecutor, declare, rounds, truth};
+use gq_plan_ir::{Expr, Over, Step};
 use std::alloc::Global;
 use std::thread::Threads;
 
@@ -23,7 +21,7 @@ pub struct Program<'a, R> {
     pub ground: Ground<'a, Gregorian>,
 }
 
-impl<'a, R: Threads + Sync> Machine for Program<'a, R> {
+impl<'a, R: Threads + Sync> StepExecutor for Program<'a, R> {
     ghost world = { λ p. world_on gregorian p.ground };
 
     ghost places = { λ p. p.ground.plan.places };
@@ -52,8 +50,8 @@ impl<'a, R: Threads + Sync> Machine for Program<'a, R> {
                 change(self.alloc, &self.ground, *slot, made, &mut r.live)
             }
             Step::Print(items) => print_more(self.alloc, &self.ground, items.as_slice(), r),
-            Step::If(_, _) | Step::While(_, _, _) => Err(RunFault::Memory),
-            Step::Foreach(_, _, _) => Err(RunFault::Memory),
+            Step::If(_, _) | Step::While(_, _, _) => Err(RunFault::OutOfMemory),
+            Step::Foreach(_, _, _) => Err(RunFault::OutOfMemory),
         }
     }
 
@@ -62,7 +60,7 @@ impl<'a, R: Threads + Sync> Machine for Program<'a, R> {
     }
 
     fn limit(&self, limit: &Expr, r: &Running) -> Result<u64, RunFault> {
-        gq_rounds::limit(self.alloc, &self.ground, limit, &r.live.frame)
+        gq_exec_control::limit(self.alloc, &self.ground, limit, &r.live.frame)
     }
 
     fn rounds(&self, place: u32, over: &Over, r: &Running) -> Result<Rounds, RunFault> {

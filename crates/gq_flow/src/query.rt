@@ -1,27 +1,26 @@
 // The run of a plan.
 ghost use Rattle.std.specs.Prelude.{◌≡◌, ◌≤◌, length, map};
-ghost use Rattle.gq_value.specs.Catalog.{most_types};
+ghost use Rattle.gq_graph.specs.Catalog.{most_types};
 ghost use Rattle.gq_value.specs.Views.{val};
 ghost use Rattle.gq_index.specs.Sights.{sight_of};
 ghost use Rattle.gq_index.specs.Walks.{adjacency};
-ghost use Rattle.gq_meaning.specs.Queries.{run_plan};
-ghost use Rattle.gq_calendar.specs.Gregorian.{gregorian};
-ghost use Rattle.gq_resolved.specs.PlanView.{view_plan};
-ghost use Rattle.gq_fields.specs.Worlds.{HaveAttributes};
+ghost use Rattle.gq_rules_meaning.specs.Queries.{run_plan};
+ghost use Rattle.gq_rules_calendar.specs.Gregorian.{gregorian};
+ghost use Rattle.gq_plan_ir.specs.PlanView.{view_plan};
+ghost use Rattle.gq_eval_attributes.specs.Worlds.{HaveAttributes};
 ghost use Rattle.gq_frame.specs.Slots.{AreSound};
-ghost use Rattle.gq_view.specs.Ends.{HaveEnds};
+ghost use Rattle.gq_eval_context.specs.Ends.{HaveEnds};
 ghost use Rattle.gq_flow.specs.Plans.{Prints, RunsFrom, plan_world};
 
 use crate::clock::Gregorian;
 use crate::program::Program;
-use gq_assign::Workers;
-use gq_control::{RunFault, Running, run_steps};
-use gq_ground::{Ground, run_fault};
+use crate::whole::Workers;
+use gq_base::List;
+use gq_exec_control::{Ground, RunFault, Running, run_fault, run_steps};
+use gq_exec_vars::{Opened, open};
 use gq_index::Graph;
 use gq_json::Printed;
-use gq_list::List;
-use gq_opening::{Opened, open};
-use gq_resolved::Plan;
+use gq_plan_ir::Plan;
 use gq_value::Row;
 use std::alloc::Global;
 use std::marker::PhantomData;
@@ -29,7 +28,7 @@ use std::thread::Threads;
 
 /// Runs a plan over its arguments, with so many turns: what each PRINT prints, in order. Each entry of a loop's body takes a turn.
 ///
-/// What is stuck in a plan that isn't that of a checked query is want of memory.
+/// What is stuck in a plan that isn't that of a checked query is `OutOfMemory`.
 pub fn run_query<'x, R: Threads + Sync>(
     workers: &'x Workers<'x, R>,
     alloc: Global,

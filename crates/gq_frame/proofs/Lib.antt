@@ -1,2 +1,5 @@
+pub mod TargetLemmas
+pub mod OpenSteps
 pub mod NameLemmas
 pub mod SlotLemmas
+pub mod LookupLemmas

@@ -1,7 +1,7 @@
 -- NameLemmas: the first alias of a place.
 use Rattle.std.proofs.Common.{◌≡◌, ℕ, ◌+◌, ◌<◌, ◌≤◌, ◌==◌, true, false, cond, List, ◌∷◌, drop, map, length, get_or, Option, Some, None, sym, ap, ◌∙◌}
 use Rattle.std.proofs.lemmas.List.{drop_more, drop_all}
-use Rattle.gq_seen.specs.Words.{under}
+use Rattle.gq_eval_operand.specs.Words.{under}
 use Rattle.gq_frame.specs.declared.frame.Alias.{Alias}
 use Rattle.gq_frame.specs.Names.{Placed, alias_of, placed_of}
 

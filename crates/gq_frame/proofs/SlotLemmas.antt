@@ -8,24 +8,24 @@ use Rattle.std.proofs.lemmas.Iterator.Adapters.{position_from-zero}
 use Rattle.std.proofs.lemmas.Bool.Decides.{nat_tests}
 use Rattle.gq_value.specs.declared.kind.Slot.{Slot}
 use Rattle.gq_value.specs.AccumViews.{accum_of}
-use Rattle.gq_slots.specs.Content.{Content, out-Content}
-use Rattle.gq_slots.specs.Forms.{view}
-use Rattle.gq_content.specs.Targets.{target_count}
-use Rattle.gq_slots.specs.declared.accums.Accums.{Accums}
-use Rattle.gq_slots.specs.Targets.{attached_in, targets_of, number_of}
-use Rattle.gq_seen.specs.Answers.{Gives, ◌>>=◌, found}
-use Rattle.gq_seen.specs.Meanings.{Outcome, read}
-use Rattle.gq_seen.specs.Expressions.{World}
-use Rattle.gq_seen.specs.States as states
-use Rattle.gq_seen.specs.States.{slot_number, slot_named, read_slot}
-use Rattle.gq_seen.specs.Reference as reference
-use Rattle.gq_seen.specs.Reference.{Reference}
-use Rattle.gq_seen.specs.References.{same}
-use Rattle.gq_seen.specs.declared.seen.Seen.{Seen}
-use Rattle.gq_seen.specs.declared.halt.Halt.{Halt}
-use Rattle.gq_seen.specs.declared.halt.Halt.TheVariants as halt
-use Rattle.gq_seen.specs.Meant.{meant, read_of, Tells}
-use Rattle.gq_seen.specs.Sound.{IsSound}
+use Rattle.gq_nest.specs.declared.content.Content.{Content, out-Content}
+use Rattle.gq_nest.specs.Forms.{view}
+use Rattle.gq_accum_laws.specs.Targets.{target_count}
+use Rattle.gq_frame.specs.declared.accums.Accums.{Accums}
+use Rattle.gq_frame.specs.Targets.{attached_in, targets_of, number_of}
+use Rattle.gq_eval_operand.specs.Answers.{Gives, ◌>>=◌, found}
+use Rattle.gq_eval_operand.specs.Meanings.{Outcome, read}
+use Rattle.gq_eval_operand.specs.Expressions.{World}
+use Rattle.gq_eval_operand.specs.States as states
+use Rattle.gq_eval_operand.specs.States.{slot_number, slot_named, read_slot}
+use Rattle.gq_eval_operand.specs.Reference as reference
+use Rattle.gq_eval_operand.specs.Reference.{Reference}
+use Rattle.gq_eval_operand.specs.References.{same}
+use Rattle.gq_eval_operand.specs.declared.seen.Seen.{Seen}
+use Rattle.gq_eval_operand.specs.declared.halt.Halt.{Halt}
+use Rattle.gq_eval_operand.specs.declared.halt.Halt.TheVariants as halt
+use Rattle.gq_eval_operand.specs.Meant.{meant, read_of, Tells}
+use Rattle.gq_eval_operand.specs.Sound.{IsSound}
 use Rattle.gq_frame.specs.Slots.{slot_seen, slots_from, slots_are, AreSound, ReadsAs}
 
 -- ---- numbers

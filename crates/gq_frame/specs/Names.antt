@@ -3,14 +3,14 @@ use Rattle.std.specs.Prelude.{ℕ, ◌==◌, List, map, Option, Some, None, slic
 use Rattle.std.specs.Option.{option_or, option_map}
 use Rattle.gq_value.specs.Views.{val}
 use Rattle.gq_value.specs.AccumViews.{base_of}
-use Rattle.gq_seen.specs.Words.{under}
-use Rattle.gq_seen.specs.Answers.{Gives, Stuck, ◌>>=◌, found}
-use Rattle.gq_seen.specs.Meanings.{Outcome}
-use Rattle.gq_seen.specs.States as states
-use Rattle.gq_seen.specs.States.{Variable, SetOf, EdgeRow, Member, a_vertex, meant}
-use Rattle.gq_seen.specs.Held.{Held}
-use Rattle.gq_seen.specs.Held.TheVariants as held
-use Rattle.gq_seen.specs.Reference.{Reference, Place}
+use Rattle.gq_eval_operand.specs.Words.{under}
+use Rattle.gq_eval_operand.specs.Answers.{Gives, Stuck, ◌>>=◌, found}
+use Rattle.gq_eval_operand.specs.Meanings.{Outcome}
+use Rattle.gq_eval_operand.specs.States as states
+use Rattle.gq_eval_operand.specs.States.{Variable, SetOf, EdgeRow, Member, a_vertex, meant}
+use Rattle.gq_eval_operand.specs.PlaceType.{PlaceType}
+use Rattle.gq_eval_operand.specs.PlaceType.TheVariants as held
+use Rattle.gq_eval_operand.specs.Reference.{Reference, Place}
 use Rattle.gq_frame.specs.declared.frame.Alias.{Alias}
 use Rattle.gq_frame.specs.declared.frame.Bound.{Bound}
 use Rattle.gq_frame.specs.declared.frame.Bound.TheVariants as bound
@@ -50,22 +50,22 @@ aliases_named aliases = map alias_named aliases
 -- ---- places
 
 -- what stands at a place, with the type that the plan says
-abbrev pub held_thing : Option Held → Option (Option Thing) → Option states.Thing
+abbrev pub held_thing : Option PlaceType → Option (Option Thing) → Option states.Thing
 held_thing (Some (held.Variable b)) (Some (Some (thing.Value v))) = Some (Variable (base_of b) (val v))
 held_thing (Some (held.Set types)) (Some (Some (thing.Set vs))) = Some (SetOf types vs)
 held_thing _ _ = None
 
 -- the variable or the set at a place
-abbrev pub thing_in : List Held → List (Option Thing) → ℕ → Option states.Thing
+abbrev pub thing_in : List PlaceType → List (Option Thing) → ℕ → Option states.Thing
 thing_in places things n = held_thing (slice_get places n) (slice_get things n)
 
 -- variables and sets alone have places
-abbrev pub thing_for : List Held → List (Option Thing) → Reference → Option states.Thing
+abbrev pub thing_for : List PlaceType → List (Option Thing) → Reference → Option states.Thing
 thing_for places things (Place n) = thing_in places things n
 thing_for places things r = None
 
 -- with aliases before them
-abbrev pub thing_at : List (ℕ × Placed) → List Held → List (Option Thing) → ℕ → Option states.Thing
+abbrev pub thing_at : List (ℕ × Placed) → List PlaceType → List (Option Thing) → ℕ → Option states.Thing
 thing_at aliases places things n = option_or (option_map thing_of (under ◌==◌ n aliases)) (thing_in places things n)
 
 abbrev pub thing_meant : Option states.Thing → Outcome

@@ -3,19 +3,19 @@
 use Rattle.std.specs.Prelude.{◌≡◌, ℕ, suc, ◌<◌, List, [], ◌∷◌, map, take, drop, slice_get, Some, Result}
 use Rattle.gq_value.specs.declared.kind.Slot.{Slot}
 use Rattle.gq_value.specs.AccumViews.{accum_of}
-use Rattle.gq_slots.specs.Content.{Content, out-Content}
-use Rattle.gq_slots.specs.Forms.{view}
-use Rattle.gq_slots.specs.declared.accums.Accums.{Accums}
-use Rattle.gq_slots.specs.Targets.{targets_of, number_of}
-use Rattle.gq_seen.specs.States as states
-use Rattle.gq_seen.specs.Expressions.{World}
-use Rattle.gq_seen.specs.Reference as reference
-use Rattle.gq_seen.specs.Reference.{Reference}
-use Rattle.gq_seen.specs.References.{same}
-use Rattle.gq_seen.specs.declared.seen.Seen.{Seen}
-use Rattle.gq_seen.specs.declared.halt.Halt.{Halt}
-use Rattle.gq_seen.specs.Meant.{meant, Tells}
-use Rattle.gq_seen.specs.Sound.{IsSound}
+use Rattle.gq_nest.specs.declared.content.Content.{Content, out-Content}
+use Rattle.gq_nest.specs.Forms.{view}
+use Rattle.gq_frame.specs.declared.accums.Accums.{Accums}
+use Rattle.gq_frame.specs.Targets.{targets_of, number_of}
+use Rattle.gq_eval_operand.specs.States as states
+use Rattle.gq_eval_operand.specs.Expressions.{World}
+use Rattle.gq_eval_operand.specs.Reference as reference
+use Rattle.gq_eval_operand.specs.Reference.{Reference}
+use Rattle.gq_eval_operand.specs.References.{same}
+use Rattle.gq_eval_operand.specs.declared.seen.Seen.{Seen}
+use Rattle.gq_eval_operand.specs.declared.halt.Halt.{Halt}
+use Rattle.gq_eval_operand.specs.Meant.{meant, Tells}
+use Rattle.gq_eval_operand.specs.Sound.{IsSound}
 
 -- a slot with the contents at its targets
 abbrev pub slot_seen : ℕ → Slot → List Content → states.Slot Reference

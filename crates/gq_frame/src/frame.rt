@@ -1,7 +1,7 @@
 // What a query holds.
+use crate::accums::Accums;
+use gq_base::List;
 use gq_index::VertexList;
-use gq_list::List;
-use gq_slots::Accums;
 use gq_value::Value;
 
 /// What stands at a place: a value or a set.

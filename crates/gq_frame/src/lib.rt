@@ -1,14 +1,24 @@
-//! What names and accumulators hold while a query runs, and what they read as.
+//! The frame of a running query: the values of its variables and sets, and the contents of its accumulators.
 //!
-//! A plan has numbers for names: a variable or a set is a place of the frame, an accumulator a slot. So each is found by an index.
-//! Read `specs/Names.antt`, `specs/Slots.antt` and `specs/Shows.antt` first: what is found there, and when a frame shows a state,
-//! in the words of the definitions.
+//! A plan has numbers for names: a variable or set is a place of the frame, an accumulator a slot. A global
+//! accumulator has one target and a vertex accumulator one for each vertex; all targets form one array. When
+//! a body ends, an undo log restores what its names had hidden.
+//!
+//! Read `specs/Shows.antt` first: when a frame represents a state of the definitions. Then read
+//! `specs/Names.antt`, `specs/Slots.antt`, `specs/Targets.antt` and `specs/Lives.antt`. `src/frame.rt` has
+//! the frame, `src/accums.rt` the contents, `src/live.rt` the undo log.
 #![tactic(auto)]
 
+mod accums;
 mod frame;
+mod live;
 mod names;
+mod slot_places;
 mod slots;
 
+pub use accums::Accums;
 pub use frame::{Alias, Bound, Frame, Thing};
+pub use live::{Live, Undo};
 pub use names::named;
-pub use slots::read_target;
+pub use slot_places::read_target;
+pub use slots::Slots;

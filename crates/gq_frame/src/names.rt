@@ -1,22 +1,23 @@
 // What names stand for.
 ghost use Rattle.std.specs.Prelude.{◌≡◌, ◌==◌, IfOk, map, slice_get};
 ghost use Rattle.std.specs.Option.{option_map};
-ghost use Rattle.gq_seen.specs.Types.{vertex_base};
-ghost use Rattle.gq_seen.specs.Words.{under};
-ghost use Rattle.gq_seen.specs.States as states;
-ghost use Rattle.gq_seen.specs.Reference.{Place};
-ghost use Rattle.gq_seen.specs.Meant.{meant, sort_is, Tells};
-ghost use Rattle.gq_seen.specs.Sound.{Sound};
+ghost use Rattle.gq_eval_operand.specs.Types.{vertex_base};
+ghost use Rattle.gq_eval_operand.specs.Words.{under};
+ghost use Rattle.gq_eval_operand.specs.States as states;
+ghost use Rattle.gq_eval_operand.specs.Reference.{Place};
+ghost use Rattle.gq_eval_operand.specs.Meant.{meant, sort_is, Tells};
+ghost use Rattle.gq_eval_operand.specs.Sound.{Sound};
 ghost use Rattle.gq_frame.specs.Names.{alias_of, placed_of, thing_of, thing_at, thing_in, named_in, thing_meant};
 
 use crate::frame::{Alias, Bound, Thing};
-use gq_seen::{Halt, Held, Operand, Seen, Sort};
+use gq_eval_operand::{Halt, Operand, Seen, Sort};
+use gq_plan_ir::PlaceType;
 use gq_value::Value;
 
 /// What the name at a place stands for: the first alias of the place, or else the variable or the set that is there. Takes no memory.
 pub fn named<'a>(
     aliases: &[Alias<'a>],
-    places: &'a [Held],
+    places: &'a [PlaceType],
     things: &'a [Option<Thing>],
     place: u32,
 ) -> Result<Seen<'a>, Halt>
@@ -67,22 +68,26 @@ fn sort_among<'a>(types: &[u32]) -> Sort<'a>
 }
 
 /// The variable or the set at a place.
-fn held<'a>(places: &'a [Held], things: &'a [Option<Thing>], place: u32) -> Result<Seen<'a>, Halt>
+fn held<'a>(
+    places: &'a [PlaceType],
+    things: &'a [Option<Thing>],
+    place: u32,
+) -> Result<Seen<'a>, Halt>
     ensures named { Tells meant (thing_meant (thing_in places.entry.now things.entry.now place)) result }
     ensures sound { IfOk result Sound }
 {
     match places.get(place as usize) {
         None => Err(Halt::Stuck),
-        Some(Held::Variable(base)) => match things.get(place as usize) {
+        Some(PlaceType::Variable(base)) => match things.get(place as usize) {
             Some(Some(Thing::Value(value))) => {
                 Ok(Seen::Value(Sort::of(base), Operand::Lent(value)))
             }
             Some(Some(Thing::Set(_))) | Some(None) | None => Err(Halt::Stuck),
         },
-        Some(Held::Set(_)) => match things.get(place as usize) {
+        Some(PlaceType::Set(_)) => match things.get(place as usize) {
             Some(Some(Thing::Set(set))) => Ok(Seen::Set(set.as_slice())),
             Some(Some(Thing::Value(_))) | Some(None) | None => Err(Halt::Stuck),
         },
-        Some(Held::Alias(_)) | Some(Held::EdgeAlias(_)) => Err(Halt::Stuck),
+        Some(PlaceType::Alias(_)) | Some(PlaceType::EdgeAlias(_)) => Err(Halt::Stuck),
     }
 }

@@ -1,48 +1,55 @@
-// What accumulators read as.
-ghost use Rattle.std.specs.Prelude.{◌≡◌, IfOk, slice_get};
-ghost use Rattle.std.specs.Option.{option_copied};
-ghost use Rattle.gq_slots.specs.Targets.{targets_of};
-ghost use Rattle.gq_seen.specs.Sound.{Sound};
-ghost use Rattle.gq_frame.specs.Slots.{AreSound, ReadsAs};
+// Slots, and the numbers of their targets.
+ghost use Rattle.std.specs.Prelude.{◌≡◌, ◌<◌, length, IfOk};
+ghost use Rattle.gq_frame.specs.Targets.{number_of, targets_of};
 
-use gq_list::List;
-use gq_seen::{Halt, Seen, read};
-use gq_slots::{Accums, Slots};
+use gq_base::{List, OutOfMemory};
 use gq_value::Slot;
+use std::alloc::Global;
 
-/// What stands at a target of accumulators, by its slot and its vertex, which is 0 for a global one. It takes a step for each slot
-/// before, and no memory.
-#[tactic(auto, using(crate::proofs::SlotLemmas::slot_laws))]
-pub fn read_target<'a>(accums: &'a Accums, slot: u32, vertex: u32) -> Result<Seen<'a>, Halt>
-    requires { AreSound accums.now }
-    ensures read { ReadsAs accums.entry.now slot vertex result }
-    ensures sound { IfOk result Sound }
-{
-    match item(&accums.slots.declared, slot as usize) {
-        None => Err(Halt::Stuck),
-        Some(declared) => {
-            if vertex >= targets(&accums.slots, declared) {
-                return Err(Halt::Stuck);
-            }
-            let target = accums.slots.target(slot, vertex) as usize;
-            match item(&accums.contents, target) {
-                None => Err(Halt::Stuck),
-                Some(content) => read(&declared.kind, content),
-            }
+/// The accumulators that a query declares, in order, and how many vertices the store has.
+#[derive(Debug, Drop)]
+pub struct Slots {
+    pub declared: List<Slot>,
+    pub vertices: u32,
+}
+
+impl Slots {
+    /// The number of a target: all targets of the slots before, and the vertex, which is 0 where the slot isn't attached.
+    ///
+    /// It takes a step for each slot before. Targets of one slot stand in order of vertex, so one call serves them all.
+    /// Takes no memory.
+    pub fn target(&self, slot: u32, vertex: u32) -> u64
+        requires { slot < length self.now.declared }
+        ensures { result ≡ number_of self.now slot vertex }
+    {
+        let mut number = 0u64;
+        for before in &self.declared.as_slice()[..slot as usize] {
+            number += u64::from(self.targets(before));
         }
+        number + u64::from(vertex)
     }
-}
 
-/// The item at a place, if there is one.
-fn item<T>(items: &List<T>, at: usize) -> Option<&T>
-    ensures { slice_get items.now at ≡ option_copied result }
-{
-    items.as_slice().get(at)
-}
+    /// How many targets a slot has.
+    pub(crate) fn targets(&self, slot: &Slot) -> u32
+        ensures { result ≡ targets_of self.now.vertices slot.now }
+    {
+        if slot.attached { self.vertices } else { 1 }
+    }
 
-/// How many targets a slot has.
-fn targets(slots: &Slots, slot: &Slot) -> u32
-    ensures { result ≡ targets_of slots.now.vertices slot.now }
-{
-    if slot.attached { slots.vertices } else { 1 }
+    /// Equal slots with memory of their own.
+    pub fn duplicate(&self, alloc: Global) -> Result<Slots, OutOfMemory>
+        ensures { IfOk result (λ copy. copy ≡ self.now) }
+    {
+        let mut declared = List::new(alloc);
+        for slot in self.declared.as_slice() {
+            declared.push(Slot {
+                kind: slot.kind.duplicate(alloc)?,
+                attached: slot.attached,
+            })?;
+        }
+        Ok(Slots {
+            declared,
+            vertices: self.vertices,
+        })
+    }
 }

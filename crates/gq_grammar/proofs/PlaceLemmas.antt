@@ -2,8 +2,8 @@
 use Rattle.std.proofs.Common.{◌≡◌, ℕ, suc, ◌+◌, ◌<◌, ◌≤◌, List, ◌∷◌, length, map, drop, Bool, true, false, not, ◌&&◌, Some, None, refl, sym, ap, ◌∙◌, arith, get_or, drop-cons, add-one}
 use Rattle.std.proofs.lemmas.List.{drop-map, drop_all, length-map}
 use Rattle.gq_token.specs.declared.token.Token.{Token}
-use Rattle.gq_token.specs.declared.token.Shape.{Shape}
-use Rattle.gq_token.specs.declared.token.Shape.TheVariants as shape
+use Rattle.gq_token.specs.declared.token.TokenKind.{TokenKind}
+use Rattle.gq_token.specs.declared.token.TokenKind.TheVariants as shape
 use Rattle.gq_token.specs.Cut.{text_of}
 use Rattle.gq_token.specs.Kinds.{is_word_shape, is_mark, is_keyword}
 use Rattle.gq_grammar.specs.Reserved.{is_reserved}
@@ -12,7 +12,7 @@ use Rattle.gq_grammar.specs.Parsers.{token, token_at, one, Found}
 
 -- ---- what another shape isn't
 
-no_word : (s : Shape) → (s ≡ shape.Word → ⊥) → is_word_shape s ≡ false
+no_word : (s : TokenKind) → (s ≡ shape.Word → ⊥) → is_word_shape s ≡ false
 no_word shape.Word h = absurd (h refl)
 no_word shape.Global h = refl
 no_word shape.Attached h = refl
@@ -20,7 +20,7 @@ no_word (shape.Number n) h = refl
 no_word (shape.Text said) h = refl
 no_word shape.Symbol h = refl
 
-no_global : (s : Shape) → (s ≡ shape.Global → ⊥) → is_global_shape s ≡ false
+no_global : (s : TokenKind) → (s ≡ shape.Global → ⊥) → is_global_shape s ≡ false
 no_global shape.Word h = refl
 no_global shape.Global h = absurd (h refl)
 no_global shape.Attached h = refl
@@ -28,7 +28,7 @@ no_global (shape.Number n) h = refl
 no_global (shape.Text said) h = refl
 no_global shape.Symbol h = refl
 
-no_attached : (s : Shape) → (s ≡ shape.Attached → ⊥) → is_attached_shape s ≡ false
+no_attached : (s : TokenKind) → (s ≡ shape.Attached → ⊥) → is_attached_shape s ≡ false
 no_attached shape.Word h = refl
 no_attached shape.Global h = refl
 no_attached shape.Attached h = absurd (h refl)
@@ -36,7 +36,7 @@ no_attached (shape.Number n) h = refl
 no_attached (shape.Text said) h = refl
 no_attached shape.Symbol h = refl
 
-no_number : (s : Shape) → ((n : ℕ) → s ≡ shape.Number n → ⊥) → is_number_shape s ≡ false
+no_number : (s : TokenKind) → ((n : ℕ) → s ≡ shape.Number n → ⊥) → is_number_shape s ≡ false
 no_number shape.Word h = refl
 no_number shape.Global h = refl
 no_number shape.Attached h = refl
@@ -44,7 +44,7 @@ no_number (shape.Number n) h = absurd (h n refl)
 no_number (shape.Text said) h = refl
 no_number shape.Symbol h = refl
 
-no_text : (s : Shape) → ((said : List ℕ) → s ≡ shape.Text said → ⊥) → is_text_shape s ≡ false
+no_text : (s : TokenKind) → ((said : List ℕ) → s ≡ shape.Text said → ⊥) → is_text_shape s ≡ false
 no_text shape.Word h = refl
 no_text shape.Global h = refl
 no_text shape.Attached h = refl
@@ -52,7 +52,7 @@ no_text (shape.Number n) h = refl
 no_text (shape.Text said) h = absurd (h said refl)
 no_text shape.Symbol h = refl
 
-name_is : (s : Shape) (text word : List ℕ) (r : Bool) → s ≡ shape.Word → word ≡ text → r ≡ is_reserved word → (is_word_shape s && not (is_reserved text)) ≡ not r
+name_is : (s : TokenKind) (text word : List ℕ) (r : Bool) → s ≡ shape.Word → word ≡ text → r ≡ is_reserved word → (is_word_shape s && not (is_reserved text)) ≡ not r
 name_is s text word r e w h = ap (λ z. is_word_shape z && not (is_reserved text)) e ∙ ap not (ap is_reserved (sym w) ∙ sym h)
 
 -- ---- the token at a place

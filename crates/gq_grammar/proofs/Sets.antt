@@ -4,8 +4,8 @@ use Rattle.std.specs.Str.{bytes_eq, str_eq_ignore_ascii_case}
 use Rattle.std.specs.Char.{to_ascii_lowercase}
 use Rattle.std.specs.Prelude.{map}
 use Rattle.std.proofs.lemmas.Slice.Eq.{bytes_eq-Decides}
-use Rattle.gq_token.specs.declared.token.Shape.{Shape}
-use Rattle.gq_token.specs.declared.token.Shape.TheVariants as shape
+use Rattle.gq_token.specs.declared.token.TokenKind.{TokenKind}
+use Rattle.gq_token.specs.declared.token.TokenKind.TheVariants as shape
 use Rattle.gq_token.specs.Kinds.{is_word_shape, is_symbol_shape}
 use Rattle.gq_grammar.specs.Reserved.{is_reserved}
 use Rattle.gq_grammar.specs.Lexemes.{Lexeme, Lexemes, Terminal, Sign, Keyword, Name, Number, Text, Global, Attached, is_of, is_global_shape, is_attached_shape, is_number_shape, is_text_shape}
@@ -41,7 +41,7 @@ same_text a b h = (bytes_eq-Decides a b).1 h
 -- ---- two terminals that no lexeme is one of at once
 
 -- the kinds of shapes, numbered
-abbrev pub kind_of_shape : Shape → ℕ
+abbrev pub kind_of_shape : TokenKind → ℕ
 kind_of_shape shape.Word = 0
 kind_of_shape shape.Global = 1
 kind_of_shape shape.Attached = 2
@@ -112,7 +112,7 @@ subset (c ∷ cs) ds = has ds c && subset cs ds
 
 -- ---- no lexeme is one of two terminals that are apart
 
-word_kind : (s : Shape) → is_word_shape s ≡ true → kind_of_shape s ≡ 0
+word_kind : (s : TokenKind) → is_word_shape s ≡ true → kind_of_shape s ≡ 0
 word_kind shape.Word h = refl
 word_kind shape.Global h = cc
 word_kind shape.Attached h = cc
@@ -120,7 +120,7 @@ word_kind (shape.Number n) h = cc
 word_kind (shape.Text said) h = cc
 word_kind shape.Symbol h = cc
 
-symbol_kind : (s : Shape) → is_symbol_shape s ≡ true → kind_of_shape s ≡ 5
+symbol_kind : (s : TokenKind) → is_symbol_shape s ≡ true → kind_of_shape s ≡ 5
 symbol_kind shape.Word h = cc
 symbol_kind shape.Global h = cc
 symbol_kind shape.Attached h = cc
@@ -128,7 +128,7 @@ symbol_kind (shape.Number n) h = cc
 symbol_kind (shape.Text said) h = cc
 symbol_kind shape.Symbol h = refl
 
-global_kind : (s : Shape) → is_global_shape s ≡ true → kind_of_shape s ≡ 1
+global_kind : (s : TokenKind) → is_global_shape s ≡ true → kind_of_shape s ≡ 1
 global_kind shape.Word h = cc
 global_kind shape.Global h = refl
 global_kind shape.Attached h = cc
@@ -136,7 +136,7 @@ global_kind (shape.Number n) h = cc
 global_kind (shape.Text said) h = cc
 global_kind shape.Symbol h = cc
 
-attached_kind : (s : Shape) → is_attached_shape s ≡ true → kind_of_shape s ≡ 2
+attached_kind : (s : TokenKind) → is_attached_shape s ≡ true → kind_of_shape s ≡ 2
 attached_kind shape.Word h = cc
 attached_kind shape.Global h = cc
 attached_kind shape.Attached h = refl
@@ -144,7 +144,7 @@ attached_kind (shape.Number n) h = cc
 attached_kind (shape.Text said) h = cc
 attached_kind shape.Symbol h = cc
 
-number_kind : (s : Shape) → is_number_shape s ≡ true → kind_of_shape s ≡ 3
+number_kind : (s : TokenKind) → is_number_shape s ≡ true → kind_of_shape s ≡ 3
 number_kind shape.Word h = cc
 number_kind shape.Global h = cc
 number_kind shape.Attached h = cc
@@ -152,7 +152,7 @@ number_kind (shape.Number n) h = refl
 number_kind (shape.Text said) h = cc
 number_kind shape.Symbol h = cc
 
-text_kind : (s : Shape) → is_text_shape s ≡ true → kind_of_shape s ≡ 4
+text_kind : (s : TokenKind) → is_text_shape s ≡ true → kind_of_shape s ≡ 4
 text_kind shape.Word h = cc
 text_kind shape.Global h = cc
 text_kind shape.Attached h = cc

@@ -4,15 +4,15 @@ use Rattle.std.specs.Prelude.{ℕ, Bool, true, false, not, ◌&&◌, List, [], m
 use Prim.Native.String.{String}
 use Rattle.std.specs.Str.{bytes_eq, str_eq_ignore_ascii_case}
 use Rattle.gq_token.specs.declared.token.Token.{Token}
-use Rattle.gq_token.specs.declared.token.Shape.{Shape}
-use Rattle.gq_token.specs.declared.token.Shape.TheVariants as shape
+use Rattle.gq_token.specs.declared.token.TokenKind.{TokenKind}
+use Rattle.gq_token.specs.declared.token.TokenKind.TheVariants as shape
 use Rattle.gq_token.specs.Kinds.{is_word_shape, is_symbol_shape}
 use Rattle.gq_token.specs.Cut.{text_of}
 use Rattle.gq_grammar.specs.Reserved.{is_reserved}
 
 -- a token without where it stands: its shape and its bytes
 pub record Lexeme : Type 0 where
-  pub shape : Shape
+  pub shape : TokenKind
   pub text : List ℕ
 
 abbrev pub Lexemes : Type 0
@@ -43,19 +43,19 @@ sign s = Sign (codes s)
 abbrev pub word : String → Terminal
 word s = Keyword (codes s)
 
-abbrev pub is_global_shape : Shape → Bool
+abbrev pub is_global_shape : TokenKind → Bool
 is_global_shape shape.Global = true
 is_global_shape _ = false
 
-abbrev pub is_attached_shape : Shape → Bool
+abbrev pub is_attached_shape : TokenKind → Bool
 is_attached_shape shape.Attached = true
 is_attached_shape _ = false
 
-abbrev pub is_number_shape : Shape → Bool
+abbrev pub is_number_shape : TokenKind → Bool
 is_number_shape (shape.Number n) = true
 is_number_shape _ = false
 
-abbrev pub is_text_shape : Shape → Bool
+abbrev pub is_text_shape : TokenKind → Bool
 is_text_shape (shape.Text said) = true
 is_text_shape _ = false
 
@@ -76,14 +76,14 @@ nothing t = tt
 abbrev pub spelling : Lexeme → List ℕ
 spelling t = t.text
 
-abbrev pub number_in : Shape → ℕ
+abbrev pub number_in : TokenKind → ℕ
 number_in (shape.Number n) = n
 number_in _ = 0
 
 abbrev pub number : Lexeme → ℕ
 number t = number_in t.shape
 
-abbrev pub text_in : Shape → List ℕ
+abbrev pub text_in : TokenKind → List ℕ
 text_in (shape.Text said) = said
 text_in _ = []
 

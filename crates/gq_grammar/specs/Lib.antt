@@ -1,3 +1,15 @@
+pub mod Shapes
+pub mod Expressions
+pub mod Literals
+pub mod Schema
+pub mod Jobs
+pub mod Kinds
+pub mod Acts
+pub mod Selects
+pub mod Bodies
+pub mod Queries
+pub mod Scripts
+pub mod Cutting
 pub mod Reserved
 pub mod Lexemes
 pub mod Languages

@@ -1,5 +1,5 @@
--- Reading: what is promised of a reader of a language.
--- Here every other end is looked at, the nearer and the farther ones, and every other value.
+-- Reading: what is promised of a reader of a language: the longest prefix, none, and one tree at most. Here every other end
+-- is looked at, the nearer and the farther ones, and every other value.
 use Rattle.std.specs.Prelude.{◌≡◌, ℕ, ◌-◌, ◌≤◌, take, drop, length}
 use Rattle.gq_grammar.specs.Lexemes.{Lexemes}
 use Rattle.gq_grammar.specs.Languages.{Language}

@@ -1,4 +1,5 @@
--- Series: more of what grammars put together, for lists and for what keeps its text; and the same for what code computes.
+-- Series: signs for a list with separators, for a part with its end, and for a part that keeps its spelling; and the same
+-- for what code computes.
 use Rattle.std.specs.Prelude.{ℕ, ◌-◌, ◌≡◌, List, [], ◌∷◌, Option, Some, None, ◌++◌, length, take}
 use Rattle.gq_grammar.specs.Lexemes.{Lexeme, Lexemes, Terminal}
 use Rattle.gq_grammar.specs.Languages.{Language, ◌then◌, Many, Made}

@@ -1,8 +1,12 @@
-//! Grammars: what a list of tokens spells, and how readers of it are put together and proved.
+//! The grammar of GSQL, and the combinators with which grammars are specified and parsers are proved.
 //!
-//! A grammar is a relation between lists of lexemes and trees, put together by a few signs that read like EBNF. The code of a
-//! reader asks a `Source` for one token at a time. `specs/Lexemes.antt` and `specs/Languages.antt` say what both speak of: read
-//! them first. `README.md` says what a new production needs.
+//! A language is a relation between lists of lexemes and trees, built from a few combinators that read like
+//! EBNF. A parser asks a `Source` for one token at a time, and its contract says that it finds the longest
+//! prefix that derives.
+//!
+//! Read `specs/Lexemes.antt` and `specs/Languages.antt` first, then the grammar: `specs/Expressions.antt`,
+//! `specs/Selects.antt`, `specs/Bodies.antt`, `specs/Queries.antt`, `specs/Scripts.antt`.
+//! `specs/Parsers.antt` mirrors the combinators for code. Tokens come from `src/source.rt`.
 #![tactic(auto)]
 
 mod reserved;

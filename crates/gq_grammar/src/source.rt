@@ -9,7 +9,9 @@ ghost use Rattle.gq_grammar.specs.Reading.{between};
 ghost use Rattle.gq_grammar.specs.Series.{joined};
 
 use crate::reserved::is_reserved;
-use gq_token::{Memory, Shape, Token, Txt};
+use gq_base::OutOfMemory;
+use gq_token::{Token, TokenKind};
+use gq_value::Txt;
 use std::alloc::Global;
 use std::marker::Model;
 
@@ -43,7 +45,7 @@ impl<'a> Source<'a> {
 
     /// The bytes of the tokens from `from` to before `to`, joined.
     #[tactic(auto, using(crate::proofs::SeriesLemmas::joins))]
-    pub fn joined(&self, alloc: Global, from: usize, to: usize) -> Result<Vec<u8>, Memory>
+    pub fn joined(&self, alloc: Global, from: usize, to: usize) -> Result<Vec<u8>, OutOfMemory>
         requires order { from ≤ to }
         requires within { to ≤ length self.now }
         ensures { IfOk result (λ text. text.items ≡ joined (between self.now from to)) }
@@ -161,7 +163,7 @@ impl<'a> Source<'a> {
             return None;
         }
         match self.tokens[at].shape {
-            Shape::Number(number) => Some((number, at + 1)),
+            TokenKind::Number(number) => Some((number, at + 1)),
             _ => None,
         }
     }
@@ -175,7 +177,7 @@ impl<'a> Source<'a> {
             return None;
         }
         match &self.tokens[at].shape {
-            Shape::Text(said) => Some((said, at + 1)),
+            TokenKind::Text(said) => Some((said, at + 1)),
             _ => None,
         }
     }

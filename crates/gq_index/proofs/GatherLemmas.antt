@@ -5,11 +5,11 @@ use Rattle.std.proofs.lemmas.List.{append_assoc, take_more, map_push, get_or-map
 use Rattle.std.proofs.lemmas.List.Concat.{flat_map-append}
 use Rattle.std.proofs.lemmas.List.Elements.{filter-append}
 use Rattle.std.proofs.lemmas.Option.{slice_get-get_or, slice_get_past}
-use Rattle.gq_value.specs.declared.store.VertexRow.{VertexRow}
-use Rattle.gq_value.specs.Candidates.{among, is_target}
-use Rattle.gq_value.specs.Vertices.{vertex_at, no_vertex}
-use Rattle.gq_index.specs.declared.walks.Walk.{Walk}
-use Rattle.gq_index.specs.declared.walks.Way.{Way}
+use Rattle.gq_graph.specs.declared.rows.VertexRow.{VertexRow}
+use Rattle.gq_graph.specs.Candidates.{among, is_target}
+use Rattle.gq_graph.specs.Vertices.{vertex_at, no_vertex}
+use Rattle.gq_index.specs.declared.walks.Traversal.{Traversal}
+use Rattle.gq_index.specs.declared.walks.Neighbor.{Neighbor}
 use Rattle.gq_index.specs.Sights.{vertex_kinds}
 use Rattle.gq_index.specs.Walks.{walked}
 
@@ -27,7 +27,7 @@ target_past vertices listed v h =
     let is : slice_get (vertex_kinds vertices) v ≡ None = slice_get_past (vertex_kinds vertices) v (omega (arith, length-map vertices (λ (row : VertexRow). row.kind)))
     in rw (is, is_target) refl
 
-wanted_more : (p : Walk → Bool) (v i : ℕ) (ways : List Way) (d : Way) → i < length ways
+wanted_more : (p : Traversal → Bool) (v i : ℕ) (ways : List Neighbor) (d : Neighbor) → i < length ways
     → filter p (map (walked v) (take (i + 1) ways))
     ≡ filter p (map (walked v) (take i ways)) ++ cond (p (walked v (get_or ways i d))) (walked v (get_or ways i d) ∷ []) []
 wanted_more p v i ways d h =
@@ -35,14 +35,14 @@ wanted_more p v i ways d h =
     ∙ filter-append p (map (walked v) (take i ways)) (walked v (get_or ways i d) ∷ [])
 
 -- the wanted walks of one way more
-pub added_is : (p : Walk → Bool) (v i : ℕ) (ways : List Way) (d : Way) (before : List Walk) → i < length ways
+pub added_is : (p : Traversal → Bool) (v i : ℕ) (ways : List Neighbor) (d : Neighbor) (before : List Traversal) → i < length ways
     → (before ++ filter p (map (walked v) (take i ways))) ++ filter p (walked v (get_or ways i d) ∷ []) ≡ before ++ filter p (map (walked v) (take (i + 1) ways))
 added_is p v i ways d before h =
     append_assoc before (filter p (map (walked v) (take i ways))) (filter p (walked v (get_or ways i d) ∷ []))
     ∙ ap (λ l. before ++ l) (sym (wanted_more p v i ways d h))
 
 -- the wanted walks of one source more
-pub gathered_more : (F : ℕ → List Walk) (sources : List ℕ) (i : ℕ) (last : List Walk) → i < length sources → last ≡ F (get_or sources i 0)
+pub gathered_more : (F : ℕ → List Traversal) (sources : List ℕ) (i : ℕ) (last : List Traversal) → i < length sources → last ≡ F (get_or sources i 0)
     → flat_map F (take i sources) ++ last ≡ flat_map F (take (i + 1) sources)
 gathered_more F sources i last h is =
     ap (λ l. flat_map F (take i sources) ++ l) (is ∙ sym (append-nil (F (get_or sources i 0))))

@@ -5,12 +5,12 @@ use Rattle.std.specs.Option.{option_to_list}
 use Rattle.std.proofs.lemmas.List.{drop-map, take-map, map-append, get_or_past, get_or-take, length-take-le}
 use Rattle.std.proofs.lemmas.List.FromFn.{get_or-map-range_with_len, length-map-range_with_len}
 use Rattle.std.proofs.lemmas.Simd.{map-map}
-use Rattle.gq_value.specs.declared.catalog.EdgeType.{EdgeType}
-use Rattle.gq_value.specs.declared.store.EdgeRow.{EdgeRow}
-use Rattle.gq_value.specs.Candidates.{far_end}
-use Rattle.gq_value.specs.Edges.{edge_at}
-use Rattle.gq_index.specs.declared.walks.Walk.{Walk}
-use Rattle.gq_index.specs.declared.walks.Way.{Way}
+use Rattle.gq_graph.specs.declared.types.EdgeType.{EdgeType}
+use Rattle.gq_graph.specs.declared.rows.EdgeRow.{EdgeRow}
+use Rattle.gq_graph.specs.Candidates.{far_end}
+use Rattle.gq_graph.specs.Edges.{edge_at}
+use Rattle.gq_index.specs.declared.walks.Traversal.{Traversal}
+use Rattle.gq_index.specs.declared.walks.Neighbor.{Neighbor}
 use Rattle.gq_index.specs.Places.{below, part_of, cut_up, IsPlaced}
 use Rattle.gq_index.specs.Sights.{type_at}
 use Rattle.gq_index.specs.Walks.{walk_at, way_of, walked, walks_along, walks_under, walks_from, all_walks, sources_of, laid_out}
@@ -25,7 +25,7 @@ map_flat_map f g (x ∷ xs) = map-append f (g x) (flat_map g xs) ∙ ap (λ l. m
 walked_back : (types : List EdgeType) (edges : List EdgeRow) (v : ℕ)
     → map (walked v) (map way_of (walks_from types edges v)) ≡ walks_from types edges v
 walked_back types edges v =
-    let again : Walk → Walk = λ w. walked v (way_of w) in
+    let again : Traversal → Traversal = λ w. walked v (way_of w) in
     map-map (walked v) way_of (walks_from types edges v)
     ∙ map_flat_map again (walks_under types edges v) (below (length types))
     ∙ flat_map_agree (λ e. map again (walks_under types edges v e)) (walks_under types edges v) (length types) (λ e _.
@@ -39,7 +39,7 @@ part_map f starts xs k =
     ap (λ l. take many l) (drop-map f from xs) ∙ take-map f many (drop from xs)
 
 -- the ways at the places of each source are the walks from each vertex
-pub laid_out_is : (types : List EdgeType) (edges : List EdgeRow) (walks : List Walk) (sources starts kept order : List ℕ) (ways : List Way) (vertices : ℕ)
+pub laid_out_is : (types : List EdgeType) (edges : List EdgeRow) (walks : List Traversal) (sources starts kept order : List ℕ) (ways : List Neighbor) (vertices : ℕ)
     → walks ≡ all_walks types edges → sources ≡ sources_of vertices walks → IsPlaced sources (vertices + 1) starts order
     → ways ≡ map (λ i. way_of (walk_at walks i)) order → kept ≡ take (vertices + 1) starts
     → laid_out kept ways ≡ map (walks_from types edges) (below vertices)
@@ -65,10 +65,10 @@ laid_out_is types edges walks sources starts kept order ways vertices are keys p
         ∙ walked_back types edges v
 
 -- the part of a vertex, taken from it
-pub ways_at : (starts : List ℕ) (ways : List Way) (v : ℕ) → map (walked v) (get_or (cut_up starts ways) v []) ≡ get_or (laid_out starts ways) v []
+pub ways_at : (starts : List ℕ) (ways : List Neighbor) (v : ℕ) → map (walked v) (get_or (cut_up starts ways) v []) ≡ get_or (laid_out starts ways) v []
 ways_at starts ways v =
     let n : ℕ = length starts - 1 in
-    let F : ℕ → List Walk = λ v. map (walked v) (part_of starts ways v) in
+    let F : ℕ → List Traversal = λ v. map (walked v) (part_of starts ways v) in
     elim (lt_or_le v n) [
       | inl h ↦ ap (map (walked v)) (get_or-map-range_with_len (part_of starts ways) 0 n v v [] h (zero-add v))
           ∙ sym (get_or-map-range_with_len F 0 n v v [] h (zero-add v))

@@ -7,3 +7,5 @@ pub mod OrderLemmas
 pub mod RunLemmas
 pub mod CandidateLemmas
 pub mod GatherLemmas
+pub mod StepLemmas
+pub mod NamingLemmas

@@ -7,7 +7,7 @@ use Rattle.std.proofs.lemmas.List.Sums.{sum_by-cons, sum_by_push, count_by-le-le
 use Rattle.std.proofs.lemmas.Bool.Decides.{nat_tests}
 use Rattle.std.proofs.lemmas.Bool.{cases_eq}
 use Rattle.std.proofs.lemmas.Grind.{common_steps}
-use Rattle.gq_index.specs.declared.walks.Walk.{Walk}
+use Rattle.gq_index.specs.declared.walks.Traversal.{Traversal}
 use Rattle.gq_index.specs.declared.runs.Segment.{Segment}
 use Rattle.gq_index.specs.declared.runs.Reached.{Reached}
 use Rattle.gq_index.specs.Places.{below, many}
@@ -101,15 +101,15 @@ many_agree p q =
     in nat_up P (λ _. many_zero p ∙ sym (many_zero q))
     (λ n before same. many_more p n ∙ ap (λ m. m + cond (p n) 1 0) (before (λ k h. same k (omega arith))) ∙ ap (λ b. many q n + cond b 1 0) (same n (omega arith)) ∙ sym (many_more q n))
 
-walk_kept : (walks : List Walk) (w : Walk) (i : ℕ) → i < length walks → walk_at (walks ++ w ∷ []) i ≡ walk_at walks i
+walk_kept : (walks : List Traversal) (w : Traversal) (i : ℕ) → i < length walks → walk_at (walks ++ w ∷ []) i ≡ walk_at walks i
 walk_kept walks w i h = get_or_append_left walks (w ∷ []) (record { source = 0; kind = 0; row = 0; target = 0 }) i h
 
-opens_kept : (walks : List Walk) (w : Walk) (i : ℕ) → i < length walks → opens (walks ++ w ∷ []) i ≡ opens walks i
+opens_kept : (walks : List Traversal) (w : Traversal) (i : ℕ) → i < length walks → opens (walks ++ w ∷ []) i ≡ opens walks i
 opens_kept walks w i h =
-    ap (λ (a : Walk). (i == 0) || not ((a.source == (walk_at (walks ++ w ∷ []) (i - 1)).source) && (a.kind == (walk_at (walks ++ w ∷ []) (i - 1)).kind))) (walk_kept walks w i h)
-    ∙ ap (λ (a : Walk). (i == 0) || not (((walk_at walks i).source == a.source) && ((walk_at walks i).kind == a.kind))) (walk_kept walks w (i - 1) (omega arith))
+    ap (λ (a : Traversal). (i == 0) || not ((a.source == (walk_at (walks ++ w ∷ []) (i - 1)).source) && (a.kind == (walk_at (walks ++ w ∷ []) (i - 1)).kind))) (walk_kept walks w i h)
+    ∙ ap (λ (a : Traversal). (i == 0) || not (((walk_at walks i).source == a.source) && ((walk_at walks i).kind == a.kind))) (walk_kept walks w (i - 1) (omega arith))
 
-run_count_more : (walks : List Walk) (w : Walk) → run_count (walks ++ w ∷ []) ≡ run_count walks + cond (opens (walks ++ w ∷ []) (length walks)) 1 0
+run_count_more : (walks : List Traversal) (w : Traversal) → run_count (walks ++ w ∷ []) ≡ run_count walks + cond (opens (walks ++ w ∷ []) (length walks)) 1 0
 unfolding run_count
 run_count_more walks w =
     ap (many (opens (walks ++ w ∷ []))) (length_push walks w)
@@ -117,7 +117,7 @@ run_count_more walks w =
     ∙ ap (λ m. m + cond (opens (walks ++ w ∷ []) (length walks)) 1 0) (many_agree (opens (walks ++ w ∷ [])) (opens walks) (length walks) (opens_kept walks w))
 
 -- the walk put last
-put_last : (walks : List Walk) (w : Walk) (n : ℕ) → length walks ≡ n → walk_at (walks ++ w ∷ []) n ≡ w
+put_last : (walks : List Traversal) (w : Traversal) (n : ℕ) → length walks ≡ n → walk_at (walks ++ w ∷ []) n ≡ w
 put_last walks w n e = get_or_push walks w (record { source = 0; kind = 0; row = 0; target = 0 }) n e
 
 shown_more : (old new : List Segment) (reached : List Reached) (r : Reached)
@@ -125,7 +125,7 @@ shown_more : (old new : List Segment) (reached : List Reached) (r : Reached)
     → shown new (reached ++ r ∷ []) ≡ shown old reached ++ walk_of (segment_of new (length reached)) r ∷ []
 shown_more old new reached r same =
     let n : ℕ = length reached in
-    let F : ℕ → Walk = λ i. walk_of (segment_of new i) (reached_at (reached ++ r ∷ []) i) in
+    let F : ℕ → Traversal = λ i. walk_of (segment_of new i) (reached_at (reached ++ r ∷ []) i) in
     shown_is new (reached ++ r ∷ []) ∙ ap (λ m. map F (below m)) (length_push reached r) ∙ ap (map F) (below_more n) ∙ map_push F (below n) n
     ∙ ap (λ l. l ++ F n ∷ []) (map_below_agree F (λ i. walk_of (segment_of old i) (reached_at reached i)) n
     (λ i h. ap (λ s. walk_of s (reached_at (reached ++ r ∷ []) i)) (same i h)
@@ -133,33 +133,33 @@ shown_more old new reached r same =
     ∙ ap (λ l. l ++ F n ∷ []) (sym (shown_is old reached))
     ∙ ap (λ x. shown old reached ++ walk_of (segment_of new n) x ∷ []) (get_or_push reached r (record { row = 0; target = 0 }) n refl)
 
-walk_is : (s : Segment) (w : Walk) → w.source ≡ s.source → w.kind ≡ s.kind → walk_of s (record { row = w.row; target = w.target }) ≡ w
+walk_is : (s : Segment) (w : Traversal) → w.source ≡ s.source → w.kind ≡ s.kind → walk_of s (record { row = w.row; target = w.target }) ≡ w
 walk_is s w a b =
     ap (λ x. record { source = x; kind = s.kind; row = w.row; target = w.target }) (sym a)
     ∙ ap (λ x. record { source = w.source; kind = x; row = w.row; target = w.target }) (sym b)
 
-long_walks : {segments : List Segment} {reached : List Reached} {walks : List Walk} → Holds segments reached walks → length walks ≡ length reached
+long_walks : {segments : List Segment} {reached : List Reached} {walks : List Traversal} → Holds segments reached walks → length walks ≡ length reached
 long_walks {segments} {reached} h = sym (ap length h.shows) ∙ length_shown segments reached
 
 -- the last walk has the last segment's source and type
-last_walk : {segments : List Segment} {reached : List Reached} {walks : List Walk} → Holds segments reached walks → 0 < length reached
+last_walk : {segments : List Segment} {reached : List Reached} {walks : List Traversal} → Holds segments reached walks → 0 < length reached
     → walk_at walks (length reached - 1) ≡ walk_of (segment_at segments (length segments - 1)) (reached_at reached (length reached - 1))
 last_walk {segments} {reached} {walks} h some =
     let i : ℕ = length reached - 1 in
     ap (λ l. walk_at l i) (sym h.shows) ∙ shown_at segments reached i (omega arith)
     ∙ ap (λ s. walk_of s (reached_at reached i)) (last_segment segments i (λ k g. omega (arith, h.within k g)))
 
-pub opens_at : (walks : List Walk) (w : Walk) (n : ℕ) → length walks ≡ n → (s : Segment) → 0 < n → (walk_at walks (n - 1)).source ≡ s.source → (walk_at walks (n - 1)).kind ≡ s.kind
+pub opens_at : (walks : List Traversal) (w : Traversal) (n : ℕ) → length walks ≡ n → (s : Segment) → 0 < n → (walk_at walks (n - 1)).source ≡ s.source → (walk_at walks (n - 1)).kind ≡ s.kind
     → opens (walks ++ w ∷ []) n ≡ not ((w.source == s.source) && (w.kind == s.kind))
 opens_at walks w n e s some a b =
     let later : (n == 0) ≡ false = grind (arith, nat_tests) in
     ap (λ t. t || not (((walk_at (walks ++ w ∷ []) n).source == (walk_at (walks ++ w ∷ []) (n - 1)).source) && ((walk_at (walks ++ w ∷ []) n).kind == (walk_at (walks ++ w ∷ []) (n - 1)).kind))) later
-    ∙ ap (λ (x : Walk). not ((x.source == (walk_at (walks ++ w ∷ []) (n - 1)).source) && (x.kind == (walk_at (walks ++ w ∷ []) (n - 1)).kind))) (put_last walks w n e)
-    ∙ ap (λ (x : Walk). not ((w.source == x.source) && (w.kind == x.kind))) (walk_kept walks w (n - 1) (omega arith))
+    ∙ ap (λ (x : Traversal). not ((x.source == (walk_at (walks ++ w ∷ []) (n - 1)).source) && (x.kind == (walk_at (walks ++ w ∷ []) (n - 1)).kind))) (put_last walks w n e)
+    ∙ ap (λ (x : Traversal). not ((w.source == x.source) && (w.kind == x.kind))) (walk_kept walks w (n - 1) (omega arith))
     ∙ ap (λ x. not ((w.source == x) && (w.kind == (walk_at walks (n - 1)).kind))) a
     ∙ ap (λ x. not ((w.source == s.source) && (w.kind == x))) b
 
-pub same_pushed : (segments : List Segment) (reached : List Reached) (walks : List Walk) (w : Walk) → Holds segments reached walks → 0 < length segments
+pub same_pushed : (segments : List Segment) (reached : List Reached) (walks : List Traversal) (w : Traversal) → Holds segments reached walks → 0 < length segments
     → w.source ≡ (segment_at segments (length segments - 1)).source → w.kind ≡ (segment_at segments (length segments - 1)).kind
     → Holds segments (reached ++ (record { row = w.row; target = w.target }) ∷ []) (walks ++ w ∷ [])
 same_pushed segments reached walks w h some a b =
@@ -171,7 +171,7 @@ same_pushed segments reached walks w h some a b =
     let found = last_walk h here in
     let closed : opens (walks ++ w ∷ []) (length walks) ≡ false =
     ap (opens (walks ++ w ∷ [])) (long_walks h)
-    ∙ opens_at walks w n (long_walks h) last here (ap (λ (x : Walk). x.source) found) (ap (λ (x : Walk). x.kind) found)
+    ∙ opens_at walks w n (long_walks h) last here (ap (λ (x : Traversal). x.source) found) (ap (λ (x : Traversal). x.kind) found)
     ∙ ap not (both_true (eq-eqb w.source last.source a) (eq-eqb w.kind last.kind b)) in
     record {
       shows = shown_more segments segments reached r (λ _ _. refl) ∙ ap (λ l. l ++ walk_of (segment_of segments n) r ∷ []) h.shows
@@ -207,7 +207,7 @@ new_rising segments s n a b is within rising le h = elim (cases_eq b (length seg
       omega (arith, at_a, at_b, rising a b le low)
 ]
 
-fresh_opens : (segments : List Segment) (reached : List Reached) (walks : List Walk) (w : Walk) → Holds segments reached walks
+fresh_opens : (segments : List Segment) (reached : List Reached) (walks : List Traversal) (w : Traversal) → Holds segments reached walks
     → (0 < length segments → ((w.source == (segment_at segments (length segments - 1)).source) && (w.kind == (segment_at segments (length segments - 1)).kind)) ≡ false)
     → opens (walks ++ w ∷ []) (length reached) ≡ true
 fresh_opens segments reached walks w h differs = elim (cases_eq (length reached) 0) [
@@ -215,7 +215,7 @@ fresh_opens segments reached walks w h differs = elim (cases_eq (length reached)
   | inr some ↦
       let here : 0 < length reached = omega arith in
       let last : Segment = segment_at segments (length segments - 1) in
-      opens_at walks w (length reached) (long_walks h) last here (ap (λ (x : Walk). x.source) (last_walk h here)) (ap (λ (x : Walk). x.kind) (last_walk h here))
+      opens_at walks w (length reached) (long_walks h) last here (ap (λ (x : Traversal). x.source) (last_walk h here)) (ap (λ (x : Traversal). x.kind) (last_walk h here))
       ∙ ap not (differs (h.begun here))
 ]
 
@@ -231,7 +231,7 @@ new_opening segments s n is begun opening = elim (cases_eq (length segments) 0) 
       ap (λ (x : Segment). x.start) (get_or_append_left segments (s ∷ []) (record { source = 0; kind = 0; start = 0 }) 0 here) ∙ opening here
 ]
 
-pub fresh_pushed : (segments : List Segment) (reached : List Reached) (walks : List Walk) (w : Walk) → Holds segments reached walks
+pub fresh_pushed : (segments : List Segment) (reached : List Reached) (walks : List Traversal) (w : Traversal) → Holds segments reached walks
     → (0 < length segments → ((w.source == (segment_at segments (length segments - 1)).source) && (w.kind == (segment_at segments (length segments - 1)).kind)) ≡ false)
     → Holds (segments ++ (record { source = w.source; kind = w.kind; start = length reached }) ∷ []) (reached ++ (record { row = w.row; target = w.target }) ∷ []) (walks ++ w ∷ [])
 fresh_pushed segments reached walks w h differs =
@@ -254,7 +254,7 @@ fresh_pushed segments reached walks w h differs =
     }
 
 -- some segment starts at or before each place
-pub some_found : {segments : List Segment} {reached : List Reached} {walks : List Walk} → Holds segments reached walks → (place : ℕ) → place < length reached
+pub some_found : {segments : List Segment} {reached : List Reached} {walks : List Traversal} → Holds segments reached walks → (place : ℕ) → place < length reached
     → 1 ≤ count_by (λ (s : Segment). nat_le s.start place) segments
 some_found {segments} {reached} h place low =
     let here : 0 < length segments = h.begun (omega arith) in
@@ -264,7 +264,7 @@ some_found {segments} {reached} h place low =
     first_counts [] place some at = absurd (omega arith)
     first_counts (s ∷ rest) place some at = omega (arith, count_cons (λ (s : Segment). nat_le s.start place) s rest ∙ ap (λ b. cond b 1 0 + count_by (λ (s : Segment). nat_le s.start place) rest) at)
 
-pub length_runs : (segments : List Segment) (reached : List Reached) (walks : List Walk) → shown segments reached ≡ walks → length walks ≡ length reached
+pub length_runs : (segments : List Segment) (reached : List Reached) (walks : List Traversal) → shown segments reached ≡ walks → length walks ≡ length reached
 length_runs segments reached walks e = sym (ap length e) ∙ length_shown segments reached
 
 pub holds_none : Holds [] [] []

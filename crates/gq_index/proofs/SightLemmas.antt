@@ -5,13 +5,13 @@ use Rattle.std.specs.Option.{option_to_list}
 use Rattle.std.proofs.lemmas.List.{map-id, map_push, take_more, take_all, length-take}
 use Rattle.std.proofs.lemmas.List.Folds.{flat_map-map}
 use Rattle.std.proofs.lemmas.Simd.{map-map}
-use Rattle.gq_value.specs.declared.catalog.EdgeType.{EdgeType}
-use Rattle.gq_value.specs.declared.store.EdgeRow.{EdgeRow}
-use Rattle.gq_value.specs.declared.store.Pattern.{Pattern}
-use Rattle.gq_value.specs.declared.store.Candidate.{Candidate}
-use Rattle.gq_value.specs.Candidates.{Sight, numbered, among, far_end, is_target, candidate_of, candidates_from, by_number}
-use Rattle.gq_value.specs.Edges.{edge_at, no_edge}
-use Rattle.gq_index.specs.declared.walks.Walk.{Walk}
+use Rattle.gq_graph.specs.declared.types.EdgeType.{EdgeType}
+use Rattle.gq_graph.specs.declared.rows.EdgeRow.{EdgeRow}
+use Rattle.gq_graph.specs.declared.rows.Pattern.{Pattern}
+use Rattle.gq_graph.specs.declared.rows.Candidate.{Candidate}
+use Rattle.gq_graph.specs.Candidates.{Sight, numbered, among, far_end, is_target, candidate_of, candidates_from, by_number}
+use Rattle.gq_graph.specs.Edges.{edge_at, no_edge}
+use Rattle.gq_index.specs.declared.walks.Traversal.{Traversal}
 use Rattle.gq_index.specs.Places.{below}
 use Rattle.gq_index.specs.Sights.{type_at, no_type}
 use Rattle.gq_index.specs.Segments.{of_walk}
@@ -60,14 +60,14 @@ by_number_below sight set =
 
 -- the candidates of a vertex, a type and an edge are the walks along it that lead to a target
 along_from : (sight : Sight) (pattern : Pattern) (v e r : ℕ) (far : Option ℕ) → far_end (e, type_at sight.types e) (edge_at sight.edges r) v ≡ far
-    → map of_walk (filter (λ (w : Walk). is_target sight.kinds pattern.targets w.target) (map (λ far. record { source = v; kind = e; row = r; target = far }) (option_to_list far)))
+    → map of_walk (filter (λ (w : Traversal). is_target sight.kinds pattern.targets w.target) (map (λ far. record { source = v; kind = e; row = r; target = far }) (option_to_list far)))
     ≡ candidate_of sight pattern v (e, type_at sight.types e) (r, edge_at sight.edges r)
 along_from sight pattern v e r None is = rw (is, candidate_of) refl
 along_from sight pattern v e r (Some w) is =
     rw (is, candidate_of) (map_cond of_walk (is_target sight.kinds pattern.targets w) (record { source = v; kind = e; row = r; target = w }))
 
 pub along_is : (sight : Sight) (pattern : Pattern) (v e r : ℕ)
-    → map of_walk (filter (λ (w : Walk). is_target sight.kinds pattern.targets w.target) (walks_along sight.types v e r (edge_at sight.edges r)))
+    → map of_walk (filter (λ (w : Traversal). is_target sight.kinds pattern.targets w.target) (walks_along sight.types v e r (edge_at sight.edges r)))
     ≡ candidate_of sight pattern v (e, type_at sight.types e) (r, edge_at sight.edges r)
 along_is sight pattern v e r = along_from sight pattern v e r (far_end (e, type_at sight.types e) (edge_at sight.edges r) v) refl
 

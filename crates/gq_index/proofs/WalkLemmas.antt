@@ -10,11 +10,11 @@ use Rattle.std.proofs.lemmas.List.FromFn.{get_or-map-range_with_len, get_or-rang
 use Rattle.std.proofs.lemmas.Simd.{map-map}
 use Rattle.std.proofs.lemmas.Bool.Decides.{nat_tests}
 use Rattle.std.proofs.lemmas.Bool.{cases_eq}
-use Rattle.gq_value.specs.declared.catalog.EdgeType.{EdgeType}
-use Rattle.gq_value.specs.declared.store.EdgeRow.{EdgeRow}
-use Rattle.gq_value.specs.Candidates.{far_end, led_to}
-use Rattle.gq_value.specs.Edges.{edge_at, no_edge}
-use Rattle.gq_index.specs.declared.walks.Walk.{Walk}
+use Rattle.gq_graph.specs.declared.types.EdgeType.{EdgeType}
+use Rattle.gq_graph.specs.declared.rows.EdgeRow.{EdgeRow}
+use Rattle.gq_graph.specs.Candidates.{far_end, led_to}
+use Rattle.gq_graph.specs.Edges.{edge_at, no_edge}
+use Rattle.gq_index.specs.declared.walks.Traversal.{Traversal}
 use Rattle.gq_index.specs.Places.{below, passing, holds, part_of, cut_up, IsPlaced}
 use Rattle.gq_index.specs.Sights.{type_at}
 use Rattle.gq_index.specs.Walks.{no_walk, walk_at, base_of, walks_along, walks_under, walks_from, both_ways, type_walks, all_walks, edge_kinds, sources_of}
@@ -44,30 +44,30 @@ flat_map_agree {Y} f g =
     at n before same = flat_map_below f n ∙ ap (λ l. l ++ f n) (before (λ k h. same k (omega arith))) ∙ ap (λ l. flat_map g (below n) ++ l) (same n (omega arith)) ∙ sym (flat_map_below g n)
 
 own_walks : (directed : Bool) (e r v : ℕ) (edge : EdgeRow)
-    → filter (λ (w : Walk). w.source == v) (cond (not directed && not (edge.from == edge.to))
+    → filter (λ (w : Traversal). w.source == v) (cond (not directed && not (edge.from == edge.to))
     ((record { source = edge.from; kind = e; row = r; target = edge.to }) ∷ (record { source = edge.to; kind = e; row = r; target = edge.from }) ∷ [])
     ((record { source = edge.from; kind = e; row = r; target = edge.to }) ∷ []))
     ≡ map (λ far. record { source = v; kind = e; row = r; target = far })
     (option_to_list (cond (edge.from == v) (Some edge.to) (cond directed None (cond (edge.to == v) (Some edge.from) None))))
 own_walks directed e r v edge = grind (arith, nat_tests)
 
-back_walk : (e r v : ℕ) (edge : EdgeRow) → filter (λ (w : Walk). w.source == v) ((record { source = edge.to; kind = e; row = r; target = edge.from }) ∷ [])
+back_walk : (e r v : ℕ) (edge : EdgeRow) → filter (λ (w : Traversal). w.source == v) ((record { source = edge.to; kind = e; row = r; target = edge.from }) ∷ [])
     ≡ map (λ far. record { source = v; kind = e; row = r; target = far }) (option_to_list (cond (edge.to == v) (Some edge.from) None))
 back_walk e r v edge = grind (arith, nat_tests)
 
 -- one edge under one type
 edge_walks : (t : EdgeType) (e r v : ℕ) (edge : EdgeRow)
-    → filter (λ (w : Walk). w.source == v) (both_ways t e r edge)
+    → filter (λ (w : Traversal). w.source == v) (both_ways t e r edge)
     ≡ map (λ far. record { source = v; kind = e; row = r; target = far }) (option_to_list (far_end (e, t) edge v))
 edge_walks t e r v edge =
-    let back : Walk = record { source = edge.to; kind = e; row = r; target = edge.from } in
-    let out : Walk = record { source = edge.from; kind = e; row = r; target = edge.to } in
-    let own : List Walk = cond (not t.directed && not (edge.from == edge.to)) (out ∷ back ∷ []) (out ∷ []) in
-    elim (edge.kind == base_of t e) as (λ b. filter (λ (w : Walk). w.source == v) (cond (not b) [] (cond (is_some t.forward) (back ∷ []) own))
+    let back : Traversal = record { source = edge.to; kind = e; row = r; target = edge.from } in
+    let out : Traversal = record { source = edge.from; kind = e; row = r; target = edge.to } in
+    let own : List Traversal = cond (not t.directed && not (edge.from == edge.to)) (out ∷ back ∷ []) (out ∷ []) in
+    elim (edge.kind == base_of t e) as (λ b. filter (λ (w : Traversal). w.source == v) (cond (not b) [] (cond (is_some t.forward) (back ∷ []) own))
     ≡ map (λ far. record { source = v; kind = e; row = r; target = far }) (option_to_list (cond b (led_to t edge v) None))) [
       | false ↦ refl
       | true ↦
-          elim (is_some t.forward) as (λ b. filter (λ (w : Walk). w.source == v) (cond b (back ∷ []) own)
+          elim (is_some t.forward) as (λ b. filter (λ (w : Traversal). w.source == v) (cond b (back ∷ []) own)
           ≡ map (λ far. record { source = v; kind = e; row = r; target = far })
           (option_to_list (cond b (cond (edge.to == v) (Some edge.from) None)
           (cond (edge.from == v) (Some edge.to) (cond t.directed None (cond (edge.to == v) (Some edge.from) None)))))) [
@@ -77,21 +77,21 @@ edge_walks t e r v edge =
     ]
 
 pub type_walks_from : (types : List EdgeType) (edges : List EdgeRow) (v e : ℕ)
-    → filter (λ (w : Walk). w.source == v) (type_walks (type_at types e) e edges) ≡ walks_under types edges v e
+    → filter (λ (w : Traversal). w.source == v) (type_walks (type_at types e) e edges) ≡ walks_under types edges v e
 unfolding type_walks
 type_walks_from types edges v e =
     let t = type_at types e in
-    let ends : ℕ → List Walk = λ r. both_ways t e r (edge_at edges r) in
-    filter_flat_map (λ (w : Walk). w.source == v) ends (below (length edges))
-    ∙ flat_map_agree (λ r. filter (λ (w : Walk). w.source == v) (ends r)) (λ r. walks_along types v e r (edge_at edges r)) (length edges)
+    let ends : ℕ → List Traversal = λ r. both_ways t e r (edge_at edges r) in
+    filter_flat_map (λ (w : Traversal). w.source == v) ends (below (length edges))
+    ∙ flat_map_agree (λ r. filter (λ (w : Traversal). w.source == v) (ends r)) (λ r. walks_along types v e r (edge_at edges r)) (length edges)
     (λ r _. edge_walks t e r v (edge_at edges r))
 
 pub all_walks_from : (types : List EdgeType) (edges : List EdgeRow) (v : ℕ)
-    → filter (λ (w : Walk). w.source == v) (all_walks types edges) ≡ walks_from types edges v
+    → filter (λ (w : Traversal). w.source == v) (all_walks types edges) ≡ walks_from types edges v
 unfolding all_walks
 all_walks_from types edges v =
-    filter_flat_map (λ (w : Walk). w.source == v) (λ e. type_walks (type_at types e) e edges) (below (length types))
-    ∙ flat_map_agree (λ e. filter (λ (w : Walk). w.source == v) (type_walks (type_at types e) e edges)) (walks_under types edges v) (length types) (λ e _. type_walks_from types edges v e)
+    filter_flat_map (λ (w : Traversal). w.source == v) (λ e. type_walks (type_at types e) e edges) (below (length types))
+    ∙ flat_map_agree (λ e. filter (λ (w : Traversal). w.source == v) (type_walks (type_at types e) e edges)) (walks_under types edges v) (length types) (λ e _. type_walks_from types edges v e)
 
 pub map_cond : {X Y : Type 0} (f : X → Y) (b : Bool) (x : X) → map f (cond b (x ∷ []) []) ≡ cond b (f x ∷ []) []
 map_cond f true x = refl
@@ -122,7 +122,7 @@ cut_test : (s n k : ℕ) → k < n → (min s n == k) ≡ (s == k)
 cut_test s n k h = grind (arith, nat_tests)
 
 -- the walks in order of their sources are those from each vertex
-pub placed_walks : (types : List EdgeType) (edges : List EdgeRow) (walks : List Walk) (sources starts order : List ℕ) (vertices : ℕ)
+pub placed_walks : (types : List EdgeType) (edges : List EdgeRow) (walks : List Traversal) (sources starts order : List ℕ) (vertices : ℕ)
     → walks ≡ all_walks types edges → sources ≡ sources_of vertices walks → IsPlaced sources (vertices + 1) starts order
     → (k : ℕ) → k < vertices → part_of starts (map (walk_at walks) order) k ≡ walks_from types edges k
 placed_walks types edges walks sources starts order vertices are keys placed k low =
@@ -133,7 +133,7 @@ placed_walks types edges walks sources starts order vertices are keys placed k l
     ∙ get_or-map-range_with_len (λ k. map (walk_at walks) (passing (holds sources k) (length sources))) 0 (vertices + 1) k k [] (omega arith) (zero-add k)
     ∙ at
   where
-    key : Walk → ℕ
+    key : Traversal → ℕ
     key w = min w.source vertices
 
     long : length sources ≡ length walks
@@ -185,7 +185,7 @@ kind_part_below edges starts order part kinds b placed e =
 both_none : (t : EdgeType) (e r : ℕ) (edge : EdgeRow) → (edge.kind == base_of t e) ≡ false → both_ways t e r edge ≡ []
 both_none t e r edge other = rw (other, both_ways) refl
 
-cond_none : (b : Bool) → cond {A = List Walk} b [] [] ≡ []
+cond_none : (b : Bool) → cond {A = List Traversal} b [] [] ≡ []
 cond_none true = refl
 cond_none false = refl
 
@@ -210,19 +210,19 @@ unfolding passing type_walks
 part_walks edges t e kinds =
     let k : ℕ = min kinds (base_of t e) in
     let has : ℕ → Bool = holds (edge_kinds kinds edges) k in
-    let ends : ℕ → List Walk = λ r. both_ways t e r (edge_at edges r) in
+    let ends : ℕ → List Traversal = λ r. both_ways t e r (edge_at edges r) in
     flat_map_filter ends has (below (length edges))
     ∙ flat_map_agree (λ r. cond (has r) (ends r) []) ends (length edges)
     (λ r h. ap (λ x. cond (x == k) (ends r) []) (get_or-map (λ (edge : EdgeRow). min edge.kind kinds) edges r no_edge 0 h) ∙ kept_kind t e r (edge_at edges r) kinds)
 
-pub type_more : (types : List EdgeType) (edges : List EdgeRow) (starts order part : List ℕ) (before after : List Walk) (t : EdgeType) (e : ℕ)
+pub type_more : (types : List EdgeType) (edges : List EdgeRow) (starts order part : List ℕ) (before after : List Traversal) (t : EdgeType) (e : ℕ)
     → IsPlaced (edge_kinds (length types) edges) (length types + 1) starts order → t ≡ type_at types e
     → part ≡ get_or (cut_up starts order) (min (length types) (base_of t e)) []
     → before ≡ flat_map (λ e. type_walks (type_at types e) e edges) (below e)
     → after ≡ before ++ flat_map (λ r. both_ways t e r (edge_at edges r)) part
     → after ≡ flat_map (λ e. type_walks (type_at types e) e edges) (below (e + 1))
 type_more types edges starts order part before after t e placed is parted was now =
-    let all : List Walk = flat_map (λ e. type_walks (type_at types e) e edges) (below e) in
+    let all : List Traversal = flat_map (λ e. type_walks (type_at types e) e edges) (below e) in
     now ∙ ap (λ l. l ++ flat_map (λ r. both_ways t e r (edge_at edges r)) part) was
     ∙ ap (λ l. all ++ flat_map (λ r. both_ways t e r (edge_at edges r)) l) (parted ∙ kind_part edges starts order (length types) (base_of t e) placed)
     ∙ ap (λ l. all ++ l) (part_walks edges t e (length types))

@@ -2,19 +2,19 @@
 -- A segment is one source with one edge type and at least one candidate.
 use Rattle.std.specs.Prelude.{ℕ, ◌-◌, Bool, false, ◌&&◌, ◌||◌, not, ◌==◌, List, length, map, Option, Some, slice_index_or}
 use Rattle.std.specs.Option.{is_some}
-use Rattle.gq_value.specs.declared.store.Candidate.{Candidate}
-use Rattle.gq_value.specs.Candidates.{alone, among, is_target}
-use Rattle.gq_index.specs.declared.candidates.Held.{Held}
-use Rattle.gq_index.specs.declared.candidates.Held.TheVariants.{Vertices, Edges}
-use Rattle.gq_index.specs.declared.walks.Walk.{Walk}
+use Rattle.gq_graph.specs.declared.rows.Candidate.{Candidate}
+use Rattle.gq_graph.specs.Candidates.{alone, among, is_target}
+use Rattle.gq_index.specs.declared.candidates.CandidateRows.{CandidateRows}
+use Rattle.gq_index.specs.declared.candidates.CandidateRows.TheVariants.{Vertices, Edges}
+use Rattle.gq_index.specs.declared.walks.Traversal.{Traversal}
 use Rattle.gq_index.specs.Places.{many}
 
 -- a candidate along an edge
-abbrev pub of_walk : Walk → Candidate
+abbrev pub of_walk : Traversal → Candidate
 of_walk walk = record { source = walk.source; edge = Some walk.row; kind = Some walk.kind; target = Some walk.target }
 
 -- the candidates that are kept
-abbrev pub listed : Held → List Candidate
+abbrev pub listed : CandidateRows → List Candidate
 listed (Vertices vertices) = map alone vertices.items
 listed (Edges walks) = map of_walk walks
 
@@ -40,5 +40,5 @@ unfoldable pub segment_count : List Candidate → ℕ
 segment_count cs = many (opens_segment cs) (length cs)
 
 -- whether a walk has a listed type and leads to a vertex of a listed type
-abbrev pub is_wanted : List ℕ → List ℕ → List ℕ → Walk → Bool
+abbrev pub is_wanted : List ℕ → List ℕ → List ℕ → Traversal → Bool
 is_wanted edges kinds targets walk = among edges walk.kind && is_target kinds targets walk.target

@@ -1,10 +1,10 @@
 -- Sights: what a catalog and a store let a block see.
 use Rattle.std.specs.Prelude.{ℕ, false, List, [], map, None, slice_index_or}
-use Rattle.gq_value.specs.declared.catalog.EdgeType.{EdgeType}
-use Rattle.gq_value.specs.declared.store.VertexRow.{VertexRow}
-use Rattle.gq_value.specs.Candidates.{Sight}
-use Rattle.gq_value.specs.Catalog.{Schema}
-use Rattle.gq_value.specs.Edges.{EdgeTable}
+use Rattle.gq_graph.specs.declared.types.EdgeType.{EdgeType}
+use Rattle.gq_graph.specs.declared.rows.VertexRow.{VertexRow}
+use Rattle.gq_graph.specs.Candidates.{Sight}
+use Rattle.gq_graph.specs.Catalog.{Schema}
+use Rattle.gq_graph.specs.Edges.{EdgeTable}
 
 -- the type of each vertex
 abbrev pub vertex_kinds : List VertexRow → List ℕ

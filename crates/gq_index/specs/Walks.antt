@@ -4,54 +4,54 @@
 use Rattle.std.specs.Prelude.{ℕ, ◌-◌, min, ◌&&◌, not, if◌then◌else◌, ◌==◌, List, [], ◌∷◌, length, map, slice_index_or}
 use Rattle.std.specs.List.{flat_map}
 use Rattle.std.specs.Option.{is_some, unwrap_or, option_to_list}
-use Rattle.gq_value.specs.declared.catalog.EdgeType.{EdgeType}
-use Rattle.gq_value.specs.declared.store.EdgeRow.{EdgeRow}
-use Rattle.gq_value.specs.Candidates.{Sight, far_end}
-use Rattle.gq_value.specs.Edges.{edge_at}
-use Rattle.gq_index.specs.declared.walks.Walk.{Walk}
-use Rattle.gq_index.specs.declared.walks.Way.{Way}
+use Rattle.gq_graph.specs.declared.types.EdgeType.{EdgeType}
+use Rattle.gq_graph.specs.declared.rows.EdgeRow.{EdgeRow}
+use Rattle.gq_graph.specs.Candidates.{Sight, far_end}
+use Rattle.gq_graph.specs.Edges.{edge_at}
+use Rattle.gq_index.specs.declared.walks.Traversal.{Traversal}
+use Rattle.gq_index.specs.declared.walks.Neighbor.{Neighbor}
 use Rattle.gq_index.specs.Places.{below, part_of}
 use Rattle.gq_index.specs.Sights.{type_at}
 
 -- no walk
-abbrev pub no_walk : Walk
+abbrev pub no_walk : Traversal
 no_walk = record { source = 0; kind = 0; row = 0; target = 0 }
 
 -- a walk, by its place
-abbrev pub walk_at : List Walk → ℕ → Walk
+abbrev pub walk_at : List Traversal → ℕ → Traversal
 walk_at walks i = slice_index_or walks i no_walk
 
 -- a way, taken from a vertex
-abbrev pub walked : ℕ → Way → Walk
+abbrev pub walked : ℕ → Neighbor → Traversal
 walked v way = record { source = v; kind = way.kind; row = way.row; target = way.target }
 
 -- a walk without the vertex that it is taken from
-abbrev pub way_of : Walk → Way
+abbrev pub way_of : Traversal → Neighbor
 way_of walk = record { kind = walk.kind; row = walk.row; target = walk.target }
 
 -- the walk from a vertex under a type along an edge, if the edge leads anywhere
-abbrev pub walks_along : List EdgeType → ℕ → ℕ → ℕ → EdgeRow → List Walk
+abbrev pub walks_along : List EdgeType → ℕ → ℕ → ℕ → EdgeRow → List Traversal
 walks_along types v e r edge =
     map (λ far. record { source = v; kind = e; row = r; target = far }) (option_to_list (far_end (e, type_at types e) edge v))
 
 -- the walks from a vertex under a type, by edge
-abbrev pub walks_under : List EdgeType → List EdgeRow → ℕ → ℕ → List Walk
+abbrev pub walks_under : List EdgeType → List EdgeRow → ℕ → ℕ → List Traversal
 walks_under types edges v e = flat_map (λ r. walks_along types v e r (edge_at edges r)) (below (length edges))
 
 -- all walks from a vertex, by type and by edge
-abbrev pub walks_from : List EdgeType → List EdgeRow → ℕ → List Walk
+abbrev pub walks_from : List EdgeType → List EdgeRow → ℕ → List Traversal
 walks_from types edges v = flat_map (walks_under types edges v) (below (length types))
 
 -- all walks from each vertex
-abbrev pub adjacency : Sight → List (List Walk)
+abbrev pub adjacency : Sight → List (List Traversal)
 adjacency sight = map (walks_from sight.types sight.edges) (below (length sight.kinds))
 
 -- the walks from a vertex
-abbrev pub walks_at : List (List Walk) → ℕ → List Walk
+abbrev pub walks_at : List (List Traversal) → ℕ → List Traversal
 walks_at index v = slice_index_or index v []
 
 -- what ways and their starts stand for: the walks from each vertex
-abbrev pub laid_out : List ℕ → List Way → List (List Walk)
+abbrev pub laid_out : List ℕ → List Neighbor → List (List Traversal)
 laid_out starts ways = map (λ v. map (walked v) (part_of starts ways v)) (below (length starts - 1))
 
 -- the type that has a type's edges: its forward type, or itself
@@ -59,16 +59,16 @@ abbrev pub base_of : EdgeType → ℕ → ℕ
 base_of type e = unwrap_or type.forward e
 
 -- the walks along an edge from both of its ends, under a type, if the type has it
-abbrev pub both_ways : EdgeType → ℕ → ℕ → EdgeRow → List Walk
+abbrev pub both_ways : EdgeType → ℕ → ℕ → EdgeRow → List Traversal
 both_ways type e r edge =
     if not (edge.kind == base_of type e) then []
     else (if is_some type.forward then back ∷ []
     else (if not type.directed && not (edge.from == edge.to) then out ∷ back ∷ [] else out ∷ []))
   where
-    out : Walk
+    out : Traversal
     out = record { source = edge.from; kind = e; row = r; target = edge.to }
 
-    back : Walk
+    back : Traversal
     back = record { source = edge.to; kind = e; row = r; target = edge.from }
 
 -- the type of each edge; types that aren't there are one more
@@ -76,13 +76,13 @@ abbrev pub edge_kinds : ℕ → List EdgeRow → List ℕ
 edge_kinds count edges = map (λ (edge : EdgeRow). min edge.kind count) edges
 
 -- where each walk is taken from; vertices that aren't there are one more
-abbrev pub sources_of : ℕ → List Walk → List ℕ
-sources_of count walks = map (λ (walk : Walk). min walk.source count) walks
+abbrev pub sources_of : ℕ → List Traversal → List ℕ
+sources_of count walks = map (λ (walk : Traversal). min walk.source count) walks
 
 -- the walks under one type, by edge
-unfoldable pub type_walks : EdgeType → ℕ → List EdgeRow → List Walk
+unfoldable pub type_walks : EdgeType → ℕ → List EdgeRow → List Traversal
 type_walks type e edges = flat_map (λ r. both_ways type e r (edge_at edges r)) (below (length edges))
 
 -- all walks, by type and by edge
-unfoldable pub all_walks : List EdgeType → List EdgeRow → List Walk
+unfoldable pub all_walks : List EdgeType → List EdgeRow → List Traversal
 all_walks types edges = flat_map (λ e. type_walks (type_at types e) e edges) (below (length types))

@@ -2,25 +2,28 @@
 ghost use Rattle.std.specs.Prelude.{◌≡◌, ℕ, ◌+◌, ◌<◌, ◌≤◌, ◌^◌, ◌++◌, List, [], ◌∷◌, length, Some, IfOk, map, filter, nat_lt, slice_get};
 ghost use Rattle.std.specs.List.{flat_map};
 ghost use Rattle.std.specs.Option.{option_copied};
-ghost use Rattle.gq_value.specs.Candidates.{by_number, candidates, is_target};
-ghost use Rattle.gq_index.specs.declared.walks.Walk.{Walk};
+ghost use Rattle.gq_graph.specs.Candidates.{by_number, candidates, is_target};
+ghost use Rattle.gq_index.specs.declared.walks.Traversal.{Traversal};
 ghost use Rattle.gq_index.specs.Runs.{Holds};
 ghost use Rattle.gq_index.specs.Sights.{sight_of, vertex_kinds};
 ghost use Rattle.gq_index.specs.Walks.{adjacency, walks_at, walked};
 ghost use Rattle.gq_index.specs.Segments.{is_wanted, segment_count, of_walk};
 
+use crate::index::Index;
 use crate::marks::Marks;
 use crate::runs::{Cursor, Reached, Runs, Segment, push};
-use crate::walks::{Walk, Way};
-use crate::{Graph, Index, VertexList};
-use gq_value::{Candidate, Memory, Pattern, Steps};
+use crate::store::Graph;
+use crate::vertex_list::VertexList;
+use crate::walks::{Neighbor, Traversal};
+use gq_base::OutOfMemory;
+use gq_graph::{Candidate, Pattern, Steps};
 use gq_vertex::Vertices;
 use std::alloc::Global;
 use std::marker::Model;
 
 /// What is kept of candidates.
 #[derive(Drop)]
-pub enum Held {
+pub enum CandidateRows {
     Vertices(Vec<u32>),
     Edges(Runs),
 }
@@ -43,7 +46,7 @@ fn reaches(targets: &Marks<'_>, vertices: &Vertices, vertex: u32) -> bool
 }
 
 /// Whether a walk has a wanted type and leads to a vertex of a wanted type.
-fn wants(wanted: &Wanted<'_>, vertices: &Vertices, walk: Walk) -> bool
+fn wants(wanted: &Wanted<'_>, vertices: &Vertices, walk: Traversal) -> bool
     ensures { result ≡ is_wanted wanted.now.edges (vertex_kinds vertices.now) wanted.now.targets walk }
 {
     wanted.edges.has(walk.kind) && reaches(&wanted.targets, vertices, walk.target)
@@ -51,18 +54,18 @@ fn wants(wanted: &Wanted<'_>, vertices: &Vertices, walk: Walk) -> bool
 
 /// Adds a walk if it is wanted.
 fn add_way(
-    walk: Walk,
+    walk: Traversal,
     wanted: &Wanted<'_>,
     vertices: &Vertices,
     segments: &mut Vec<Segment>,
     reached: &mut Vec<Reached>,
-) -> Result<(), Memory>
-    ensures { IfOk result (λ _. (before : List Walk) → Holds segments.old.items reached.old.items before
+) -> Result<(), OutOfMemory>
+    ensures { IfOk result (λ _. (before : List Traversal) → Holds segments.old.items reached.old.items before
         → Holds segments.new.items reached.new.items
         (before ++ filter (is_wanted wanted.now.edges (vertex_kinds vertices.now) wanted.now.targets) (walk ∷ []))) }
 {
     if reached.len() >= u32::MAX as usize {
-        return Err(Memory);
+        return Err(OutOfMemory);
     }
     if wants(wanted, vertices, walk) {
         push(segments, reached, walk)?;
@@ -74,18 +77,18 @@ fn add_way(
 /// Adds those walks from one vertex that are wanted.
 fn add_wanted(
     source: u32,
-    ways: &[Way],
+    ways: &[Neighbor],
     wanted: &Wanted<'_>,
     vertices: &Vertices,
     segments: &mut Vec<Segment>,
     reached: &mut Vec<Reached>,
-) -> Result<(), Memory>
-    ensures { IfOk result (λ _. (before : List Walk) → Holds segments.old.items reached.old.items before
+) -> Result<(), OutOfMemory>
+    ensures { IfOk result (λ _. (before : List Traversal) → Holds segments.old.items reached.old.items before
         → Holds segments.new.items reached.new.items
         (before ++ filter (is_wanted wanted.now.edges (vertex_kinds vertices.now) wanted.now.targets) (map (walked source) ways.now))) }
 {
     for way in ways {
-        let walk = Walk {
+        let walk = Traversal {
             source,
             kind: way.kind,
             row: way.row,
@@ -103,7 +106,7 @@ fn gather(
     sources: &[u32],
     wanted: &Wanted<'_>,
     vertices: &Vertices,
-) -> Result<Runs, Memory>
+) -> Result<Runs, OutOfMemory>
     ensures { IfOk result (λ r. r ≡ flat_map (λ v. filter (is_wanted wanted.now.edges (vertex_kinds vertices.now) wanted.now.targets) (walks_at index.now v)) sources.now) }
 {
     let mut segments = Vec::new(alloc);
@@ -122,7 +125,7 @@ fn gather(
 }
 
 /// The numbers below a count.
-fn below(alloc: Global, numbers: &[u32], count: u32) -> Result<Vec<u32>, Memory>
+fn below(alloc: Global, numbers: &[u32], count: u32) -> Result<Vec<u32>, OutOfMemory>
     ensures { IfOk result (λ kept. kept.items ≡ filter (λ n. nat_lt n count) numbers.now) }
 {
     Ok(
@@ -135,7 +138,7 @@ fn below(alloc: Global, numbers: &[u32], count: u32) -> Result<Vec<u32>, Memory>
 }
 
 /// The vertices of a set that are there, by number, at a cost of the set alone.
-fn in_number_order(alloc: Global, set: &[u32], graph: &Graph<'_>) -> Result<Vec<u32>, Memory>
+fn in_number_order(alloc: Global, set: &[u32], graph: &Graph<'_>) -> Result<Vec<u32>, OutOfMemory>
     ensures { IfOk result (λ v. v.items ≡ by_number (sight_of graph.now.catalog.now graph.now.store.now.vertices graph.now.store.now.edges) set.now) }
 {
     let mut sources = below(alloc, set, graph.store.vertices.len())?;
@@ -150,7 +153,7 @@ fn walks_of(
     graph: &Graph<'_>,
     set: &[u32],
     pattern: &Pattern,
-) -> Result<Runs, Memory>
+) -> Result<Runs, OutOfMemory>
     requires indexed { graph.now.index.now ≡ adjacency (sight_of graph.now.catalog.now graph.now.store.now.vertices graph.now.store.now.edges) }
     ensures { IfOk result (λ r. map of_walk r ≡ candidates (sight_of graph.now.catalog.now graph.now.store.now.vertices graph.now.store.now.edges) set.now (Some pattern.now)) }
 {
@@ -169,12 +172,12 @@ fn walks_of(
 /// edge type and at least one candidate, and 8 for each candidate.
 #[derive(Drop)]
 pub struct Candidates {
-    held: Held,
+    held: CandidateRows,
 }
 
 impl Model for Candidates {
     ghost use Rattle.std.specs.Prelude.{List};
-    ghost use Rattle.gq_value.specs.declared.store.Candidate.{Candidate};
+    ghost use Rattle.gq_graph.specs.declared.rows.Candidate.{Candidate};
     ghost use Rattle.gq_index.specs.Segments.{listed};
 
     ghost Value = { List Candidate };
@@ -184,13 +187,13 @@ impl Model for Candidates {
 
 impl Candidates {
     /// The candidates of a set along a pattern, or of a set alone. The cost is that of sorting the set, and of the walks
-    /// from its vertices, whatever else the graph holds. More than 4,294,967,295 candidates are want of memory too.
+    /// from its vertices, whatever else the graph holds. More than 4,294,967,295 candidates are `OutOfMemory` too.
     pub fn of(
         alloc: Global,
         graph: &Graph<'_>,
         set: &VertexList,
         pattern: Option<&Pattern>,
-    ) -> Result<Candidates, Memory>
+    ) -> Result<Candidates, OutOfMemory>
         requires indexed { graph.now.index.now ≡ adjacency (sight_of graph.now.catalog.now graph.now.store.now.vertices graph.now.store.now.edges) }
         ensures { IfOk result (λ c. c ≡ candidates (sight_of graph.now.catalog.now graph.now.store.now.vertices graph.now.store.now.edges) set.now (option_copied pattern.entry)) }
     {
@@ -198,13 +201,13 @@ impl Candidates {
             None => {
                 let vertices = in_number_order(alloc, set.as_slice(), graph)?;
                 Ok(Candidates {
-                    held: Held::Vertices(vertices),
+                    held: CandidateRows::Vertices(vertices),
                 })
             }
             Some(pattern) => {
                 let walks = walks_of(alloc, graph, set.as_slice(), pattern)?;
                 Ok(Candidates {
-                    held: Held::Edges(walks),
+                    held: CandidateRows::Edges(walks),
                 })
             }
         }
@@ -215,8 +218,8 @@ impl Candidates {
         ensures { result ≡ length self.now }
     {
         match &self.held {
-            Held::Vertices(vertices) => vertices.len() as u64,
-            Held::Edges(walks) => walks.len(),
+            CandidateRows::Vertices(vertices) => vertices.len() as u64,
+            CandidateRows::Edges(walks) => walks.len(),
         }
     }
 
@@ -232,13 +235,13 @@ impl Candidates {
         ensures few { (d : ℕ) → segment_count self.now < 2 ^ d → steps.new ≤ steps.old + d + 1 }
     {
         match &self.held {
-            Held::Vertices(vertices) => Candidate {
+            CandidateRows::Vertices(vertices) => Candidate {
                 source: vertices[place as usize],
                 edge: None,
                 kind: None,
                 target: None,
             },
-            Held::Edges(walks) => {
+            CandidateRows::Edges(walks) => {
                 let walk = walks.at(place, steps);
                 Candidate {
                     source: walk.source,
@@ -257,13 +260,13 @@ impl Candidates {
         ensures { slice_get self.now place ≡ Some result }
     {
         match &self.held {
-            Held::Vertices(vertices) => Candidate {
+            CandidateRows::Vertices(vertices) => Candidate {
                 source: vertices[place as usize],
                 edge: None,
                 kind: None,
                 target: None,
             },
-            Held::Edges(walks) => {
+            CandidateRows::Edges(walks) => {
                 let walk = walks.near(place, cursor);
                 Candidate {
                     source: walk.source,

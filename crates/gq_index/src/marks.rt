@@ -1,14 +1,14 @@
 // Which type numbers a pattern lists.
 ghost use Rattle.std.specs.Prelude.{◌≡◌, IfOk, map};
 ghost use Rattle.std.specs.List.{range_with_len};
-ghost use Rattle.gq_value.specs.Candidates.{among};
+ghost use Rattle.gq_graph.specs.Candidates.{among};
 
-use gq_value::Memory;
+use gq_base::OutOfMemory;
 use std::alloc::Global;
 use std::marker::Model;
 
 /// For each number below the count whether it is listed.
-fn flags(alloc: Global, listed: &[u32], count: u32) -> Result<Vec<bool>, Memory>
+fn flags(alloc: Global, listed: &[u32], count: u32) -> Result<Vec<bool>, OutOfMemory>
     ensures { IfOk result (λ f. f.items ≡ map (among listed.now) (range_with_len 0 count)) }
 {
     Ok(
@@ -27,7 +27,7 @@ pub struct Marks<'a> {
 
 impl<'a> Model for Marks<'a> {
     ghost use Rattle.std.specs.Prelude.{◌≡◌, ℕ, List, length, map};
-    ghost use Rattle.gq_value.specs.Candidates.{among};
+    ghost use Rattle.gq_graph.specs.Candidates.{among};
     ghost use Rattle.gq_index.specs.Places.{below};
 
     ghost Value = { List ℕ };
@@ -39,7 +39,7 @@ impl<'a> Model for Marks<'a> {
 
 impl<'a> Marks<'a> {
     /// The marks of a list, with a flag for each number below the count.
-    pub fn of(alloc: Global, listed: &'a [u32], count: u32) -> Result<Marks<'a>, Memory>
+    pub fn of(alloc: Global, listed: &'a [u32], count: u32) -> Result<Marks<'a>, OutOfMemory>
         ensures { IfOk result (λ m. m ≡ listed.now) }
     {
         let flags = flags(alloc, listed, count)?;

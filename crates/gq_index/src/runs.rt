@@ -1,11 +1,12 @@
 // A list of walks that keeps the source and the type of neighbours once.
 ghost use Rattle.std.specs.Prelude.{◌≡◌, ℕ, ◌+◌, ◌-◌, ◌<◌, ◌≤◌, ◌^◌, ◌++◌, List, [], ◌∷◌, length, IfOk, vec_len, count_by, nat_le, ◌==◌, ◌&&◌, true, false};
-ghost use Rattle.gq_index.specs.declared.walks.Walk.{Walk};
+ghost use Rattle.gq_index.specs.declared.walks.Traversal.{Traversal};
 ghost use Rattle.gq_index.specs.Runs.{shown, IsRising, Holds, run_count, segment_at, reached_at, segment_of, walk_of};
 ghost use Rattle.gq_index.specs.Walks.{walk_at};
 
-use crate::walks::Walk;
-use gq_value::{Memory, Steps};
+use crate::walks::Traversal;
+use gq_base::OutOfMemory;
+use gq_graph::Steps;
 use std::marker::Model;
 
 /// The source and the type of neighbouring walks, and the place of the first of them.
@@ -97,7 +98,7 @@ fn find_near(segments: &[Segment], place: u64, near: usize) -> usize
 }
 
 /// Whether a walk belongs to the last segment.
-fn continues(segments: &[Segment], walk: Walk) -> bool
+fn continues(segments: &[Segment], walk: Traversal) -> bool
     ensures yes { result ≡ true → (0 < length segments.now) × (walk.source ≡ (segment_at segments.now (length segments.now - 1)).source) × (walk.kind ≡ (segment_at segments.now (length segments.now - 1)).kind) }
     ensures no { result ≡ false → 0 < length segments.now → ((walk.source == (segment_at segments.now (length segments.now - 1)).source) && (walk.kind == (segment_at segments.now (length segments.now - 1)).kind)) ≡ false }
 {
@@ -112,10 +113,10 @@ fn continues(segments: &[Segment], walk: Walk) -> bool
 pub fn push(
     segments: &mut Vec<Segment>,
     reached: &mut Vec<Reached>,
-    walk: Walk,
-) -> Result<(), Memory>
+    walk: Traversal,
+) -> Result<(), OutOfMemory>
     requires { vec_len reached.old < 2 ^ 32 }
-    ensures { IfOk result (λ _. (walks : List Walk) → Holds segments.old.items reached.old.items walks → Holds segments.new.items reached.new.items (walks ++ walk ∷ [])) }
+    ensures { IfOk result (λ _. (walks : List Traversal) → Holds segments.old.items reached.old.items walks → Holds segments.new.items reached.new.items (walks ++ walk ∷ [])) }
 {
     if continues(segments, walk) {
         reached.push(Reached {
@@ -137,7 +138,12 @@ pub fn push(
 }
 
 /// The walk at a place.
-fn walk_at_place(segments: &[Segment], reached: &[Reached], place: u64, steps: &mut Steps) -> Walk
+fn walk_at_place(
+    segments: &[Segment],
+    reached: &[Reached],
+    place: u64,
+    steps: &mut Steps,
+) -> Traversal
     requires holds { Holds segments.now reached.now (shown segments.now reached.now) }
     requires within { place < length reached.now }
     requires short { length segments.now < 2 ^ 63 }
@@ -149,7 +155,7 @@ fn walk_at_place(segments: &[Segment], reached: &[Reached], place: u64, steps: &
     let segment = segments[end - 1];
     steps.tick();
     let found = reached[place as usize];
-    Walk {
+    Traversal {
         source: segment.source,
         kind: segment.kind,
         row: found.row,
@@ -158,7 +164,12 @@ fn walk_at_place(segments: &[Segment], reached: &[Reached], place: u64, steps: &
 }
 
 /// The walk at a place, whose segment is looked for beside the one before.
-fn walk_near(segments: &[Segment], reached: &[Reached], place: u64, cursor: &mut Cursor) -> Walk
+fn walk_near(
+    segments: &[Segment],
+    reached: &[Reached],
+    place: u64,
+    cursor: &mut Cursor,
+) -> Traversal
     requires holds { Holds segments.now reached.now (shown segments.now reached.now) }
     requires within { place < length reached.now }
     requires short { length segments.now < 2 ^ 63 }
@@ -168,7 +179,7 @@ fn walk_near(segments: &[Segment], reached: &[Reached], place: u64, cursor: &mut
     cursor.end = end;
     let segment = segments[end - 1];
     let found = reached[place as usize];
-    Walk {
+    Traversal {
         source: segment.source,
         kind: segment.kind,
         row: found.row,
@@ -198,10 +209,10 @@ pub struct Runs {
 
 impl Model for Runs {
     ghost use Rattle.std.specs.Prelude.{List};
-    ghost use Rattle.gq_index.specs.declared.walks.Walk.{Walk};
+    ghost use Rattle.gq_index.specs.declared.walks.Traversal.{Traversal};
     ghost use Rattle.gq_index.specs.Runs.{shown, Holds};
 
-    ghost Value = { List Walk };
+    ghost Value = { List Traversal };
 
     ghost view = { λ r. shown r.segments.items r.reached.items };
 
@@ -225,7 +236,7 @@ impl Runs {
     }
 
     /// The walk at a place.
-    pub fn at(&self, place: u64, steps: &mut Steps) -> Walk
+    pub fn at(&self, place: u64, steps: &mut Steps) -> Traversal
         requires within { place < length self.now }
         requires room { steps.old < 2 ^ 63 }
         ensures exact { result ≡ walk_at self.now place }
@@ -235,7 +246,7 @@ impl Runs {
     }
 
     /// The walk at a place, in one step where it is that of the cursor or the next one.
-    pub fn near(&self, place: u64, cursor: &mut Cursor) -> Walk
+    pub fn near(&self, place: u64, cursor: &mut Cursor) -> Traversal
         requires within { place < length self.now }
         ensures { result ≡ walk_at self.now place }
     {

@@ -1,5 +1,5 @@
 // What a block reads.
-use crate::Index;
+use crate::index::Index;
 use gq_edge::Edges;
 use gq_schema::Catalog;
 use gq_vertex::Vertices;

@@ -1,9 +1,8 @@
 // Lists of vertices.
 ghost use Rattle.std.specs.Prelude.{◌≡◌, ◌<◌, ◌++◌, [], ◌∷◌, false, length, slice_get, Some, OnOk, OnErr};
-ghost use Rattle.gq_value.specs.Candidates.{among};
+ghost use Rattle.gq_graph.specs.Candidates.{among};
 
-use gq_list::List;
-use gq_value::Memory;
+use gq_base::{List, OutOfMemory};
 use std::alloc::Global;
 use std::marker::Model;
 
@@ -34,8 +33,8 @@ impl VertexList {
         }
     }
 
-    /// Puts a vertex last that isn't listed yet. Unchanged after want of memory.
-    pub fn push(&mut self, vertex: u32) -> Result<(), Memory>
+    /// Puts a vertex last that isn't listed yet. Unchanged after `OutOfMemory`.
+    pub fn push(&mut self, vertex: u32) -> Result<(), OutOfMemory>
         requires new { among self.old vertex ≡ false }
         ensures ok { OnOk result (self.new ≡ self.old ++ vertex ∷ []) }
         ensures err { OnErr result (self.new ≡ self.old) }

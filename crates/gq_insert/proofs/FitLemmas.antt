@@ -8,22 +8,22 @@ use Rattle.std.specs.Option.{unwrap_or, option_map_or}
 use Rattle.std.specs.Fmt.{decimal, signed_decimal}
 use Rattle.gq_tree.specs.declared.schema.Literal.{Literal}
 use Rattle.gq_tree.specs.declared.schema.Literal.TheVariants as literal
-use Rattle.gq_value.specs.declared.catalog.Attribute.{Attribute}
-use Rattle.gq_value.specs.declared.catalog.IdKind.{IdKind}
-use Rattle.gq_value.specs.declared.catalog.IdKind.TheVariants as id
+use Rattle.gq_graph.specs.declared.types.Attribute.{Attribute}
+use Rattle.gq_graph.specs.declared.types.IdKind.{IdKind}
+use Rattle.gq_graph.specs.declared.types.IdKind.TheVariants as id
 use Rattle.gq_value.specs.declared.kind.Number.TheVariants as number
 use Rattle.gq_time.specs.Moments.{IsDatetime}
 use Rattle.gq_value.specs.declared.value.Value.{Value}
 use Rattle.gq_value.specs.declared.value.Value.TheVariants as value
 use Rattle.gq_value.specs.Arithmetic.{is_within}
-use Rattle.gq_value.specs.Catalog.{Schema}
-use Rattle.gq_value.specs.Defaults.{Sort, INT, UINT, BOOL, STRING, DATETIME, OTHER, sort_of, is_time}
+use Rattle.gq_graph.specs.Catalog.{Schema}
+use Rattle.gq_graph.specs.Defaults.{Sort, INT, UINT, BOOL, STRING, DATETIME, OTHER, sort_of, is_time}
 use Rattle.gq_value.specs.Views.{val}
 use Rattle.gq_value.specs.ViewLaws.{val-Int, val-UInt, val-Bool, val-Text}
-use Rattle.gq_field.specs.Fields.{zero_of, default_of}
-use Rattle.gq_job.specs.declared.job.Target.{Target}
-use Rattle.gq_job.specs.declared.insert.InsertFault.TheVariants as fault
-use Rattle.gq_job.specs.Targets.{id_count}
+use Rattle.gq_load_csv.specs.Fields.{zero_of, default_of}
+use Rattle.gq_load_plan.specs.declared.job.Target.{Target}
+use Rattle.gq_load_plan.specs.declared.insert.InsertFault.TheVariants as fault
+use Rattle.gq_load_plan.specs.Targets.{id_count}
 use Rattle.gq_insert.specs.Fits.{is_value, row_fits, IsId, AttributeFits}
 use Rattle.gq_insert.specs.Inserts.{signed, if_fits, number_id, text_id, given_id, is_no_id, default_row, not_allowed}
 

@@ -2,12 +2,12 @@
 use Rattle.std.proofs.Common.{ℕ, suc, ℤ, ◌+◌, ◌-◌, ◌<◌, ◌≤◌, ◌≡◌, List, [], ◌∷◌, ◌++◌, length, get_or, take, drop, Option, Some, None, refl, ap, ◌∙◌, sym, arith, add-one, drop-cons}
 use Rattle.std.proofs.lemmas.List.{take_all}
 use Rattle.gq_tree.specs.declared.schema.Literal.{Literal}
-use Rattle.gq_value.specs.declared.catalog.Attribute.{Attribute}
+use Rattle.gq_graph.specs.declared.types.Attribute.{Attribute}
 use Rattle.gq_value.specs.declared.value.Value.{Value}
-use Rattle.gq_value.specs.Catalog.{Schema}
-use Rattle.gq_job.specs.declared.job.Target.{Target}
-use Rattle.gq_job.specs.declared.job.Target.TheVariants as targets
-use Rattle.gq_job.specs.Targets.{edge_type_at}
+use Rattle.gq_graph.specs.Catalog.{Schema}
+use Rattle.gq_load_plan.specs.declared.job.Target.{Target}
+use Rattle.gq_load_plan.specs.declared.job.Target.TheVariants as targets
+use Rattle.gq_load_plan.specs.Targets.{edge_type_at}
 use Rattle.gq_insert.specs.Inserts.{attribute_value, value_and, row_of, end_of, both, edge_with, insert_of}
 
 -- the values of a row, behind others

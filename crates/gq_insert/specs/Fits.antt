@@ -2,22 +2,22 @@
 use Rattle.std.specs.Prelude.{ℕ, ◌<◌, ◌≤◌, ◌≡◌, ◌≢◌, Bool, true, false, ◌&&◌, List, [], ◌∷◌, length, All, None, ℤ, pos}
 use Rattle.std.specs.Fmt.{decimal, signed_decimal}
 use Rattle.std.specs.Option.{option_map_or}
-use Rattle.gq_value.specs.declared.catalog.Attribute.{Attribute}
-use Rattle.gq_value.specs.declared.catalog.EdgeType.{EdgeType}
-use Rattle.gq_value.specs.declared.catalog.VertexType.{VertexType}
-use Rattle.gq_value.specs.declared.catalog.IdKind.{IdKind}
-use Rattle.gq_value.specs.declared.catalog.IdKind.TheVariants as id
+use Rattle.gq_graph.specs.declared.types.Attribute.{Attribute}
+use Rattle.gq_graph.specs.declared.types.EdgeType.{EdgeType}
+use Rattle.gq_graph.specs.declared.types.VertexType.{VertexType}
+use Rattle.gq_graph.specs.declared.types.IdKind.{IdKind}
+use Rattle.gq_graph.specs.declared.types.IdKind.TheVariants as id
 use Rattle.gq_value.specs.declared.kind.Number.TheVariants as number
 use Rattle.gq_value.specs.declared.value.Value.{Value}
 use Rattle.gq_value.specs.Arithmetic.{is_within}
-use Rattle.gq_value.specs.Catalog.{Schema}
-use Rattle.gq_value.specs.Defaults.{Sort, INT, UINT, BOOL, STRING, DATETIME, OTHER, sort_of, is_time}
+use Rattle.gq_graph.specs.Catalog.{Schema}
+use Rattle.gq_graph.specs.Defaults.{Sort, INT, UINT, BOOL, STRING, DATETIME, OTHER, sort_of, is_time}
 use Rattle.gq_value.specs.Val.{Val, Int, UInt, Truth, Text}
 use Rattle.gq_value.specs.Views.{val}
-use Rattle.gq_job.specs.declared.insert.End.{End}
-use Rattle.gq_job.specs.declared.insert.Insert.{Insert}
-use Rattle.gq_job.specs.declared.insert.Insert.TheVariants as insert
-use Rattle.gq_job.specs.Targets.{vertex_type_at, edge_type_at}
+use Rattle.gq_load_plan.specs.declared.insert.Endpoint.{Endpoint}
+use Rattle.gq_load_plan.specs.declared.insert.Insert.{Insert}
+use Rattle.gq_load_plan.specs.declared.insert.Insert.TheVariants as insert
+use Rattle.gq_load_plan.specs.Targets.{vertex_type_at, edge_type_at}
 
 -- ---- values and ids
 
@@ -70,14 +70,14 @@ pub record IsSound (schema : Schema) : Type 0 where
 -- ---- inserts
 
 -- an end of a type
-pub record EndFits (schema : Schema) (n : ℕ) (end : End) : Type 0 where
+pub record EndFits (schema : Schema) (n : ℕ) (end : Endpoint) : Type 0 where
   pub kind : end.kind ≡ n
   pub there : n < length schema.vertex_types
   pub id : IsId (vertex_type_at schema n).id.kind end.id
   pub missing : row_fits (vertex_type_at schema n).attributes end.missing ≡ true
 
 -- both ends of an edge of a type
-pub record EndsFit (schema : Schema) (n : ℕ) (ends : End × End) : Type 0 where
+pub record EndsFit (schema : Schema) (n : ℕ) (ends : Endpoint × Endpoint) : Type 0 where
   pub from : EndFits schema (edge_type_at schema n).from ends.0
   pub to : EndFits schema (edge_type_at schema n).to ends.1
 
@@ -86,7 +86,7 @@ pub record VertexFits (schema : Schema) (n : ℕ) (text : List ℕ) (values : Li
   pub id : IsId (vertex_type_at schema n).id.kind text
   pub row : row_fits (vertex_type_at schema n).attributes values ≡ true
 
-pub record EdgeFits (schema : Schema) (n : ℕ) (flag : Bool) (count : ℕ) (first second : End) (values : List Value) : Type 0 where
+pub record EdgeFits (schema : Schema) (n : ℕ) (flag : Bool) (count : ℕ) (first second : Endpoint) (values : List Value) : Type 0 where
   pub there : n < length schema.edge_types
   pub own : (edge_type_at schema n).forward ≡ None
   pub directed : flag ≡ (edge_type_at schema n).directed

@@ -7,24 +7,24 @@ use Rattle.std.specs.Option.{option_or, option_map, option_and_then}
 use Rattle.gq_tree.specs.declared.schema.Literal.{Literal}
 use Rattle.gq_tree.specs.declared.schema.Literal.TheVariants as literal
 use Rattle.gq_tree.specs.declared.schema.InsertTree.{InsertTree}
-use Rattle.gq_value.specs.declared.catalog.Attribute.{Attribute}
-use Rattle.gq_value.specs.declared.catalog.IdKind.{IdKind}
-use Rattle.gq_value.specs.declared.catalog.IdKind.TheVariants as id
+use Rattle.gq_graph.specs.declared.types.Attribute.{Attribute}
+use Rattle.gq_graph.specs.declared.types.IdKind.{IdKind}
+use Rattle.gq_graph.specs.declared.types.IdKind.TheVariants as id
 use Rattle.gq_value.specs.declared.kind.Number.TheVariants as number
 use Rattle.gq_value.specs.declared.value.Value.{Value}
 use Rattle.gq_value.specs.declared.value.Value.TheVariants as value
 use Rattle.gq_value.specs.Arithmetic.{is_within}
-use Rattle.gq_value.specs.Catalog.{Schema, vertex_type_of, edge_type_of}
-use Rattle.gq_value.specs.Defaults.{Sort, INT, UINT, BOOL, STRING, DATETIME, sort_of}
-use Rattle.gq_field.specs.Fields.{default_of}
-use Rattle.gq_job.specs.declared.job.Target.{Target}
-use Rattle.gq_job.specs.declared.job.Target.TheVariants as targets
-use Rattle.gq_job.specs.declared.insert.End.{End}
-use Rattle.gq_job.specs.declared.insert.Insert.{Insert}
-use Rattle.gq_job.specs.declared.insert.Insert.TheVariants as insert
-use Rattle.gq_job.specs.declared.insert.InsertFault.{InsertFault}
-use Rattle.gq_job.specs.declared.insert.InsertFault.TheVariants as fault
-use Rattle.gq_job.specs.Targets.{vertex_type_at, edge_type_at, id_count, key_count, value_count}
+use Rattle.gq_graph.specs.Catalog.{Schema, vertex_type_of, edge_type_of}
+use Rattle.gq_graph.specs.Defaults.{Sort, INT, UINT, BOOL, STRING, DATETIME, sort_of}
+use Rattle.gq_load_csv.specs.Fields.{default_of}
+use Rattle.gq_load_plan.specs.declared.job.Target.{Target}
+use Rattle.gq_load_plan.specs.declared.job.Target.TheVariants as targets
+use Rattle.gq_load_plan.specs.declared.insert.Endpoint.{Endpoint}
+use Rattle.gq_load_plan.specs.declared.insert.Insert.{Insert}
+use Rattle.gq_load_plan.specs.declared.insert.Insert.TheVariants as insert
+use Rattle.gq_load_plan.specs.declared.insert.InsertFault.{InsertFault}
+use Rattle.gq_load_plan.specs.declared.insert.InsertFault.TheVariants as fault
+use Rattle.gq_load_plan.specs.Targets.{vertex_type_at, edge_type_at, id_count, key_count, value_count}
 
 -- ---- values
 
@@ -96,12 +96,12 @@ abbrev pub given_id : IdKind → Option Literal → Option (List ℕ)
 given_id kind None = None
 given_id kind (Some l) = id_text kind l
 
-abbrev pub end_with : Schema → ℕ → Option (List ℕ) → Option End
+abbrev pub end_with : Schema → ℕ → Option (List ℕ) → Option Endpoint
 end_with schema n None = None
 end_with schema n (Some text) = Some (record { kind = n; id = text; missing = default_row (vertex_type_at schema n).attributes })
 
 -- an end of a type
-abbrev pub end_of : Schema → ℕ → Option Literal → Option End
+abbrev pub end_of : Schema → ℕ → Option Literal → Option Endpoint
 end_of schema n l = end_with schema n (given_id (vertex_type_at schema n).id.kind l)
 
 abbrev pub vertex_with : ℕ → Option (List ℕ) → Option (List Value) → Option Insert
@@ -109,11 +109,11 @@ vertex_with n (Some text) (Some row) = Some (insert.Vertex n text row)
 vertex_with n _ _ = None
 
 -- both ends of an edge
-abbrev pub both : Option End → Option End → Option (End × End)
+abbrev pub both : Option Endpoint → Option Endpoint → Option (Endpoint × Endpoint)
 both (Some from) (Some to) = Some (from, to)
 both _ _ = None
 
-abbrev pub edge_with : Schema → ℕ → Option (End × End) → Option (List Value) → Option Insert
+abbrev pub edge_with : Schema → ℕ → Option (Endpoint × Endpoint) → Option (List Value) → Option Insert
 edge_with schema n (Some ends) (Some row) =
     Some (insert.Edge n (edge_type_at schema n).directed (edge_type_at schema n).discriminators ends.0 ends.1 row)
 edge_with schema n _ _ = None
@@ -148,14 +148,14 @@ insert_named read schema tree = option_and_then (λ t. insert_of read schema t t
 
 -- ---- refusals
 
--- a call answers the fault that is due, or want of memory; it answers Ok only where none is due
+-- a call answers the fault that is due, or OutOfMemory; it answers Ok only where none is due
 abbrev pub Judges : {A : Type 0} → Option InsertFault → Result A InsertFault → Type 0
 Judges due (Ok a) = due ≡ None
-Judges due (Err f) = f ≢ fault.Memory → due ≡ Some f
+Judges due (Err f) = f ≢ fault.OutOfMemory → due ≡ Some f
 
--- the fault is the one that is due, if it isn't want of memory for its name
+-- the fault is the one that is due, if it isn't OutOfMemory for its name
 abbrev pub Tells : InsertFault → InsertFault → Type 0
-Tells due found = found ≢ fault.Memory → found ≡ due
+Tells due found = found ≢ fault.OutOfMemory → found ≡ due
 
 abbrev pub wrong_count : Schema → Target → InsertTree → Option InsertFault
 wrong_count schema t tree = if length tree.values == value_count schema t then None else Some (fault.WrongCount tree.name)

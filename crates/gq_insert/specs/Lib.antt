@@ -1,3 +1,5 @@
 pub mod Fits
 pub mod Inserts
 pub mod SoundLaws
+pub mod Inserting
+pub mod InsertingLaws

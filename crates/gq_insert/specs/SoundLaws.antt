@@ -5,13 +5,13 @@ use Rattle.std.proofs.lemmas.List.Quantifiers.{position-Some}
 use Rattle.std.specs.Str.{bytes_eq}
 use Rattle.std.specs.List.{find}
 use Rattle.std.specs.Option.{option_or, option_map, option_map_or, unwrap_or}
-use Rattle.gq_value.specs.declared.catalog.Attribute.{Attribute}
-use Rattle.gq_value.specs.declared.catalog.GraphType.{GraphType}
-use Rattle.gq_value.specs.declared.catalog.IdShape.{IdShape}
-use Rattle.gq_value.specs.declared.catalog.VertexType.{VertexType}
+use Rattle.gq_graph.specs.declared.types.Attribute.{Attribute}
+use Rattle.gq_graph.specs.declared.types.GraphType.{GraphType}
+use Rattle.gq_graph.specs.declared.types.IdShape.{IdShape}
+use Rattle.gq_graph.specs.declared.types.VertexType.{VertexType}
 use Rattle.gq_value.specs.declared.value.Value.{Value}
-use Rattle.gq_value.specs.Catalog.{Schema, vertex_names, vertex_type_of, end_of, edge_types_of, with_vertex_type, with_edge_types, with_graph}
-use Rattle.gq_value.specs.Defaults.{Sort, INT, UINT, BOOL, STRING, DATETIME, OTHER, sort_of, is_plain_sort, is_plain, suits, magnitude, converted, converted_from, has_good_default, settled}
+use Rattle.gq_graph.specs.Catalog.{Schema, vertex_names, vertex_type_of, end_of, edge_types_of, with_vertex_type, with_edge_types, with_graph}
+use Rattle.gq_graph.specs.Defaults.{Sort, INT, UINT, BOOL, STRING, DATETIME, OTHER, sort_of, is_plain_sort, is_plain, suits, magnitude, converted, converted_from, has_good_default, settled}
 use Rattle.gq_value.specs.Val.{Val, Int, UInt, Truth, Text}
 use Rattle.gq_value.specs.Views.{val}
 use Rattle.gq_value.specs.ViewLaws.{val-Int, val-UInt}

@@ -1,19 +1,20 @@
 // Whether an INSERT names a row of a catalog.
 ghost use Rattle.std.specs.Prelude.{◌≡◌, ◌<◌, ◌||◌, ◌+◌, ℕ, ℤ, List, false, Option, Some, None, IfOk, IfSome, OnOk, length, take, drop};
 ghost use Rattle.std.specs.List.{list_any};
-ghost use Rattle.gq_field.specs.Fields.{TellsTimes};
-ghost use Rattle.gq_job.specs.Targets.{HasTarget, vertex_type_at as vertex_of, edge_type_at as edge_of, value_count as count_of};
+ghost use Rattle.gq_load_csv.specs.Fields.{TellsTimes};
+ghost use Rattle.gq_load_plan.specs.Targets.{HasTarget, vertex_type_at as vertex_of, edge_type_at as edge_of, value_count as count_of};
 ghost use Rattle.gq_insert.specs.Fits.{IsSound, EndFits, EndsFit, InsertFits};
 ghost use Rattle.gq_insert.specs.Inserts as spec;
 
 use crate::values::{default_row, given_id, row_of};
-use gq_job::{
-    End, Insert, InsertFault, Target, edge_type_at, id_count, key_count, value_count,
+use gq_base::OutOfMemory;
+use gq_load_plan::{
+    Endpoint, Insert, InsertFault, Target, edge_type_at, id_count, key_count, value_count,
     vertex_type_at,
 };
 use gq_schema::Catalog;
 use gq_tree::{InsertTree, Literal};
-use gq_value::{Memory, Txt};
+use gq_value::Txt;
 use std::alloc::Global;
 
 fn edge_target(catalog: &Catalog, number: u32) -> Option<Target>
@@ -46,7 +47,7 @@ fn no_such_type(alloc: Global, name: &str) -> InsertFault
 {
     match Txt::of(alloc, name) {
         Ok(name) => InsertFault::NoSuchType(name),
-        Err(Memory) => InsertFault::Memory,
+        Err(OutOfMemory) => InsertFault::OutOfMemory,
     }
 }
 
@@ -55,7 +56,7 @@ fn wrong_count(alloc: Global, name: &str) -> InsertFault
 {
     match Txt::of(alloc, name) {
         Ok(name) => InsertFault::WrongCount(name),
-        Err(Memory) => InsertFault::Memory,
+        Err(OutOfMemory) => InsertFault::OutOfMemory,
     }
 }
 
@@ -128,7 +129,7 @@ fn end_of(
     catalog: &Catalog,
     kind: u32,
     value: &Option<Literal>,
-) -> Result<Option<End>, Memory>
+) -> Result<Option<Endpoint>, OutOfMemory>
     requires there { kind < length catalog.now.vertex_types }
     requires sound { IsSound catalog.now }
     requires given { spec.is_no_id value.now ≡ false }
@@ -137,7 +138,7 @@ fn end_of(
 {
     let shape = vertex_type_at(catalog, kind);
     match given_id(alloc, shape.id.kind, value)? {
-        Some(id) => Ok(Some(End {
+        Some(id) => Ok(Some(Endpoint {
             kind,
             id,
             missing: default_row(alloc, shape.attributes.as_slice())?,
@@ -152,7 +153,7 @@ fn vertex_insert(
     number: u32,
     id: &Option<Literal>,
     values: &[Option<Literal>],
-) -> Result<Option<Insert>, Memory>
+) -> Result<Option<Insert>, OutOfMemory>
     requires there { number < length catalog.now.vertex_types }
     requires count { length (vertex_of catalog.now number).attributes ≡ length values.now }
     requires sound { IsSound catalog.now }
@@ -182,7 +183,7 @@ fn ends_of(
     number: u32,
     from: &Option<Literal>,
     to: &Option<Literal>,
-) -> Result<Option<(End, End)>, Memory>
+) -> Result<Option<(Endpoint, Endpoint)>, OutOfMemory>
     requires there { number < length catalog.now.edge_types }
     requires sound { IsSound catalog.now }
     requires from_given { spec.is_no_id from.now ≡ false }
@@ -205,9 +206,9 @@ fn edge_between(
     alloc: Global,
     catalog: &Catalog,
     number: u32,
-    ends: (End, End),
+    ends: (Endpoint, Endpoint),
     values: &[Option<Literal>],
-) -> Result<Option<Insert>, Memory>
+) -> Result<Option<Insert>, OutOfMemory>
     requires there { HasTarget catalog.now (Target.Edge number) }
     requires count { length (edge_of catalog.now number).attributes ≡ length values.now }
     requires sound { IsSound catalog.now }
@@ -240,7 +241,7 @@ fn edge_insert(
     from: &Option<Literal>,
     to: &Option<Literal>,
     values: &[Option<Literal>],
-) -> Result<Option<Insert>, Memory>
+) -> Result<Option<Insert>, OutOfMemory>
     requires there { HasTarget catalog.now (Target.Edge number) }
     requires count { length (edge_of catalog.now number).attributes ≡ length values.now }
     requires sound { IsSound catalog.now }
@@ -264,7 +265,7 @@ fn insert_of(
     catalog: &Catalog,
     target: Target,
     values: &[Option<Literal>],
-) -> Result<Option<Insert>, Memory>
+) -> Result<Option<Insert>, OutOfMemory>
     requires there { HasTarget catalog.now target }
     requires count { length values.now ≡ count_of catalog.now target }
     requires sound { IsSound catalog.now }
@@ -308,7 +309,7 @@ fn checked(
     match insert_of(alloc, catalog, target, tree.values.as_slice()) {
         Ok(Some(row)) => Ok(row),
         Ok(None) => Err(InsertFault::Mismatch),
-        Err(Memory) => Err(InsertFault::Memory),
+        Err(OutOfMemory) => Err(InsertFault::OutOfMemory),
     }
 }
 

@@ -1,10 +1,10 @@
 // What holds of catalogs that declarations make.
 ghost use Rattle.std.specs.Prelude.{◌≡◌, ◌++◌, ℕ, Bool, List, [], Option, None, All, true, length};
-ghost use Rattle.gq_value.specs.Catalog.{Schema, edge_types_of, end_of, with_edge_types, with_graph, with_vertex_type};
-ghost use Rattle.gq_value.specs.Defaults.{is_plain};
-ghost use Rattle.gq_value.specs.declared.catalog.Attribute.{Attribute};
-ghost use Rattle.gq_value.specs.declared.catalog.GraphType.{GraphType};
-ghost use Rattle.gq_value.specs.declared.catalog.IdShape.{IdShape};
+ghost use Rattle.gq_graph.specs.Catalog.{Schema, edge_types_of, end_of, with_edge_types, with_graph, with_vertex_type};
+ghost use Rattle.gq_graph.specs.Defaults.{is_plain};
+ghost use Rattle.gq_graph.specs.declared.types.Attribute.{Attribute};
+ghost use Rattle.gq_graph.specs.declared.types.GraphType.{GraphType};
+ghost use Rattle.gq_graph.specs.declared.types.IdShape.{IdShape};
 ghost use Rattle.gq_schema.specs.Refusals.{edge_refusal, vertex_refusal};
 ghost use Rattle.gq_insert.specs.Fits.{IsSound};
 

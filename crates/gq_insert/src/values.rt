@@ -3,19 +3,20 @@ ghost use Rattle.std.specs.Prelude.{◌≡◌, ℕ, ℤ, List, Option, IfOk, IfS
 ghost use Rattle.std.specs.Fmt.{decimal, signed_decimal};
 ghost use Rattle.std.specs.Option.{option_map};
 ghost use Rattle.gq_value.specs.Arithmetic.{is_within};
-ghost use Rattle.gq_value.specs.Defaults.{sort_of, DATETIME};
+ghost use Rattle.gq_graph.specs.Defaults.{sort_of, DATETIME};
 ghost use Rattle.gq_value.specs.Views.{val};
 ghost use Rattle.gq_value.specs.declared.kind.Number.TheVariants as numbers;
 ghost use Rattle.gq_value.specs.declared.value.Value.TheVariants as values;
-ghost use Rattle.gq_field.specs.Fields.{TellsTimes};
+ghost use Rattle.gq_load_csv.specs.Fields.{TellsTimes};
 ghost use Rattle.gq_insert.specs.Fits.{AttributeFits, is_value, row_fits};
 ghost use Rattle.gq_insert.specs.Inserts as spec;
 
-use gq_field::default_value;
-use gq_list::List;
+use gq_base::{List, OutOfMemory};
+use gq_graph::{Attribute, IdKind};
+use gq_load_csv::default_value;
 use gq_time::read_time;
 use gq_tree::Literal;
-use gq_value::{Attribute, BaseType, IdKind, Memory, Row, Txt, Value};
+use gq_value::{BaseType, Row, Txt, Value};
 use std::alloc::Global;
 
 fn signed(minus: bool, number: u64) -> i128
@@ -52,19 +53,24 @@ fn uint_of(minus: bool, number: u64) -> Option<u64>
     Some(number)
 }
 
-fn int_text(alloc: Global, number: i64) -> Result<Txt, Memory>
+fn int_text(alloc: Global, number: i64) -> Result<Txt, OutOfMemory>
     ensures { IfOk result (λ text. text ≡ signed_decimal number) }
 {
     Ok(Txt::from_string(format!(in alloc; "{number}")?))
 }
 
-fn uint_text(alloc: Global, number: u64) -> Result<Txt, Memory>
+fn uint_text(alloc: Global, number: u64) -> Result<Txt, OutOfMemory>
     ensures { IfOk result (λ text. text ≡ decimal number) }
 {
     Ok(Txt::from_string(format!(in alloc; "{number}")?))
 }
 
-fn number_id(alloc: Global, kind: IdKind, minus: bool, number: u64) -> Result<Option<Txt>, Memory>
+fn number_id(
+    alloc: Global,
+    kind: IdKind,
+    minus: bool,
+    number: u64,
+) -> Result<Option<Txt>, OutOfMemory>
     ensures { IfOk result (λ id. id ≡ spec.number_id kind minus number) }
 {
     match kind {
@@ -80,7 +86,7 @@ fn number_id(alloc: Global, kind: IdKind, minus: bool, number: u64) -> Result<Op
     }
 }
 
-fn text_id(alloc: Global, kind: IdKind, text: &str) -> Result<Option<Txt>, Memory>
+fn text_id(alloc: Global, kind: IdKind, text: &str) -> Result<Option<Txt>, OutOfMemory>
     ensures { IfOk result (λ id. id ≡ spec.text_id kind text.now) }
 {
     match kind {
@@ -90,7 +96,7 @@ fn text_id(alloc: Global, kind: IdKind, text: &str) -> Result<Option<Txt>, Memor
 }
 
 /// The text of an id, if the literal is one of the kind.
-fn id_text(alloc: Global, kind: IdKind, literal: &Literal) -> Result<Option<Txt>, Memory>
+fn id_text(alloc: Global, kind: IdKind, literal: &Literal) -> Result<Option<Txt>, OutOfMemory>
     ensures { IfOk result (λ id. id ≡ spec.id_text kind literal.now) }
 {
     match literal {
@@ -100,7 +106,7 @@ fn id_text(alloc: Global, kind: IdKind, literal: &Literal) -> Result<Option<Txt>
     }
 }
 
-#[tactic(auto, using(gq_value::specs::SortLaws::sort_laws, gq_value::specs::ViewLaws::view_laws))]
+#[tactic(auto, using(gq_graph::specs::SortLaws::sort_laws, gq_value::specs::ViewLaws::view_laws))]
 fn number_value(kind: &BaseType, minus: bool, number: u64) -> Option<Value>
     ensures value { result ≡ spec.number_value (sort_of kind.now) minus number }
     ensures fits { IfSome result (λ v. is_value (sort_of kind.now) (val v) ≡ true) }
@@ -119,7 +125,7 @@ fn number_value(kind: &BaseType, minus: bool, number: u64) -> Option<Value>
     }
 }
 
-#[tactic(auto, using(gq_value::specs::SortLaws::sort_laws, gq_value::specs::ViewLaws::view_laws))]
+#[tactic(auto, using(gq_graph::specs::SortLaws::sort_laws, gq_value::specs::ViewLaws::view_laws))]
 fn truth_value(kind: &BaseType, truth: bool) -> Option<Value>
     ensures value { result ≡ spec.truth_value (sort_of kind.now) truth }
     ensures fits { IfSome result (λ v. is_value (sort_of kind.now) (val v) ≡ true) }
@@ -142,8 +148,8 @@ fn time_value(text: &str) -> Option<Value>
     }
 }
 
-#[tactic(auto, using(gq_value::specs::SortLaws::sort_laws, gq_value::specs::ViewLaws::view_laws))]
-fn text_value(alloc: Global, kind: &BaseType, text: &str) -> Result<Option<Value>, Memory>
+#[tactic(auto, using(gq_graph::specs::SortLaws::sort_laws, gq_value::specs::ViewLaws::view_laws))]
+fn text_value(alloc: Global, kind: &BaseType, text: &str) -> Result<Option<Value>, OutOfMemory>
     ensures fits { IfOk result (λ v. IfSome v (λ x. is_value (sort_of kind.now) (val x) ≡ true)) }
     ensures value { (read : List ℕ → Option ℤ) → TellsTimes read → IfOk result (λ v. v ≡ spec.text_value read (sort_of kind.now) text.now) }
 {
@@ -155,7 +161,11 @@ fn text_value(alloc: Global, kind: &BaseType, text: &str) -> Result<Option<Value
     }
 }
 
-fn literal_value(alloc: Global, kind: &BaseType, literal: &Literal) -> Result<Option<Value>, Memory>
+fn literal_value(
+    alloc: Global,
+    kind: &BaseType,
+    literal: &Literal,
+) -> Result<Option<Value>, OutOfMemory>
     ensures fits { IfOk result (λ v. IfSome v (λ x. is_value (sort_of kind.now) (val x) ≡ true)) }
     ensures value { (read : List ℕ → Option ℤ) → TellsTimes read → IfOk result (λ v. v ≡ spec.literal_value read (sort_of kind.now) literal.now) }
 {
@@ -170,7 +180,7 @@ fn attribute_value(
     alloc: Global,
     attribute: &Attribute,
     value: &Option<Literal>,
-) -> Result<Option<Value>, Memory>
+) -> Result<Option<Value>, OutOfMemory>
     requires { AttributeFits attribute.now }
     ensures fits { IfOk result (λ v. IfSome v (λ x. is_value (sort_of attribute.now.kind) (val x) ≡ true)) }
     ensures value { (read : List ℕ → Option ℤ) → TellsTimes read → IfOk result (λ v. v ≡ spec.attribute_value read attribute.now value.now) }
@@ -189,7 +199,7 @@ pub(crate) fn given_id(
     alloc: Global,
     kind: IdKind,
     value: &Option<Literal>,
-) -> Result<Option<Txt>, Memory>
+) -> Result<Option<Txt>, OutOfMemory>
     ensures { IfOk result (λ id. id ≡ spec.given_id kind value.now) }
 {
     match value {
@@ -199,7 +209,7 @@ pub(crate) fn given_id(
 }
 
 /// The defaults of all attributes.
-pub(crate) fn default_row(alloc: Global, attributes: &[Attribute]) -> Result<Row, Memory>
+pub(crate) fn default_row(alloc: Global, attributes: &[Attribute]) -> Result<Row, OutOfMemory>
     ensures { IfOk result (λ row. row ≡ spec.default_row attributes.now) }
 {
     let mut row = List::new(alloc);
@@ -214,7 +224,7 @@ pub(crate) fn row_of(
     alloc: Global,
     attributes: &[Attribute],
     values: &[Option<Literal>],
-) -> Result<Option<Row>, Memory>
+) -> Result<Option<Row>, OutOfMemory>
     requires count { length attributes.now ≡ length values.now }
     requires fits { All AttributeFits attributes.now }
     ensures fits { IfOk result (λ row. IfSome row (λ r. row_fits attributes.now r ≡ true)) }

@@ -4,3 +4,4 @@ pub mod Files
 pub mod Listing
 pub mod Schedule
 pub mod Sink
+pub mod Known

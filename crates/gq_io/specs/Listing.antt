@@ -1,4 +1,4 @@
--- Listing: names with their bytes.
+-- Listing: the bytes under a name in a list of files.
 use Rattle.std.specs.Prelude.{ℕ, List, [], ◌∷◌, Option, Some, None, if◌then◌else◌}
 use Rattle.std.specs.Str.{bytes_eq}
 

@@ -1,6 +1,6 @@
 // Files as a run sees them.
 ghost use Rattle.std.specs.Prelude.{◌≡◌, ◌<◌, ◌≤◌, ℕ, Option, Some, None, length, IfOk, IsErrOf};
-ghost use Rattle.gq_io.specs.declared.files.FileFault.TheVariants.{Memory};
+ghost use Rattle.gq_io.specs.declared.files.FileFault.TheVariants.{OutOfMemory};
 ghost use Rattle.gq_io.specs.Counts.{Rose};
 ghost use Rattle.gq_io.specs.Listing.{Listing};
 ghost use Rattle.gq_io.specs.Files.{AnswersFrom, most_bytes};
@@ -27,22 +27,22 @@ pub enum FileFault {
     TooLarge,
 
     #[error("out of memory")]
-    Memory,
+    OutOfMemory,
 }
 
 impl From<AllocError> for FileFault {
-    ghost from_gives = { λ _ e. e ≡ Memory };
+    ghost from_gives = { λ _ e. e ≡ OutOfMemory };
 
     fn from(_: AllocError) -> Self {
-        FileFault::Memory
+        FileFault::OutOfMemory
     }
 }
 
 impl<T: Drop> From<AllocFailed<T>> for FileFault {
-    ghost from_gives = { λ _ e. e ≡ Memory };
+    ghost from_gives = { λ _ e. e ≡ OutOfMemory };
 
     fn from(_: AllocFailed<T>) -> Self {
-        FileFault::Memory
+        FileFault::OutOfMemory
     }
 }
 
@@ -63,7 +63,7 @@ pub trait Files {
     /// All bytes of the first file of that name.
     ///
     /// Where the device tells its files and `faults` didn't rise, Missing and TooLarge come exactly where the file is
-    /// not there or has more than `MOST_BYTES` bytes: no other answer but Memory is left then.
+    /// not there or has more than `MOST_BYTES` bytes: no other answer but OutOfMemory is left then.
     fn read(&mut self, alloc: Global, name: &str) -> Result<Vec<u8>, FileFault>
         ensures held { held self.new ≡ held self.old }
         ensures told { (pairs : Listing) → held self.old ≡ Some pairs → AnswersFrom pairs name.now result }

@@ -2,8 +2,8 @@
 ghost use Rattle.std.specs.Prelude.{◌≡◌, ◌<◌, ◌≤◌, None, length, IfOk, IfSome, IsErrOf};
 ghost use Rattle.gq_io.specs.Files.{most_bytes};
 
-use crate::files::MOST_BYTES;
-use crate::{FileFault, Files, Sink, SinkFault};
+use crate::files::{FileFault, Files, MOST_BYTES};
+use crate::sink::{Sink, SinkFault};
 use std::alloc::Global;
 use std::fs;
 use std::io::{ErrorKind, Read};
@@ -60,7 +60,7 @@ impl<R: std::rt::Files> Files for HostFiles<'_, R> {
                     self.absences = self.absences.saturating_add(1);
                     return Err(FileFault::Missing);
                 }
-                ErrorKind::OutOfMemory => return Err(FileFault::Memory),
+                ErrorKind::OutOfMemory => return Err(FileFault::OutOfMemory),
                 _ => {
                     self.faults = self.faults.saturating_add(1);
                     return Err(FileFault::Failed);

@@ -1,14 +1,17 @@
-//! The devices that a run of `gsql` meets: files to read, a sink to write to, and a gate at which workers pass.
+//! The devices that a run uses: files to read, a sink to write to, and a gate that workers pass.
 //!
-//! Each is a trait, with a device in memory for tests and for callers that run scripts of their own, and one of the
-//! host. Contracts see what a device holds, where it tells it, and how often it failed: a caller is never told of a
-//! failure that wasn't counted. The host's devices, in `host.rt`, are the edge at which trust begins: they count, and
-//! tell no content.
+//! Each is a trait with two implementations: one in memory, for tests and for embedding, and one of the host.
+//! Contracts see what a device holds, if that is known, and how often it failed; no caller sees a failure
+//! that wasn't counted. The host's devices in `src/host.rt` are the trusted boundary: only their failures are
+//! known.
 //!
-//! Read `specs/Counts.antt`, `specs/Files.antt` and `specs/Sink.antt` first, and then the traits in `files.rt` and
-//! `sink.rt`.
+//! Read `specs/Counts.antt`, `specs/Files.antt` and `specs/Sink.antt` first, then the traits in
+//! `src/files.rt`, `src/sink.rt` and `src/gate.rt`. `specs/Known.antt` says what a read may answer, given
+//! what is known of the files; `src/asking.rt` reads that way. `src/shape.rt` says how work is split among
+//! workers.
 #![tactic(auto)]
 
+mod asking;
 mod files;
 mod gate;
 mod host;
@@ -18,6 +21,7 @@ mod schedule;
 mod shape;
 mod sink;
 
+pub use asking::ask;
 pub use files::{FileFault, Files, MOST_BYTES};
 pub use gate::{AnyGate, Gate, HeldGate, HoldGate, OpenGate};
 pub use host::{HostFiles, HostSink};

@@ -4,10 +4,9 @@ ghost use Rattle.gq_io.specs.Schedule.{is_due, called};
 ghost use Rattle.gq_io.specs.Devices.{planned, unplanned};
 ghost use Rattle.gq_io.specs.Files.{AnswersFrom, most_bytes};
 
-use crate::files::MOST_BYTES;
+use crate::files::{FileFault, Files, MOST_BYTES};
 use crate::schedule::Calls;
-use crate::{FileFault, Files};
-use gq_value::Memory;
+use gq_base::OutOfMemory;
 use std::alloc::Global;
 use std::marker::Model;
 
@@ -69,7 +68,7 @@ impl SureFiles {
     }
 
     /// Adds a file. Of several files with one name the first counts.
-    pub fn add(&mut self, name: &str, bytes: &[u8]) -> Result<(), Memory>
+    pub fn add(&mut self, name: &str, bytes: &[u8]) -> Result<(), OutOfMemory>
         ensures ok { OnOk result (self.new ≡ self.old ++ (name.now, bytes.now) ∷ []) }
         ensures err { OnErr result (self.new ≡ self.old) }
     {
@@ -126,7 +125,7 @@ impl MemoryFiles {
     }
 
     /// Adds a file. Of several files with one name the first counts.
-    pub fn add(&mut self, name: &str, bytes: &[u8]) -> Result<(), Memory>
+    pub fn add(&mut self, name: &str, bytes: &[u8]) -> Result<(), OutOfMemory>
         ensures ok { OnOk result (self.new ≡ record self.old { listing = self.old.listing ++ (name.now, bytes.now) ∷ [] }) }
         ensures err { OnErr result (self.new ≡ self.old) }
     {
@@ -134,7 +133,7 @@ impl MemoryFiles {
     }
 
     /// The read with this number, counted from 1, is to fail.
-    pub fn fail_at(&mut self, call: u64) -> Result<(), Memory>
+    pub fn fail_at(&mut self, call: u64) -> Result<(), OutOfMemory>
         ensures ok { OnOk result (self.new ≡ record self.old { schedule = planned self.old.schedule call }) }
         ensures err { OnErr result (self.new ≡ self.old) }
     {

@@ -4,8 +4,8 @@ ghost use Rattle.gq_io.specs.Schedule.{is_due, called};
 ghost use Rattle.gq_io.specs.Devices.{planned, unplanned};
 
 use crate::schedule::Calls;
-use crate::{Sink, SinkFault};
-use gq_value::Memory;
+use crate::sink::{Sink, SinkFault};
+use gq_base::OutOfMemory;
 use std::alloc::Global;
 use std::marker::Model;
 
@@ -61,7 +61,7 @@ impl Sink for SureSink {
         let count = piece.len().min(self.most);
         match self.bytes.extend_from_slice(&piece[..count]) {
             Ok(()) => Ok(count),
-            Err(_) => Err(SinkFault::Memory),
+            Err(_) => Err(SinkFault::OutOfMemory),
         }
     }
 }
@@ -94,7 +94,7 @@ impl MemorySink {
     }
 
     /// The write with this number, counted from 1, is to fail.
-    pub fn fail_at(&mut self, call: u64) -> Result<(), Memory>
+    pub fn fail_at(&mut self, call: u64) -> Result<(), OutOfMemory>
         ensures ok { OnOk result (self.new ≡ record self.old { schedule = planned self.old.schedule call }) }
         ensures err { OnErr result (self.new ≡ self.old) }
     {

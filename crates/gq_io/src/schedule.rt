@@ -4,7 +4,7 @@ ghost use Rattle.std.specs.List.{list_any};
 ghost use Rattle.gq_io.specs.Schedule.{is_due, called};
 ghost use Rattle.gq_io.specs.Devices.{planned, unplanned};
 
-use gq_value::Memory;
+use gq_base::OutOfMemory;
 use std::alloc::Global;
 use std::marker::Model;
 
@@ -37,7 +37,7 @@ impl Calls {
     }
 
     /// The call with this number, counted from 1, is to fail.
-    pub fn fail_at(&mut self, call: u64) -> Result<(), Memory>
+    pub fn fail_at(&mut self, call: u64) -> Result<(), OutOfMemory>
         ensures ok { OnOk result (self.new ≡ planned self.old call) }
         ensures err { OnErr result (self.new ≡ self.old) }
     {

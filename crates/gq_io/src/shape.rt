@@ -9,6 +9,6 @@ pub struct Shape {
     /// How many candidates a worker takes at a time: 1 to 1,048,576.
     pub chunk: u64,
 
-    /// Into how many parts, each with a turn of its own, accumulators are cut: 1 to 256.
+    /// Into how many parts a book of accumulators is cut, each with a lock of its own: 1 to 256. Blocks feed in order and need none.
     pub stripes: u32,
 }

@@ -13,7 +13,7 @@ pub enum SinkFault {
     Failed,
 
     #[error("out of memory")]
-    Memory,
+    OutOfMemory,
 }
 
 /// Something that takes bytes, a piece at a time.

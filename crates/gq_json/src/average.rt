@@ -2,12 +2,13 @@
 ghost use Rattle.std.specs.Prelude.{◌≡◌, ◌+◌, ◌*◌, ◌/◌, ◌<◌, ◌++◌, ℕ, OnOk};
 ghost use Rattle.gq_json.specs.Average.{decimals, fraction_text, sign, trimmed};
 
-use gq_value::{Fraction, Memory};
+use gq_base::OutOfMemory;
+use gq_value::Fraction;
 use itoa::Buffer;
 
 /// The text of an average, behind what the line holds.
 #[tactic(auto, unfolding(crate::specs::Average::fraction_text))]
-pub fn push_fraction(line: &mut Vec<u8>, fraction: Fraction) -> Result<(), Memory>
+pub fn push_fraction(line: &mut Vec<u8>, fraction: Fraction) -> Result<(), OutOfMemory>
     ensures { OnOk result (line.new.items ≡ line.old.items ++ fraction_text fraction) }
 {
     let Fraction { sum, count } = fraction;
@@ -24,7 +25,7 @@ pub fn push_fraction(line: &mut Vec<u8>, fraction: Fraction) -> Result<(), Memor
 }
 
 // The minus sign of a number below 0, where one of its digits isn't a zero.
-fn push_sign(line: &mut Vec<u8>, number: i64, some_digit: bool) -> Result<(), Memory>
+fn push_sign(line: &mut Vec<u8>, number: i64, some_digit: bool) -> Result<(), OutOfMemory>
     ensures { OnOk result (line.new.items ≡ line.old.items ++ sign number some_digit) }
 {
     if number < 0 && some_digit {
@@ -44,7 +45,7 @@ fn millionths_of(rest: u64, count: u64) -> u32
 
 // The point and so many millionths, or nothing for none.
 #[tactic(auto, using(std::proofs::lemmas::Fmt::decimal_nonempty))]
-fn push_decimals(line: &mut Vec<u8>, millionths: u32) -> Result<(), Memory>
+fn push_decimals(line: &mut Vec<u8>, millionths: u32) -> Result<(), OutOfMemory>
     requires { millionths < 1000000 }
     ensures { OnOk result (line.new.items ≡ line.old.items ++ decimals millionths) }
 {

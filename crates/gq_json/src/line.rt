@@ -2,14 +2,14 @@
 ghost use Rattle.std.specs.Prelude.{◌≡◌, IfOk, map};
 ghost use Rattle.gq_json.specs.Json.{line_text, error_text};
 
-use crate::Printed;
+use crate::out::Printed;
 use crate::text::push_quoted;
 use crate::value::{push_comma, push_members};
-use gq_value::Memory;
+use gq_base::OutOfMemory;
 use std::alloc::Global;
 
 /// The line of a query that printed these objects, the line feed included.
-pub fn json_line(alloc: Global, printed: &[Printed]) -> Result<Vec<u8>, Memory>
+pub fn json_line(alloc: Global, printed: &[Printed]) -> Result<Vec<u8>, OutOfMemory>
     ensures { IfOk result (λ line. line.items ≡ line_text (map (λ object. object.members) printed.now)) }
 {
     let mut line = Vec::from_slice(alloc, b"{\"error\":false,\"message\":\"\",\"results\":[")?;
@@ -22,7 +22,7 @@ pub fn json_line(alloc: Global, printed: &[Printed]) -> Result<Vec<u8>, Memory>
 }
 
 /// The line of a refusal with this message, the line feed included.
-pub fn error_line(alloc: Global, message: &str) -> Result<Vec<u8>, Memory>
+pub fn error_line(alloc: Global, message: &str) -> Result<Vec<u8>, OutOfMemory>
     ensures { IfOk result (λ line. line.items ≡ error_text message.now) }
 {
     let mut line = Vec::from_slice(alloc, b"{\"error\":true,\"message\":")?;

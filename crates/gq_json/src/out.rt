@@ -1,5 +1,5 @@
 // What PRINT prints.
-use gq_list::List;
+use gq_base::List;
 use gq_value::{Fraction, Txt};
 
 /// A printed value, to any depth.

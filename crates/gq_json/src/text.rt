@@ -2,10 +2,10 @@
 ghost use Rattle.std.specs.Prelude.{◌≡◌, ◌<◌, ◌++◌, OnOk};
 ghost use Rattle.gq_json.specs.Json.{hex_digit, escaped, quoted};
 
-use gq_value::Memory;
+use gq_base::OutOfMemory;
 
 /// The text in quotes, behind what the line holds.
-pub fn push_quoted(line: &mut Vec<u8>, text: &str) -> Result<(), Memory>
+pub fn push_quoted(line: &mut Vec<u8>, text: &str) -> Result<(), OutOfMemory>
     ensures { OnOk result (line.new.items ≡ line.old.items ++ quoted text.now) }
 {
     line.push(b'"')?;
@@ -16,7 +16,7 @@ pub fn push_quoted(line: &mut Vec<u8>, text: &str) -> Result<(), Memory>
     Ok(())
 }
 
-fn push_escaped(line: &mut Vec<u8>, byte: u8) -> Result<(), Memory>
+fn push_escaped(line: &mut Vec<u8>, byte: u8) -> Result<(), OutOfMemory>
     ensures { OnOk result (line.new.items ≡ line.old.items ++ escaped byte) }
 {
     match byte {

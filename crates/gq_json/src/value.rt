@@ -2,15 +2,16 @@
 ghost use Rattle.std.specs.Prelude.{◌≡◌, [], ◌∷◌, ◌++◌, OnOk, map};
 ghost use Rattle.gq_json.specs.Json.{comma_before, list_text, out_text, printed_text, quoted};
 
-use crate::Out;
 use crate::average::push_fraction;
+use crate::out::Out;
 use crate::text::push_quoted;
-use gq_value::{Memory, Txt};
+use gq_base::OutOfMemory;
+use gq_value::Txt;
 use itoa::Buffer;
 
 #[cycle(values)]
 #[tactic(auto, using(crate::proofs::OutLemmas::out_laws))]
-fn push_value(line: &mut Vec<u8>, value: &Out) -> Result<(), Memory>
+fn push_value(line: &mut Vec<u8>, value: &Out) -> Result<(), OutOfMemory>
     ensures { OnOk result (line.new.items ≡ line.old.items ++ out_text value.now) }
 {
     match value {
@@ -27,7 +28,7 @@ fn push_value(line: &mut Vec<u8>, value: &Out) -> Result<(), Memory>
 }
 
 #[cycle(values)]
-fn push_values(line: &mut Vec<u8>, values: &[Out]) -> Result<(), Memory>
+fn push_values(line: &mut Vec<u8>, values: &[Out]) -> Result<(), OutOfMemory>
     ensures { OnOk result (line.new.items ≡ line.old.items ++ list_text (map out_text values.now)) }
 {
     line.push(b'[')?;
@@ -41,7 +42,7 @@ fn push_values(line: &mut Vec<u8>, values: &[Out]) -> Result<(), Memory>
 
 /// An object of these members, behind what the line holds.
 #[cycle(values)]
-pub fn push_members(line: &mut Vec<u8>, members: &[(Txt, Out)]) -> Result<(), Memory>
+pub fn push_members(line: &mut Vec<u8>, members: &[(Txt, Out)]) -> Result<(), OutOfMemory>
     ensures { OnOk result (line.new.items ≡ line.old.items ++ printed_text members.now) }
 {
     line.push(b'{')?;
@@ -55,7 +56,7 @@ pub fn push_members(line: &mut Vec<u8>, members: &[(Txt, Out)]) -> Result<(), Me
 }
 
 // A name, and the colon behind it.
-fn push_name(line: &mut Vec<u8>, name: &Txt) -> Result<(), Memory>
+fn push_name(line: &mut Vec<u8>, name: &Txt) -> Result<(), OutOfMemory>
     ensures { OnOk result (line.new.items ≡ line.old.items ++ (quoted name.now ++ 58 ∷ [])) }
 {
     push_quoted(line, name.as_str())?;
@@ -64,7 +65,7 @@ fn push_name(line: &mut Vec<u8>, name: &Txt) -> Result<(), Memory>
 }
 
 /// The comma in front of what stands at this place among others; the first has none.
-pub fn push_comma(line: &mut Vec<u8>, place: usize) -> Result<(), Memory>
+pub fn push_comma(line: &mut Vec<u8>, place: usize) -> Result<(), OutOfMemory>
     ensures { OnOk result (line.new.items ≡ line.old.items ++ comma_before place) }
 {
     if place > 0 {

@@ -3,25 +3,25 @@ use Rattle.std.proofs.Common.{zero, suc, cond, get_or, ◌≡◌, ℕ, ◌<◌, 
 use Rattle.std.specs.Prelude.{Result, Err}
 use Rattle.std.proofs.lemmas.List.{append_assoc, append-nil, map-append}
 use Rattle.std.proofs.lemmas.Grind.{flat_map-append}
-use Rattle.gq_value.specs.Catalog.{Schema}
-use Rattle.gq_value.specs.declared.store.StoreFault.{StoreFault}
+use Rattle.gq_graph.specs.Catalog.{Schema}
+use Rattle.gq_graph.specs.declared.rows.StoreFault.{StoreFault}
 use Rattle.gq_index.specs.declared.store.Store.{Store}
-use Rattle.gq_field.specs.Fields.{TellsTimes}
-use Rattle.gq_put.specs.Steps.{Step, Done, Begun, Puts}
-use Rattle.gq_put.proofs.StepLemmas.{done_more, err_before, err_more, begun_all}
-use Rattle.gq_row.specs.declared.route.Route.{Route}
-use Rattle.gq_row.specs.declared.record.Verdict.{Verdict}
+use Rattle.gq_load_csv.specs.Fields.{TellsTimes}
+use Rattle.gq_index.specs.Steps.{Step, Done, Begun, Puts}
+use Rattle.gq_index.proofs.StepLemmas.{done_more, err_before, err_more, begun_all}
+use Rattle.gq_load.specs.declared.route.Route.{Route}
+use Rattle.gq_load.specs.declared.record.Verdict.{Verdict}
 use Rattle.csv.specs.Machine.{next_record}
 use Rattle.csv.specs.Reading.{records_from, strip_bom}
-use Rattle.gq_records.specs.Records.{records_of}
-use Rattle.gq_job.specs.declared.job.LoadInto.{LoadInto}
-use Rattle.gq_job.specs.declared.job.LoadLine.{LoadLine}
-use Rattle.gq_job.specs.Fits.{IntoFits}
-use Rattle.gq_row.specs.declared.fault.LoadFault.{LoadFault}
-use Rattle.gq_row.specs.Routes.{route_of}
-use Rattle.gq_row.specs.Columns.{Fields}
-use Rattle.gq_row.specs.Records.{Judged, judged, steps_from, verdict_of, IsThere}
-use Rattle.gq_row.proofs.RowLemmas.{Reading}
+use Rattle.gq_load_csv.specs.Records.{records_of}
+use Rattle.gq_load_plan.specs.declared.job.LoadInto.{LoadInto}
+use Rattle.gq_load_plan.specs.declared.job.LoadLine.{LoadLine}
+use Rattle.gq_load_plan.specs.Fits.{IntoFits}
+use Rattle.gq_load.specs.declared.fault.LoadFault.{LoadFault}
+use Rattle.gq_load.specs.Routes.{route_of}
+use Rattle.gq_load.specs.Columns.{Fields}
+use Rattle.gq_load.specs.Records.{Judged, judged, steps_from, verdict_of, IsThere}
+use Rattle.gq_load.proofs.RowLemmas.{Reading}
 use Rattle.gq_load.specs.declared.report.Report.{Report}
 use Rattle.gq_load.specs.Reports.{report_of}
 use Rattle.gq_load.specs.Loads.{all_steps, IsLoaded, LoadsBy, Loads, header_of, loaded_of, first_of}
@@ -83,7 +83,7 @@ wants_memory read schema routes records before left now report tells way =
     subst (λ (s : List Step). Begun before s now) (sym (steps_split read schema routes records way.behind left way.split))
     (begun_all before now (all_steps read schema routes way.behind) (all_steps read schema routes left) (way.each read tells).done)
 
--- want of memory behind a record that was put
+-- OutOfMemory behind a record that was put
 pub wants_memory_behind : (read : Reading) (schema : Schema) (routes : List Route) (records : List Fields) (before : Store) (left rest : List Fields) (now later : Store) (report : Report) (fields : Fields)
     → TellsTimes read → IsUnderWay schema routes records before left now report → left ≡ fields ∷ rest
     → Done now (steps_from (judged read schema routes fields)) later → Begun before (all_steps read schema routes records) later

@@ -1,18 +1,18 @@
--- Inserts: what an INSERT puts into a store.
+-- Inserts: what an INSERT puts into a store, and what each answer says of it.
 use Rattle.std.specs.Prelude.{◌≡◌, ◌≤◌, List, [], ◌∷◌, length, Result, Ok, Err}
-use Rattle.gq_value.specs.declared.store.StoreFault.{StoreFault}
-use Rattle.gq_value.specs.declared.store.StoreFault.TheVariants as fault
-use Rattle.gq_value.specs.declared.store.VertexRow.{VertexRow}
-use Rattle.gq_value.specs.Edges.{naming_with, Agrees}
+use Rattle.gq_graph.specs.declared.rows.StoreFault.{StoreFault}
+use Rattle.gq_graph.specs.declared.rows.StoreFault.TheVariants as fault
+use Rattle.gq_graph.specs.declared.rows.VertexRow.{VertexRow}
+use Rattle.gq_graph.specs.Edges.{naming_with, Agrees}
 use Rattle.gq_index.specs.declared.store.Store.{Store}
-use Rattle.gq_job.specs.declared.insert.End.{End}
-use Rattle.gq_job.specs.declared.insert.Insert.{Insert}
-use Rattle.gq_job.specs.declared.insert.Insert.TheVariants as insert
-use Rattle.gq_put.specs.Steps.{Step, Vertex, Done, Refused}
-use Rattle.gq_put.specs.Ends.{edge_steps}
+use Rattle.gq_load_plan.specs.declared.insert.Endpoint.{Endpoint}
+use Rattle.gq_load_plan.specs.declared.insert.Insert.{Insert}
+use Rattle.gq_load_plan.specs.declared.insert.Insert.TheVariants as insert
+use Rattle.gq_index.specs.Steps.{Step, Vertex, Done, Refused}
+use Rattle.gq_index.specs.Ends.{edge_steps}
 
 -- the row of an end that isn't there yet
-abbrev pub end_row : End → VertexRow
+abbrev pub end_row : Endpoint → VertexRow
 end_row end = record { kind = end.kind; id = end.id; attributes = end.missing }
 
 -- the upserts of an insert: an edge puts those of its ends that aren't there before it
@@ -36,7 +36,7 @@ pub record AreRefused (before : Store) (steps : List Step) : Type 0 where
 abbrev pub PutsAll : {A : Type 0} → Store → List Step → Store → Result A StoreFault → Type 0
 PutsAll before steps later (Ok a) = Done before steps later
 PutsAll before steps later (Err fault.Full) = (later ≡ before) × AreRefused before steps
-PutsAll before steps later (Err fault.Memory) = later ≡ before
+PutsAll before steps later (Err fault.OutOfMemory) = later ≡ before
 
 -- and of an insert
 abbrev pub Inserts : {A : Type 0} → Store → Insert → Store → Result A StoreFault → Type 0

@@ -1,3 +1,12 @@
+pub mod Columns
+pub mod Routes
+pub mod Rows
+pub mod Drafts
+pub mod Records
 pub mod Loads
 pub mod Reports
 pub mod Inserts
+pub mod Puts
+pub mod PutLaws
+pub mod Keeping
+pub mod KeepingLaws

@@ -2,18 +2,18 @@
 -- The code reads a record, puts its rows, and reads on.
 use Rattle.std.specs.Prelude.{◌≡◌, ℕ, ℤ, if◌then◌else◌, List, [], ◌∷◌, drop, map, Option, Some, None, Result, Ok, Err}
 use Rattle.std.specs.List.{flat_map}
-use Rattle.gq_value.specs.Catalog.{Schema}
-use Rattle.gq_value.specs.declared.store.StoreFault.{StoreFault}
-use Rattle.gq_job.specs.declared.job.LoadLine.{LoadLine}
+use Rattle.gq_graph.specs.Catalog.{Schema}
+use Rattle.gq_graph.specs.declared.rows.StoreFault.{StoreFault}
+use Rattle.gq_load_plan.specs.declared.job.LoadLine.{LoadLine}
 use Rattle.gq_index.specs.declared.store.Store.{Store}
-use Rattle.gq_records.specs.Records.{records_of}
-use Rattle.gq_put.specs.Steps.{Step, Done, Refused, Begun, Puts}
-use Rattle.gq_row.specs.declared.fault.LoadFault.{LoadFault}
-use Rattle.gq_row.specs.declared.fault.LoadFault.TheVariants as fault
-use Rattle.gq_row.specs.declared.route.Route.{Route}
-use Rattle.gq_row.specs.Columns.{Fields, columns_of, missing_name}
-use Rattle.gq_row.specs.Routes.{route_of}
-use Rattle.gq_row.specs.Records.{judged, steps_from}
+use Rattle.gq_load_csv.specs.Records.{records_of}
+use Rattle.gq_index.specs.Steps.{Step, Done, Refused, Begun, Puts}
+use Rattle.gq_load.specs.declared.fault.LoadFault.{LoadFault}
+use Rattle.gq_load.specs.declared.fault.LoadFault.TheVariants as fault
+use Rattle.gq_load.specs.declared.route.Route.{Route}
+use Rattle.gq_load.specs.Columns.{Fields, columns_of, missing_name}
+use Rattle.gq_load.specs.Routes.{route_of}
+use Rattle.gq_load.specs.Records.{judged, steps_from}
 use Rattle.gq_load.specs.declared.report.Report.{Report}
 use Rattle.gq_load.specs.Reports.{report_of}
 
@@ -84,7 +84,7 @@ abbrev pub LoadsBy : (List ℕ → Option ℤ) → Schema → LoadLine → Optio
 LoadsBy read schema line header records before later (Ok report) = LoadsWhole read schema line header records before later report
 LoadsBy read schema line header records before later (Err (fault.NoColumn name)) = LacksColumn line header before later name
 LoadsBy read schema line header records before later (Err fault.Full) = FillsStore read schema line header records before later
-LoadsBy read schema line header records before later (Err fault.Memory) =
+LoadsBy read schema line header records before later (Err fault.OutOfMemory) =
     Begun before (all_steps read schema (routes_of schema line header) records) later
 
 -- what an answer of a load says of a file's records

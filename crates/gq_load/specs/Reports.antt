@@ -1,6 +1,6 @@
--- Reports: what is told of the records of a file.
+-- Reports: the counts of a file's records: loaded, short, unreadable.
 use Rattle.std.specs.Prelude.{Bool, true, false, List, length, count_by}
-use Rattle.gq_row.specs.Records.{Judged, Short, Unreadable, Loaded}
+use Rattle.gq_load.specs.Records.{Judged, Short, Unreadable, Loaded}
 use Rattle.gq_load.specs.declared.report.Report.{Report}
 
 abbrev pub was_short : Judged → Bool

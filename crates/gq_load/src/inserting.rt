@@ -1,14 +1,15 @@
 // Rows inserted into a store.
 ghost use Rattle.std.specs.Prelude.{◌≡◌, ◌≤◌, [], ◌∷◌, length};
-ghost use Rattle.gq_value.specs.Edges.{Agrees};
-ghost use Rattle.gq_put.specs.Steps as step;
-ghost use Rattle.gq_put.specs.Ends.{edge_steps, row_of};
+ghost use Rattle.gq_graph.specs.Edges.{Agrees};
+ghost use Rattle.gq_index.specs.Steps as step;
+ghost use Rattle.gq_index.specs.Ends.{edge_steps, row_of};
 ghost use Rattle.gq_load.specs.Inserts.{IsNamedAs, Inserts, PutsAll, end_row};
 
-use gq_index::Store;
-use gq_job::{End, Insert};
-use gq_put::{put_edge, put_vertex};
-use gq_value::{Memory, Naming, StoreFault, Value, duplicate_row};
+use gq_base::OutOfMemory;
+use gq_graph::{Naming, StoreFault};
+use gq_index::{Store, put_edge, put_vertex};
+use gq_load_plan::{Endpoint, Insert};
+use gq_value::{Value, duplicate_row};
 use std::alloc::Global;
 
 /// Puts a row into the store, and before an edge those of its ends that aren't there. Unchanged after a refusal.
@@ -53,7 +54,7 @@ fn insert_vertex(
 {
     let attributes = match duplicate_row(alloc, attributes) {
         Ok(attributes) => attributes,
-        Err(Memory) => return Err(StoreFault::Memory),
+        Err(OutOfMemory) => return Err(StoreFault::OutOfMemory),
     };
     match put_vertex(store, kind, id, attributes) {
         Ok(()) => Ok(()),
@@ -65,8 +66,8 @@ fn insert_edge(
     alloc: Global,
     store: &mut Store,
     naming: Naming,
-    from: &End,
-    to: &End,
+    from: &Endpoint,
+    to: &Endpoint,
     attributes: &[Value],
 ) -> Result<(), StoreFault>
     requires within { naming.key ≤ length attributes.now }
@@ -76,7 +77,7 @@ fn insert_edge(
     let count = store.vertices.len();
     let attributes = match duplicate_row(alloc, attributes) {
         Ok(attributes) => attributes,
-        Err(Memory) => return Err(StoreFault::Memory),
+        Err(OutOfMemory) => return Err(StoreFault::OutOfMemory),
     };
     match put_edge(alloc, store, naming, lent(from), lent(to), attributes) {
         Ok(()) => Ok(()),
@@ -88,10 +89,10 @@ fn insert_edge(
 }
 
 /// An end as it is put.
-fn lent(end: &End) -> gq_put::End<'_>
+fn lent(end: &Endpoint) -> gq_index::EndpointRef<'_>
     ensures { row_of result ≡ end_row end.now }
 {
-    gq_put::End {
+    gq_index::EndpointRef {
         kind: end.kind,
         id: end.id.as_str(),
         missing: end.missing.as_slice(),

@@ -1,28 +1,32 @@
 // Files loaded into a store.
 ghost use Rattle.std.specs.Prelude.{◌≡◌, ℕ, ℤ, List, Option, All};
 ghost use Rattle.std.specs.Option.{option_copied};
-ghost use Rattle.gq_field.specs.Fields.{TellsTimes};
-ghost use Rattle.gq_job.specs.Fits.{LineFits};
-ghost use Rattle.gq_job.specs.Targets.{edge_type_at};
-ghost use Rattle.gq_put.specs.Namings.{AreNamedBy};
-ghost use Rattle.gq_row.specs.Columns.{header_in};
-ghost use Rattle.gq_row.specs.Records.{AllHaveEnds, IsThere};
+ghost use Rattle.gq_load_csv.specs.Fields.{TellsTimes};
+ghost use Rattle.gq_load_plan.specs.Fits.{LineFits};
+ghost use Rattle.gq_load_plan.specs.Targets.{edge_type_at};
+ghost use Rattle.gq_index.specs.Namings.{AreNamedBy};
+ghost use Rattle.gq_load.specs.Columns.{header_in};
+ghost use Rattle.gq_load.specs.Records.{AllHaveEnds, IsThere};
 ghost use Rattle.gq_load.specs.Loads.{Loads, LoadsBy, LoadsAlong, records_in};
 
+use crate::draft::drafts;
+use crate::fault::LoadFault;
+use crate::record::put_record;
 use crate::report::{Report, with_record};
+use crate::route::{Route, routes};
 use csv::ByteRecord;
+use gq_base::OutOfMemory;
+use gq_graph::StoreFault;
 use gq_index::Store;
-use gq_job::LoadLine;
-use gq_records::Records;
-use gq_row::{LoadFault, Route, drafts, put_record, routes};
+use gq_load_csv::Records;
+use gq_load_plan::LoadLine;
 use gq_schema::Catalog;
-use gq_value::{Memory, StoreFault};
 use std::alloc::Global;
 
 /// Loads a file of these bytes into the store, as the line says, and tells what became of its records.
 ///
 /// The catalog is one that the line was checked for, or one that has grown out of it, and the store's edges are named as its
-/// types say. `NoColumn` leaves the store as it was. After `Full` and `Memory` the upserts before stay.
+/// types say. `NoColumn` leaves the store as it was. After `Full` and `OutOfMemory` the upserts before stay.
 pub fn load(
     alloc: Global,
     catalog: &Catalog,
@@ -48,7 +52,7 @@ pub fn load(
             let mut none = Records::open(alloc, line.separator, line.quote, &[]);
             load_by(alloc, catalog, line, None, &mut none, store)
         }
-        Err(Memory) => Err(LoadFault::Memory),
+        Err(OutOfMemory) => Err(LoadFault::OutOfMemory),
     }
 }
 
@@ -75,7 +79,7 @@ fn load_by(
     match load_records(alloc, catalog, &routes, records, store) {
         Ok(report) => Ok(report),
         Err(StoreFault::Full) => Err(LoadFault::Full),
-        Err(StoreFault::Memory) => Err(LoadFault::Memory),
+        Err(StoreFault::OutOfMemory) => Err(LoadFault::OutOfMemory),
     }
 }
 
@@ -96,7 +100,7 @@ fn load_records(
 {
     let mut drafts = match drafts(alloc, routes.len()) {
         Ok(drafts) => drafts,
-        Err(Memory) => return Err(StoreFault::Memory),
+        Err(OutOfMemory) => return Err(StoreFault::OutOfMemory),
     };
     let mut row = ByteRecord::new(alloc);
     let mut report = Report::none();
@@ -104,7 +108,7 @@ fn load_records(
         match records.next(&mut row) {
             Ok(true) => {}
             Ok(false) => return Ok(report),
-            Err(Memory) => return Err(StoreFault::Memory),
+            Err(OutOfMemory) => return Err(StoreFault::OutOfMemory),
         }
         let verdict = match put_record(alloc, catalog, routes, &mut drafts, &row, store) {
             Ok(verdict) => verdict,
@@ -112,7 +116,7 @@ fn load_records(
         };
         report = match with_record(report, verdict) {
             Ok(report) => report,
-            Err(Memory) => return Err(StoreFault::Memory),
+            Err(OutOfMemory) => return Err(StoreFault::OutOfMemory),
         };
     }
 }

@@ -1,11 +1,11 @@
 // What is told of a load.
 ghost use Rattle.std.specs.Prelude.{◌≡◌, ◌+◌, ◌++◌, [], ◌∷◌, List, IfOk};
-ghost use Rattle.gq_row.specs.declared.record.Verdict.{Verdict};
-ghost use Rattle.gq_row.specs.Records.{Judged, verdict_of};
+ghost use Rattle.gq_load.specs.declared.record.Verdict.{Verdict};
+ghost use Rattle.gq_load.specs.Records.{Judged, verdict_of};
 ghost use Rattle.gq_load.specs.Reports.{report_of};
 
-use gq_row::Verdict;
-use gq_value::Memory;
+use crate::record::Verdict;
+use gq_base::OutOfMemory;
 
 /// How many records a file has, its header not counted, and what became of them.
 #[derive(Clone, Copy, Debug, PartialEq, Eq)]
@@ -33,7 +33,7 @@ impl Report {
 }
 
 /// The report with one record more. Beyond 2^64 - 1 records memory is wanting.
-pub(crate) fn with_record(report: Report, verdict: Verdict) -> Result<Report, Memory>
+pub(crate) fn with_record(report: Report, verdict: Verdict) -> Result<Report, OutOfMemory>
     ensures { IfOk result (λ more. (records : List Judged) (judged : Judged) → report ≡ report_of records → verdict ≡
         verdict_of judged → more ≡ report_of (records ++ judged ∷ [])) }
 {
@@ -66,11 +66,11 @@ pub(crate) fn with_record(report: Report, verdict: Verdict) -> Result<Report, Me
     }
 }
 
-fn one_more(count: u64) -> Result<u64, Memory>
+fn one_more(count: u64) -> Result<u64, OutOfMemory>
     ensures { IfOk result (λ more. more ≡ count + 1) }
 {
     match count.checked_add(1) {
         Some(more) => Ok(more),
-        None => Err(Memory),
+        None => Err(OutOfMemory),
     }
 }

@@ -1,18 +1,18 @@
 //! The program `gsql`: runs a GSQL script and prints one JSON line a statement.
 //!
-//! The one call that matters is `run` of `gq_run`: its clauses are the promise of the whole program. Here it is given an engine
+//! The one call that matters is `run` of `gq_driver`: its clauses are the promise of the whole program. Here it is given an engine
 //! for its queries, the words, the host's files and its standard output, and the program ends with the number of its answer.
 #![tactic(auto)]
 
 ghost use Rattle.std.specs.Prelude.{◌≡◌, ◌≢◌};
 ghost use Rattle.std.specs.Process.{exit_status};
 ghost use Rattle.std.specs.IoError.{error_kind};
-ghost use Rattle.gq_outcome.specs.Codes.{code_of};
+ghost use Rattle.gq_diagnostics.specs.Codes.{code_of};
 
+use gq_diagnostics::Status;
+use gq_driver::run;
 use gq_engine::Engine;
 use gq_io::{AnyGate, HostFiles, HostSink};
-use gq_outcome::Status;
-use gq_run::run;
 use std::io::ErrorKind;
 use std::process::ExitCode;
 use std::{env, io};
@@ -55,11 +55,11 @@ fn end(rt: &impl Eprint, status: Status) -> ExitCode
 
 // The run has no words: memory was wanting, or the system didn't give them.
 fn end_without_words(rt: &impl Eprint, error: &io::Error) -> ExitCode
-    ensures memory { error_kind error.now ≡ ErrorKind.OutOfMemory → exit_status result ≡ code_of Status.Memory }
+    ensures memory { error_kind error.now ≡ ErrorKind.OutOfMemory → exit_status result ≡ code_of Status.OutOfMemory }
     ensures other { error_kind error.now ≢ ErrorKind.OutOfMemory → exit_status result ≡ 6 }
 {
     if error.kind() == ErrorKind::OutOfMemory {
-        return end(rt, Status::Memory);
+        return end(rt, Status::OutOfMemory);
     }
     let _ = rt.eprintln("gsql: the words could not be read");
     ExitCode::from(6)

@@ -11,12 +11,12 @@ use Rattle.gq_value.specs.Val.{Val}
 use Rattle.gq_value.specs.Views.{val}
 use Rattle.gq_value.specs.Order.{place}
 use Rattle.gq_value.specs.Accums.{Accum, SetAccum}
-use Rattle.gq_content.specs.Gather.{into, put, distinct}
-use Rattle.gq_content.specs.Holds.{row_cmp}
-use Rattle.gq_content.specs.After.{fresh}
-use Rattle.gq_content.proofs.Shuffles.{past}
-use Rattle.gq_content.proofs.GatherLaws.{put_commutes, itself}
-use Rattle.gq_content.proofs.RowLaws.{row_linear}
+use Rattle.gq_accum_laws.specs.Gather.{into, put, distinct}
+use Rattle.gq_accum_laws.specs.Holds.{row_cmp}
+use Rattle.gq_accum_laws.specs.After.{fresh}
+use Rattle.gq_accum_laws.proofs.Shuffles.{past}
+use Rattle.gq_accum_laws.proofs.GatherLaws.{put_commutes, itself}
+use Rattle.gq_accum_laws.proofs.RowLaws.{row_linear}
 use Rattle.gq_nest.specs.declared.content.Content.{Content, Content-F, out-Content}
 use Rattle.gq_nest.specs.declared.content.Content.TheVariants as made
 use Rattle.gq_nest.specs.Entries.{key_row, every, at_or, rows, under, Each, Puts, CopiesEach}

@@ -7,10 +7,10 @@ use Rattle.gq_value.specs.declared.value.Value.{Value}
 use Rattle.gq_value.specs.Val.{Val}
 use Rattle.gq_value.specs.Views.{val}
 use Rattle.gq_value.specs.Order.{place}
-use Rattle.gq_content.specs.Gather.{put, choose, distinct}
-use Rattle.gq_content.specs.Holds.{row_cmp}
-use Rattle.gq_content.proofs.GatherLaws.{put_commutes, put_into, again, itself}
-use Rattle.gq_content.proofs.RowLaws.{row_linear}
+use Rattle.gq_accum_laws.specs.Gather.{put, choose, distinct}
+use Rattle.gq_accum_laws.specs.Holds.{row_cmp}
+use Rattle.gq_accum_laws.proofs.GatherLaws.{put_commutes, put_into, again, itself}
+use Rattle.gq_accum_laws.proofs.RowLaws.{row_linear}
 use Rattle.gq_nest.specs.Entries.{key_row, at_or, is_row, rows, under, Each, Puts, Changes}
 
 pub some_inj : {X : Type 0} {a b : X} → Some a ≡ Some b → a ≡ b

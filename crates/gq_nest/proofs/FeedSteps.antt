@@ -11,17 +11,17 @@ use Rattle.gq_value.specs.AccumViews.{given, givens}
 use Rattle.gq_value.specs.Order.{place}
 use Rattle.gq_value.specs.Accums.{Base, Accum, SetAccum, BagAccum, ListAccum, MapAccum, HeapAccum, Given, One, Keyed, given_and, no_given}
 use Rattle.gq_value.specs.Typed.{suits, row_is_of}
-use Rattle.gq_content.specs.Gather.{put, sorted, distinct}
-use Rattle.gq_content.specs.Holds.{Holds, row_cmp, heap_cmp}
-use Rattle.gq_content.specs.Inputs.{own, first}
-use Rattle.gq_content.specs.After.{fresh, after}
-use Rattle.gq_content.specs.Fits.{HasRoom, IsProper}
-use Rattle.gq_content.proofs.Shuffles.{past, into-append}
-use Rattle.gq_content.proofs.GatherLaws.{put_commutes, gather_cut, gathered_into}
-use Rattle.gq_content.proofs.TopLaws.{top_cut}
-use Rattle.gq_content.proofs.RowLaws.{place_linear, row_linear, heap_linear}
-use Rattle.gq_content.proofs.KindLaws.{both}
-use Rattle.gq_content.proofs.ProperLaws.{after_none}
+use Rattle.gq_accum_laws.specs.Gather.{put, sorted, distinct}
+use Rattle.gq_accum_laws.specs.Holds.{Holds, row_cmp, heap_cmp}
+use Rattle.gq_accum_laws.specs.Inputs.{own, first}
+use Rattle.gq_accum_laws.specs.After.{fresh, after}
+use Rattle.gq_accum_laws.specs.Fits.{HasRoom, IsProper}
+use Rattle.gq_accum_laws.proofs.Shuffles.{past, into-append}
+use Rattle.gq_accum_laws.proofs.GatherLaws.{put_commutes, gather_cut, gathered_into}
+use Rattle.gq_accum_laws.proofs.TopLaws.{top_cut}
+use Rattle.gq_accum_laws.proofs.RowLaws.{place_linear, row_linear, heap_linear}
+use Rattle.gq_accum_laws.proofs.KindLaws.{both}
+use Rattle.gq_accum_laws.proofs.ProperLaws.{after_none}
 use Rattle.gq_accum.specs.declared.scalar.Scalar.{Scalar}
 use Rattle.gq_accum.specs.Scalars.{kind_of, content}
 use Rattle.gq_nest.specs.declared.content.Heap.{Heap}

@@ -11,9 +11,9 @@ use Rattle.gq_value.specs.Val.{Val}
 use Rattle.gq_value.specs.Views.{val}
 use Rattle.gq_value.specs.Order.{place}
 use Rattle.gq_value.specs.Accums.{Base, Accum, MapAccum, GroupByAccum, Parts}
-use Rattle.gq_content.specs.Holds.{Holds}
-use Rattle.gq_content.specs.After.{fresh, fresh_each}
-use Rattle.gq_content.specs.Fits.{fits, fit, IsProper, AreProper}
+use Rattle.gq_accum_laws.specs.Holds.{Holds}
+use Rattle.gq_accum_laws.specs.After.{fresh, fresh_each}
+use Rattle.gq_accum_laws.specs.Fits.{fits, fit, IsProper, AreProper}
 use Rattle.gq_nest.specs.declared.content.Content.{Content, Content-F, out-Content}
 use Rattle.gq_nest.specs.declared.content.Content.TheVariants as made
 use Rattle.gq_nest.specs.Entries.{key_row, group_row, every, at_or, rows, under}

@@ -12,10 +12,10 @@ use Rattle.gq_value.specs.Order.{place}
 use Rattle.gq_value.specs.Accums.{Accum, SetAccum, BagAccum, ListAccum, MapAccum, HeapAccum, TUPLE}
 use Rattle.gq_value.specs.AccumViews.{bases, base_of, accum_of}
 use Rattle.gq_value.proofs.AccumLemmas.{accum_of-Set, accum_of-Bag, accum_of-List, accum_of-Map, accum_of-Heap}
-use Rattle.gq_content.specs.Gather.{sorted, distinct}
-use Rattle.gq_content.specs.Holds.{row_cmp, heap_cmp}
-use Rattle.gq_content.specs.After.{fresh}
-use Rattle.gq_content.proofs.ProperLaws.{proper_fresh}
+use Rattle.gq_accum_laws.specs.Gather.{sorted, distinct}
+use Rattle.gq_accum_laws.specs.Holds.{row_cmp, heap_cmp}
+use Rattle.gq_accum_laws.specs.After.{fresh}
+use Rattle.gq_accum_laws.proofs.ProperLaws.{proper_fresh}
 use Rattle.gq_accum.specs.declared.scalar.Scalar.{Scalar}
 use Rattle.gq_accum.specs.Scalars.{kind_of, content, IsFresh}
 use Rattle.gq_nest.specs.declared.content.Heap.{Heap}

@@ -9,9 +9,9 @@ use Rattle.std.specs.List.Sorted.{IsStrictlySortedBy}
 use Rattle.gq_value.specs.declared.value.Value.{Value}
 use Rattle.gq_value.specs.Views.{val}
 use Rattle.gq_value.specs.Order.{place}
-use Rattle.gq_content.specs.Gather.{distinct}
-use Rattle.gq_content.specs.Holds.{row_cmp}
-use Rattle.gq_content.proofs.RowLaws.{row_linear}
+use Rattle.gq_accum_laws.specs.Gather.{distinct}
+use Rattle.gq_accum_laws.specs.Holds.{row_cmp}
+use Rattle.gq_accum_laws.proofs.RowLaws.{row_linear}
 use Rattle.gq_nest.specs.Entries.{group_row, is_row, rows, under, Puts, Changes}
 use Rattle.gq_nest.proofs.EntryLemmas.{puts_new, changes_there, changes_new}
 use Rattle.gq_nest.proofs.CopySteps.{Rising, rising}

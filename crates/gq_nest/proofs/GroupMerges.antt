@@ -7,14 +7,14 @@ use Rattle.gq_value.specs.declared.value.Value.{Value}
 use Rattle.gq_value.specs.Val.{Val}
 use Rattle.gq_value.specs.Views.{val}
 use Rattle.gq_value.specs.Accums.{Parts}
-use Rattle.gq_content.specs.Gather.{into, put, distinct}
-use Rattle.gq_content.specs.Holds.{row_cmp}
-use Rattle.gq_content.specs.After.{fresh_each, merged_each}
-use Rattle.gq_content.specs.Fits.{AreProper}
-use Rattle.gq_content.proofs.Shuffles.{past}
-use Rattle.gq_content.proofs.GatherLaws.{put_commutes}
-use Rattle.gq_content.proofs.RowLaws.{row_linear}
-use Rattle.gq_content.proofs.ProperLaws.{each_neutral}
+use Rattle.gq_accum_laws.specs.Gather.{into, put, distinct}
+use Rattle.gq_accum_laws.specs.Holds.{row_cmp}
+use Rattle.gq_accum_laws.specs.After.{fresh_each, merged_each}
+use Rattle.gq_accum_laws.specs.Fits.{AreProper}
+use Rattle.gq_accum_laws.proofs.Shuffles.{past}
+use Rattle.gq_accum_laws.proofs.GatherLaws.{put_commutes}
+use Rattle.gq_accum_laws.proofs.RowLaws.{row_linear}
+use Rattle.gq_accum_laws.proofs.ProperLaws.{each_neutral}
 use Rattle.gq_nest.specs.declared.content.Content.{Content, Content-F, out-Content}
 use Rattle.gq_nest.specs.declared.content.Content.TheVariants as made
 use Rattle.gq_nest.specs.Entries.{group_row, at_or, rows, under, Each}

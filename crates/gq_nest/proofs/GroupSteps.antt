@@ -20,14 +20,14 @@ use Rattle.gq_value.specs.Accums.{Base, Accum, GroupByAccum, Parts, Given, Keyed
 use Rattle.gq_value.specs.AccumViews.{base_of, accum_of, parts_of, given, givens}
 use Rattle.gq_value.specs.Typed.{suits, suit, row_is_of}
 use Rattle.gq_value.proofs.AccumLemmas.{accum_of-Group}
-use Rattle.gq_content.specs.Gather.{distinct, among}
-use Rattle.gq_content.specs.Holds.{Holds, HoldsEach, row_cmp}
-use Rattle.gq_content.specs.Inputs.{own}
-use Rattle.gq_content.specs.After.{fresh, fresh_each, after, after_each}
-use Rattle.gq_content.specs.Fits.{HasRoom, IsProper, AreProper}
-use Rattle.gq_content.proofs.KindLaws.{both}
-use Rattle.gq_content.proofs.RowLaws.{row_linear, among_distinct}
-use Rattle.gq_content.proofs.ProperLaws.{each_none}
+use Rattle.gq_accum_laws.specs.Gather.{distinct, among}
+use Rattle.gq_accum_laws.specs.Holds.{Holds, HoldsEach, row_cmp}
+use Rattle.gq_accum_laws.specs.Inputs.{own}
+use Rattle.gq_accum_laws.specs.After.{fresh, fresh_each, after, after_each}
+use Rattle.gq_accum_laws.specs.Fits.{HasRoom, IsProper, AreProper}
+use Rattle.gq_accum_laws.proofs.KindLaws.{both}
+use Rattle.gq_accum_laws.proofs.RowLaws.{row_linear, among_distinct}
+use Rattle.gq_accum_laws.proofs.ProperLaws.{each_none}
 use Rattle.gq_nest.specs.declared.content.Content.{Content, Content-F, out-Content}
 use Rattle.gq_nest.specs.declared.content.Content.TheVariants as made
 use Rattle.gq_nest.specs.Entries.{group_row, is_row, at_or, rows, under, Each}

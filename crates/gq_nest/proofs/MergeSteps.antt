@@ -8,15 +8,15 @@ use Rattle.gq_value.specs.Val.{Val}
 use Rattle.gq_value.specs.Views.{val}
 use Rattle.gq_value.specs.Order.{place}
 use Rattle.gq_value.specs.Accums.{Accum, SetAccum, BagAccum, ListAccum, HeapAccum}
-use Rattle.gq_content.specs.Gather.{into, put, sorted, distinct}
-use Rattle.gq_content.specs.Holds.{row_cmp, heap_cmp}
-use Rattle.gq_content.specs.After.{fresh, merged}
-use Rattle.gq_content.specs.Fits.{HasRoom, IsProper}
-use Rattle.gq_content.proofs.Shuffles.{past, swap_into, into-append}
-use Rattle.gq_content.proofs.GatherLaws.{put_commutes, gather_cut, gather_part, gathered_into}
-use Rattle.gq_content.proofs.TopLaws.{top_cut, top_part}
-use Rattle.gq_content.proofs.RowLaws.{place_linear, row_linear, heap_linear}
-use Rattle.gq_content.proofs.ProperLaws.{merged_neutral}
+use Rattle.gq_accum_laws.specs.Gather.{into, put, sorted, distinct}
+use Rattle.gq_accum_laws.specs.Holds.{row_cmp, heap_cmp}
+use Rattle.gq_accum_laws.specs.After.{fresh, merged}
+use Rattle.gq_accum_laws.specs.Fits.{HasRoom, IsProper}
+use Rattle.gq_accum_laws.proofs.Shuffles.{past, swap_into, into-append}
+use Rattle.gq_accum_laws.proofs.GatherLaws.{put_commutes, gather_cut, gather_part, gathered_into}
+use Rattle.gq_accum_laws.proofs.TopLaws.{top_cut, top_part}
+use Rattle.gq_accum_laws.proofs.RowLaws.{place_linear, row_linear, heap_linear}
+use Rattle.gq_accum_laws.proofs.ProperLaws.{merged_neutral}
 use Rattle.gq_accum.specs.declared.scalar.Scalar.{Scalar}
 use Rattle.gq_accum.specs.Scalars.{kind_of, content}
 use Rattle.gq_nest.specs.declared.content.Heap.{Heap}

@@ -6,10 +6,10 @@ use Rattle.gq_value.specs.declared.kind.Kind.{Kind}
 use Rattle.gq_value.specs.Accums.{Parts, no_part, part_and, Given}
 use Rattle.gq_value.specs.AccumViews.{accum_of, parts_of, givens}
 use Rattle.gq_value.specs.Typed.{suits, suit}
-use Rattle.gq_content.specs.Holds.{HoldsEach}
-use Rattle.gq_content.specs.After.{fresh_each, after_each, merged_each}
-use Rattle.gq_content.specs.Fits.{fits, fit, AreProper}
-use Rattle.gq_content.proofs.KindLaws.{both}
+use Rattle.gq_accum_laws.specs.Holds.{HoldsEach}
+use Rattle.gq_accum_laws.specs.After.{fresh_each, after_each, merged_each}
+use Rattle.gq_accum_laws.specs.Fits.{fits, fit, AreProper}
+use Rattle.gq_accum_laws.proofs.KindLaws.{both}
 use Rattle.gq_nest.specs.declared.content.Content.{Content, out-Content}
 use Rattle.gq_nest.specs.Entries.{Pairs, StepsEach}
 use Rattle.gq_nest.specs.Forms.{view, view_each, AreOf, FeedsEach, MergesEach, CopyEach, HaveRoom}

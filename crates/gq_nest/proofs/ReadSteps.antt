@@ -16,13 +16,13 @@ use Rattle.gq_value.specs.Order.{place}
 use Rattle.gq_value.specs.Arithmetic.{least, most, is_within, whole}
 use Rattle.gq_value.specs.Accums.{Base, INT, UINT, Accum, AvgAccum, MapAccum}
 use Rattle.gq_value.specs.Typed.{is_of, takes}
-use Rattle.gq_content.specs.Gather.{distinct, among}
-use Rattle.gq_content.specs.Holds.{Holds, row_cmp}
-use Rattle.gq_content.specs.After.{fresh}
-use Rattle.gq_content.specs.Fits.{fits, IsProper}
-use Rattle.gq_content.specs.Reads.{set_to}
-use Rattle.gq_content.proofs.KindLaws.{both}
-use Rattle.gq_content.proofs.RowLaws.{row_linear, among_distinct}
+use Rattle.gq_accum_laws.specs.Gather.{distinct, among}
+use Rattle.gq_accum_laws.specs.Holds.{Holds, row_cmp}
+use Rattle.gq_accum_laws.specs.After.{fresh}
+use Rattle.gq_accum_laws.specs.Fits.{fits, IsProper}
+use Rattle.gq_accum_laws.specs.Reads.{set_to}
+use Rattle.gq_accum_laws.proofs.KindLaws.{both}
+use Rattle.gq_accum_laws.proofs.RowLaws.{row_linear, among_distinct}
 use Rattle.gq_accum.specs.declared.scalar.Scalar.{Scalar}
 use Rattle.gq_accum.specs.declared.scalar.Scalar.TheVariants.{SumInt, SumUInt, MinInt, MinUInt, MaxInt, MaxUInt, Or, And, BitOr, BitAnd, Avg}
 use Rattle.gq_accum.specs.Scalars.{kind_of, content}

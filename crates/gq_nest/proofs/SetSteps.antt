@@ -8,10 +8,10 @@ use Rattle.gq_value.specs.Val.{Val}
 use Rattle.gq_value.specs.Views.{val}
 use Rattle.gq_value.specs.Order.{place}
 use Rattle.gq_value.specs.OrderLaws.{place_same}
-use Rattle.gq_content.specs.Gather.{into, put, choose, distinct}
-use Rattle.gq_content.proofs.Shuffles.{past}
-use Rattle.gq_content.proofs.GatherLaws.{put_commutes, put_into, again}
-use Rattle.gq_content.proofs.RowLaws.{place_linear}
+use Rattle.gq_accum_laws.specs.Gather.{into, put, choose, distinct}
+use Rattle.gq_accum_laws.proofs.Shuffles.{past}
+use Rattle.gq_accum_laws.proofs.GatherLaws.{put_commutes, put_into, again}
+use Rattle.gq_accum_laws.proofs.RowLaws.{place_linear}
 
 eq_is : (o : Ordering) → is_eq o ≡ true → o ≡ Equal
 eq_is Less h = absurd (cc h)

@@ -1,10 +1,10 @@
 -- ShowSteps: from levels to whole contents.
 use Rattle.std.proofs.Common.{[], ◌∷◌, sym, ap, ◌∙◌, subst}
 use Rattle.gq_value.specs.Accums.{Accum, Given}
-use Rattle.gq_content.specs.Holds.{Holds}
-use Rattle.gq_content.specs.After.{fresh, after, merged}
-use Rattle.gq_content.specs.Fits.{HasRoom, IsProper}
-use Rattle.gq_content.proofs.ProperLaws.{proper_law, merged_part}
+use Rattle.gq_accum_laws.specs.Holds.{Holds}
+use Rattle.gq_accum_laws.specs.After.{fresh, after, merged}
+use Rattle.gq_accum_laws.specs.Fits.{HasRoom, IsProper}
+use Rattle.gq_accum_laws.proofs.ProperLaws.{proper_law, merged_part}
 use Rattle.gq_nest.specs.declared.content.Content.{Content, out-Content}
 use Rattle.gq_nest.specs.Forms.{Feeds, Merges, Copies}
 use Rattle.gq_nest.specs.Shows.{Shows, TakesInput, TakesContent, ShowsTheSame}

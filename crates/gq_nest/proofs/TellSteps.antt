@@ -12,9 +12,9 @@ use Rattle.gq_value.specs.Val.{Val}
 use Rattle.gq_value.specs.Views.{val}
 use Rattle.gq_value.specs.Order.{place}
 use Rattle.gq_value.specs.Accums.{Base, Accum, SetAccum, BagAccum, ListAccum, MapAccum, HeapAccum}
-use Rattle.gq_content.specs.Gather.{sorted, distinct, among}
-use Rattle.gq_content.specs.Holds.{Holds, row_cmp, heap_cmp}
-use Rattle.gq_content.proofs.RowLaws.{place_linear, row_linear, heap_linear, among_distinct}
+use Rattle.gq_accum_laws.specs.Gather.{sorted, distinct, among}
+use Rattle.gq_accum_laws.specs.Holds.{Holds, row_cmp, heap_cmp}
+use Rattle.gq_accum_laws.proofs.RowLaws.{place_linear, row_linear, heap_linear, among_distinct}
 use Rattle.gq_accum.specs.declared.scalar.Scalar.{Scalar}
 use Rattle.gq_accum.specs.Scalars.{kind_of, content}
 use Rattle.gq_nest.specs.declared.content.Heap.{Heap}

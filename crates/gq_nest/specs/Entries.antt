@@ -7,8 +7,8 @@ use Rattle.std.specs.Global.{Vec}
 use Rattle.gq_value.specs.declared.value.Value.{Value}
 use Rattle.gq_value.specs.Val.{Val}
 use Rattle.gq_value.specs.Views.{val}
-use Rattle.gq_content.specs.Gather.{put, distinct}
-use Rattle.gq_content.specs.Holds.{row_cmp}
+use Rattle.gq_accum_laws.specs.Gather.{put, distinct}
+use Rattle.gq_accum_laws.specs.Holds.{row_cmp}
 
 -- a value as a row of its own
 abbrev pub key_row : Value → List Val

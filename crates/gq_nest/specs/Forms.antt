@@ -8,10 +8,10 @@ use Rattle.gq_value.specs.Views.{val}
 use Rattle.gq_value.specs.Order.{place}
 use Rattle.gq_value.specs.Accums.{Base, Accum, SetAccum, BagAccum, ListAccum, MapAccum, GroupByAccum, HeapAccum, Parts, no_part, part_and, Given}
 use Rattle.gq_value.specs.Typed.{suits}
-use Rattle.gq_content.specs.Gather.{sorted, distinct}
-use Rattle.gq_content.specs.Holds.{Holds, HoldsEach, row_cmp, heap_cmp}
-use Rattle.gq_content.specs.After.{fresh, fresh_each, after, merged, merged_each}
-use Rattle.gq_content.specs.Fits.{HasRoom, IsProper, AreProper, FedEach}
+use Rattle.gq_accum_laws.specs.Gather.{sorted, distinct}
+use Rattle.gq_accum_laws.specs.Holds.{Holds, HoldsEach, row_cmp, heap_cmp}
+use Rattle.gq_accum_laws.specs.After.{fresh, fresh_each, after, merged, merged_each}
+use Rattle.gq_accum_laws.specs.Fits.{HasRoom, IsProper, AreProper, FedEach}
 use Rattle.gq_accum.specs.declared.scalar.Scalar.{Scalar}
 use Rattle.gq_accum.specs.declared.scalar.Scalar.TheVariants as scalar
 use Rattle.gq_accum.specs.Scalars.{kind_of, content}

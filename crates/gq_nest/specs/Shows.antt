@@ -5,9 +5,9 @@ use Rattle.gq_value.specs.Accums.{Accum, Parts, no_part, part_and, Given, One, K
 use Rattle.gq_value.specs.AccumViews.{accum_of}
 use Rattle.gq_value.specs.declared.kind.Kind.{Kind}
 use Rattle.gq_value.specs.Typed.{suits}
-use Rattle.gq_content.specs.Holds.{Holds, HoldsEach}
-use Rattle.gq_content.specs.After.{fresh, after, merged}
-use Rattle.gq_content.specs.Fits.{HasRoom, IsProper}
+use Rattle.gq_accum_laws.specs.Holds.{Holds, HoldsEach}
+use Rattle.gq_accum_laws.specs.After.{fresh, after, merged}
+use Rattle.gq_accum_laws.specs.Fits.{HasRoom, IsProper}
 use Rattle.gq_nest.specs.declared.content.Content.{Content, Content-F, out-Content}
 use Rattle.gq_nest.specs.Entries.{Pairs}
 use Rattle.gq_nest.specs.Forms.{view, IsOf}

@@ -5,10 +5,10 @@ use Rattle.gq_value.specs.Val.{Val}
 use Rattle.gq_value.specs.Order.{place}
 use Rattle.gq_value.specs.Accums.{Base, Accum, AvgAccum, SetAccum, BagAccum, ListAccum, MapAccum, GroupByAccum, HeapAccum, Parts, no_part, part_and}
 use Rattle.gq_value.specs.Typed.{is_scalar, takes}
-use Rattle.gq_content.specs.Gather.{among}
-use Rattle.gq_content.specs.Holds.{Holds, HoldsEach, row_cmp}
-use Rattle.gq_content.specs.Fits.{fits, fit}
-use Rattle.gq_content.specs.Reads.{set_to}
+use Rattle.gq_accum_laws.specs.Gather.{among}
+use Rattle.gq_accum_laws.specs.Holds.{Holds, HoldsEach, row_cmp}
+use Rattle.gq_accum_laws.specs.Fits.{fits, fit}
+use Rattle.gq_accum_laws.specs.Reads.{set_to}
 use Rattle.gq_nest.specs.declared.content.Content.{Content}
 use Rattle.gq_nest.specs.Shows.{Shows, ShowEach}
 

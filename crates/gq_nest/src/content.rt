@@ -3,7 +3,7 @@ ghost use Rattle.std.specs.Prelude.{◌≡◌, true, IfOk, IsOk, OnOk, OnErr, Is
 ghost use Rattle.gq_value.specs.Accums as plain;
 ghost use Rattle.gq_value.specs.AccumViews.{accum_of, given};
 ghost use Rattle.gq_value.specs.Views.{val};
-ghost use Rattle.gq_content.specs.After as model;
+ghost use Rattle.gq_accum_laws.specs.After as model;
 ghost use Rattle.gq_nest.specs.Shows.{Shows, ShowsTheSame, TakesContent, TakesInput, is_one, is_plain, is_spoiled};
 
 use crate::copies::duplicate;
@@ -11,7 +11,7 @@ use crate::feed::{feed, push};
 use crate::fresh::fresh;
 use crate::merge::merge;
 use gq_accum::Scalar;
-use gq_list::{Boxed, List, Memory};
+use gq_base::{Boxed, List, OutOfMemory};
 use gq_value::{Input, Kind, Value};
 use std::alloc::Global;
 use std::collections::{BTreeMap, BTreeSet};
@@ -31,7 +31,7 @@ pub enum Content {
     Map(Boxed<Content>, BTreeMap<Value, Content>),
     /// What the parts of a new key row begin with, and the parts at each key row.
     Group(Parts, BTreeMap<Vec<Value>, Parts>),
-    /// What is left of a content after want of memory.
+    /// What is left of a content after `OutOfMemory`.
     Spoiled,
 }
 
@@ -49,13 +49,13 @@ pub struct Heap {
 
 impl Content {
     /// The content before any input.
-    pub fn fresh(alloc: Global, kind: &Kind) -> Result<Content, Memory>
+    pub fn fresh(alloc: Global, kind: &Kind) -> Result<Content, OutOfMemory>
         ensures { IfOk result (λ c. Shows (accum_of kind.now) c (model.fresh (accum_of kind.now))) }
     {
         fresh(alloc, kind)
     }
 
-    /// Whether a `feed`, `merge` or `push` of it answered `Memory`. Takes no memory.
+    /// Whether a `feed`, `merge` or `push` of it answered `OutOfMemory`. Takes no memory.
     #[tactic(auto, using(crate::proofs::LevelLemmas::opened))]
     pub fn spoiled(&self) -> bool
         ensures { result ≡ is_spoiled self.now }
@@ -74,7 +74,7 @@ impl Content {
 
     /// Takes one more input.
     #[tactic(auto, using(crate::proofs::LevelLemmas::opened, crate::proofs::ShowSteps::takes_input))]
-    pub fn feed(&mut self, alloc: Global, input: &Input) -> Result<(), Memory>
+    pub fn feed(&mut self, alloc: Global, input: &Input) -> Result<(), OutOfMemory>
         ensures fed { OnOk result (TakesInput self.old (given input.now) self.new) }
         ensures spoiled { OnErr result (is_spoiled self.new ≡ true) }
         ensures stays { is_spoiled self.old ≡ true → IsErr result }
@@ -85,14 +85,14 @@ impl Content {
             Ok(()) => Ok(()),
             Err(_) => {
                 *self = Content::Spoiled;
-                Err(Memory)
+                Err(OutOfMemory)
             }
         }
     }
 
     /// Takes all that `other`, a content of the same kind, has taken.
     #[tactic(auto, using(crate::proofs::LevelLemmas::opened, crate::proofs::ShowSteps::takes_content))]
-    pub fn merge(&mut self, alloc: Global, other: &Content) -> Result<(), Memory>
+    pub fn merge(&mut self, alloc: Global, other: &Content) -> Result<(), OutOfMemory>
         ensures merged { OnOk result (TakesContent self.old other.now self.new) }
         ensures spoiled { OnErr result (is_spoiled self.new ≡ true) }
         ensures stays { is_spoiled self.old ≡ true → IsErr result }
@@ -102,14 +102,14 @@ impl Content {
             Ok(()) => Ok(()),
             Err(_) => {
                 *self = Content::Spoiled;
-                Err(Memory)
+                Err(OutOfMemory)
             }
         }
     }
 
     /// Takes one more value of a list, without a copy.
     #[tactic(auto, using(crate::proofs::LevelLemmas::opened, crate::proofs::ShowSteps::takes_input))]
-    pub fn push(&mut self, x: Value) -> Result<(), Memory>
+    pub fn push(&mut self, x: Value) -> Result<(), OutOfMemory>
         ensures pushed { OnOk result (TakesInput self.old (plain.One (val x)) self.new) }
         ensures spoiled { OnErr result (is_spoiled self.new ≡ true) }
         ensures stays { is_spoiled self.old ≡ true → IsErr result }
@@ -118,19 +118,19 @@ impl Content {
             Ok(()) => Ok(()),
             Err(_) => {
                 *self = Content::Spoiled;
-                Err(Memory)
+                Err(OutOfMemory)
             }
         }
     }
 
     /// A content that holds the same, with memory of its own.
     #[tactic(auto, using(crate::proofs::LevelLemmas::opened, crate::proofs::ShowSteps::shows_the_same))]
-    pub fn duplicate(&self, alloc: Global) -> Result<Content, Memory>
+    pub fn duplicate(&self, alloc: Global) -> Result<Content, OutOfMemory>
         ensures same { IfOk result (λ copy. ShowsTheSame self.now copy) }
         ensures stays { is_spoiled self.now ≡ true → IsErr result }
     {
         if self.spoiled() {
-            return Err(Memory);
+            return Err(OutOfMemory);
         }
         duplicate(alloc, self)
     }

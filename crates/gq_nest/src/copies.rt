@@ -5,14 +5,14 @@ ghost use Rattle.gq_nest.specs.Forms.{Copies, CopiesEntries, CopiesGroups, CopyE
 
 use crate::content::{Content, Heap, Parts};
 use crate::more::{add_keys, put_entry};
-use gq_list::{Boxed, List, Memory};
+use gq_base::{Boxed, List, OutOfMemory};
 use gq_value::{Value, duplicate_row};
 use std::alloc::Global;
 use std::collections::{BTreeMap, BTreeSet};
 
 /// A content that holds the same, with memory of its own.
 #[cycle(copying)]
-pub(crate) fn duplicate(alloc: Global, content: &Content) -> Result<Content, Memory>
+pub(crate) fn duplicate(alloc: Global, content: &Content) -> Result<Content, OutOfMemory>
     ensures { IfOk result (λ copy. Copies (out-Content content.now) (out-Content copy)) }
 {
     match content {
@@ -39,13 +39,13 @@ pub(crate) fn duplicate(alloc: Global, content: &Content) -> Result<Content, Mem
             let copy = duplicate_groups(alloc, content)?;
             Ok(Content::Group(openings, copy))
         }
-        Content::Spoiled => Err(Memory),
+        Content::Spoiled => Err(OutOfMemory),
     }
 }
 
 /// Contents that hold the same, in the same order.
 #[cycle(copying)]
-pub(crate) fn duplicate_parts(alloc: Global, parts: &[Content]) -> Result<Parts, Memory>
+pub(crate) fn duplicate_parts(alloc: Global, parts: &[Content]) -> Result<Parts, OutOfMemory>
     ensures { IfOk result (CopyEach parts.now) }
 {
     let mut copy = List::from_vec(Vec::with_capacity(alloc, parts.len())?);
@@ -57,7 +57,10 @@ pub(crate) fn duplicate_parts(alloc: Global, parts: &[Content]) -> Result<Parts,
 
 /// The key rows of a group, with their parts, once more.
 #[cycle(copying)]
-fn duplicate_groups(alloc: Global, content: &Content) -> Result<BTreeMap<Vec<Value>, Parts>, Memory>
+fn duplicate_groups(
+    alloc: Global,
+    content: &Content,
+) -> Result<BTreeMap<Vec<Value>, Parts>, OutOfMemory>
     ensures { IfOk result (λ copy. CopiesGroups (groups_in (out-Content content.now)) copy.entries) }
 {
     match content {
@@ -69,12 +72,12 @@ fn duplicate_groups(alloc: Global, content: &Content) -> Result<BTreeMap<Vec<Val
             }
             Ok(copy)
         }
-        _ => Err(Memory),
+        _ => Err(OutOfMemory),
     }
 }
 
 /// A copy of a key row.
-pub(crate) fn key_row(alloc: Global, row: &[Value]) -> Result<Vec<Value>, Memory>
+pub(crate) fn key_row(alloc: Global, row: &[Value]) -> Result<Vec<Value>, OutOfMemory>
     ensures { IfOk result (λ copy. copy.items ≡ row.now) }
 {
     let mut copy = Vec::with_capacity(alloc, row.len())?;
@@ -86,7 +89,10 @@ pub(crate) fn key_row(alloc: Global, row: &[Value]) -> Result<Vec<Value>, Memory
 
 /// The entries of a map once more.
 #[cycle(copying)]
-fn duplicate_entries(alloc: Global, content: &Content) -> Result<BTreeMap<Value, Content>, Memory>
+fn duplicate_entries(
+    alloc: Global,
+    content: &Content,
+) -> Result<BTreeMap<Value, Content>, OutOfMemory>
     ensures { IfOk result (λ copy. CopiesEntries (entries_in (out-Content content.now)) copy.entries) }
 {
     match content {
@@ -98,6 +104,6 @@ fn duplicate_entries(alloc: Global, content: &Content) -> Result<BTreeMap<Value,
             }
             Ok(copy)
         }
-        _ => Err(Memory),
+        _ => Err(OutOfMemory),
     }
 }

@@ -11,14 +11,14 @@ use crate::content::{Content, Parts};
 use crate::copies::{duplicate, duplicate_parts, key_row};
 use crate::more::{add_item, add_key, push_item, put_entry};
 use gq_accum::Fold;
-use gq_list::Memory;
+use gq_base::OutOfMemory;
 use gq_value::{Input, Value};
 use std::alloc::Global;
 use std::collections::BTreeMap;
 
-/// Takes one more input. An input of another form than the kind's is answered as want of memory.
+/// Takes one more input. An input of another form than the kind's is answered as `OutOfMemory`.
 #[cycle(feeding)]
-pub(crate) fn feed(alloc: Global, content: &mut Content, input: &Input) -> Result<(), Memory>
+pub(crate) fn feed(alloc: Global, content: &mut Content, input: &Input) -> Result<(), OutOfMemory>
     ensures fed { OnOk result (Feeds (out-Content content.old) (given input.now) (out-Content content.new)) }
     ensures stays { is_spoiled content.old ≡ true → IsErr result }
     ensures plain { is_plain content.old ≡ true → is_one (given input.now) ≡ true → IsOk result }
@@ -29,9 +29,9 @@ pub(crate) fn feed(alloc: Global, content: &mut Content, input: &Input) -> Resul
             Content::Map(opening, entries) => match row.as_slice() {
                 [key] => match inputs.as_slice() {
                     [input] => feed_entry(alloc, opening.get(), entries, key, input),
-                    _ => Err(Memory),
+                    _ => Err(OutOfMemory),
                 },
-                _ => Err(Memory),
+                _ => Err(OutOfMemory),
             },
             Content::Group(openings, groups) => {
                 feed_group(
@@ -42,13 +42,13 @@ pub(crate) fn feed(alloc: Global, content: &mut Content, input: &Input) -> Resul
                     row.as_slice(),
                 )
             }
-            _ => Err(Memory),
+            _ => Err(OutOfMemory),
         },
     }
 }
 
 /// Takes one value.
-fn feed_one(alloc: Global, content: &mut Content, value: &Value) -> Result<(), Memory>
+fn feed_one(alloc: Global, content: &mut Content, value: &Value) -> Result<(), OutOfMemory>
     ensures fed { OnOk result (Feeds (out-Content content.old) (plain.One (val value.now)) (out-Content content.new)) }
     ensures stays { is_spoiled content.old ≡ true → IsErr result }
     ensures plain { is_plain content.old ≡ true → IsOk result }
@@ -62,7 +62,7 @@ fn feed_one(alloc: Global, content: &mut Content, value: &Value) -> Result<(), M
         Content::Bag(items) => add_item(alloc, items, value),
         Content::List(items) => add_item(alloc, items, value),
         Content::Heap(heap) => heap.add(alloc, value),
-        Content::Map(_, _) | Content::Group(_, _) | Content::Spoiled => Err(Memory),
+        Content::Map(_, _) | Content::Group(_, _) | Content::Spoiled => Err(OutOfMemory),
     }
 }
 
@@ -74,7 +74,7 @@ fn feed_entry(
     entries: &mut BTreeMap<Value, Content>,
     key: &Value,
     input: &Input,
-) -> Result<(), Memory>
+) -> Result<(), OutOfMemory>
     ensures { OnOk result (FeedsAt opening.now entries.old.entries (val key.now ∷ []) (given input.now) entries.new.entries) }
 {
     match entries.get_mut(key) {
@@ -95,7 +95,7 @@ fn feed_group(
     openings: &[Content],
     groups: &mut BTreeMap<Vec<Value>, Parts>,
     row: &[Value],
-) -> Result<(), Memory>
+) -> Result<(), OutOfMemory>
     ensures { OnOk result (FeedsGroup openings.now groups.old.entries (map val row.now) (map given inputs.now) groups.new.entries) }
 {
     match groups.get_mut(row) {
@@ -110,11 +110,11 @@ fn feed_group(
 
 /// Takes an input for each part.
 #[cycle(feeding)]
-fn feed_parts(alloc: Global, inputs: &[Input], parts: &mut Parts) -> Result<(), Memory>
+fn feed_parts(alloc: Global, inputs: &[Input], parts: &mut Parts) -> Result<(), OutOfMemory>
     ensures { OnOk result (FeedsEach parts.old (map given inputs.now) parts.new) }
 {
     if inputs.len() != parts.len() {
-        return Err(Memory);
+        return Err(OutOfMemory);
     }
     for (i, input) in inputs.iter().enumerate() {
         feed(alloc, parts.at_mut(i), input)?;
@@ -122,13 +122,13 @@ fn feed_parts(alloc: Global, inputs: &[Input], parts: &mut Parts) -> Result<(), 
     Ok(())
 }
 
-/// Takes one value more, last of a list. Another content is answered as want of memory.
-pub(crate) fn push(content: &mut Content, x: Value) -> Result<(), Memory>
+/// Takes one value more, last of a list. Another content is answered as `OutOfMemory`.
+pub(crate) fn push(content: &mut Content, x: Value) -> Result<(), OutOfMemory>
     ensures pushed { OnOk result (Feeds (out-Content content.old) (plain.One (val x)) (out-Content content.new)) }
     ensures stays { is_spoiled content.old ≡ true → IsErr result }
 {
     match content {
         Content::List(items) => push_item(items, x),
-        _ => Err(Memory),
+        _ => Err(OutOfMemory),
     }
 }

@@ -1,5 +1,5 @@
 // Whether contents fit.
-ghost use Rattle.gq_content.specs.Fits.{fits as all_fit};
+ghost use Rattle.gq_accum_laws.specs.Fits.{fits as all_fit};
 ghost use Rattle.gq_nest.specs.Tells.{Tells, EachTells};
 
 use crate::content::Content;

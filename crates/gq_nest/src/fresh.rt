@@ -1,12 +1,12 @@
 // Contents before any input.
 ghost use Rattle.std.specs.Prelude.{◌≡◌, [], IfOk};
 ghost use Rattle.gq_value.specs.AccumViews.{accum_of};
-ghost use Rattle.gq_content.specs.After as model;
+ghost use Rattle.gq_accum_laws.specs.After as model;
 ghost use Rattle.gq_nest.specs.Shows.{Shows, AreFresh};
 
 use crate::content::{Content, Heap, Parts};
 use gq_accum::Scalar;
-use gq_list::{Boxed, List, Memory};
+use gq_base::{Boxed, List, OutOfMemory};
 use gq_value::{Kind, Txt};
 use std::alloc::Global;
 use std::collections::{BTreeMap, BTreeSet};
@@ -14,7 +14,7 @@ use std::collections::{BTreeMap, BTreeSet};
 #[cycle(openings)]
 #[tactic(auto, using(gq_value::proofs::AccumLemmas::accum_laws, crate::proofs::FreshSteps::fresh_scalar))]
 /// The content before any input.
-pub(crate) fn fresh(alloc: Global, kind: &Kind) -> Result<Content, Memory>
+pub(crate) fn fresh(alloc: Global, kind: &Kind) -> Result<Content, OutOfMemory>
     ensures { IfOk result (λ c. Shows (accum_of kind.now) c (model.fresh (accum_of kind.now))) }
 {
     match kind {
@@ -47,7 +47,7 @@ pub(crate) fn fresh(alloc: Global, kind: &Kind) -> Result<Content, Memory>
 
 /// The contents of a group's parts before any input.
 #[cycle(openings)]
-fn fresh_parts(alloc: Global, parts: &[(Txt, Kind)]) -> Result<Parts, Memory>
+fn fresh_parts(alloc: Global, parts: &[(Txt, Kind)]) -> Result<Parts, OutOfMemory>
     ensures { IfOk result (AreFresh parts.now) }
 {
     let mut contents = List::new(alloc);

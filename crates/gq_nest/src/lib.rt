@@ -1,7 +1,11 @@
-//! The contents of accumulators of every kind, nested to any depth, and all those of a query in one row.
+//! The contents of accumulators of every kind, nested to any depth.
 //!
-//! A content takes inputs one by one, and the contents of parts. It holds what `after` and `merged` of gq_content say of the
-//! whole lists of inputs. Read `specs/Shows.antt` first, then `content.rt`.
+//! A content takes inputs one by one, and can be merged with the content of another part. The result is what
+//! `after` and `merged` of `gq_accum_laws` give for the whole lists of inputs.
+//!
+//! Read `specs/Shows.antt` first, what a content is to its callers, then `specs/Forms.antt` and
+//! `specs/Heaps.antt`. The code begins in `src/content.rt`; `src/feed.rt` takes inputs, `src/merge.rt`
+//! merges, `src/reads.rt` reads contents and `src/heap.rt` has heaps.
 #![tactic(auto)]
 
 mod content;

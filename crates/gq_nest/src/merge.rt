@@ -9,14 +9,18 @@ use crate::content::{Content, Parts};
 use crate::copies::{duplicate, duplicate_parts, key_row};
 use crate::more::{add_items, add_keys, put_entry};
 use gq_accum::Fold;
-use gq_list::Memory;
+use gq_base::OutOfMemory;
 use gq_value::Value;
 use std::alloc::Global;
 use std::collections::BTreeMap;
 
-/// Takes all that `other` has taken. A content of another form is answered as want of memory.
+/// Takes all that `other` has taken. A content of another form is answered as `OutOfMemory`.
 #[cycle(merging)]
-pub(crate) fn merge(alloc: Global, content: &mut Content, other: &Content) -> Result<(), Memory>
+pub(crate) fn merge(
+    alloc: Global,
+    content: &mut Content,
+    other: &Content,
+) -> Result<(), OutOfMemory>
     ensures merged { OnOk result (Merges (out-Content content.old) (out-Content other.now) (out-Content content.new)) }
     ensures stays { is_spoiled content.old ≡ true → IsErr result }
     ensures plain { is_plain content.old ≡ true → is_plain other.now ≡ true → IsOk result }
@@ -29,7 +33,7 @@ pub(crate) fn merge(alloc: Global, content: &mut Content, other: &Content) -> Re
 }
 
 /// Takes all that `other` has taken, where neither has keys.
-fn merge_flat(alloc: Global, content: &mut Content, other: &Content) -> Result<(), Memory>
+fn merge_flat(alloc: Global, content: &mut Content, other: &Content) -> Result<(), OutOfMemory>
     ensures merged { OnOk result (Merges (out-Content content.old) (out-Content other.now) (out-Content content.new)) }
     ensures stays { is_spoiled content.old ≡ true → IsErr result }
     ensures plain { is_plain content.old ≡ true → is_plain other.now ≡ true → IsOk result }
@@ -46,25 +50,25 @@ fn merge_flat(alloc: Global, content: &mut Content, other: &Content) -> Result<(
             | Content::Heap(_)
             | Content::Map(_, _)
             | Content::Group(_, _)
-            | Content::Spoiled => Err(Memory),
+            | Content::Spoiled => Err(OutOfMemory),
         },
         Content::Set(keys) => match other {
             Content::Set(more) => add_keys(alloc, keys, more),
-            _ => Err(Memory),
+            _ => Err(OutOfMemory),
         },
         Content::Bag(items) => match other {
             Content::Bag(more) => add_items(alloc, items, more.as_slice()),
-            _ => Err(Memory),
+            _ => Err(OutOfMemory),
         },
         Content::List(items) => match other {
             Content::List(more) => add_items(alloc, items, more.as_slice()),
-            _ => Err(Memory),
+            _ => Err(OutOfMemory),
         },
         Content::Heap(heap) => match other {
             Content::Heap(more) => heap.add_all(alloc, more.tuples.as_slice()),
-            _ => Err(Memory),
+            _ => Err(OutOfMemory),
         },
-        Content::Map(_, _) | Content::Group(_, _) | Content::Spoiled => Err(Memory),
+        Content::Map(_, _) | Content::Group(_, _) | Content::Spoiled => Err(OutOfMemory),
     }
 }
 
@@ -75,7 +79,7 @@ fn merge_entries(
     opening: &Content,
     entries: &mut BTreeMap<Value, Content>,
     other: &Content,
-) -> Result<(), Memory>
+) -> Result<(), OutOfMemory>
     ensures { OnOk result (Unites opening.now entries.old.entries (entries_in (out-Content other.now)) entries.new.entries) }
 {
     match other {
@@ -85,7 +89,7 @@ fn merge_entries(
             }
             Ok(())
         }
-        _ => Err(Memory),
+        _ => Err(OutOfMemory),
     }
 }
 
@@ -97,7 +101,7 @@ fn merge_entry(
     entries: &mut BTreeMap<Value, Content>,
     key: &Value,
     part: &Content,
-) -> Result<(), Memory>
+) -> Result<(), OutOfMemory>
     ensures { OnOk result (MergesAt opening.now entries.old.entries (val key.now ∷ []) part.now entries.new.entries) }
 {
     match entries.get_mut(key) {
@@ -117,7 +121,7 @@ fn merge_groups(
     openings: &[Content],
     groups: &mut BTreeMap<Vec<Value>, Parts>,
     other: &Content,
-) -> Result<(), Memory>
+) -> Result<(), OutOfMemory>
     ensures { OnOk result (UnitesGroups openings.now groups.old.entries (groups_in (out-Content other.now)) groups.new.entries) }
 {
     match other {
@@ -127,7 +131,7 @@ fn merge_groups(
             }
             Ok(())
         }
-        _ => Err(Memory),
+        _ => Err(OutOfMemory),
     }
 }
 
@@ -139,7 +143,7 @@ fn merge_group(
     openings: &[Content],
     groups: &mut BTreeMap<Vec<Value>, Parts>,
     row: &[Value],
-) -> Result<(), Memory>
+) -> Result<(), OutOfMemory>
     ensures { OnOk result (MergesGroup openings.now groups.old.entries (map val row.now) parts.now groups.new.entries) }
 {
     match groups.get_mut(row) {
@@ -154,11 +158,11 @@ fn merge_group(
 
 /// Takes each of the other parts into the part at its place.
 #[cycle(merging)]
-fn merge_parts(alloc: Global, parts: &[Content], mine: &mut Parts) -> Result<(), Memory>
+fn merge_parts(alloc: Global, parts: &[Content], mine: &mut Parts) -> Result<(), OutOfMemory>
     ensures { OnOk result (MergesEach mine.old parts.now mine.new) }
 {
     if parts.len() != mine.len() {
-        return Err(Memory);
+        return Err(OutOfMemory);
     }
     for (i, part) in parts.iter().enumerate() {
         merge(alloc, mine.at_mut(i), part)?;

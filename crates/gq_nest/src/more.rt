@@ -3,16 +3,20 @@ ghost use Rattle.std.specs.BTreeMap.{insert_entry};
 ghost use Rattle.std.specs.Prelude.{◌≡◌, ◌++◌, ◌∷◌, [], false, map, OnOk};
 ghost use Rattle.gq_value.specs.Views.{val};
 ghost use Rattle.gq_value.specs.Order.{place};
-ghost use Rattle.gq_content.specs.Gather.{put, into, distinct};
+ghost use Rattle.gq_accum_laws.specs.Gather.{put, into, distinct};
 
-use gq_list::{List, Memory};
+use gq_base::{List, OutOfMemory};
 use gq_value::Value;
 use std::alloc::Global;
 use std::collections::{BTreeMap, BTreeSet};
 
 /// Puts a copy of `key` at its place, unless it is there.
 #[tactic(auto, using(crate::proofs::SetSteps::set_steps))]
-pub(crate) fn add_key(alloc: Global, keys: &mut BTreeSet<Value>, key: &Value) -> Result<(), Memory>
+pub(crate) fn add_key(
+    alloc: Global,
+    keys: &mut BTreeSet<Value>,
+    key: &Value,
+) -> Result<(), OutOfMemory>
     ensures { OnOk result (distinct place (map val keys.new.keys) ≡ put place false (val key.now) (distinct place (map val keys.old.keys))) }
 {
     if keys.contains(key) {
@@ -20,21 +24,25 @@ pub(crate) fn add_key(alloc: Global, keys: &mut BTreeSet<Value>, key: &Value) ->
     }
     match keys.insert(key.duplicate(alloc)?) {
         Ok(_) => Ok(()),
-        Err(_) => Err(Memory),
+        Err(_) => Err(OutOfMemory),
     }
 }
 
 /// Puts `item` last.
-#[tactic(auto, using(gq_content::proofs::KindLaws::map_append))]
-pub(crate) fn push_item(items: &mut List<Value>, item: Value) -> Result<(), Memory>
+#[tactic(auto, using(gq_accum_laws::proofs::KindLaws::map_append))]
+pub(crate) fn push_item(items: &mut List<Value>, item: Value) -> Result<(), OutOfMemory>
     ensures { OnOk result (map val items.new ≡ map val items.old ++ val item ∷ []) }
 {
     items.push(item)
 }
 
 /// Puts a copy of `item` last.
-#[tactic(auto, using(gq_content::proofs::KindLaws::map_append))]
-pub(crate) fn add_item(alloc: Global, items: &mut List<Value>, item: &Value) -> Result<(), Memory>
+#[tactic(auto, using(gq_accum_laws::proofs::KindLaws::map_append))]
+pub(crate) fn add_item(
+    alloc: Global,
+    items: &mut List<Value>,
+    item: &Value,
+) -> Result<(), OutOfMemory>
     ensures { OnOk result (map val items.new ≡ map val items.old ++ val item.now ∷ []) }
 {
     items.push(item.duplicate(alloc)?)?;
@@ -46,7 +54,7 @@ pub(crate) fn add_keys(
     alloc: Global,
     keys: &mut BTreeSet<Value>,
     more: &BTreeSet<Value>,
-) -> Result<(), Memory>
+) -> Result<(), OutOfMemory>
     ensures { OnOk result (distinct place (map val keys.new.keys) ≡ into (put place false) (map val more.now.keys) (distinct place (map val keys.old.keys))) }
 {
     for key in more {
@@ -60,7 +68,7 @@ pub(crate) fn add_items(
     alloc: Global,
     items: &mut List<Value>,
     more: &[Value],
-) -> Result<(), Memory>
+) -> Result<(), OutOfMemory>
     ensures { OnOk result (map val items.new ≡ map val items.old ++ map val more.now) }
 {
     for item in more {
@@ -74,11 +82,11 @@ pub(crate) fn put_entry<K: Ord + Drop, X: Drop>(
     entries: &mut BTreeMap<K, X>,
     key: K,
     value: X,
-) -> Result<(), Memory>
+) -> Result<(), OutOfMemory>
     ensures { OnOk result (entries.new.entries ≡ insert_entry K.cmp entries.old.entries key value) }
 {
     match entries.insert(key, value) {
         Ok(_) => Ok(()),
-        Err(_) => Err(Memory),
+        Err(_) => Err(OutOfMemory),
     }
 }

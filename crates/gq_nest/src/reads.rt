@@ -1,14 +1,14 @@
 // What contents tell.
 ghost use Rattle.std.specs.Prelude.{map, IfOk, MatchOption};
 ghost use Rattle.gq_value.specs.Views.{val};
-ghost use Rattle.gq_content.specs.Fits.{fits as all_fit};
-ghost use Rattle.gq_content.specs.Reads.{value_in};
+ghost use Rattle.gq_accum_laws.specs.Fits.{fits as all_fit};
+ghost use Rattle.gq_accum_laws.specs.Reads.{value_in};
 ghost use Rattle.gq_nest.specs.Tells.{Tells, LacksKey, HasKey, LacksPart, HasPart, IsFitting, CanBeSet, IsSet, size_of, has_value, elements_of, keys_of};
 
 use crate::content::Content;
 use crate::fitting::fits;
 use crate::rows::{group_rows, key_rows, keys_in_order, sorted_row};
-use gq_list::{List, Memory};
+use gq_base::{List, OutOfMemory};
 use gq_value::{Row, Value, duplicate_row};
 use std::alloc::Global;
 
@@ -135,7 +135,7 @@ impl Content {
     }
 
     /// Copies of all elements of a set, bag, list or heap, in order.
-    pub fn elements(&self, alloc: Global) -> Result<Row, Memory>
+    pub fn elements(&self, alloc: Global) -> Result<Row, OutOfMemory>
         ensures { IfOk result (λ row. Tells self.now (map val row) elements_of) }
     {
         match self {
@@ -151,7 +151,7 @@ impl Content {
     }
 
     /// Copies of all key rows of a map or group, ascending. A key of a map is a row of one value.
-    pub fn keys(&self, alloc: Global) -> Result<Keys, Memory>
+    pub fn keys(&self, alloc: Global) -> Result<Keys, OutOfMemory>
         ensures { IfOk result (λ rows. Tells self.now (map (map val) rows) keys_of) }
     {
         match self {

@@ -2,18 +2,18 @@
 ghost use Rattle.std.specs.Prelude.{◌≡◌, map, IfOk};
 ghost use Rattle.gq_value.specs.Views.{val};
 ghost use Rattle.gq_value.specs.Order.{place};
-ghost use Rattle.gq_content.specs.Gather.{sorted, distinct};
-ghost use Rattle.gq_content.specs.Holds.{row_cmp};
+ghost use Rattle.gq_accum_laws.specs.Gather.{sorted, distinct};
+ghost use Rattle.gq_accum_laws.specs.Holds.{row_cmp};
 ghost use Rattle.gq_nest.specs.Entries.{group_row, key_row, rows};
 
 use crate::content::{Content, Parts};
-use gq_list::{List, Memory};
+use gq_base::{List, OutOfMemory};
 use gq_value::{Row, Value, duplicate_row};
 use std::alloc::Global;
 use std::collections::{BTreeMap, BTreeSet};
 
 /// The keys, ascending.
-pub(crate) fn keys_in_order(alloc: Global, keys: &BTreeSet<Value>) -> Result<Row, Memory>
+pub(crate) fn keys_in_order(alloc: Global, keys: &BTreeSet<Value>) -> Result<Row, OutOfMemory>
     ensures { IfOk result (λ row. map val row ≡ distinct place (map val keys.now.keys)) }
 {
     let mut row = List::new(alloc);
@@ -24,7 +24,7 @@ pub(crate) fn keys_in_order(alloc: Global, keys: &BTreeSet<Value>) -> Result<Row
 }
 
 /// The items, ascending.
-pub(crate) fn sorted_row(alloc: Global, items: &[Value]) -> Result<Row, Memory>
+pub(crate) fn sorted_row(alloc: Global, items: &[Value]) -> Result<Row, OutOfMemory>
     ensures { IfOk result (λ row. map val row ≡ sorted place (map val items.now)) }
 {
     let mut row = duplicate_row(alloc, items)?;
@@ -36,7 +36,7 @@ pub(crate) fn sorted_row(alloc: Global, items: &[Value]) -> Result<Row, Memory>
 pub(crate) fn key_rows(
     alloc: Global,
     entries: &BTreeMap<Value, Content>,
-) -> Result<List<Row>, Memory>
+) -> Result<List<Row>, OutOfMemory>
     ensures { IfOk result (λ all. map (map val) all ≡ distinct row_cmp (rows key_row entries.now.entries)) }
 {
     let mut all = List::new(alloc);
@@ -52,7 +52,7 @@ pub(crate) fn key_rows(
 pub(crate) fn group_rows(
     alloc: Global,
     groups: &BTreeMap<Vec<Value>, Parts>,
-) -> Result<List<Row>, Memory>
+) -> Result<List<Row>, OutOfMemory>
     ensures { IfOk result (λ all. map (map val) all ≡ distinct row_cmp (rows group_row groups.now.entries)) }
 {
     let mut all = List::new(alloc);

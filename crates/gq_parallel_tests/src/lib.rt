@@ -1,4 +1,8 @@
-//! Tests: what threads share: machines of chunks, words, and books of stripes. They stand in a crate of their own, so that no library is proved a second time with its tests.
+//! Tests of what threads share: the state machine of workers, atomic words, and striped tables.
+//!
+//! They are a separate crate, so that the libraries aren't proved a second time with their tests.
+//!
+//! The tests are in `src/machines.rt`, `src/words.rt`, `src/stripes.rt`, `src/sets.rt` and `src/threads.rt`.
 #![tactic(auto)]
 
 #[cfg(test)]

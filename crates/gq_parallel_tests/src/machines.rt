@@ -1,14 +1,14 @@
 // Tests of the core, event by event.
 ghost use Rattle.gq_core.specs.Accounts.{IsInOrder};
 
-use gq_core::{Batches, Contributions, Core, Event, Job, step};
-use gq_list::{List, Memory};
+use gq_base::{List, OutOfMemory};
+use gq_core::{Batches, Contributions, Core, Event, FeedJob, step};
 use gq_value::{Input, Txt, Value};
 use std::alloc::Global;
 use std::test::Fail;
 
 // A text to each of the targets 0, 1 and 2.
-fn three_inputs(alloc: Global) -> Result<Contributions, Memory> {
+fn three_inputs(alloc: Global) -> Result<Contributions, OutOfMemory> {
     let mut inputs = List::new(alloc);
     for target in 0..3 {
         inputs.push((target, Input::One(Value::Text(Txt::of(alloc, "one")?))))?;
@@ -20,9 +20,9 @@ fn three_inputs(alloc: Global) -> Result<Contributions, Memory> {
 fn goes_as(
     alloc: Global,
     core: &mut Core,
-    job: &Job,
+    job: &FeedJob,
     events: &[(Event, bool)],
-) -> Result<bool, Memory>
+) -> Result<bool, OutOfMemory>
     requires { IsInOrder job.now core.old }
 {
     for (event, enabled) in events {
@@ -36,7 +36,7 @@ fn goes_as(
 #[test]
 fn one_worker_puts_one_chunk_at_one_stripe(rt: HostRuntime) -> Result<(), Fail> {
     let alloc = rt.alloc();
-    let mut job = Job::new(alloc, 1);
+    let mut job = FeedJob::new(alloc, 1);
     job.add_chunk(alloc, &three_inputs(alloc)?)?;
     let mut core = Core::open(alloc, &job)?;
     let events = [
@@ -56,7 +56,7 @@ fn one_worker_puts_one_chunk_at_one_stripe(rt: HostRuntime) -> Result<(), Fail> 
 #[test]
 fn a_stripe_is_worked_on_by_one_worker_at_a_time(rt: HostRuntime) -> Result<(), Fail> {
     let alloc = rt.alloc();
-    let mut job = Job::new(alloc, 1);
+    let mut job = FeedJob::new(alloc, 1);
     job.add_chunk(alloc, &three_inputs(alloc)?)?;
     job.add_chunk(alloc, &three_inputs(alloc)?)?;
     let mut core = Core::open(alloc, &job)?;

@@ -5,8 +5,8 @@ ghost use Rattle.gq_value.specs.declared.kind.BaseType.TheVariants.{Int};
 ghost use Rattle.gq_stripe.specs.Seats.{plan_of, IsIdle, FitBatches};
 
 use crate::stripes::put_next;
+use gq_base::OutOfMemory;
 use gq_core::Batches;
-use gq_list::Memory;
 use gq_stripe::{Book, Layout, Seat};
 use gq_value::{BaseType, Input, Kind, Value};
 use std::alloc::Global;
@@ -14,7 +14,7 @@ use std::sync::Wait;
 use std::test::Fail;
 
 // A book of one set and two chunks.
-fn set_book(alloc: Global) -> Result<(Book, Seat), Memory>
+fn set_book(alloc: Global) -> Result<(Book, Seat), OutOfMemory>
     ensures idle { IfOk result (λ r. IsIdle r.0 r.1) }
     ensures layout { IfOk result (λ r. (plan_of r.0).layout ≡ Set Int ∷ []) }
     ensures stripes { IfOk result (λ r. (plan_of r.0).stripes ≡ 1) }
@@ -25,7 +25,7 @@ fn set_book(alloc: Global) -> Result<(Book, Seat), Memory>
 }
 
 // The batches of one chunk for the set: a number.
-fn one_number(alloc: Global, book: &Book, x: i64) -> Result<Batches, Memory>
+fn one_number(alloc: Global, book: &Book, x: i64) -> Result<Batches, OutOfMemory>
     requires layout { (plan_of book.now).layout ≡ Set Int ∷ [] }
     requires stripes { (plan_of book.now).stripes ≡ 1 }
     ensures { IfOk result (FitBatches (plan_of book.now)) }
@@ -40,7 +40,7 @@ fn one_number(alloc: Global, book: &Book, x: i64) -> Result<Batches, Memory>
 fn puts_at_a_set<R: Wait>(
     rt: &R,
     alloc: Global,
-) -> Result<(Option<bool>, Option<bool>, bool), Memory> {
+) -> Result<(Option<bool>, Option<bool>, bool), OutOfMemory> {
     let (book, mut seat) = set_book(alloc)?;
     let batches = one_number(alloc, &book, 7)?;
     let one = put_next(rt, &book, &mut seat, &batches);

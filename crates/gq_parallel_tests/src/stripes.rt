@@ -5,8 +5,8 @@ ghost use Rattle.gq_value.specs.declared.kind.Number.TheVariants.{Int};
 ghost use Rattle.gq_stripe.specs.Seats.{plan_of, view_of, IsIdle, IsFree, FitBatches, contributions, content_at};
 
 use gq_accum::Scalar;
+use gq_base::OutOfMemory;
 use gq_core::Batches;
-use gq_list::Memory;
 use gq_nest::Content;
 use gq_stripe::{Book, CloseFault, Layout, Partials, Seat};
 use gq_value::{Input, Kind, Number, Value};
@@ -21,7 +21,7 @@ pub(crate) fn sums(
     chunks: u64,
     stripes: u32,
     seats: u32,
-) -> Result<(Book, Seat), Memory>
+) -> Result<(Book, Seat), OutOfMemory>
     requires stripes { (1 ≤ stripes) × (stripes ≤ 256) }
     requires seats { (1 ≤ seats) × (seats ≤ 1024) }
     requires chunks { chunks ≤ 2 ^ 25 }
@@ -36,7 +36,12 @@ pub(crate) fn sums(
 }
 
 // Adds a number to what a sum is to be fed.
-pub(crate) fn add(book: &Book, batches: &mut Batches, target: u64, x: i64) -> Result<(), Memory>
+pub(crate) fn add(
+    book: &Book,
+    batches: &mut Batches,
+    target: u64,
+    x: i64,
+) -> Result<(), OutOfMemory>
     requires fit { FitBatches (plan_of book.now) batches.old }
     requires few { contributions batches.old < 2 ^ 35 }
     requires sum { slice_get (plan_of book.now).layout target ≡ Some (Sum Int) }
@@ -74,7 +79,7 @@ pub(crate) fn sum_at(partials: &Partials, target: u64) -> Option<i128>
 }
 
 // The batches of one chunk for the sum of a book of one: these two numbers.
-fn two_numbers(alloc: Global, book: &Book, one: i64, other: i64) -> Result<Batches, Memory>
+fn two_numbers(alloc: Global, book: &Book, one: i64, other: i64) -> Result<Batches, OutOfMemory>
     requires layout { (plan_of book.now).layout ≡ replicate 1 (Sum Int) }
     requires stripes { (plan_of book.now).stripes ≡ 1 }
     ensures { IfOk result (FitBatches (plan_of book.now)) }
@@ -86,7 +91,7 @@ fn two_numbers(alloc: Global, book: &Book, one: i64, other: i64) -> Result<Batch
 }
 
 // Why a book of two chunks can't be closed after the first put.
-fn fault_after_one_put<R: Wait>(rt: &R, alloc: Global) -> Result<Option<CloseFault>, Memory> {
+fn fault_after_one_put<R: Wait>(rt: &R, alloc: Global) -> Result<Option<CloseFault>, OutOfMemory> {
     let (book, mut seat) = sums(alloc, 1, 2, 1, 1)?;
     let batches = two_numbers(alloc, &book, 4, 5)?;
     let _ = put_next(rt, &book, &mut seat, &batches);

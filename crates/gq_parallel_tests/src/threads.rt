@@ -5,8 +5,8 @@ ghost use Rattle.gq_value.specs.declared.kind.Number.TheVariants.{Int};
 ghost use Rattle.gq_stripe.specs.Seats.{plan_of, IsIdle, IsFree, FitBatches, content_at};
 
 use crate::stripes::{add, put_next, sum_at, sums};
+use gq_base::OutOfMemory;
 use gq_core::Batches;
-use gq_list::Memory;
 use gq_stripe::{Book, CloseFault, Partials, Seat};
 use std::alloc::Global;
 use std::sync::Wait;
@@ -14,7 +14,7 @@ use std::test::Fail;
 use std::thread::{Threads, join};
 
 // One to each of the sums of a book of three.
-fn one_to_each(alloc: Global, book: &Book) -> Result<Batches, Memory>
+fn one_to_each(alloc: Global, book: &Book) -> Result<Batches, OutOfMemory>
     requires layout { (plan_of book.now).layout ≡ replicate 3 (Sum Int) }
     requires stripes { (plan_of book.now).stripes ≡ 3 }
     ensures { IfOk result (FitBatches (plan_of book.now)) }

@@ -2,17 +2,17 @@
 use Rattle.std.proofs.Common.{◌≡◌, ◌≢◌, Bool, true, Option, Some, None, Result, Ok, Err}
 use Rattle.std.specs.Prelude.{is_some}
 use Rattle.gq_tree.specs.Tree.{Tree}
-use Rattle.gq_places.specs.Named.{Named, seen_at}
-use Rattle.gq_typing.specs.Statements.{Bytes}
-use Rattle.gq_typing.specs.Sorts.{Sorts}
-use Rattle.gq_typing.specs.Judging.{Judged, TypingFault}
-use Rattle.gq_fault.specs.declared.fault.CheckFault.{CheckFault}
-use Rattle.gq_fault.specs.declared.fault.CheckFault.TheVariants as check
-use Rattle.gq_fault.specs.Faults.{Judges}
-use Rattle.gq_expr_plan.specs.Resolved.{resolved}
-use Rattle.gq_block_plan.specs.Resolved.{if_there}
-use Rattle.gq_step_plan.specs.Globals.{known_in}
-use Rattle.gq_found.specs.Found.{TupleTypes, globals_of}
+use Rattle.gq_scope.specs.Named.{Named, seen_at}
+use Rattle.gq_rules_typing.specs.Statements.{Bytes}
+use Rattle.gq_rules_typing.specs.Sorts.{Sorts}
+use Rattle.gq_rules_typing.specs.Judging.{Judged, TypingFault}
+use Rattle.gq_check_from.specs.declared.fault.CheckFault.{CheckFault}
+use Rattle.gq_check_from.specs.declared.fault.CheckFault.TheVariants as check
+use Rattle.gq_check_from.specs.Faults.{Judges}
+use Rattle.gq_plan_expr.specs.Resolved.{resolved}
+use Rattle.gq_plan_select.specs.Resolved.{if_there}
+use Rattle.gq_plan_stmt.specs.Globals.{known_in}
+use Rattle.gq_plan_laws.specs.Found.{TupleTypes, globals_of}
 use Rattle.gq_plan.specs.Heading.{heads_of}
 use Rattle.gq_plan.specs.Unplanned.{Fails, NoAccum}
 
@@ -20,7 +20,7 @@ pub failed : {A : Type 0} (j : Judged A) (e : TypingFault) → j ≡ Err e → F
 failed j e is = record { none = λ a h. cc (is, h) }
 
 -- a rule that doesn't let something pass
-pub refused : {A B : Type 0} (view : B → A) (j : Judged A) (r : Result B CheckFault) (e : CheckFault) → r ≡ Err e → Judges view j r → e ≢ check.Memory → Fails j
+pub refused : {A B : Type 0} (view : B → A) (j : Judged A) (r : Result B CheckFault) (e : CheckFault) → r ≡ Err e → Judges view j r → e ≢ check.OutOfMemory → Fails j
 refused view j (Ok b) e is h other = absurd (cc is)
 refused view j (Err f) e is h other = failed j _ (h (λ m. other (cc (is, m))))
 

@@ -6,13 +6,13 @@ use Rattle.std.proofs.lemmas.List.{map_push, length-map}
 use Rattle.gq_tree.specs.declared.query.BaseTree as tree
 use Rattle.gq_value.specs.declared.kind.BaseType.{BaseType}
 use Rattle.gq_value.specs.AccumViews.{base_of}
-use Rattle.gq_typing.specs.Statements.{Bytes}
-use Rattle.gq_typing.specs.StatementViews.{view_base, view_fields}
-use Rattle.gq_typing.specs.Sorts.{Fields}
-use Rattle.gq_typing.specs.Judging.{Judged, NameTwice, TooMany, unless, ◌>>◌}
-use Rattle.gq_typing.specs.Scopes.{Scope, base_written}
-use Rattle.gq_typing.specs.KindTypes.{stands_in, own_name, fields_written}
-use Rattle.gq_meaning.proofs.AnswerLaws.{then_ok}
+use Rattle.gq_rules_typing.specs.Statements.{Bytes}
+use Rattle.gq_rules_typing.specs.StatementViews.{view_base, view_fields}
+use Rattle.gq_rules_typing.specs.Sorts.{Fields}
+use Rattle.gq_rules_typing.specs.Judging.{Judged, NameTwice, TooMany, unless, ◌>>◌}
+use Rattle.gq_rules_typing.specs.Scopes.{Scope, base_written}
+use Rattle.gq_rules_typing.specs.KindTypes.{stands_in, own_name, fields_written}
+use Rattle.gq_rules_meaning.proofs.AnswerLaws.{then_ok}
 use Rattle.gq_scope.specs.Held.{fields_of}
 use Rattle.gq_type.proofs.ArgumentLemmas.{after}
 use Rattle.gq_plan.specs.Unplanned.{Fails}

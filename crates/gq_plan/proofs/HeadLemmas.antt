@@ -3,23 +3,23 @@ use Rattle.std.proofs.Common.{◌≡◌, ◌+◌, ◌<◌, ◌≤◌, ℕ, Bool,
 use Rattle.std.proofs.lemmas.List.{drop_all}
 use Rattle.gq_tree.specs.Tree.{Tree}
 use Rattle.gq_tree.specs.declared.kind.AccumTree.{AccumTree}
-use Rattle.gq_tree.specs.declared.kind.Definition as definition_tree
+use Rattle.gq_tree.specs.declared.kind.DefinitionTree as definition_tree
 use Rattle.gq_value.specs.declared.kind.BaseType.{BaseType}
 use Rattle.gq_value.specs.declared.kind.Kind.{Kind}
 use Rattle.gq_value.specs.AccumViews.{accum_of}
-use Rattle.gq_places.specs.Named.{Named, with_name}
-use Rattle.gq_typing.specs.Statements.{Bytes, BaseTree, KindTree, Definition, TupleType, Accums}
-use Rattle.gq_typing.specs.StatementViews.{view_accum, view_definition}
-use Rattle.gq_typing.specs.Sorts.{Sorts}
-use Rattle.gq_typing.specs.KindTypes.{fields_written, kind_written}
-use Rattle.gq_resolved.specs.declared.plan.Accum as code
-use Rattle.gq_resolved.specs.declared.plan.Declared.{Declared}
-use Rattle.gq_resolved.specs.declared.plan.Definition as definition_code
-use Rattle.gq_resolved.specs.declared.plan.Definition.TheVariants as definition
-use Rattle.gq_block_plan.specs.Resolved.{each_resolved}
+use Rattle.gq_scope.specs.Named.{Named, with_name}
+use Rattle.gq_rules_typing.specs.Statements.{Bytes, BaseTree, KindTree, Definition, TupleType, Accums}
+use Rattle.gq_rules_typing.specs.StatementViews.{view_accum, view_definition}
+use Rattle.gq_rules_typing.specs.Sorts.{Sorts}
+use Rattle.gq_rules_typing.specs.KindTypes.{fields_written, kind_written}
+use Rattle.gq_plan_ir.specs.declared.plan.Accum as code
+use Rattle.gq_plan_ir.specs.declared.plan.Declared.{Declared}
+use Rattle.gq_plan_ir.specs.declared.plan.Definition as definition_code
+use Rattle.gq_plan_ir.specs.declared.plan.Definition.TheVariants as definition
+use Rattle.gq_plan_select.specs.Resolved.{each_resolved}
 use Rattle.gq_scope.specs.Held.{Held, fields_of, sorts_in, scope_in}
-use Rattle.gq_found.specs.Found.{TupleTypes, globals_of}
-use Rattle.gq_planned.specs.Planned.{Heads, AccumPlanned, AccumsPlanned, DefinitionsPlanned}
+use Rattle.gq_plan_laws.specs.Found.{TupleTypes, globals_of}
+use Rattle.gq_plan_laws.specs.Planned.{Heads, AccumPlanned, AccumsPlanned, DefinitionsPlanned}
 use Rattle.gq_plan.specs.Heading.{IsScoped, heads_of, resolved_field}
 use Rattle.gq_plan.specs.Unplanned.{NoAccum, NoAccums, NoDefinition, NoDefinitions, DeclaredOnce, tuple_names}
 use Rattle.gq_plan.proofs.PlaceLemmas.{left_at, push_behind, none_behind}
@@ -94,11 +94,11 @@ pub record DefinitionsGo (sorts : Sorts) (n : Named) (start : Heads) (all : List
   pub back : (es : List definition_code.Definition) (end : Heads) → DefinitionsPlanned sorts n start all es end → DeclaredOnce (tuple_names start.tuples) all → RestRead sorts n now rest end
 
 -- so far, with the scope then
-pub record DefinitionsSoFar (n : Named) (s t : Held) (before tuples : TupleTypes) (first slots : Named) (trees : List definition_tree.Definition) (k : ℕ) (done : List definition_code.Definition) : Type 0 where
+pub record DefinitionsSoFar (n : Named) (s t : Held) (before tuples : TupleTypes) (first slots : Named) (trees : List definition_tree.DefinitionTree) (k : ℕ) (done : List definition_code.Definition) : Type 0 where
   pub scoped : IsScoped (sorts_in s) tuples t
   pub goes : DefinitionsGo (sorts_in s) n (heads_of before first) (map view_definition trees) done (map view_definition (drop k trees)) (heads_of tuples slots)
 
-pub definitions_begin : (n : Named) (s : Held) (tuples : TupleTypes) (slots : Named) (trees : List definition_tree.Definition) → IsScoped (sorts_in s) tuples s
+pub definitions_begin : (n : Named) (s : Held) (tuples : TupleTypes) (slots : Named) (trees : List definition_tree.DefinitionTree) → IsScoped (sorts_in s) tuples s
     → DefinitionsSoFar n s s tuples tuples slots slots trees 0 []
 definitions_begin n s tuples slots trees scoped = record { scoped = scoped; goes = record { go = λ others end p. p; back = λ es end p once. record { others = es; are = p; once = once } } }
 
@@ -116,7 +116,7 @@ pub scope_here : (s t : Held) (tuples : TupleTypes) → IsScoped (sorts_in s) tu
 scope_here s t tuples h = subst (λ z. IsScoped z tuples t) (sym h.sorts_are) h
 
 -- in each plan of all stands one of the definition at hand and the rest
-module _ (n : Named) (s t : Held) (before tuples : TupleTypes) (first slots : Named) (trees : List definition_tree.Definition) (k : ℕ) (done : List definition_code.Definition) (d : definition_tree.Definition)
+module _ (n : Named) (s t : Held) (before tuples : TupleTypes) (first slots : Named) (trees : List definition_tree.DefinitionTree) (k : ℕ) (done : List definition_code.Definition) (d : definition_tree.DefinitionTree)
     (low : k < length trees) (is : d ≡ get_or trees k d) (so_far : DefinitionsSoFar n s t before tuples first slots trees k done) where
   definition_here : (es : List definition_code.Definition) (end : Heads) → DefinitionsPlanned (sorts_in s) n (heads_of before first) (map view_definition trees) es end → DeclaredOnce (tuple_names before) (map view_definition trees)
       → RestRead (sorts_in s) n (heads_of tuples slots) (view_definition d ∷ map view_definition (drop (k + 1) trees)) end
@@ -131,7 +131,7 @@ module _ (n : Named) (s t : Held) (before tuples : TupleTypes) (first slots : Na
         all.none u.others end u.are u.once;
   }
 
-pub definition_next : (n : Named) (s t u : Held) (before tuples more : TupleTypes) (first slots slots' : Named) (trees : List definition_tree.Definition) (k : ℕ) (done : List definition_code.Definition) (d : definition_tree.Definition) (e : definition_code.Definition)
+pub definition_next : (n : Named) (s t u : Held) (before tuples more : TupleTypes) (first slots slots' : Named) (trees : List definition_tree.DefinitionTree) (k : ℕ) (done : List definition_code.Definition) (d : definition_tree.DefinitionTree) (e : definition_code.Definition)
     → k < length trees → d ≡ get_or trees k d → DefinitionsSoFar n s t before tuples first slots trees k done
     → DefinitionsPlanned (sorts_in t) n (heads_of tuples slots) (view_definition d ∷ []) (e ∷ []) (heads_of more slots') → IsScoped (sorts_in t) more u
     → DefinitionsSoFar n s u before more first slots' trees (k + 1) (done ++ e ∷ [])
@@ -151,7 +151,7 @@ definition_next n s t u before tuples more first slots slots' trees k done d e l
   };
 }
 
-pub definitions_end : (n : Named) (s t : Held) (before tuples : TupleTypes) (first slots : Named) (trees : List definition_tree.Definition) (k : ℕ) (done : List definition_code.Definition)
+pub definitions_end : (n : Named) (s t : Held) (before tuples : TupleTypes) (first slots : Named) (trees : List definition_tree.DefinitionTree) (k : ℕ) (done : List definition_code.Definition)
     → length trees ≤ k → DefinitionsSoFar n s t before tuples first slots trees k done → DefinitionsPlanned (sorts_in s) n (heads_of before first) (map view_definition trees) done (heads_of tuples slots)
 definitions_end n s t before tuples first slots trees k done high so_far =
     subst (λ (l : List definition_code.Definition). DefinitionsPlanned (sorts_in s) n (heads_of before first) (map view_definition trees) l (heads_of tuples slots)) (none_behind done)

@@ -1,28 +1,28 @@
 -- ParameterLemmas: parameters that are planned from the last one on.
 use Rattle.std.proofs.Common.{◌≡◌, ◌+◌, ◌<◌, ◌≤◌, ℕ, zero, suc, List, [], ◌∷◌, ◌++◌, length, get_or, drop, map, reverse, Some, None, arith, sym, ap, subst, ◌∙◌}
 use Rattle.std.proofs.lemmas.List.{drop_all, reverse-append}
-use Rattle.gq_tree.specs.declared.query.Parameter.{Parameter}
-use Rattle.gq_places.specs.Named.{Named}
-use Rattle.gq_typing.specs.Sorts.{Sorts}
-use Rattle.gq_typing.specs.Statements as plain
-use Rattle.gq_typing.specs.Statements.{Bytes}
-use Rattle.gq_typing.specs.StatementViews.{view_base, view_parameter}
-use Rattle.gq_resolved.specs.declared.plan.Parameter as code
-use Rattle.gq_resolved.specs.declared.plan.Declared.{Declared}
-use Rattle.gq_step_plan.specs.Parts.{resolved_base}
-use Rattle.gq_step_plan.specs.Steps.{new_name}
-use Rattle.gq_found.specs.Found.{globals_of}
-use Rattle.gq_planned.specs.Laws.{no_names, ParametersPlanned}
-use Rattle.gq_meaning.proofs.AnswerLaws.{some_inj}
+use Rattle.gq_tree.specs.declared.query.ParameterTree.{ParameterTree}
+use Rattle.gq_scope.specs.Named.{Named}
+use Rattle.gq_rules_typing.specs.Sorts.{Sorts}
+use Rattle.gq_rules_typing.specs.Statements as plain
+use Rattle.gq_rules_typing.specs.Statements.{Bytes}
+use Rattle.gq_rules_typing.specs.StatementViews.{view_base, view_parameter}
+use Rattle.gq_plan_ir.specs.declared.plan.Parameter as code
+use Rattle.gq_plan_ir.specs.declared.plan.Declared.{Declared}
+use Rattle.gq_plan_stmt.specs.Parts.{resolved_base}
+use Rattle.gq_plan_stmt.specs.Steps.{new_name}
+use Rattle.gq_plan_laws.specs.Found.{globals_of}
+use Rattle.gq_plan_laws.specs.PlannedLaws.{no_names, ParametersPlanned}
+use Rattle.gq_rules_meaning.proofs.AnswerLaws.{some_inj}
 use Rattle.gq_plan.specs.Unplanned.{NoParameters}
 use Rattle.gq_plan.proofs.PlaceLemmas.{left_at}
 
 -- those from the nth on are planned, the last one first, and are in view
-pub record PlannedFrom (sorts : Sorts) (trees : List Parameter) (n : ℕ) (done : List code.Parameter) (m : Named) : Type 0 where
+pub record PlannedFrom (sorts : Sorts) (trees : List ParameterTree) (n : ℕ) (done : List code.Parameter) (m : Named) : Type 0 where
   pub few : n ≤ length trees
   pub planned : ParametersPlanned sorts (map view_parameter (drop n trees)) (reverse done) m
 
-pub from_end : (sorts : Sorts) (trees : List Parameter) (n : ℕ) (m : Named) → n ≡ length trees → m ≡ no_names → PlannedFrom sorts trees n [] m
+pub from_end : (sorts : Sorts) (trees : List ParameterTree) (n : ℕ) (m : Named) → n ≡ length trees → m ≡ no_names → PlannedFrom sorts trees n [] m
 from_end sorts trees n m end none = record {
   few = subst (λ k. n ≤ k) end (omega_le n);
   planned = subst (λ l. ParametersPlanned sorts (map view_parameter l) [] m) (sym (drop_all n trees (subst (λ k. k ≤ n) end (omega_le n)))) none;
@@ -31,7 +31,7 @@ from_end sorts trees n m end none = record {
     omega_le : (k : ℕ) → k ≤ k
     omega_le k = omega arith
 
-pub one_before : (sorts : Sorts) (trees : List Parameter) (n k : ℕ) (done : List code.Parameter) (m i : Named) (t : Parameter) (b : Declared) (place : ℕ)
+pub one_before : (sorts : Sorts) (trees : List ParameterTree) (n k : ℕ) (done : List code.Parameter) (m i : Named) (t : ParameterTree) (b : Declared) (place : ℕ)
     → n ≡ k + 1 → k < length trees → t ≡ get_or trees k t → PlannedFrom sorts trees n done m
     → resolved_base (globals_of sorts [] no_names) (view_base t.base) ≡ Some b → new_name m t.name ≡ Some (i, place)
     → PlannedFrom sorts trees k (done ++ record { base = b; place = place } ∷ []) i
@@ -46,7 +46,7 @@ one_before sorts trees n k done m i t b place next low is from base new = record
     omega_weak : (a c : ℕ) → a < c → a ≤ c
     omega_weak a c h = omega (arith, h)
 
-pub all_planned : (sorts : Sorts) (trees : List Parameter) (n : ℕ) (done list : List code.Parameter) (m : Named) → n ≤ 0 → PlannedFrom sorts trees n done m → list ≡ reverse done
+pub all_planned : (sorts : Sorts) (trees : List ParameterTree) (n : ℕ) (done list : List code.Parameter) (m : Named) → n ≤ 0 → PlannedFrom sorts trees n done m → list ≡ reverse done
     → ParametersPlanned sorts (map view_parameter trees) list m
 all_planned sorts trees n done list m low from is =
     subst (λ l. ParametersPlanned sorts (map view_parameter trees) l m) (sym is) (subst (λ k. ParametersPlanned sorts (map view_parameter (drop k trees)) (reverse done) m) (zero_is n low) from.planned)
@@ -75,12 +75,12 @@ no_more sorts p ps never = record { none = go }
     go [] n h = h
     go (q ∷ qs) n h = never.none qs h.1.0 h.1.1.0
 
-none_from : (sorts : Sorts) (k : ℕ) (trees : List Parameter) → NoParameters sorts (map view_parameter (drop k trees)) → NoParameters sorts (map view_parameter trees)
+none_from : (sorts : Sorts) (k : ℕ) (trees : List ParameterTree) → NoParameters sorts (map view_parameter (drop k trees)) → NoParameters sorts (map view_parameter trees)
 none_from sorts zero trees never = never
 none_from sorts (suc k) [] never = never
 none_from sorts (suc k) (t ∷ trees) never = no_more sorts (view_parameter t) (map view_parameter trees) (none_from sorts k trees never)
 
-pub base_lacks : (sorts : Sorts) (trees : List Parameter) (k : ℕ) (t : Parameter) → k < length trees → t ≡ get_or trees k t
+pub base_lacks : (sorts : Sorts) (trees : List ParameterTree) (k : ℕ) (t : ParameterTree) → k < length trees → t ≡ get_or trees k t
     → resolved_base (globals_of sorts [] no_names) (view_base t.base) ≡ None → NoParameters sorts (map view_parameter trees)
 base_lacks sorts trees k t low is lacks =
     none_from sorts k trees (subst (λ l. NoParameters sorts (map view_parameter l)) (sym (left_at trees k t low is)) (record { none = go }))
@@ -89,7 +89,7 @@ base_lacks sorts trees k t low is lacks =
     go [] n h = h
     go (q ∷ qs) n h = cc (lacks, h.0)
 
-pub name_taken : (sorts : Sorts) (trees : List Parameter) (n k : ℕ) (done : List code.Parameter) (m : Named) (t : Parameter)
+pub name_taken : (sorts : Sorts) (trees : List ParameterTree) (n k : ℕ) (done : List code.Parameter) (m : Named) (t : ParameterTree)
     → n ≡ k + 1 → k < length trees → t ≡ get_or trees k t → PlannedFrom sorts trees n done m → new_name m t.name ≡ None → NoParameters sorts (map view_parameter trees)
 name_taken sorts trees n k done m t next low is from taken =
     none_from sorts k trees (subst (λ l. NoParameters sorts (map view_parameter l)) (sym (left_at trees k t low is)) (record { none = go }))

@@ -2,38 +2,38 @@
 use Rattle.std.proofs.Common.{◌≡◌, ℕ, false, List, [], Option, Some, None, refl, sym, ap, ◌∙◌, subst}
 use Rattle.std.specs.Prelude.{is_some}
 use Rattle.gq_value.specs.Val.{Val}
-use Rattle.gq_value.specs.Catalog.{Schema}
-use Rattle.gq_value.specs.declared.catalog.GraphType.{GraphType}
-use Rattle.gq_value.specs.declared.store.VertexRow.{VertexRow}
-use Rattle.gq_value.specs.declared.store.EdgeRow.{EdgeRow}
-use Rattle.gq_typing.specs.Statements.{Bytes, Query, KindTree}
-use Rattle.gq_typing.specs.Sorts.{Sorts, sorts_of}
-use Rattle.gq_meaning.specs.Answers.{Answer}
-use Rattle.gq_meaning.specs.Calendars.{Calendar}
-use Rattle.gq_meaning.specs.Graphs.{Graph, graph_of}
-use Rattle.gq_meaning.specs.Outs.{Out}
-use Rattle.gq_meaning.specs.Statements.{Fault}
-use Rattle.gq_meaning.specs.Queries.{kind_of, run_plan, run_query}
-use Rattle.gq_meaning.specs.Fitting.{Safe}
-use Rattle.gq_safety.proofs.KindLaws.{query_law as never_stuck}
-use Rattle.gq_resolved.specs.declared.plan.Parameter as code
-use Rattle.gq_resolved.specs.declared.plan.Definition as definition_code
-use Rattle.gq_resolved.specs.declared.plan.Held as held
-use Rattle.gq_resolved.specs.declared.plan.Plan.{Plan}
-use Rattle.gq_resolved.specs.Belonging.{world_of}
-use Rattle.gq_resolved.specs.PlanView.{view_plan, accum_names}
-use Rattle.gq_resolved.specs.Reference.{Reference}
-use Rattle.gq_renaming.proofs.QueryLaws.{query_law}
-use Rattle.gq_places.specs.Named.{Named}
-use Rattle.gq_typing.specs.Scopes.{InStatement, entry}
+use Rattle.gq_graph.specs.Catalog.{Schema}
+use Rattle.gq_graph.specs.declared.types.GraphType.{GraphType}
+use Rattle.gq_graph.specs.declared.rows.VertexRow.{VertexRow}
+use Rattle.gq_graph.specs.declared.rows.EdgeRow.{EdgeRow}
+use Rattle.gq_rules_typing.specs.Statements.{Bytes, Query, KindTree}
+use Rattle.gq_rules_typing.specs.Sorts.{Sorts, sorts_of}
+use Rattle.gq_rules_meaning.specs.Answers.{Answer}
+use Rattle.gq_rules_meaning.specs.Calendars.{Calendar}
+use Rattle.gq_rules_meaning.specs.Graphs.{Graph, graph_of}
+use Rattle.gq_rules_meaning.specs.Outs.{Out}
+use Rattle.gq_rules_meaning.specs.Statements.{Fault}
+use Rattle.gq_rules_meaning.specs.Queries.{kind_of, run_plan, run_query}
+use Rattle.gq_rules_meaning.specs.Fitting.{Safe}
+use Rattle.gq_rules_safety.proofs.KindLaws.{query_law as never_stuck}
+use Rattle.gq_plan_ir.specs.declared.plan.Parameter as code
+use Rattle.gq_plan_ir.specs.declared.plan.Definition as definition_code
+use Rattle.gq_plan_ir.specs.declared.plan.PlaceType as held
+use Rattle.gq_plan_ir.specs.declared.plan.Plan.{Plan}
+use Rattle.gq_plan_ir.specs.Belonging.{world_of}
+use Rattle.gq_plan_ir.specs.PlanView.{view_plan, accum_names}
+use Rattle.gq_plan_ir.specs.Reference.{Reference}
+use Rattle.gq_plan_laws.proofs.QueryLaws.{query_law}
+use Rattle.gq_scope.specs.Named.{Named}
+use Rattle.gq_rules_typing.specs.Scopes.{InStatement, entry}
 use Rattle.gq_scope.specs.Kept.{tuple_types}
 use Rattle.gq_scope.specs.Held.{Held, graph_in, sorts_in, setting_in, scope_in}
-use Rattle.gq_step_plan.specs.Steps.{resolved_stmts}
-use Rattle.gq_found.specs.Found.{TupleTypes, globals_of}
-use Rattle.gq_planned.specs.Declared.{ground_of}
-use Rattle.gq_planned.specs.Planned.{Heads, DefinitionsPlanned}
-use Rattle.gq_planned.specs.Laws.{ParametersPlanned, IsPlanned, no_names}
-use Rattle.gq_planned.proofs.QueryLaws.{plan_law}
+use Rattle.gq_plan_stmt.specs.Steps.{resolved_stmts}
+use Rattle.gq_plan_laws.specs.Found.{TupleTypes, globals_of}
+use Rattle.gq_plan_laws.specs.Declared.{ground_of}
+use Rattle.gq_plan_laws.specs.Planned.{Heads, DefinitionsPlanned}
+use Rattle.gq_plan_laws.specs.PlannedLaws.{ParametersPlanned, IsPlanned, no_names}
+use Rattle.gq_plan_laws.proofs.PlannedQueryLaws.{plan_law}
 use Rattle.gq_plan.specs.Heading.{IsScoped, heads_of}
 use Rattle.gq_plan.specs.Prints.{graph_for, PrintsAs, PrintLaw}
 use Rattle.gq_plan.specs.Safe.{NeverStuck, SafeLaw}
@@ -105,7 +105,7 @@ plan_made s t q p names behind before tuples first slots none nothing scoped wit
 }
 
 -- what stands at the places is told apart
-pub with_places : (sorts : Sorts) (q : Query Bytes) (p : Plan) (places : List held.Held) → IsPlanned sorts q p → IsPlanned sorts q (record p { places = places })
+pub with_places : (sorts : Sorts) (q : Query Bytes) (p : Plan) (places : List held.PlaceType) → IsPlanned sorts q p → IsPlanned sorts q (record p { places = places })
 with_places sorts q p places is = record {
   names = is.names;
   heads = is.heads;

@@ -6,20 +6,20 @@ use Rattle.std.proofs.lemmas.List.Folds.{list_any-append}
 use Rattle.std.proofs.lemmas.List.Elements.{filter_map-append}
 use Rattle.gq_value.specs.declared.kind.BaseType.{BaseType}
 use Rattle.gq_value.specs.Accums.{Accum}
-use Rattle.gq_typing.specs.Statements.{Bytes, BaseTree, KindTree}
-use Rattle.gq_typing.specs.Sorts.{Sorts, Fields}
-use Rattle.gq_typing.specs.KindTypes.{fields_written, kind_written}
-use Rattle.gq_typing.specs.Scopes as typing
-use Rattle.gq_meaning.specs.Queries.{scope_of}
-use Rattle.gq_safety.proofs.QueryLaws.{fields_same}
-use Rattle.gq_safety.proofs.KindLaws.{kind_same}
+use Rattle.gq_rules_typing.specs.Statements.{Bytes, BaseTree, KindTree}
+use Rattle.gq_rules_typing.specs.Sorts.{Sorts, Fields}
+use Rattle.gq_rules_typing.specs.KindTypes.{fields_written, kind_written}
+use Rattle.gq_rules_typing.specs.Scopes as typing
+use Rattle.gq_rules_meaning.specs.Queries.{scope_of}
+use Rattle.gq_rules_safety.proofs.QueryLaws.{fields_same}
+use Rattle.gq_rules_safety.proofs.KindLaws.{kind_same}
 use Rattle.gq_scope.specs.declared.entry.Entry.{Entry}
 use Rattle.gq_scope.specs.declared.entry.Entry.TheVariants as entry
 use Rattle.gq_scope.specs.Kept.{tuple_types, named_tuple}
 use Rattle.gq_scope.specs.Held.{Held, sorts_in, setting_in, scope_in}
-use Rattle.gq_kind_check.proofs.HeadLemmas.{tuple_added}
-use Rattle.gq_found.specs.Found.{TupleTypes}
-use Rattle.gq_planned.specs.Planned.{setting_of}
+use Rattle.gq_check_decls.proofs.HeadLemmas.{tuple_added}
+use Rattle.gq_plan_laws.specs.Found.{TupleTypes}
+use Rattle.gq_plan_laws.specs.Planned.{setting_of}
 use Rattle.gq_plan.specs.Unplanned.{tuple_names, is_taken}
 use Rattle.gq_plan.specs.Heading.{IsScoped}
 

@@ -7,23 +7,23 @@ use Rattle.gq_value.specs.declared.kind.BaseType.TheVariants as base
 use Rattle.gq_value.specs.declared.kind.Kind.{Kind}
 use Rattle.gq_value.specs.Accums.{Base, INT, UINT, BOOL, STRING, DATETIME, VERTEX, VERTEX_OF, TUPLE}
 use Rattle.gq_value.specs.AccumViews.{base_step, base_of, accum_of}
-use Rattle.gq_places.specs.Named.{Named}
-use Rattle.gq_typing.specs.Statements.{Bytes, BaseTree, Ints, UInts, Bools, Strings, AnyVertex, VertexOf, KindTree, Definition, TupleType, Accums}
-use Rattle.gq_typing.specs.Sorts.{Fields, Sorts}
-use Rattle.gq_typing.specs.Scopes.{Scope, vertex_type, base_written}
-use Rattle.gq_typing.specs.KindTypes.{own_name, fields_written, kind_written}
-use Rattle.gq_meaning.specs.Queries.{scope_of}
-use Rattle.gq_meaning.proofs.AnswerLaws.{then_ok, ok_inj}
-use Rattle.gq_safety.proofs.QueryLaws.{fields_same}
-use Rattle.gq_safety.proofs.KindLaws.{kind_same}
-use Rattle.gq_resolved.specs.declared.plan.Accum as accum_code
-use Rattle.gq_resolved.specs.declared.plan.Declared.{Declared}
-use Rattle.gq_resolved.specs.declared.plan.Definition as definition_code
-use Rattle.gq_resolved.specs.declared.plan.Definition.TheVariants as definition
-use Rattle.gq_block_plan.specs.Resolved.{each_resolved}
+use Rattle.gq_scope.specs.Named.{Named}
+use Rattle.gq_rules_typing.specs.Statements.{Bytes, BaseTree, Ints, UInts, Bools, Strings, AnyVertex, VertexOf, KindTree, Definition, TupleType, Accums}
+use Rattle.gq_rules_typing.specs.Sorts.{Fields, Sorts}
+use Rattle.gq_rules_typing.specs.Scopes.{Scope, vertex_type, base_written}
+use Rattle.gq_rules_typing.specs.KindTypes.{own_name, fields_written, kind_written}
+use Rattle.gq_rules_meaning.specs.Queries.{scope_of}
+use Rattle.gq_rules_meaning.proofs.AnswerLaws.{then_ok, ok_inj}
+use Rattle.gq_rules_safety.proofs.QueryLaws.{fields_same}
+use Rattle.gq_rules_safety.proofs.KindLaws.{kind_same}
+use Rattle.gq_plan_ir.specs.declared.plan.Accum as accum_code
+use Rattle.gq_plan_ir.specs.declared.plan.Declared.{Declared}
+use Rattle.gq_plan_ir.specs.declared.plan.Definition as definition_code
+use Rattle.gq_plan_ir.specs.declared.plan.Definition.TheVariants as definition
+use Rattle.gq_plan_select.specs.Resolved.{each_resolved}
 use Rattle.gq_scope.specs.Held.{Held, sorts_in, scope_in}
-use Rattle.gq_found.specs.Found.{TupleTypes, plain_fields, globals_of}
-use Rattle.gq_planned.specs.Planned.{Heads, setting_of, with_accum, with_tuple, AccumPlanned, AccumsPlanned, TuplePlanned, DefinitionsPlanned}
+use Rattle.gq_plan_laws.specs.Found.{TupleTypes, plain_fields, globals_of}
+use Rattle.gq_plan_laws.specs.Planned.{Heads, setting_of, with_accum, with_tuple, AccumPlanned, AccumsPlanned, TuplePlanned, DefinitionsPlanned}
 use Rattle.gq_plan.specs.Heading.{IsScoped, heads_of, resolved_field}
 use Rattle.gq_plan.specs.Unplanned.{Fails, NoAccums, NoDefinition, DeclaredOnce, tuple_names, is_taken}
 use Rattle.gq_plan.proofs.ScopeLemmas.{scope_is}

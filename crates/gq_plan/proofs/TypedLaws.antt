@@ -4,18 +4,18 @@ use Rattle.std.specs.Prelude.{◌||◌, if◌then◌else◌, bytes_eq, is_some, 
 use Rattle.std.proofs.lemmas.List.Folds.{list_any-append}
 use Rattle.gq_tree.specs.Tree.{Tree}
 use Rattle.gq_value.specs.Accums.{Accum}
-use Rattle.gq_value.specs.Catalog.{Schema}
-use Rattle.gq_typing.specs.Statements.{Bytes, KindTree, Definition, TupleType, Accums, Parameter, Query}
-use Rattle.gq_typing.specs.Sorts.{Fields, Sorts, sorts_of}
-use Rattle.gq_typing.specs.Words.{by_name}
-use Rattle.gq_typing.specs.Judging.{TooMany, Mismatch, through_judged, unless, ◌>>◌}
-use Rattle.gq_typing.specs.Scopes.{Entry, Variable, Accumulator, TupleName, InStatement, Scope, said, entry, with_entry, new_name, base_written}
-use Rattle.gq_typing.specs.KindTypes.{fields_written, kind_written}
-use Rattle.gq_typing.specs.QueryTypes.{typing_parameter, good_default, is_accum, typing_opening, typing_accum, first_name, with_tuple, typing_definition, typing_query}
-use Rattle.gq_meaning.proofs.AnswerLaws.{then_ok, after_ok, ok_inj}
+use Rattle.gq_graph.specs.Catalog.{Schema}
+use Rattle.gq_rules_typing.specs.Statements.{Bytes, KindTree, Definition, TupleType, Accums, Parameter, Query}
+use Rattle.gq_rules_typing.specs.Sorts.{Fields, Sorts, sorts_of}
+use Rattle.gq_rules_typing.specs.Words.{by_name}
+use Rattle.gq_rules_typing.specs.Judging.{TooMany, Mismatch, through_judged, unless, ◌>>◌}
+use Rattle.gq_rules_typing.specs.Scopes.{Entry, Variable, Accumulator, TupleName, InStatement, Scope, said, entry, with_entry, new_name, base_written}
+use Rattle.gq_rules_typing.specs.KindTypes.{fields_written, kind_written}
+use Rattle.gq_rules_typing.specs.QueryTypes.{typing_parameter, good_default, is_accum, typing_opening, typing_accum, first_name, with_tuple, typing_definition, typing_query}
+use Rattle.gq_rules_meaning.proofs.AnswerLaws.{then_ok, after_ok, ok_inj}
 use Rattle.gq_scope.specs.Held.{Held, graph_in, sorts_in}
-use Rattle.gq_has_plan.proofs.ShownLemmas.{entry_none}
-use Rattle.gq_has_plan.proofs.QueryHas.{query_law}
+use Rattle.gq_plan_laws.proofs.ShownLemmas.{entry_none}
+use Rattle.gq_plan_laws.proofs.QueryHas.{query_law}
 use Rattle.gq_plan.specs.Unplanned.{NoPlan, NotTyped, DeclaredOnce, is_taken}
 use Rattle.gq_plan.proofs.PrintLaws.{sorts_new}
 

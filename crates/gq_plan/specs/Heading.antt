@@ -1,17 +1,17 @@
 -- Heading: what is declared so far, as the code has it.
 use Rattle.std.specs.Prelude.{◌≡◌, false, is_some, Option, Some}
-use Rattle.gq_places.specs.Named.{Named}
-use Rattle.gq_typing.specs.Statements.{Bytes, BaseTree}
-use Rattle.gq_typing.specs.Sorts.{Sorts}
-use Rattle.gq_typing.specs.Scopes.{entry}
+use Rattle.gq_scope.specs.Named.{Named}
+use Rattle.gq_rules_typing.specs.Statements.{Bytes, BaseTree}
+use Rattle.gq_rules_typing.specs.Sorts.{Sorts}
+use Rattle.gq_rules_typing.specs.Scopes.{entry}
 use Rattle.gq_scope.specs.Kept.{tuple_types}
 use Rattle.gq_scope.specs.Held.{Held, sorts_in, scope_in}
-use Rattle.gq_resolved.specs.declared.plan.Declared.{Declared}
-use Rattle.gq_expr_plan.specs.Resolved.{◌>>=◌}
-use Rattle.gq_step_plan.specs.Globals.{Globals}
-use Rattle.gq_step_plan.specs.Parts.{resolved_base}
-use Rattle.gq_found.specs.Found.{TupleTypes}
-use Rattle.gq_planned.specs.Planned.{Heads}
+use Rattle.gq_plan_ir.specs.declared.plan.Declared.{Declared}
+use Rattle.gq_plan_expr.specs.Resolved.{◌>>=◌}
+use Rattle.gq_plan_stmt.specs.Globals.{Globals}
+use Rattle.gq_plan_stmt.specs.Parts.{resolved_base}
+use Rattle.gq_plan_laws.specs.Found.{TupleTypes}
+use Rattle.gq_plan_laws.specs.Planned.{Heads}
 use Rattle.gq_plan.specs.Unplanned.{tuple_names, is_taken}
 
 abbrev pub heads_of : TupleTypes → Named → Heads

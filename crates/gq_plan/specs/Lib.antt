@@ -1,3 +1,5 @@
+pub mod Noted
+pub mod Parts
 pub mod Unplanned
 pub mod Heading
 pub mod Prints

@@ -1,19 +1,19 @@
 -- Prints: what a plan prints, and what its query prints.
 use Rattle.std.specs.Prelude.{◌≡◌, ℕ, List, [], Option, Some}
 use Rattle.gq_value.specs.Val.{Val}
-use Rattle.gq_value.specs.Catalog.{Schema}
-use Rattle.gq_value.specs.declared.catalog.GraphType.{GraphType}
-use Rattle.gq_value.specs.declared.store.VertexRow.{VertexRow}
-use Rattle.gq_value.specs.declared.store.EdgeRow.{EdgeRow}
-use Rattle.gq_typing.specs.Statements.{Bytes, Query}
-use Rattle.gq_typing.specs.Sorts.{sorts_of}
-use Rattle.gq_meaning.specs.Calendars.{Calendar}
-use Rattle.gq_meaning.specs.Graphs.{Graph, graph_of}
-use Rattle.gq_meaning.specs.Queries.{run_plan, run_query}
-use Rattle.gq_resolved.specs.declared.plan.Plan.{Plan}
-use Rattle.gq_resolved.specs.Belonging.{world_of}
-use Rattle.gq_resolved.specs.PlanView.{view_plan, accum_names}
-use Rattle.gq_planned.specs.Laws.{IsPlanned}
+use Rattle.gq_graph.specs.Catalog.{Schema}
+use Rattle.gq_graph.specs.declared.types.GraphType.{GraphType}
+use Rattle.gq_graph.specs.declared.rows.VertexRow.{VertexRow}
+use Rattle.gq_graph.specs.declared.rows.EdgeRow.{EdgeRow}
+use Rattle.gq_rules_typing.specs.Statements.{Bytes, Query}
+use Rattle.gq_rules_typing.specs.Sorts.{sorts_of}
+use Rattle.gq_rules_meaning.specs.Calendars.{Calendar}
+use Rattle.gq_rules_meaning.specs.Graphs.{Graph, graph_of}
+use Rattle.gq_rules_meaning.specs.Queries.{run_plan, run_query}
+use Rattle.gq_plan_ir.specs.declared.plan.Plan.{Plan}
+use Rattle.gq_plan_ir.specs.Belonging.{world_of}
+use Rattle.gq_plan_ir.specs.PlanView.{view_plan, accum_names}
+use Rattle.gq_plan_laws.specs.PlannedLaws.{IsPlanned}
 
 -- what a plan reads of a catalog and a store: it has the types of its graph
 abbrev pub graph_for : Schema → Plan → List VertexRow → List EdgeRow → Graph

@@ -1,25 +1,25 @@
 -- Safe: the plan of a typed query is never stuck.
 use Rattle.std.specs.Prelude.{◌≡◌, ℕ, List, [], Option, Ok}
 use Rattle.gq_value.specs.Val.{Val}
-use Rattle.gq_value.specs.Catalog.{Schema}
-use Rattle.gq_value.specs.declared.catalog.GraphType.{GraphType}
-use Rattle.gq_value.specs.declared.store.VertexRow.{VertexRow}
-use Rattle.gq_value.specs.declared.store.EdgeRow.{EdgeRow}
-use Rattle.gq_typing.specs.Statements.{Bytes, Query}
-use Rattle.gq_typing.specs.Sorts.{Fields, sorts_of}
-use Rattle.gq_typing.specs.Scopes.{Scope}
-use Rattle.gq_typing.specs.QueryTypes.{typing_query}
-use Rattle.gq_meaning.specs.Calendars.{Calendar}
-use Rattle.gq_meaning.specs.Graphs.{graph_of}
-use Rattle.gq_meaning.specs.Outs.{Out}
-use Rattle.gq_meaning.specs.Queries as names
-use Rattle.gq_meaning.specs.Queries.{with_tuples, run_plan}
-use Rattle.gq_meaning.specs.Fitting.{Safe, WorldFits}
-use Rattle.gq_safety.specs.Laws.{ArgumentsFit}
-use Rattle.gq_resolved.specs.declared.plan.Plan.{Plan}
-use Rattle.gq_resolved.specs.Belonging.{world_of}
-use Rattle.gq_resolved.specs.PlanView.{view_plan, accum_names}
-use Rattle.gq_planned.specs.Laws.{IsPlanned}
+use Rattle.gq_graph.specs.Catalog.{Schema}
+use Rattle.gq_graph.specs.declared.types.GraphType.{GraphType}
+use Rattle.gq_graph.specs.declared.rows.VertexRow.{VertexRow}
+use Rattle.gq_graph.specs.declared.rows.EdgeRow.{EdgeRow}
+use Rattle.gq_rules_typing.specs.Statements.{Bytes, Query}
+use Rattle.gq_rules_typing.specs.Sorts.{Fields, sorts_of}
+use Rattle.gq_rules_typing.specs.Scopes.{Scope}
+use Rattle.gq_rules_typing.specs.QueryTypes.{typing_query}
+use Rattle.gq_rules_meaning.specs.Calendars.{Calendar}
+use Rattle.gq_rules_meaning.specs.Graphs.{graph_of}
+use Rattle.gq_rules_meaning.specs.Outs.{Out}
+use Rattle.gq_rules_meaning.specs.Queries as names
+use Rattle.gq_rules_meaning.specs.Queries.{with_tuples, run_plan}
+use Rattle.gq_rules_meaning.specs.Fitting.{Safe, WorldFits}
+use Rattle.gq_rules_safety.specs.Laws.{ArgumentsFit}
+use Rattle.gq_plan_ir.specs.declared.plan.Plan.{Plan}
+use Rattle.gq_plan_ir.specs.Belonging.{world_of}
+use Rattle.gq_plan_ir.specs.PlanView.{view_plan, accum_names}
+use Rattle.gq_plan_laws.specs.PlannedLaws.{IsPlanned}
 use Rattle.gq_plan.specs.Prints.{graph_for}
 
 -- where the query is typed: over any store whose rows are of their types whatever tuple types are declared, with arguments of the

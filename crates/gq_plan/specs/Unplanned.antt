@@ -3,19 +3,19 @@ use Rattle.std.specs.Prelude.{◌≡◌, Bool, false, List, [], ◌∷◌, ◌++
 use Rattle.std.specs.Str.{bytes_eq}
 use Rattle.std.specs.List.{list_any}
 use Rattle.gq_tree.specs.Tree.{Tree}
-use Rattle.gq_places.specs.Named.{Named}
-use Rattle.gq_typing.specs.Statements.{Bytes, KindTree, Definition, TupleType, Accums, Parameter, Query}
-use Rattle.gq_typing.specs.Sorts.{Sorts}
-use Rattle.gq_typing.specs.Judging.{Judged}
-use Rattle.gq_typing.specs.Scopes.{Scope}
-use Rattle.gq_typing.specs.QueryTypes.{typing_query}
-use Rattle.gq_resolved.specs.declared.plan.Parameter as parameter_code
-use Rattle.gq_resolved.specs.declared.plan.Accum as accum_code
-use Rattle.gq_resolved.specs.declared.plan.Definition as definition_code
-use Rattle.gq_resolved.specs.declared.plan.Plan.{Plan}
-use Rattle.gq_found.specs.Found.{TupleTypes}
-use Rattle.gq_planned.specs.Planned.{Heads, AccumPlanned, AccumsPlanned, DefinitionsPlanned}
-use Rattle.gq_planned.specs.Laws.{ParametersPlanned, IsPlanned}
+use Rattle.gq_scope.specs.Named.{Named}
+use Rattle.gq_rules_typing.specs.Statements.{Bytes, KindTree, Definition, TupleType, Accums, Parameter, Query}
+use Rattle.gq_rules_typing.specs.Sorts.{Sorts}
+use Rattle.gq_rules_typing.specs.Judging.{Judged}
+use Rattle.gq_rules_typing.specs.Scopes.{Scope}
+use Rattle.gq_rules_typing.specs.QueryTypes.{typing_query}
+use Rattle.gq_plan_ir.specs.declared.plan.Parameter as parameter_code
+use Rattle.gq_plan_ir.specs.declared.plan.Accum as accum_code
+use Rattle.gq_plan_ir.specs.declared.plan.Definition as definition_code
+use Rattle.gq_plan_ir.specs.declared.plan.Plan.{Plan}
+use Rattle.gq_plan_laws.specs.Found.{TupleTypes}
+use Rattle.gq_plan_laws.specs.Planned.{Heads, AccumPlanned, AccumsPlanned, DefinitionsPlanned}
+use Rattle.gq_plan_laws.specs.PlannedLaws.{ParametersPlanned, IsPlanned}
 
 -- a query that typing doesn't let pass
 pub record NotTyped (sorts : Sorts) (q : Query Bytes) : Type 0 where

@@ -1,36 +1,35 @@
 // Accumulators with what they open with.
 ghost use Rattle.std.specs.Prelude.{◌≡◌, ◌≢◌, IfOk, IfErr, Ok, [], map};
 ghost use Rattle.gq_value.specs.AccumViews.{accum_of};
-ghost use Rattle.gq_places.specs.Named.{with_name};
-ghost use Rattle.gq_typing.specs.KindTypes.{kind_written as kind_meant};
-ghost use Rattle.gq_typing.specs.StatementViews.{view_accum, view_kind};
+ghost use Rattle.gq_scope.specs.Named.{with_name};
+ghost use Rattle.gq_rules_typing.specs.KindTypes.{kind_written as kind_meant};
+ghost use Rattle.gq_rules_typing.specs.StatementViews.{view_accum, view_kind};
 ghost use Rattle.gq_scope.specs.Held.{scope_in, sorts_in};
-ghost use Rattle.gq_fault.specs.declared.fault.CheckFault.TheVariants as check;
-ghost use Rattle.gq_expr_plan.specs.declared.fault.PlanFault.TheVariants as fault;
-ghost use Rattle.gq_planned.specs.Planned.{AccumPlanned, AccumsPlanned};
+ghost use Rattle.gq_check_from.specs.declared.fault.CheckFault.TheVariants as check;
+ghost use Rattle.gq_plan_expr.specs.declared.fault.PlanFault.TheVariants as fault;
+ghost use Rattle.gq_plan_laws.specs.Planned.{AccumPlanned, AccumsPlanned};
 ghost use Rattle.gq_plan.specs.Heading.{heads_of};
 ghost use Rattle.gq_plan.specs.Unplanned.{Fails, NoAccum, NoAccums};
 
+use crate::found::{CatalogNames, NamedTupleType};
 use crate::names::add_slot;
-use gq_expr_plan::PlanFault;
-use gq_fault::CheckFault;
-use gq_globals::{Found, TupleType};
-use gq_kind_check::kind_written;
-use gq_list::List;
-use gq_places::Places;
-use gq_resolved::Accum;
-use gq_scope::Scope;
-use gq_step_plan::plan_opening;
+use gq_base::List;
+use gq_check_decls::kind_written;
+use gq_check_from::CheckFault;
+use gq_plan_expr::PlanFault;
+use gq_plan_ir::Accum;
+use gq_plan_stmt::plan_opening;
+use gq_scope::{Places, Scope};
 use gq_tree::{AccumTree, KindTree};
 use gq_value::{Kind, Txt};
 use std::alloc::Global;
 
-/// Want of memory, or that a rule doesn't let something pass.
+/// `OutOfMemory`, or that a rule doesn't let something pass.
 pub(crate) fn fault_of(refusal: &CheckFault) -> PlanFault
-    ensures { result ≢ fault.Memory → refusal.now ≢ check.Memory }
+    ensures { result ≢ fault.OutOfMemory → refusal.now ≢ check.OutOfMemory }
 {
     match refusal {
-        CheckFault::Memory => PlanFault::Memory,
+        CheckFault::OutOfMemory => PlanFault::OutOfMemory,
         CheckFault::Mismatch | CheckFault::NotAllowedHere => PlanFault::Unknown,
         CheckFault::TwoAliases | CheckFault::TooMany => PlanFault::Unknown,
         CheckFault::UnknownName(_) | CheckFault::NoAttribute(_) => PlanFault::Unknown,
@@ -43,7 +42,7 @@ pub(crate) fn fault_of(refusal: &CheckFault) -> PlanFault
 #[tactic(auto, using(crate::proofs::FailLemmas::fail_laws))]
 pub(crate) fn kind(alloc: Global, scope: &Scope<'_>, tree: &KindTree) -> Result<Kind, PlanFault>
     ensures planned { IfOk result (λ kind. kind_meant (scope_in scope.now) [] (view_kind tree.now) ≡ Ok (accum_of kind)) }
-    ensures unknown { IfErr result (λ e. e ≢ fault.Memory → Fails (kind_meant (scope_in scope.now) [] (view_kind tree.now))) }
+    ensures unknown { IfErr result (λ e. e ≢ fault.OutOfMemory → Fails (kind_meant (scope_in scope.now) [] (view_kind tree.now))) }
 {
     match kind_written(alloc, scope, "", tree) {
         Ok(kind) => Ok(kind),
@@ -56,16 +55,16 @@ pub(crate) fn kind(alloc: Global, scope: &Scope<'_>, tree: &KindTree) -> Result<
 fn accum(
     alloc: Global,
     scope: &Scope<'_>,
-    tuples: &[TupleType],
+    tuples: &[NamedTupleType],
     slots: &mut Places,
     places: &Places,
     tree: &AccumTree,
 ) -> Result<Accum, PlanFault>
     ensures planned { IfOk result (λ b. AccumPlanned (sorts_in scope.now) places.now (heads_of tuples.now slots.old) (view_accum tree.now) b) }
     ensures declared { IfOk result (λ _. slots.new ≡ with_name slots.old tree.now.name tree.now.attached) }
-    ensures unknown { IfErr result (λ e. e ≢ fault.Memory → NoAccum (sorts_in scope.now) places.now (heads_of tuples.now slots.old) (view_accum tree.now)) }
+    ensures unknown { IfErr result (λ e. e ≢ fault.OutOfMemory → NoAccum (sorts_in scope.now) places.now (heads_of tuples.now slots.old) (view_accum tree.now)) }
 {
-    let found = Found {
+    let found = CatalogNames {
         scope,
         tuples,
         slots: &*slots,
@@ -86,14 +85,14 @@ fn accum(
 pub(crate) fn accums(
     alloc: Global,
     scope: &Scope<'_>,
-    tuples: &[TupleType],
+    tuples: &[NamedTupleType],
     slots: &mut Places,
     places: &Places,
     trees: &[AccumTree],
 ) -> Result<List<Accum>, PlanFault>
     ensures planned { IfOk result (λ bs. AccumsPlanned (sorts_in scope.now) places.now (heads_of tuples.now slots.old) (map view_accum trees.now) bs
         (heads_of tuples.now slots.new)) }
-    ensures unknown { IfErr result (λ e. e ≢ fault.Memory
+    ensures unknown { IfErr result (λ e. e ≢ fault.OutOfMemory
         → NoAccums (sorts_in scope.now) places.now (heads_of tuples.now slots.old) (map view_accum trees.now)) }
 {
     let mut planned = List::new(alloc);

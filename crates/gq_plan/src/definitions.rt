@@ -1,21 +1,20 @@
 // Definitions, one after the other: each sees what is declared before it.
 ghost use Rattle.std.specs.Prelude.{◌≡◌, ◌≢◌, IfOk, IfErr, [], ◌∷◌, map};
-ghost use Rattle.gq_typing.specs.Statements.{Accums};
-ghost use Rattle.gq_typing.specs.StatementViews.{view_accum, view_definition, view_kind};
+ghost use Rattle.gq_rules_typing.specs.Statements.{Accums};
+ghost use Rattle.gq_rules_typing.specs.StatementViews.{view_accum, view_definition, view_kind};
 ghost use Rattle.gq_scope.specs.Held.{sorts_in};
-ghost use Rattle.gq_expr_plan.specs.declared.fault.PlanFault.TheVariants as fault;
-ghost use Rattle.gq_planned.specs.Planned.{DefinitionsPlanned};
+ghost use Rattle.gq_plan_expr.specs.declared.fault.PlanFault.TheVariants as fault;
+ghost use Rattle.gq_plan_laws.specs.Planned.{DefinitionsPlanned};
 ghost use Rattle.gq_plan.specs.Heading.{IsScoped, heads_of};
 ghost use Rattle.gq_plan.specs.Unplanned.{NoDefinition, NoDefinitions};
 
 use crate::accums::{accums, kind};
+use crate::found::NamedTupleType;
 use crate::tuples::tuple_type;
-use gq_expr_plan::PlanFault;
-use gq_globals::TupleType;
-use gq_list::List;
-use gq_places::Places;
-use gq_resolved::Definition;
-use gq_scope::Scope;
+use gq_base::List;
+use gq_plan_expr::PlanFault;
+use gq_plan_ir::Definition;
+use gq_scope::{Places, Scope};
 use gq_tree::{AccumTree, KindTree};
 use std::alloc::Global;
 
@@ -24,7 +23,7 @@ use std::alloc::Global;
 fn of_kind(
     alloc: Global,
     scope: &Scope<'_>,
-    tuples: &[TupleType],
+    tuples: &[NamedTupleType],
     slots: &mut Places,
     places: &Places,
     tree: &KindTree,
@@ -33,7 +32,7 @@ fn of_kind(
     requires { IsScoped (sorts_in scope.now) tuples.now scope.now }
     ensures planned { IfOk result (λ e. DefinitionsPlanned (sorts_in scope.now) places.now (heads_of tuples.now slots.old)
         (Accums (view_kind tree.now) (map view_accum trees.now) ∷ []) (e ∷ []) (heads_of tuples.now slots.new)) }
-    ensures unknown { IfErr result (λ e. e ≢ fault.Memory
+    ensures unknown { IfErr result (λ e. e ≢ fault.OutOfMemory
         → NoDefinition (sorts_in scope.now) places.now (heads_of tuples.now slots.old) (Accums (view_kind tree.now) (map view_accum trees.now))) }
 {
     let kind = kind(alloc, scope, tree)?;
@@ -44,20 +43,20 @@ fn of_kind(
 fn definition(
     alloc: Global,
     scope: &mut Scope<'_>,
-    tuples: &mut List<TupleType>,
+    tuples: &mut List<NamedTupleType>,
     slots: &mut Places,
     places: &Places,
-    tree: &gq_tree::Definition,
+    tree: &gq_tree::DefinitionTree,
 ) -> Result<Definition, PlanFault>
     requires { IsScoped (sorts_in scope.old) tuples.old scope.old }
     ensures planned { IfOk result (λ e. DefinitionsPlanned (sorts_in scope.old) places.now (heads_of tuples.old slots.old)
         (view_definition tree.now ∷ []) (e ∷ []) (heads_of tuples.new slots.new)) }
     ensures scoped { IfOk result (λ _. IsScoped (sorts_in scope.old) tuples.new scope.new) }
-    ensures unknown { IfErr result (λ e. e ≢ fault.Memory
+    ensures unknown { IfErr result (λ e. e ≢ fault.OutOfMemory
         → NoDefinition (sorts_in scope.old) places.now (heads_of tuples.old slots.old) (view_definition tree.now)) }
 {
     match tree {
-        gq_tree::Definition::Tuple(fields, name) => {
+        gq_tree::DefinitionTree::Tuple(fields, name) => {
             tuple_type(
                 alloc,
                 scope,
@@ -67,7 +66,7 @@ fn definition(
                 name.as_str(),
             )
         }
-        gq_tree::Definition::Accums(tree, list) => {
+        gq_tree::DefinitionTree::Accums(tree, list) => {
             of_kind(
                 alloc,
                 scope,
@@ -86,16 +85,16 @@ fn definition(
 pub(crate) fn definitions(
     alloc: Global,
     scope: &mut Scope<'_>,
-    tuples: &mut List<TupleType>,
+    tuples: &mut List<NamedTupleType>,
     slots: &mut Places,
     places: &Places,
-    trees: &[gq_tree::Definition],
+    trees: &[gq_tree::DefinitionTree],
 ) -> Result<List<Definition>, PlanFault>
     requires { IsScoped (sorts_in scope.old) tuples.old scope.old }
     ensures planned { IfOk result (λ es. DefinitionsPlanned (sorts_in scope.old) places.now (heads_of tuples.old slots.old)
         (map view_definition trees.now) es (heads_of tuples.new slots.new)) }
     ensures scoped { IfOk result (λ _. IsScoped (sorts_in scope.old) tuples.new scope.new) }
-    ensures unknown { IfErr result (λ e. e ≢ fault.Memory
+    ensures unknown { IfErr result (λ e. e ≢ fault.OutOfMemory
         → NoDefinitions (sorts_in scope.old) places.now (heads_of tuples.old slots.old) (map view_definition trees.now)) }
 {
     let mut planned = List::new(alloc);

@@ -1,18 +1,42 @@
-//! Plans, made of queries.
+//! The planner: `plan` takes a query that `gq_check` has accepted and returns its plan.
 //!
-//! `plan` takes a query that `check` of gq_check has taken, and gives its plan. Read `specs/Laws.antt` of gq_planned: the plan is made of the
-//! query (`IsPlanned`); and here `specs/Prints.antt`: over any store it prints what the query prints; `specs/Safe.antt`: that of a typed
-//! query is never stuck; `specs/Unplanned.antt`: where no plan can be made, and that a typed query has one.
+//! Names resolve in three layers: the types of the graph with the tuple types and accumulators of the query,
+//! the variables and sets in view, and the aliases of a SELECT. For each place of the frame the plan also
+//! notes its type.
+//!
+//! Read `PlannedLaws.antt` of `gq_plan_laws` first: when a plan is made of a query. Then read
+//! `specs/Prints.antt` (the plan prints what the query prints), `specs/Safe.antt` (the plan of a typed query
+//! is never stuck) and `specs/Unplanned.antt`. The code begins in `src/plans.rt`; `src/found.rt` resolves
+//! names and `src/notes.rt` notes types.
 #![tactic(auto)]
 
+/// What a rule of the checker gives. There is no memory for a query that isn't well typed.
+macro_rules! passed {
+    ($answer:expr) => {
+        match $answer {
+            Ok(it) => it,
+            Err(_) => return Err(OutOfMemory),
+        }
+    };
+}
+
 mod accums;
+mod aliases;
+mod attributes;
 mod definitions;
+mod found;
+mod functions;
 mod laws;
+mod looping;
 mod names;
+mod notes;
 mod parameters;
+mod places;
 mod plans;
+mod statements;
+mod tables;
 mod tuples;
 
-pub use gq_expr_plan::PlanFault;
+pub use found::{CatalogNames, NamedTupleType};
 pub use laws::{a_plan_of_a_typed_query_is_never_stuck, a_plan_prints_what_its_query_prints};
 pub use plans::plan;

@@ -1,11 +1,11 @@
 // Names that are new.
 ghost use Rattle.std.specs.Prelude.{◌≡◌, ◌≢◌, IfOk, IfErr, None, is_some, true};
-ghost use Rattle.gq_places.specs.Named.{seen_at, with_name};
-ghost use Rattle.gq_expr_plan.specs.declared.fault.PlanFault.TheVariants as fault;
-ghost use Rattle.gq_step_plan.specs.Steps.{AnswersIn, new_name};
+ghost use Rattle.gq_scope.specs.Named.{seen_at, with_name};
+ghost use Rattle.gq_plan_expr.specs.declared.fault.PlanFault.TheVariants as fault;
+ghost use Rattle.gq_plan_stmt.specs.Steps.{AnswersIn, new_name};
 
-use gq_expr_plan::PlanFault;
-use gq_places::Places;
+use gq_plan_expr::PlanFault;
+use gq_scope::Places;
 
 /// A parameter comes into view, if its name isn't in view yet. Its place.
 pub(crate) fn add_name(places: &mut Places, name: &str) -> Result<u32, PlanFault>
@@ -25,7 +25,7 @@ pub(crate) fn add_slot(slots: &mut Places, name: &str, attached: bool) -> Result
     ensures new { IfOk result (λ _. seen_at slots.old name.now ≡ None) }
     ensures slot { IfOk result (λ slot. slot ≡ slots.old.next) }
     ensures added { IfOk result (λ _. slots.new ≡ with_name slots.old name.now attached) }
-    ensures unknown { IfErr result (λ e. e ≢ fault.Memory → is_some (seen_at slots.old name.now) ≡ true) }
+    ensures unknown { IfErr result (λ e. e ≢ fault.OutOfMemory → is_some (seen_at slots.old name.now) ≡ true) }
 {
     match slots.find(name) {
         Some(_) => Err(PlanFault::Unknown),

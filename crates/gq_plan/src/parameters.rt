@@ -1,28 +1,26 @@
 // Parameters. They take places from the last one on.
 ghost use Rattle.std.specs.Prelude.{◌≡◌, ◌≢◌, IfOk, IfErr, [], map, reverse};
-ghost use Rattle.gq_typing.specs.StatementViews.{view_base, view_parameter};
+ghost use Rattle.gq_rules_typing.specs.StatementViews.{view_base, view_parameter};
 ghost use Rattle.gq_scope.specs.Held.{sorts_in};
-ghost use Rattle.gq_expr_plan.specs.Resolved.{Answers};
-ghost use Rattle.gq_expr_plan.specs.declared.fault.PlanFault.TheVariants as fault;
-ghost use Rattle.gq_step_plan.specs.Parts.{resolved_base};
-ghost use Rattle.gq_found.specs.Found.{globals_of};
-ghost use Rattle.gq_planned.specs.Laws.{no_names, ParametersPlanned};
+ghost use Rattle.gq_plan_expr.specs.Resolved.{Answers};
+ghost use Rattle.gq_plan_expr.specs.declared.fault.PlanFault.TheVariants as fault;
+ghost use Rattle.gq_plan_stmt.specs.Parts.{resolved_base};
+ghost use Rattle.gq_plan_laws.specs.Found.{globals_of};
+ghost use Rattle.gq_plan_laws.specs.PlannedLaws.{no_names, ParametersPlanned};
 ghost use Rattle.gq_plan.specs.Unplanned.{NoParameters};
 
+use crate::found::CatalogNames;
 use crate::names::add_name;
-use gq_expr_plan::PlanFault;
-use gq_globals::Found;
-use gq_list::List;
-use gq_places::Places;
-use gq_resolved::{Declared, Parameter};
-use gq_scope::Scope;
-use gq_step_plan::plan_base;
+use gq_base::{List, OutOfMemory};
+use gq_plan_expr::PlanFault;
+use gq_plan_ir::{Declared, Parameter};
+use gq_plan_stmt::plan_base;
+use gq_scope::{Places, Scope};
 use gq_tree::BaseTree;
-use gq_value::Memory;
 use std::alloc::Global;
 
 /// In the other order.
-fn turned(alloc: Global, parameters: &[Parameter]) -> Result<List<Parameter>, Memory>
+fn turned(alloc: Global, parameters: &[Parameter]) -> Result<List<Parameter>, OutOfMemory>
     ensures { IfOk result (λ list. list ≡ reverse parameters.now) }
 {
     let list = parameters.iter().rev().copied().collect(alloc)?;
@@ -34,7 +32,7 @@ fn base(alloc: Global, scope: &Scope<'_>, tree: &BaseTree) -> Result<Declared, P
     ensures { Answers (resolved_base (globals_of (sorts_in scope.now) [] no_names) (view_base tree.now)) result }
 {
     let slots = Places::new(alloc);
-    let found = Found {
+    let found = CatalogNames {
         scope,
         tuples: &[],
         slots: &slots,
@@ -48,11 +46,11 @@ pub(crate) fn parameters(
     alloc: Global,
     scope: &Scope<'_>,
     places: &mut Places,
-    trees: &[gq_tree::Parameter],
+    trees: &[gq_tree::ParameterTree],
 ) -> Result<List<Parameter>, PlanFault>
     requires { places.old ≡ no_names }
     ensures planned { IfOk result (λ list. ParametersPlanned (sorts_in scope.now) (map view_parameter trees.now) list places.new) }
-    ensures unknown { IfErr result (λ e. e ≢ fault.Memory → NoParameters (sorts_in scope.now) (map view_parameter trees.now)) }
+    ensures unknown { IfErr result (λ e. e ≢ fault.OutOfMemory → NoParameters (sorts_in scope.now) (map view_parameter trees.now)) }
 {
     let mut planned = List::new(alloc);
     let mut left = trees.len();

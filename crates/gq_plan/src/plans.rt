@@ -2,28 +2,27 @@
 ghost use Rattle.std.specs.Prelude.{◌≡◌, ◌≢◌, ◌<◌, ◌≤◌, IfOk, IfErr, true, false, [], length};
 ghost use Rattle.std.specs.Option.{ForSome};
 ghost use Rattle.std.specs.List.{list_any};
-ghost use Rattle.gq_value.specs.Catalog.{most_types};
-ghost use Rattle.gq_typing.specs.Sorts.{sorts_of};
-ghost use Rattle.gq_typing.specs.StatementViews.{is_v2, view_query};
+ghost use Rattle.gq_graph.specs.Catalog.{most_types};
+ghost use Rattle.gq_rules_typing.specs.Sorts.{sorts_of};
+ghost use Rattle.gq_rules_typing.specs.StatementViews.{is_v2, view_query};
 ghost use Rattle.gq_scope.specs.Held.{graph_in, sorts_in};
-ghost use Rattle.gq_planned.specs.Laws.{IsPlanned};
+ghost use Rattle.gq_plan_laws.specs.PlannedLaws.{IsPlanned};
 ghost use Rattle.gq_plan.specs.Heading.{IsScoped};
-ghost use Rattle.gq_expr_plan.specs.declared.fault.PlanFault.TheVariants as fault;
+ghost use Rattle.gq_plan_expr.specs.declared.fault.PlanFault.TheVariants as fault;
 ghost use Rattle.gq_plan.specs.Prints.{PrintsAs};
 ghost use Rattle.gq_plan.specs.Safe.{NeverStuck};
 ghost use Rattle.gq_plan.specs.Unplanned.{NoPlan, NotTyped};
 
 use crate::definitions::definitions;
+use crate::found::CatalogNames;
 use crate::parameters::parameters;
-use gq_expr_plan::PlanFault;
-use gq_globals::Found;
-use gq_held::places_of;
-use gq_list::List;
-use gq_places::Places;
-use gq_resolved::Plan;
+use crate::places::places_of;
+use gq_base::List;
+use gq_plan_expr::PlanFault;
+use gq_plan_ir::Plan;
+use gq_plan_stmt::plan_steps;
 use gq_schema::Catalog;
-use gq_scope::Scope;
-use gq_step_plan::plan_steps;
+use gq_scope::{Places, Scope};
 use gq_tree::{Mode, QueryTree};
 use std::alloc::Global;
 
@@ -56,12 +55,12 @@ fn planned(alloc: Global, scope: &mut Scope<'_>, query: &QueryTree) -> Result<Pl
     requires { IsScoped (sorts_in scope.old) [] scope.old }
     ensures planned { IfOk result (λ p. IsPlanned (sorts_in scope.old) (view_query query.now) p) }
     ensures few { IfOk result (λ p. length p.edges ≤ most_types) }
-    ensures unknown { IfErr result (λ e. e ≢ fault.Memory → NoPlan (sorts_in scope.old) (view_query query.now)) }
+    ensures unknown { IfErr result (λ e. e ≢ fault.OutOfMemory → NoPlan (sorts_in scope.old) (view_query query.now)) }
 {
     let vertices = List::from_slice(alloc, scope.own_vertices())?;
     let edges = List::from_slice(alloc, scope.own_edges())?;
     if edges.len() > 256 {
-        return Err(PlanFault::Memory);
+        return Err(PlanFault::OutOfMemory);
     }
     let mut places = Places::new(alloc);
     let mut tuples = List::new(alloc);
@@ -69,7 +68,7 @@ fn planned(alloc: Global, scope: &mut Scope<'_>, query: &QueryTree) -> Result<Pl
     let parameters = parameters(alloc, scope, &mut places, query.parameters.as_slice())?;
     let trees = query.body.definitions.as_slice();
     let definitions = definitions(alloc, scope, &mut tuples, &mut slots, &places, trees)?;
-    let found = Found {
+    let found = CatalogNames {
         scope: &*scope,
         tuples: tuples.as_slice(),
         slots: &slots,
@@ -100,7 +99,7 @@ fn has_graph(catalog: &Catalog, graph: Option<u32>) -> bool
 /// The plan of a query for a graph of the catalog, by the graph's number; the query was taken by `check` of gq_check. It takes some frames of
 /// the stack for each level of the query's trees.
 ///
-/// Unknown comes for a graph that isn't there and for a query that isn't well typed, and for no other. Memory may come for such a query
+/// Unknown comes for a graph that isn't there and for a query that isn't well typed, and for no other. OutOfMemory may come for such a query
 /// too.
 #[tactic(auto, using(crate::proofs::PrintLaws::plan_laws, crate::proofs::TypedLaws::typed_laws))]
 pub fn plan(
@@ -114,7 +113,7 @@ pub fn plan(
     ensures prints { IfOk result (λ p. PrintsAs catalog.now (graph_in catalog.now graph) (view_query query.now) p) }
     ensures safe { IfOk result (λ p. NeverStuck catalog.now (graph_in catalog.now graph) (view_query query.now) p) }
     ensures few { IfOk result (λ p. length p.edges ≤ most_types) }
-    ensures unknown { IfErr result (λ e. e ≢ fault.Memory → ForSome graph (λ g. g < length catalog.now.graphs)
+    ensures unknown { IfErr result (λ e. e ≢ fault.OutOfMemory → ForSome graph (λ g. g < length catalog.now.graphs)
         → NotTyped (sorts_of catalog.now (graph_in catalog.now graph)) (view_query query.now)) }
 {
     if !has_graph(catalog, graph) {

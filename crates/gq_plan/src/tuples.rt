@@ -1,31 +1,30 @@
 // Tuple types.
 ghost use Rattle.std.specs.Prelude.{◌≡◌, ◌≢◌, ◌++◌, IfOk, IfErr, Ok, true, [], ◌∷◌, map};
 ghost use Rattle.gq_value.specs.AccumViews.{base_of};
-ghost use Rattle.gq_typing.specs.KindTypes as kinds;
-ghost use Rattle.gq_typing.specs.Scopes as typing;
-ghost use Rattle.gq_typing.specs.Statements.{TupleType as a_tuple_type};
-ghost use Rattle.gq_typing.specs.StatementViews.{view_base, view_fields};
+ghost use Rattle.gq_rules_typing.specs.KindTypes as kinds;
+ghost use Rattle.gq_rules_typing.specs.Scopes as typing;
+ghost use Rattle.gq_rules_typing.specs.Statements.{TupleType as a_tuple_type};
+ghost use Rattle.gq_rules_typing.specs.StatementViews.{view_base, view_fields};
 ghost use Rattle.gq_scope.specs.Held.{fields_of, scope_in, sorts_in};
-ghost use Rattle.gq_expr_plan.specs.Resolved.{Answers};
-ghost use Rattle.gq_expr_plan.specs.declared.fault.PlanFault.TheVariants as fault;
-ghost use Rattle.gq_block_plan.specs.Resolved.{each_resolved};
-ghost use Rattle.gq_places.specs.Named.{Named};
-ghost use Rattle.gq_found.specs.Found.{globals_of};
-ghost use Rattle.gq_planned.specs.Planned.{DefinitionsPlanned};
+ghost use Rattle.gq_plan_expr.specs.Resolved.{Answers};
+ghost use Rattle.gq_plan_expr.specs.declared.fault.PlanFault.TheVariants as fault;
+ghost use Rattle.gq_plan_select.specs.Resolved.{each_resolved};
+ghost use Rattle.gq_scope.specs.Named.{Named};
+ghost use Rattle.gq_plan_laws.specs.Found.{globals_of};
+ghost use Rattle.gq_plan_laws.specs.Planned.{DefinitionsPlanned};
 ghost use Rattle.gq_plan.specs.Heading.{IsScoped, heads_of, resolved_field};
 ghost use Rattle.gq_plan.specs.Unplanned.{Fails, NoDefinition, is_taken, tuple_names};
 
 use crate::accums::fault_of;
-use gq_expr_plan::PlanFault;
-use gq_globals::{Found, TupleType};
-use gq_kind_check::base_written;
-use gq_list::List;
-use gq_places::Places;
-use gq_resolved::{Declared, Definition};
-use gq_scope::{Entry, Scope};
-use gq_step_plan::plan_base;
+use crate::found::{CatalogNames, NamedTupleType};
+use gq_base::{List, OutOfMemory};
+use gq_check_decls::base_written;
+use gq_plan_expr::PlanFault;
+use gq_plan_ir::{Declared, Definition};
+use gq_plan_stmt::plan_base;
+use gq_scope::{Entry, Places, Scope};
 use gq_tree::BaseTree;
-use gq_value::{BaseType, Memory, Txt};
+use gq_value::{BaseType, Txt};
 use std::alloc::Global;
 
 // ---- the fields of the plan
@@ -33,7 +32,7 @@ use std::alloc::Global;
 /// A field as the plan has it.
 fn planned_field(
     alloc: Global,
-    found: &Found<'_, '_>,
+    found: &CatalogNames<'_, '_>,
     tree: &(BaseTree, Txt),
 ) -> Result<(Declared, Txt), PlanFault>
     ensures { Answers (resolved_field (globals_of (sorts_in found.now.scope.now) found.now.tuples.now found.now.slots.now) (view_base tree.now.0, tree.now.1)) result }
@@ -43,10 +42,10 @@ fn planned_field(
     Ok((base, name))
 }
 
-#[tactic(auto, using(gq_expr_plan::proofs::ListLemmas::list_laws))]
+#[tactic(auto, using(gq_plan_expr::proofs::ListLemmas::list_laws))]
 fn planned_fields(
     alloc: Global,
-    found: &Found<'_, '_>,
+    found: &CatalogNames<'_, '_>,
     trees: &[(BaseTree, Txt)],
 ) -> Result<List<(Declared, Txt)>, PlanFault>
     ensures { Answers (each_resolved (resolved_field (globals_of (sorts_in found.now.scope.now) found.now.tuples.now found.now.slots.now)) (view_fields trees.now)) result }
@@ -65,7 +64,7 @@ fn planned_fields(
 #[tactic(auto, using(crate::proofs::FailLemmas::fail_laws))]
 fn field_type(alloc: Global, scope: &Scope<'_>, tree: &BaseTree) -> Result<BaseType, PlanFault>
     ensures typed { IfOk result (λ base. typing.base_written (scope_in scope.now) (view_base tree.now) ≡ Ok (base_of base)) }
-    ensures unknown { IfErr result (λ e. e ≢ fault.Memory → Fails (typing.base_written (scope_in scope.now) (view_base tree.now))) }
+    ensures unknown { IfErr result (λ e. e ≢ fault.OutOfMemory → Fails (typing.base_written (scope_in scope.now) (view_base tree.now))) }
 {
     match base_written(alloc, scope, tree) {
         Ok(base) => Ok(base),
@@ -89,7 +88,7 @@ fn stands_in(fields: &[(Txt, BaseType)], name: &str) -> bool
 #[tactic(auto, using(crate::proofs::FieldLemmas::name_laws))]
 fn own_name(fields: &[(Txt, BaseType)], name: &str) -> Result<(), PlanFault>
     ensures own { IfOk result (λ _. kinds.own_name 16 (map (λ f. f.0) fields.now) name.now ≡ Ok (map (λ f. f.0) fields.now ++ name.now ∷ [])) }
-    ensures unknown { IfErr result (λ e. e ≢ fault.Memory → Fails (kinds.own_name 16 (map (λ f. f.0) fields.now) name.now)) }
+    ensures unknown { IfErr result (λ e. e ≢ fault.OutOfMemory → Fails (kinds.own_name 16 (map (λ f. f.0) fields.now) name.now)) }
 {
     if stands_in(fields, name) {
         return Err(PlanFault::Unknown);
@@ -108,7 +107,7 @@ fn typed_fields(
     trees: &[(BaseTree, Txt)],
 ) -> Result<List<(Txt, BaseType)>, PlanFault>
     ensures typed { IfOk result (λ fields. kinds.fields_written (scope_in scope.now) 16 [] (view_fields trees.now) ≡ Ok (fields_of fields)) }
-    ensures unknown { IfErr result (λ e. e ≢ fault.Memory → Fails (kinds.fields_written (scope_in scope.now) 16 [] (view_fields trees.now))) }
+    ensures unknown { IfErr result (λ e. e ≢ fault.OutOfMemory → Fails (kinds.fields_written (scope_in scope.now) 16 [] (view_fields trees.now))) }
 {
     let mut fields = List::new(alloc);
     for tree in trees {
@@ -121,7 +120,7 @@ fn typed_fields(
 }
 
 /// A copy.
-fn copied(alloc: Global, fields: &[(Txt, BaseType)]) -> Result<List<(Txt, BaseType)>, Memory>
+fn copied(alloc: Global, fields: &[(Txt, BaseType)]) -> Result<List<(Txt, BaseType)>, OutOfMemory>
     ensures { IfOk result (λ list. list ≡ fields.now) }
 {
     let mut list = List::new(alloc);
@@ -140,14 +139,14 @@ fn copied(alloc: Global, fields: &[(Txt, BaseType)]) -> Result<List<(Txt, BaseTy
 fn declare(
     alloc: Global,
     scope: &mut Scope<'_>,
-    tuples: &mut List<TupleType>,
+    tuples: &mut List<NamedTupleType>,
     name: &str,
     fields: List<(Txt, BaseType)>,
 ) -> Result<(), PlanFault>
     requires { IsScoped (sorts_in scope.old) tuples.old scope.old }
     ensures scoped { IfOk result (λ _. IsScoped (sorts_in scope.old) tuples.new scope.new) }
     ensures added { IfOk result (λ _. tuples.new ≡ tuples.old ++ (name.now, fields) ∷ []) }
-    ensures unknown { IfErr result (λ e. e ≢ fault.Memory → is_taken (tuple_names tuples.old) name.now ≡ true) }
+    ensures unknown { IfErr result (λ e. e ≢ fault.OutOfMemory → is_taken (tuple_names tuples.old) name.now ≡ true) }
 {
     if scope.has(name) {
         return Err(PlanFault::Unknown);
@@ -164,7 +163,7 @@ fn declare(
 pub(crate) fn tuple_type(
     alloc: Global,
     scope: &mut Scope<'_>,
-    tuples: &mut List<TupleType>,
+    tuples: &mut List<NamedTupleType>,
     slots: &Places,
     trees: &[(BaseTree, Txt)],
     name: &str,
@@ -173,14 +172,14 @@ pub(crate) fn tuple_type(
     ensures planned { IfOk result (λ e. (n : Named) → DefinitionsPlanned (sorts_in scope.old) n (heads_of tuples.old slots.now)
         (a_tuple_type (view_fields trees.now) name.now ∷ []) (e ∷ []) (heads_of tuples.new slots.now)) }
     ensures scoped { IfOk result (λ _. IsScoped (sorts_in scope.old) tuples.new scope.new) }
-    ensures unknown { IfErr result (λ f. f ≢ fault.Memory → (n : Named)
+    ensures unknown { IfErr result (λ f. f ≢ fault.OutOfMemory → (n : Named)
         → NoDefinition (sorts_in scope.old) n (heads_of tuples.old slots.now) (a_tuple_type (view_fields trees.now) name.now)) }
 {
     let number = tuples.len();
     if number > u32::MAX as usize {
-        return Err(PlanFault::Memory);
+        return Err(PlanFault::OutOfMemory);
     }
-    let found = Found {
+    let found = CatalogNames {
         scope: &*scope,
         tuples: tuples.as_slice(),
         slots,

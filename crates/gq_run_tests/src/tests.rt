@@ -4,10 +4,10 @@ use crate::files::{
     EARLY_LINE, FAULT_LINES, FILES, FRIENDS_LINES, GROUPS_LINE, INSERT_LINE, LOADS_LINE,
     SAMPLE_LINES, SEVEN, SEVEN_LINE, SUMS_LINE,
 };
+use gq_diagnostics::Status;
+use gq_driver::run;
 use gq_engine::Engine;
 use gq_io::{AnyGate, HeldGate, HoldGate, MemoryFiles, MemorySink, SureFiles, SureSink};
-use gq_outcome::Status;
-use gq_run::run;
 use std::alloc::Global;
 use std::test::Fail;
 use std::thread::Threads;

@@ -2,9 +2,9 @@
 use Rattle.std.proofs.Common.{ℕ, suc, ◌+◌, ◌<◌, ◌≡◌, Bool, true, false, not, cond, List, [], ◌∷◌, ◌++◌, length, get_or, take, drop, map, Option, Some, None, refl, ap, sym, ◌∙◌, arith, add-one, drop-cons, is_some}
 use Rattle.std.specs.List.{find}
 use Rattle.std.specs.Option.{option_map}
-use Rattle.gq_value.specs.declared.catalog.Attribute.{Attribute}
-use Rattle.gq_value.specs.Defaults.{has_good_default}
-use Rattle.gq_value.specs.Catalog.{stands}
+use Rattle.gq_graph.specs.declared.types.Attribute.{Attribute}
+use Rattle.gq_graph.specs.Defaults.{has_good_default}
+use Rattle.gq_graph.specs.Catalog.{stands}
 use Rattle.gq_schema.specs.declared.fault.SchemaFault.{SchemaFault}
 use Rattle.gq_schema.specs.declared.fault.SchemaFault.TheVariants as fault
 use Rattle.gq_schema.specs.Refusals.{bad_default, attribute_names, twice_after}

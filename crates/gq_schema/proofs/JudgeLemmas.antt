@@ -8,17 +8,17 @@ use Rattle.std.specs.Option.{option_or, option_map, option_to_list}
 use Rattle.std.proofs.lemmas.List.{map-append}
 use Rattle.std.proofs.lemmas.List.Folds.{find-append}
 use Rattle.std.proofs.lemmas.Iterator.Adapters.{position_from-zero}
-use Rattle.gq_value.specs.declared.catalog.Attribute.{Attribute}
-use Rattle.gq_value.specs.declared.catalog.IdShape.{IdShape}
-use Rattle.gq_value.specs.declared.catalog.EdgeType.{EdgeType}
-use Rattle.gq_value.specs.Defaults.{has_good_default}
-use Rattle.gq_value.specs.Catalog.{Schema, stands, type_count, name_place, edge_names, vertex_type_of, edge_type_of}
+use Rattle.gq_graph.specs.declared.types.Attribute.{Attribute}
+use Rattle.gq_graph.specs.declared.types.IdShape.{IdShape}
+use Rattle.gq_graph.specs.declared.types.EdgeType.{EdgeType}
+use Rattle.gq_graph.specs.Defaults.{has_good_default}
+use Rattle.gq_graph.specs.Catalog.{Schema, stands, type_count, name_place, edge_names, vertex_type_of, edge_type_of}
 use Rattle.gq_schema.specs.declared.fault.SchemaFault.{SchemaFault}
 use Rattle.gq_schema.specs.declared.fault.SchemaFault.TheVariants as fault
 use Rattle.gq_schema.specs.Refusals.{Judges, is_type, taken, reverse_taken, no_end, twice_after, twice, attribute_names, shown_id, bad_default, too_many, attribute_refusal, vertex_refusal, edge_refusal}
 
 -- the fault of the first rule
-pub judge_fault : (due rest : Option SchemaFault) (f : SchemaFault) → (f ≢ fault.Memory → due ≡ Some f) → f ≢ fault.Memory → option_or due rest ≡ Some f
+pub judge_fault : (due rest : Option SchemaFault) (f : SchemaFault) → (f ≢ fault.OutOfMemory → due ≡ Some f) → f ≢ fault.OutOfMemory → option_or due rest ≡ Some f
 judge_fault due rest f is other = ap (λ o. option_or o rest) (is other)
 
 -- the first rule holds

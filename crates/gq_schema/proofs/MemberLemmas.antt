@@ -13,9 +13,9 @@ use Rattle.std.proofs.lemmas.List.Elements.{filter-append}
 use Rattle.std.proofs.lemmas.List.Folds.{list_any_more}
 use Rattle.std.proofs.lemmas.List.FromFn.{length-range_with_len, get_or-map-range_with_len, get_or-range_with_len}
 use Rattle.std.proofs.lemmas.List.Quantifiers.{position-Some}
-use Rattle.gq_value.specs.Catalog.{Schema, name_place, vertex_names, edge_names, vertex_type_of, edge_type_of}
-use Rattle.gq_value.specs.declared.catalog.VertexType.{VertexType}
-use Rattle.gq_value.specs.declared.catalog.EdgeType.{EdgeType}
+use Rattle.gq_graph.specs.Catalog.{Schema, name_place, vertex_names, edge_names, vertex_type_of, edge_type_of}
+use Rattle.gq_graph.specs.declared.types.VertexType.{VertexType}
+use Rattle.gq_graph.specs.declared.types.EdgeType.{EdgeType}
 use Rattle.gq_schema.specs.Members.{below, is_number, is_listed, marked_by, edge_type_at, has_vertex, names_edge, has_edge, has_ends, fits, misfit, vertex_marks, edge_marks, is_marked, is_pair_marked, has_ends_marked, fits_marked, has_edge_marked}
 
 range_more : (a n : ℕ) → range_with_len a (n + 1) ≡ range_with_len a n ++ (a + n) ∷ []

@@ -5,9 +5,9 @@ use Rattle.std.specs.List.{position}
 use Rattle.std.proofs.lemmas.Bool.{cases_lt}
 use Rattle.std.proofs.lemmas.Slice.Eq.{bytes_eq-Decides}
 use Rattle.std.proofs.lemmas.List.{length-map, get_or-map, map_push, get_or_read, get_or_append_left, get_or_push, get_or-take, length-take-le, length_push, take-map}
-use Rattle.gq_hash.specs.Last.{IsLast}
-use Rattle.gq_hash.proofs.Seeks.{Seeks, Hits, seek_starts, seek_goes, seek_none, seek_found, nowhere}
-use Rattle.gq_value.specs.Catalog.{name_place}
+use Rattle.gq_base.specs.Last.{IsLast}
+use Rattle.gq_base.proofs.Seeks.{Seeks, Hits, seek_starts, seek_goes, seek_none, seek_found, nowhere}
+use Rattle.gq_graph.specs.Catalog.{name_place}
 use Rattle.gq_schema.specs.Kept.{name_hash, name_at, AreHashed}
 
 -- what stands of the walk for a name

@@ -1,11 +1,11 @@
 -- Kept: what the code keeps beside a list of entries, namely their names, and each name's hash.
 use Rattle.std.specs.Prelude.{ℕ, ◌+◌, ◌<◌, ◌≤◌, ◌≡◌, ◌≢◌, List, [], length, map, slice_index_or, MatchOption, Option, Some, None}
 use Rattle.std.specs.Option.{ForSome}
-use Rattle.gq_hash.specs.Hash.{hash_from}
-use Rattle.gq_value.specs.declared.catalog.VertexType.{VertexType}
-use Rattle.gq_value.specs.declared.catalog.EdgeType.{EdgeType}
-use Rattle.gq_value.specs.declared.catalog.GraphType.{GraphType}
-use Rattle.gq_value.specs.Catalog.{vertex_names, edge_names, graph_names, most_types}
+use Rattle.gq_base.specs.Hash.{hash_from}
+use Rattle.gq_graph.specs.declared.types.VertexType.{VertexType}
+use Rattle.gq_graph.specs.declared.types.EdgeType.{EdgeType}
+use Rattle.gq_graph.specs.declared.types.GraphType.{GraphType}
+use Rattle.gq_graph.specs.Catalog.{vertex_names, edge_names, graph_names, most_types}
 
 -- the hash of a name
 abbrev pub name_hash : List ℕ → ℕ

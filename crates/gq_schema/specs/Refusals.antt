@@ -2,18 +2,18 @@
 -- builds the fault where one fails.
 use Rattle.std.specs.Prelude.{ℕ, ◌+◌, ◌≡◌, ◌≢◌, Bool, true, false, not, ◌||◌, ◌&&◌, nat_lt, if◌then◌else◌, List, [], ◌∷◌, ◌++◌, length, map, Option, Some, None, Result, Ok, Err, bytes_eq, find, is_some}
 use Rattle.std.specs.Option.{option_map, option_or, option_map_or}
-use Rattle.gq_value.specs.declared.catalog.IdShape.{IdShape}
-use Rattle.gq_value.specs.declared.catalog.Attribute.{Attribute}
-use Rattle.gq_value.specs.Defaults.{has_good_default}
-use Rattle.gq_value.specs.Catalog.{Schema, stands, vertex_type_of, edge_type_of, graph_of, type_count, most_types}
+use Rattle.gq_graph.specs.declared.types.IdShape.{IdShape}
+use Rattle.gq_graph.specs.declared.types.Attribute.{Attribute}
+use Rattle.gq_graph.specs.Defaults.{has_good_default}
+use Rattle.gq_graph.specs.Catalog.{Schema, stands, vertex_type_of, edge_type_of, graph_of, type_count, most_types}
 use Rattle.gq_schema.specs.declared.fault.SchemaFault.{SchemaFault}
 use Rattle.gq_schema.specs.declared.fault.SchemaFault.TheVariants as fault
 use Rattle.gq_schema.specs.Members.{misfit}
 
--- a call answers the fault that is due, or want of memory; it answers Ok only where none is due
+-- a call answers the fault that is due, or OutOfMemory; it answers Ok only where none is due
 abbrev pub Judges : {A : Type 0} → Option SchemaFault → Result A SchemaFault → Type 0
 Judges due (Ok a) = due ≡ None
-Judges due (Err f) = f ≢ fault.Memory → due ≡ Some f
+Judges due (Err f) = f ≢ fault.OutOfMemory → due ≡ Some f
 
 -- whether a vertex or edge type has the name
 abbrev pub is_type : Schema → List ℕ → Bool

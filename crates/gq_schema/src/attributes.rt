@@ -3,13 +3,14 @@ ghost use Rattle.std.specs.Prelude.{◌≡◌, ◌≢◌, ◌++◌, true, All, I
 ghost use Rattle.std.specs.Option.{option_map};
 ghost use Rattle.gq_value.specs.Views.{val};
 ghost use Rattle.gq_value.specs.Val.{Int, UInt};
-ghost use Rattle.gq_value.specs.Defaults as spec;
+ghost use Rattle.gq_graph.specs.Defaults as spec;
 ghost use Rattle.gq_schema.specs.Refusals.{Judges, attribute_names, twice_after, bad_default as bad_default_of};
 
-use crate::SchemaFault;
-use crate::fault::{attribute_twice, bad_default};
+use crate::fault::{SchemaFault, attribute_twice, bad_default};
 use crate::names::NameTable;
-use gq_value::{Attribute, BaseType, Memory, Txt, Value};
+use gq_base::OutOfMemory;
+use gq_graph::Attribute;
+use gq_value::{BaseType, Txt, Value};
 use std::alloc::Global;
 
 const FIRST_SECOND: i64 = -62_167_219_200;
@@ -17,7 +18,7 @@ const FIRST_SECOND: i64 = -62_167_219_200;
 const LAST_SECOND: i64 = 253_402_300_799;
 
 /// Whether a value is one of the type, or a number that is converted to it.
-#[tactic(auto, using(gq_value::specs::ViewLaws::view_laws, gq_value::specs::SortLaws::sort_laws))]
+#[tactic(auto, using(gq_value::specs::ViewLaws::view_laws, gq_graph::specs::SortLaws::sort_laws))]
 fn suits(kind: &BaseType, value: &Value) -> bool
     ensures { result ≡ spec.suits (val value.now) (spec.sort_of kind.now) }
 {
@@ -38,7 +39,7 @@ fn suits(kind: &BaseType, value: &Value) -> bool
     }
 }
 
-#[tactic(auto, using(gq_value::specs::SortLaws::sort_laws))]
+#[tactic(auto, using(gq_graph::specs::SortLaws::sort_laws))]
 fn int_suits(kind: &BaseType, n: i64) -> bool
     ensures { result ≡ spec.suits (Int n) (spec.sort_of kind.now) }
 {
@@ -51,7 +52,7 @@ fn int_suits(kind: &BaseType, n: i64) -> bool
     }
 }
 
-#[tactic(auto, using(gq_value::specs::SortLaws::sort_laws))]
+#[tactic(auto, using(gq_graph::specs::SortLaws::sort_laws))]
 fn uint_suits(kind: &BaseType, n: u64) -> bool
     ensures { result ≡ spec.suits (UInt n) (spec.sort_of kind.now) }
 {
@@ -64,8 +65,8 @@ fn uint_suits(kind: &BaseType, n: u64) -> bool
 }
 
 /// A copy of a value that suits the type, as one of the type.
-#[tactic(auto, using(gq_value::specs::ViewLaws::view_laws, gq_value::specs::SortLaws::sort_laws))]
-fn converted(alloc: Global, kind: &BaseType, value: &Value) -> Result<Value, Memory>
+#[tactic(auto, using(gq_value::specs::ViewLaws::view_laws, gq_graph::specs::SortLaws::sort_laws))]
+fn converted(alloc: Global, kind: &BaseType, value: &Value) -> Result<Value, OutOfMemory>
     requires { spec.suits (val value.now) (spec.sort_of kind.now) ≡ true }
     ensures { IfOk result (λ v. v ≡ spec.converted (spec.sort_of kind.now) value.now) }
 {
@@ -87,7 +88,7 @@ fn converted(alloc: Global, kind: &BaseType, value: &Value) -> Result<Value, Mem
     }
 }
 
-#[tactic(auto, using(gq_value::specs::SortLaws::sort_laws))]
+#[tactic(auto, using(gq_graph::specs::SortLaws::sort_laws))]
 fn kind_of(kind: &BaseType) -> BaseType
     requires { spec.is_plain_sort (spec.sort_of kind.now) ≡ true }
     ensures { result ≡ kind.now }
@@ -103,7 +104,7 @@ fn kind_of(kind: &BaseType) -> BaseType
 }
 
 /// A copy of an attribute, as it is kept.
-fn settled(alloc: Global, attribute: &Attribute) -> Result<Attribute, Memory>
+fn settled(alloc: Global, attribute: &Attribute) -> Result<Attribute, OutOfMemory>
     requires plain { spec.is_plain attribute.now ≡ true }
     requires good { spec.has_good_default attribute.now ≡ true }
     ensures { IfOk result (λ a. a ≡ spec.settled attribute.now) }
@@ -126,7 +127,7 @@ pub(crate) fn add_settled(
     alloc: Global,
     into: &mut Vec<Attribute>,
     attributes: &[Attribute],
-) -> Result<(), Memory>
+) -> Result<(), OutOfMemory>
     requires plain { All (λ a. spec.is_plain a ≡ true) attributes.now }
     requires good { All (λ a. spec.has_good_default a ≡ true) attributes.now }
     ensures { OnOk result (into.new.items ≡ into.old.items ++ map spec.settled attributes.now) }
@@ -153,7 +154,7 @@ pub(crate) fn check_names(
         }
         match table.push(name) {
             Ok(()) => {}
-            Err(Memory) => return Err(SchemaFault::Memory),
+            Err(OutOfMemory) => return Err(SchemaFault::OutOfMemory),
         }
     }
     Ok(())

@@ -1,18 +1,19 @@
 // The catalog.
 ghost use Rattle.std.specs.Prelude.{◌≡◌, ◌<◌, ◌≤◌, ◌+◌, ◌++◌, [], ◌∷◌, length, All, true, false, Some, None, MatchResult, slice_get};
 ghost use Rattle.std.specs.Option.{option_copied, option_map, ForSome};
-ghost use Rattle.gq_value.specs.Defaults.{is_plain};
-ghost use Rattle.gq_value.specs.Catalog as spec;
+ghost use Rattle.gq_graph.specs.Defaults.{is_plain};
+ghost use Rattle.gq_graph.specs.Catalog as spec;
 ghost use Rattle.gq_schema.specs.Refusals.{Judges, vertex_refusal, edge_refusal, graph_refusal};
 ghost use Rattle.gq_schema.specs.Members.{graph_with};
 
-use crate::SchemaFault;
 use crate::entries::{
     append_edge_types, append_graph, append_vertex_type, backward_type, edge_type, number_behind,
     vertex_type,
 };
+use crate::fault::SchemaFault;
 use crate::names::NameTable;
-use gq_value::{Attributes, EdgeType, GraphType, IdShape, Memory, Names, VertexType};
+use gq_base::OutOfMemory;
+use gq_graph::{Attributes, EdgeType, GraphType, IdShape, Names, VertexType};
 use std::alloc::Global;
 use std::marker::Model;
 
@@ -31,7 +32,7 @@ impl Model for Catalog {
     ghost use Rattle.std.specs.Coded.{codes};
     ghost use Rattle.gq_value.specs.contracts.value.Value as value;
     ghost use Rattle.gq_value.specs.contracts.kind.BaseType as base;
-    ghost use Rattle.gq_value.specs.Catalog.{Schema};
+    ghost use Rattle.gq_graph.specs.Catalog.{Schema};
     ghost use Rattle.gq_schema.specs.Kept.{IsKept};
 
     ghost Value = { Schema };
@@ -154,11 +155,11 @@ impl Catalog {
         }
         let entry = match vertex_type(alloc, name, id, attributes.as_slice()) {
             Ok(entry) => entry,
-            Err(Memory) => return Err(SchemaFault::Memory),
+            Err(OutOfMemory) => return Err(SchemaFault::OutOfMemory),
         };
         match append_vertex_type(&mut self.vertex_names, &mut self.vertex_types, entry) {
             Ok(number) => Ok(number),
-            Err(Memory) => Err(SchemaFault::Memory),
+            Err(OutOfMemory) => Err(SchemaFault::OutOfMemory),
         }
     }
 
@@ -194,7 +195,7 @@ impl Catalog {
         let pair = (None, number_behind(reverse, number));
         let forward = match edge_type(alloc, name, directed, (from, to), pair, key, rest) {
             Ok(entry) => entry,
-            Err(Memory) => return Err(SchemaFault::Memory),
+            Err(OutOfMemory) => return Err(SchemaFault::OutOfMemory),
         };
         let backward = match backward_type(
             alloc,
@@ -206,7 +207,7 @@ impl Catalog {
             rest,
         ) {
             Ok(entry) => entry,
-            Err(Memory) => return Err(SchemaFault::Memory),
+            Err(OutOfMemory) => return Err(SchemaFault::OutOfMemory),
         };
         match append_edge_types(
             &mut self.edge_names,
@@ -215,7 +216,7 @@ impl Catalog {
             backward,
         ) {
             Ok(number) => Ok(number),
-            Err(Memory) => Err(SchemaFault::Memory),
+            Err(OutOfMemory) => Err(SchemaFault::OutOfMemory),
         }
     }
 
@@ -238,7 +239,7 @@ impl Catalog {
         };
         match append_graph(&mut self.graph_names, &mut self.graphs, entry) {
             Ok(number) => Ok(number),
-            Err(Memory) => Err(SchemaFault::Memory),
+            Err(OutOfMemory) => Err(SchemaFault::OutOfMemory),
         }
     }
 }

@@ -1,15 +1,16 @@
 // The rules that a declaration may fail.
 ghost use Rattle.std.specs.Prelude.{◌≡◌, ◌<◌, ◌≤◌, ◌+◌, ◌++◌, [], ◌∷◌, length, All, true, Some, None, IfOk, OnOk};
 ghost use Rattle.std.specs.Option.{option_copied};
-ghost use Rattle.gq_value.specs.Defaults.{has_good_default};
-ghost use Rattle.gq_value.specs.Catalog.{vertex_type_of, type_count};
+ghost use Rattle.gq_graph.specs.Defaults.{has_good_default};
+ghost use Rattle.gq_graph.specs.Catalog.{vertex_type_of, type_count};
 ghost use Rattle.gq_schema.specs.Refusals as spec;
 
 use crate::attributes::{check_defaults, check_names};
-use crate::fault::{graph_exists, name_taken, no_such_type};
+use crate::catalog::Catalog;
+use crate::fault::{SchemaFault, graph_exists, name_taken, no_such_type};
 use crate::names::NameTable;
-use crate::{Catalog, SchemaFault};
-use gq_value::{Attribute, IdShape, Memory};
+use gq_base::OutOfMemory;
+use gq_graph::{Attribute, IdShape};
 use std::alloc::Global;
 
 impl Catalog {
@@ -168,7 +169,7 @@ fn check_vertex_names(
     if id.shown {
         match names.push(id.name.as_str()) {
             Ok(()) => {}
-            Err(Memory) => return Err(SchemaFault::Memory),
+            Err(OutOfMemory) => return Err(SchemaFault::OutOfMemory),
         }
     }
     check_names(alloc, &mut names, attributes)

@@ -1,17 +1,18 @@
 // New entries of the catalog.
 ghost use Rattle.std.specs.Prelude.{◌≡◌, ◌<◌, ◌≤◌, ◌+◌, ◌++◌, [], ◌∷◌, length, map, All, true, Some, None, IfOk, OnOk, MatchResult, vec_len, vec_capacity, option_to_list};
 ghost use Rattle.std.specs.Option.{option_map, option_copied, ForSome};
-ghost use Rattle.gq_value.specs.Defaults.{is_plain, has_good_default, settled};
-ghost use Rattle.gq_value.specs.Catalog.{vertex_names, edge_names, graph_names, name_place, edge_type_with};
+ghost use Rattle.gq_graph.specs.Defaults.{is_plain, has_good_default, settled};
+ghost use Rattle.gq_graph.specs.Catalog.{vertex_names, edge_names, graph_names, name_place, edge_type_with};
 
 use crate::attributes::add_settled;
 use crate::names::NameTable;
-use gq_list::List;
-use gq_value::{Attribute, Attributes, EdgeType, GraphType, IdShape, Memory, Txt, VertexType};
+use gq_base::{List, OutOfMemory};
+use gq_graph::{Attribute, Attributes, EdgeType, GraphType, IdShape, VertexType};
+use gq_value::Txt;
 use std::alloc::Global;
 
 /// Copies of attributes, as they are kept.
-fn settled_list(alloc: Global, attributes: &[Attribute]) -> Result<Attributes, Memory>
+fn settled_list(alloc: Global, attributes: &[Attribute]) -> Result<Attributes, OutOfMemory>
     requires plain { All (λ a. is_plain a ≡ true) attributes.now }
     requires good { All (λ a. has_good_default a ≡ true) attributes.now }
     ensures { IfOk result (λ l. l ≡ map settled attributes.now) }
@@ -30,7 +31,7 @@ pub(crate) fn edge_type(
     pair: (Option<u32>, Option<u32>),
     key: &[Attribute],
     rest: &[Attribute],
-) -> Result<EdgeType, Memory>
+) -> Result<EdgeType, OutOfMemory>
     requires plain_key { All (λ a. is_plain a ≡ true) key.now }
     requires good_key { All (λ a. has_good_default a ≡ true) key.now }
     requires plain { All (λ a. is_plain a ≡ true) rest.now }
@@ -38,7 +39,7 @@ pub(crate) fn edge_type(
     ensures { IfOk result (λ t. t ≡ edge_type_with name.now directed ends.0 ends.1 pair.0 pair.1 (length key.now) (key.now ++ rest.now)) }
 {
     if key.len() > u32::MAX as usize {
-        return Err(Memory);
+        return Err(OutOfMemory);
     }
     let mut copies = Vec::new(alloc);
     add_settled(alloc, &mut copies, key)?;
@@ -75,7 +76,7 @@ pub(crate) fn backward_type(
     forward: u32,
     key: &[Attribute],
     rest: &[Attribute],
-) -> Result<Option<EdgeType>, Memory>
+) -> Result<Option<EdgeType>, OutOfMemory>
     requires plain_key { All (λ a. is_plain a ≡ true) key.now }
     requires good_key { All (λ a. has_good_default a ≡ true) key.now }
     requires plain { All (λ a. is_plain a ≡ true) rest.now }
@@ -105,7 +106,7 @@ pub(crate) fn vertex_type(
     name: &str,
     id: &IdShape,
     attributes: &[Attribute],
-) -> Result<VertexType, Memory>
+) -> Result<VertexType, OutOfMemory>
     requires plain { All (λ a. is_plain a ≡ true) attributes.now }
     requires good { All (λ a. has_good_default a ≡ true) attributes.now }
     ensures { IfOk result (λ t. t ≡ record { name = name.now; id = id.now; attributes = map settled attributes.now }) }
@@ -126,7 +127,7 @@ pub(crate) fn append_vertex_type(
     names: &mut NameTable,
     types: &mut Vec<VertexType>,
     entry: VertexType,
-) -> Result<u32, Memory>
+) -> Result<u32, OutOfMemory>
     requires named { names.old ≡ vertex_names types.old.items }
     requires new { name_place names.old entry.name ≡ None }
     requires few { vec_len types.old < 256 }
@@ -158,7 +159,7 @@ pub(crate) fn append_edge_types(
     types: &mut Vec<EdgeType>,
     forward: EdgeType,
     backward: Option<EdgeType>,
-) -> Result<u32, Memory>
+) -> Result<u32, OutOfMemory>
     requires named { names.old ≡ edge_names types.old.items }
     requires new { name_place names.old forward.name ≡ None }
     requires apart { ForSome backward (λ t. name_place (names.old ++ forward.name ∷ []) t.name ≡ None) }
@@ -176,9 +177,9 @@ pub(crate) fn append_edge_types(
         Some(backward) => {
             match names.push(backward.name.as_str()) {
                 Ok(()) => {}
-                Err(Memory) => {
+                Err(OutOfMemory) => {
                     names.cut(number as usize);
-                    return Err(Memory);
+                    return Err(OutOfMemory);
                 }
             }
             put_edge_type(types, forward);
@@ -201,12 +202,12 @@ fn put_edge_type(types: &mut Vec<EdgeType>, entry: EdgeType)
     }
 }
 
-/// Puts a graph last. Memory comes too where there are some four thousand million graphs.
+/// Puts a graph last. OutOfMemory comes too where there are some four thousand million graphs.
 pub(crate) fn append_graph(
     names: &mut NameTable,
     graphs: &mut Vec<GraphType>,
     entry: GraphType,
-) -> Result<u32, Memory>
+) -> Result<u32, OutOfMemory>
     requires named { names.old ≡ graph_names graphs.old.items }
     requires new { name_place names.old entry.name ≡ None }
     requires few { length graphs.old.items < 4294967296 }
@@ -217,7 +218,7 @@ pub(crate) fn append_graph(
         (λ _. graphs.new.items ≡ graphs.old.items) }
 {
     if graphs.len() >= u32::MAX as usize {
-        return Err(Memory);
+        return Err(OutOfMemory);
     }
     let number = graphs.len() as u32;
     graphs.reserve(1)?;

@@ -1,7 +1,8 @@
 // Refusals.
 ghost use Rattle.gq_schema.specs.Tells.{Tells};
 
-use gq_value::{Memory, Txt};
+use gq_base::OutOfMemory;
+use gq_value::Txt;
 use std::alloc::Global;
 use thiserror::Error;
 
@@ -23,30 +24,30 @@ pub enum SchemaFault {
     #[error("too many types")]
     TooMany,
     #[error("out of memory")]
-    Memory,
+    OutOfMemory,
     /// The attribute's default is no value of its type.
     #[error("bad default")]
     BadDefault(Txt),
 }
 
-impl From<Memory> for SchemaFault {
+impl From<OutOfMemory> for SchemaFault {
     ghost use Rattle.std.specs.Prelude.{◌≡◌};
-    ghost use Rattle.gq_schema.specs.declared.fault.SchemaFault.TheVariants.{Memory};
+    ghost use Rattle.gq_schema.specs.declared.fault.SchemaFault.TheVariants.{OutOfMemory};
 
-    ghost from_gives = { λ _ e. e ≡ Memory };
+    ghost from_gives = { λ _ e. e ≡ OutOfMemory };
 
-    fn from(_: Memory) -> Self {
-        SchemaFault::Memory
+    fn from(_: OutOfMemory) -> Self {
+        SchemaFault::OutOfMemory
     }
 }
 
-/// NameTaken, or Memory where the name can't be kept; likewise the others.
+/// NameTaken, or OutOfMemory where the name can't be kept; likewise the others.
 pub(crate) fn name_taken(alloc: Global, name: &str) -> SchemaFault
     ensures { Tells (SchemaFault.NameTaken name.now) result }
 {
     match Txt::of(alloc, name) {
         Ok(name) => SchemaFault::NameTaken(name),
-        Err(Memory) => SchemaFault::Memory,
+        Err(OutOfMemory) => SchemaFault::OutOfMemory,
     }
 }
 
@@ -55,7 +56,7 @@ pub(crate) fn no_such_type(alloc: Global, name: &str) -> SchemaFault
 {
     match Txt::of(alloc, name) {
         Ok(name) => SchemaFault::NoSuchType(name),
-        Err(Memory) => SchemaFault::Memory,
+        Err(OutOfMemory) => SchemaFault::OutOfMemory,
     }
 }
 
@@ -64,7 +65,7 @@ pub(crate) fn attribute_twice(alloc: Global, name: &str) -> SchemaFault
 {
     match Txt::of(alloc, name) {
         Ok(name) => SchemaFault::AttributeTwice(name),
-        Err(Memory) => SchemaFault::Memory,
+        Err(OutOfMemory) => SchemaFault::OutOfMemory,
     }
 }
 
@@ -73,7 +74,7 @@ pub(crate) fn graph_exists(alloc: Global, name: &str) -> SchemaFault
 {
     match Txt::of(alloc, name) {
         Ok(name) => SchemaFault::GraphExists(name),
-        Err(Memory) => SchemaFault::Memory,
+        Err(OutOfMemory) => SchemaFault::OutOfMemory,
     }
 }
 
@@ -82,6 +83,6 @@ pub(crate) fn bad_default(alloc: Global, name: &str) -> SchemaFault
 {
     match Txt::of(alloc, name) {
         Ok(name) => SchemaFault::BadDefault(name),
-        Err(Memory) => SchemaFault::Memory,
+        Err(OutOfMemory) => SchemaFault::OutOfMemory,
     }
 }

@@ -1,6 +1,10 @@
-//! The catalog: vertex types, edge types and graphs, each appended by a declaration or refused.
+//! The catalog: vertex types, edge types and graphs, which declarations extend.
 //!
-//! Read `Catalog.antt` of `gq_value` first, and then `specs/Refusals.antt`: which rule a declaration fails first.
+//! A declaration appends an entry, or is refused by the first rule that fails. Names are found by hash.
+//!
+//! Read `Catalog.antt` of `gq_graph` first, then `specs/Refusals.antt`, which rule a declaration violates
+//! first, and `specs/Members.antt`, the types of a graph. The code begins in `src/catalog.rt`;
+//! `src/checks.rt` has the rules and `src/names.rt` finds names.
 #![tactic(auto)]
 
 mod attributes;

@@ -2,17 +2,23 @@
 ghost use Rattle.std.specs.Option.{option_copied, option_map};
 ghost use Rattle.gq_schema.specs.Refusals.{Judges, member_refusal};
 ghost use Rattle.std.specs.Prelude.{◌≡◌, ◌<◌, ◌≤◌, ◌||◌, ◌&&◌, Bool, length, vec_len, map, filter, IfOk, OnOk, slice_index_or, false, if◌then◌else◌, ◌++◌, ◌∷◌, []};
-ghost use Rattle.gq_value.specs.Catalog.{name_place};
+ghost use Rattle.gq_graph.specs.Catalog.{name_place};
 ghost use Rattle.gq_schema.specs.Members as spec;
 
-use crate::fault::no_such_type;
+use crate::catalog::Catalog;
+use crate::fault::{SchemaFault, no_such_type};
 use crate::names::NameTable;
-use crate::{Catalog, SchemaFault};
-use gq_value::{GraphType, Memory, Names, Numbers, Txt};
+use gq_base::OutOfMemory;
+use gq_graph::{GraphType, Names, Numbers};
+use gq_value::Txt;
 use std::alloc::Global;
 
 /// Which names of a table are members.
-pub(crate) fn listed(alloc: Global, table: &NameTable, members: &[Txt]) -> Result<Vec<bool>, Memory>
+pub(crate) fn listed(
+    alloc: Global,
+    table: &NameTable,
+    members: &[Txt],
+) -> Result<Vec<bool>, OutOfMemory>
     ensures { IfOk result (λ marks. marks.items ≡ map (spec.is_listed table.now members.now) (spec.below (length table.now))) }
 {
     let mut marks = vec![in alloc; false; table.len()]?;
@@ -23,7 +29,7 @@ pub(crate) fn listed(alloc: Global, table: &NameTable, members: &[Txt]) -> Resul
 }
 
 /// The numbers below `count`.
-pub(crate) fn all(alloc: Global, count: u32) -> Result<Numbers, Memory>
+pub(crate) fn all(alloc: Global, count: u32) -> Result<Numbers, OutOfMemory>
     ensures { IfOk result (λ numbers. numbers ≡ spec.below count) }
 {
     let mut numbers = Numbers::new(alloc);
@@ -34,11 +40,11 @@ pub(crate) fn all(alloc: Global, count: u32) -> Result<Numbers, Memory>
 }
 
 /// The numbers of the marks that are set.
-pub(crate) fn chosen(alloc: Global, marks: &[bool]) -> Result<Numbers, Memory>
+pub(crate) fn chosen(alloc: Global, marks: &[bool]) -> Result<Numbers, OutOfMemory>
     ensures { IfOk result (λ numbers. numbers ≡ filter (λ k. slice_index_or marks.now k false) (spec.below (length marks.now))) }
 {
     if marks.len() > u32::MAX as usize {
-        return Err(Memory);
+        return Err(OutOfMemory);
     }
     let mut numbers = Numbers::new(alloc);
     for number in 0..marks.len() {
@@ -57,7 +63,7 @@ fn mark(marks: &mut Vec<bool>, table: &NameTable, name: &str)
     }
 }
 
-fn add_if(wanted: bool, numbers: &mut Numbers, number: u32) -> Result<(), Memory>
+fn add_if(wanted: bool, numbers: &mut Numbers, number: u32) -> Result<(), OutOfMemory>
     ensures { OnOk result (numbers.new ≡ numbers.old ++ (if wanted then number ∷ [] else [])) }
 {
     if wanted {
@@ -87,12 +93,12 @@ impl Catalog {
             Some(members) => self.graph_of_members(alloc, name, members.as_slice()),
             None => match self.whole_graph(alloc, name) {
                 Ok(entry) => Ok(entry),
-                Err(Memory) => Err(SchemaFault::Memory),
+                Err(OutOfMemory) => Err(SchemaFault::OutOfMemory),
             },
         }
     }
 
-    fn whole_graph(&self, alloc: Global, name: &str) -> Result<GraphType, Memory>
+    fn whole_graph(&self, alloc: Global, name: &str) -> Result<GraphType, OutOfMemory>
         ensures { IfOk result (λ g. g ≡ spec.graph_with self.now name.now None) }
     {
         Ok(GraphType {
@@ -113,7 +119,7 @@ impl Catalog {
     {
         let marks = match self.vertex_marks(alloc, members) {
             Ok(marks) => marks,
-            Err(Memory) => return Err(SchemaFault::Memory),
+            Err(OutOfMemory) => return Err(SchemaFault::OutOfMemory),
         };
         match self.check_members(alloc, members, &marks) {
             Ok(()) => {}
@@ -121,17 +127,17 @@ impl Catalog {
         }
         match self.marked_graph(alloc, name, members, &marks) {
             Ok(entry) => Ok(entry),
-            Err(Memory) => Err(SchemaFault::Memory),
+            Err(OutOfMemory) => Err(SchemaFault::OutOfMemory),
         }
     }
 
-    fn vertex_marks(&self, alloc: Global, members: &[Txt]) -> Result<Vec<bool>, Memory>
+    fn vertex_marks(&self, alloc: Global, members: &[Txt]) -> Result<Vec<bool>, OutOfMemory>
         ensures { IfOk result (λ marks. marks.items ≡ spec.vertex_marks self.now members.now) }
     {
         listed(alloc, &self.vertex_names, members)
     }
 
-    fn edge_marks(&self, alloc: Global, members: &[Txt]) -> Result<Vec<bool>, Memory>
+    fn edge_marks(&self, alloc: Global, members: &[Txt]) -> Result<Vec<bool>, OutOfMemory>
         ensures { IfOk result (λ marks. marks.items ≡ spec.edge_marks self.now members.now) }
     {
         listed(alloc, &self.edge_names, members)
@@ -183,7 +189,7 @@ impl Catalog {
         name: &str,
         members: &[Txt],
         marks: &[bool],
-    ) -> Result<GraphType, Memory>
+    ) -> Result<GraphType, OutOfMemory>
         requires { marks.now ≡ spec.vertex_marks self.now members.now }
         ensures { IfOk result (λ g. g ≡ spec.graph_with self.now name.now (Some members.now)) }
     {
@@ -199,21 +205,21 @@ impl Catalog {
         alloc: Global,
         members: &[Txt],
         marks: &[bool],
-    ) -> Result<Numbers, Memory>
+    ) -> Result<Numbers, OutOfMemory>
         requires { marks.now ≡ spec.vertex_marks self.now members.now }
         ensures { IfOk result (λ numbers. numbers ≡ filter (spec.has_vertex self.now members.now) (spec.below (length self.now.vertex_types))) }
     {
         chosen(alloc, marks)
     }
 
-    fn member_edges(&self, alloc: Global, members: &[Txt]) -> Result<Numbers, Memory>
+    fn member_edges(&self, alloc: Global, members: &[Txt]) -> Result<Numbers, OutOfMemory>
         ensures { IfOk result (λ numbers. numbers ≡ filter (spec.has_edge self.now members.now) (spec.below (length self.now.edge_types))) }
     {
         let named = self.edge_marks(alloc, members)?;
         self.edges(alloc, &named)
     }
 
-    fn edges(&self, alloc: Global, named: &[bool]) -> Result<Numbers, Memory>
+    fn edges(&self, alloc: Global, named: &[bool]) -> Result<Numbers, OutOfMemory>
         ensures { IfOk result (λ numbers. numbers ≡ filter (spec.has_edge_marked self.now named.now) (spec.below (length self.now.edge_types))) }
     {
         let mut numbers = Numbers::new(alloc);

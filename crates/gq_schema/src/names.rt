@@ -1,10 +1,10 @@
 // Names that are found fast.
 ghost use Rattle.std.specs.Prelude.{◌≡◌, ◌≤◌, ◌++◌, [], ◌∷◌, ◌<◌, length, take, vec_len, vec_capacity, Some, None, MatchResult};
-ghost use Rattle.gq_value.specs.Catalog.{name_place};
+ghost use Rattle.gq_graph.specs.Catalog.{name_place};
 ghost use Rattle.gq_schema.specs.Kept.{AreHashed, name_hash};
 
-use gq_hash::{Hashes, text_hash};
-use gq_value::{Memory, Txt};
+use gq_base::{Hashes, OutOfMemory, text_hash};
+use gq_value::Txt;
 use std::alloc::Global;
 use std::marker::Model;
 
@@ -49,13 +49,13 @@ impl NameTable {
         find(&self.names, &self.hashes, name)
     }
 
-    /// Puts a name last. Unchanged after Memory, which comes too where there are some four thousand million names.
-    pub(crate) fn push(&mut self, name: &str) -> Result<(), Memory>
+    /// Puts a name last. Unchanged after OutOfMemory, which comes too where there are some four thousand million names.
+    pub(crate) fn push(&mut self, name: &str) -> Result<(), OutOfMemory>
         requires { name_place self.old name.now ≡ None }
         ensures { MatchResult result (λ _. self.new ≡ self.old ++ name.now ∷ []) (λ _. self.new ≡ self.old) }
     {
         if self.names.len() >= u32::MAX as usize {
-            return Err(Memory);
+            return Err(OutOfMemory);
         }
         let copy = Txt::of(*self.names.allocator(), name)?;
         self.names.reserve(1)?;

@@ -1,7 +1,7 @@
 -- What the code keeps beside the names stays right when a name is added, and when names are cut.
 use Rattle.std.proofs.Common.{ℕ, ◌+◌, ◌-◌, ◌<◌, ◌≤◌, ◌≡◌, List, [], ◌∷◌, ◌++◌, length, take, drop, map, ap, sym, ◌∙◌, arith}
 use Rattle.std.proofs.lemmas.List.{length-append, map_push, take-map, length-take-le}
-use Rattle.gq_typing.specs.Statements.{Bytes}
+use Rattle.gq_rules_typing.specs.Statements.{Bytes}
 use Rattle.gq_scope.specs.declared.entry.Entry.{Entry}
 use Rattle.gq_scope.specs.Kept.{name_hash, plain_names, noted, tuple_in, tuple_types, tuple_places, IsKept}
 use Rattle.gq_scope.proofs.TupleLemmas.{places_push, places_cut}

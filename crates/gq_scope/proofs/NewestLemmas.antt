@@ -4,10 +4,10 @@ use Rattle.std.specs.Str.{bytes_eq}
 use Rattle.std.specs.Option.{option_map}
 use Rattle.std.proofs.lemmas.Slice.Eq.{bytes_eq-Decides}
 use Rattle.std.proofs.lemmas.List.{length-map, length-reverse, get_or-map, get_or-reverse, get_or_read, get_or_default}
-use Rattle.gq_hash.specs.Last.{IsLast}
-use Rattle.gq_hash.proofs.Seeks.{Seeks, Hits, seek_starts, seek_goes}
-use Rattle.gq_typing.specs.Statements.{Bytes}
-use Rattle.gq_typing.specs.Words.{under}
+use Rattle.gq_base.specs.Last.{IsLast}
+use Rattle.gq_base.proofs.Seeks.{Seeks, Hits, seek_starts, seek_goes}
+use Rattle.gq_rules_typing.specs.Statements.{Bytes}
+use Rattle.gq_rules_typing.specs.Words.{under}
 use Rattle.gq_scope.specs.declared.entry.Entry.{Entry}
 use Rattle.gq_scope.specs.Kept.{name_hash, plain_names, is_named, nothing, name_at, IsHashed, IsNewest}
 

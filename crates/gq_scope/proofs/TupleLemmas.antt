@@ -8,11 +8,11 @@ use Rattle.std.proofs.lemmas.List.Sums.{position_or_len_is}
 use Rattle.std.proofs.Math.Seq.{take-append_seam, take-length}
 use Rattle.std.proofs.lemmas.Bool.{lt-ltb}
 use Rattle.std.proofs.Math.Dec.{ltb}
-use Rattle.gq_hash.proofs.Seeks.{seek_none}
+use Rattle.gq_base.proofs.Seeks.{seek_none}
 use Rattle.std.proofs.lemmas.List.{take_more, get_or_default, length-take-le, length-append, length-drop}
 use Rattle.std.proofs.lemmas.List.Elements.{filter_map-append}
 use Rattle.gq_value.specs.declared.kind.BaseType.{BaseType}
-use Rattle.gq_typing.specs.Statements.{Bytes}
+use Rattle.gq_rules_typing.specs.Statements.{Bytes}
 use Rattle.gq_scope.specs.declared.entry.Entry.{Entry}
 use Rattle.gq_scope.specs.Kept.{nothing, name_at, noted, tuple_in, is_tuple, named_tuple, tuple_types, tuple_places}
 

@@ -2,11 +2,11 @@
 use Rattle.std.proofs.Common.{ℕ, ◌+◌, ◌≡◌, Bool, cond, List, [], ◌∷◌, map, Some, refl, ap, sym, ◌∙◌}
 use Rattle.std.specs.List.{position, position_from}
 use Rattle.std.proofs.lemmas.Iterator.Adapters.{position_from-zero}
-use Rattle.gq_value.specs.Catalog.{vertex_names, edge_names}
-use Rattle.gq_value.specs.declared.catalog.VertexType.{VertexType}
-use Rattle.gq_value.specs.declared.catalog.EdgeType.{EdgeType}
-use Rattle.gq_typing.specs.Statements.{Bytes}
-use Rattle.gq_typing.specs.Sorts.{VertexSort, EdgeSort, vertex_sort, edge_sort}
+use Rattle.gq_graph.specs.Catalog.{vertex_names, edge_names}
+use Rattle.gq_graph.specs.declared.types.VertexType.{VertexType}
+use Rattle.gq_graph.specs.declared.types.EdgeType.{EdgeType}
+use Rattle.gq_rules_typing.specs.Statements.{Bytes}
+use Rattle.gq_rules_typing.specs.Sorts.{VertexSort, EdgeSort, vertex_sort, edge_sort}
 
 pub vertex_sorts : (ts : List VertexType) → vertex_names ts ≡ map (λ (s : VertexSort). s.name) (map vertex_sort ts)
 vertex_sorts [] = refl

@@ -1,14 +1,14 @@
--- Held: what a scope holds, and the scope and place of gq_typing that it stands for.
+-- Held: what a scope holds, and the scope and place of gq_rules_typing that it stands for.
 use Rattle.std.specs.Prelude.{ℕ, Bool, List, map, reverse, slice_get, Option, Some, None}
-use Rattle.gq_value.specs.Catalog.{Schema}
-use Rattle.gq_value.specs.declared.catalog.GraphType.{GraphType}
+use Rattle.gq_graph.specs.Catalog.{Schema}
+use Rattle.gq_graph.specs.declared.types.GraphType.{GraphType}
 use Rattle.gq_value.specs.declared.kind.BaseType.{BaseType}
 use Rattle.gq_value.specs.AccumViews.{base_of, accum_of}
-use Rattle.gq_typing.specs.Statements.{Bytes}
-use Rattle.gq_typing.specs.Sorts.{Fields, Sorts, sorts_of}
-use Rattle.gq_typing.specs.Words.{Setting, by_name}
-use Rattle.gq_typing.specs.ExpressionTypes.{Names}
-use Rattle.gq_typing.specs.Scopes as typing
+use Rattle.gq_rules_typing.specs.Statements.{Bytes}
+use Rattle.gq_rules_typing.specs.Sorts.{Fields, Sorts, sorts_of}
+use Rattle.gq_rules_typing.specs.Words.{Setting, by_name}
+use Rattle.gq_rules_typing.specs.ExpressionTypes.{Names}
+use Rattle.gq_rules_typing.specs.Scopes as typing
 use Rattle.gq_scope.specs.declared.entry.Entry.{Entry}
 use Rattle.gq_scope.specs.declared.entry.Entry.TheVariants as entry
 use Rattle.gq_scope.specs.declared.entry.Place.{Place}

@@ -2,9 +2,9 @@
 use Rattle.std.specs.Prelude.{ℕ, suc, ◌<◌, ◌≡◌, Bool, true, false, List, [], ◌∷◌, length, map, filter_map, slice_index_or, Option, Some, None}
 use Rattle.std.specs.Option.{is_some, option_map}
 use Rattle.std.specs.Str.{bytes_eq}
-use Rattle.gq_hash.specs.Hash.{hash_from}
+use Rattle.gq_base.specs.Hash.{hash_from}
 use Rattle.gq_value.specs.declared.kind.BaseType.{BaseType}
-use Rattle.gq_typing.specs.Statements.{Bytes}
+use Rattle.gq_rules_typing.specs.Statements.{Bytes}
 use Rattle.gq_scope.specs.declared.entry.Entry.{Entry}
 use Rattle.gq_scope.specs.declared.entry.Entry.TheVariants as entry
 

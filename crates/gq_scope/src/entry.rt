@@ -1,6 +1,7 @@
 // What names are, and where an expression stands.
-use gq_list::List;
-use gq_value::{BaseType, Kind, Numbers, Txt};
+use gq_base::List;
+use gq_graph::Numbers;
+use gq_value::{BaseType, Kind, Txt};
 
 /// The fields of a tuple type, in order, each with its name and its type.
 pub type TupleFields = List<(Txt, BaseType)>;

@@ -1,11 +1,32 @@
-//! Scopes: the names that are visible in a query, what each is, and what an expression may name at its place.
+//! The visible names of a query: scopes for the type checker, and places of the frame for the planner.
 //!
-//! A `Scope` stands for the scope of `gq_typing` and its place: read `specs/Held.antt` first, which says how.
+//! A `Scope` implements the scope of `gq_rules_typing` with hash tables. In `Places`, each name that comes
+//! into view takes a place of its own, even if it shadows another; the names of a body go out of view at its
+//! end, and their places aren't reused.
+//!
+//! Read `specs/Held.antt` first: which scope of the rules a `Scope` represents. Then read `specs/Named.antt`
+//! (names with places) and `specs/Views.antt` (when an answer of the checker is that of a rule).
+//! `src/scope.rt` has scopes, `src/places.rt` places, and `src/typed.rt` and `src/fault.rt` the results of
+//! typing an expression.
 #![tactic(auto)]
 
 mod entry;
+mod fault;
+mod kinds;
+mod place_table;
+mod places;
 mod scope;
 mod table;
+mod trees;
+mod typed;
 
 pub use entry::{Entry, Place};
+pub use fault::{TypeFault, no_attribute, unknown};
+pub use kinds::{
+    contained_type, element_type, input_type, is_list, key_types, read_type, set_type,
+};
+pub use place_table::NameBinding;
+pub use places::Places;
 pub use scope::Scope;
+pub use trees::{name_of, text_of};
+pub use typed::{Base, TupleFieldTypes, Typed};

@@ -2,15 +2,15 @@
 ghost use Rattle.std.specs.Prelude.{◌≡◌, ◌≤◌, ◌<◌, ◌++◌, [], ◌∷◌, length, take};
 ghost use Rattle.std.specs.Prelude.{slice_get, position, Some, None, false, true, MatchResult, is_some};
 ghost use Rattle.std.specs.Option.{option_copied, option_map, ForSome};
-ghost use Rattle.gq_typing.specs.Scopes as typing;
+ghost use Rattle.gq_rules_typing.specs.Scopes as typing;
 ghost use Rattle.std.specs.Str.{bytes_eq};
-ghost use Rattle.gq_typing.specs.Words.{if_own};
+ghost use Rattle.gq_rules_typing.specs.Words.{if_own};
 ghost use Rattle.gq_scope.specs.Held.{entry_of, fields_of, place_of, sorts_in, setting_in, scope_in};
 
 use crate::entry::{Entry, Place, TupleFields};
-use crate::table::Table;
+use crate::table::EntryTable;
+use gq_base::OutOfMemory;
 use gq_schema::Catalog;
-use gq_value::Memory;
 use std::alloc::Global;
 use std::marker::Model;
 
@@ -19,7 +19,7 @@ use std::marker::Model;
 pub struct Scope<'a> {
     catalog: &'a Catalog,
     graph: Option<u32>,
-    table: Table,
+    table: EntryTable,
     place: Place<'a>,
     with_paths: bool,
 }
@@ -57,14 +57,14 @@ impl<'a> Scope<'a> {
         Scope {
             catalog,
             graph,
-            table: Table::new(alloc),
+            table: EntryTable::new(alloc),
             place: Place::Statement,
             with_paths: false,
         }
     }
 
-    /// Adds a name that isn't visible yet, that of an accumulator with its `@` or `@@`. Unchanged after Memory.
-    pub fn add(&mut self, name: &str, what: Entry) -> Result<(), Memory>
+    /// Adds a name that isn't visible yet, that of an accumulator with its `@` or `@@`. Unchanged after OutOfMemory.
+    pub fn add(&mut self, name: &str, what: Entry) -> Result<(), OutOfMemory>
         requires { is_some (typing.entry (scope_in self.old) name.now) ≡ false }
         ensures { MatchResult result
             (λ _. self.new ≡ record self.old { names = self.old.names ++ (name.now, what) ∷ [] })

@@ -2,20 +2,20 @@
 ghost use Rattle.std.specs.Prelude.{◌≡◌, ◌≤◌, ◌<◌, ◌-◌, ◌++◌, [], ◌∷◌, length, take, drop};
 ghost use Rattle.std.specs.Prelude.{vec_len, vec_capacity, map, reverse, Some, None, MatchResult, slice_get, filter_map, position};
 ghost use Rattle.std.specs.Option.{option_copied, option_map};
-ghost use Rattle.gq_typing.specs.Words.{under};
+ghost use Rattle.gq_rules_typing.specs.Words.{under};
 ghost use Rattle.std.specs.Str.{bytes_eq};
 ghost use Rattle.gq_scope.specs.Kept.{IsHashed, IsNewest, tuple_places, tuple_in, noted, tuple_types};
 ghost use Rattle.gq_scope.specs.Kept as spec;
 
 use crate::entry::{Entry, TupleFields};
-use gq_hash::{Hashes, text_hash};
-use gq_value::{Memory, Txt};
+use gq_base::{Hashes, OutOfMemory, text_hash};
+use gq_value::Txt;
 use std::alloc::Global;
 use std::marker::Model;
 
 /// Names with what they are, in the order in which they were added.
 #[derive(Drop)]
-pub(crate) struct Table {
+pub(crate) struct EntryTable {
     names: Vec<(Txt, Entry)>,
     hashes: Hashes,
 
@@ -23,7 +23,7 @@ pub(crate) struct Table {
     tuples: Vec<u32>,
 }
 
-impl Model for Table {
+impl Model for EntryTable {
     ghost use Rattle.std.specs.Prelude.{List, ℕ};
     ghost use Rattle.std.specs.Coded.{codes};
     ghost use Rattle.gq_value.specs.contracts.kind.Kind as kind;
@@ -41,11 +41,11 @@ impl Model for Table {
     ghost invariant = { λ t. IsKept t.names.items t.hashes t.tuples.items };
 }
 
-impl Table {
-    pub(crate) fn new(alloc: Global) -> Table
+impl EntryTable {
+    pub(crate) fn new(alloc: Global) -> EntryTable
         ensures { result ≡ [] }
     {
-        Table {
+        EntryTable {
             names: Vec::new(alloc),
             hashes: Hashes::new(alloc),
             tuples: Vec::new(alloc),
@@ -82,12 +82,12 @@ impl Table {
         tuple_at(&self.names, &self.tuples, number)
     }
 
-    /// Puts a name last. Unchanged after Memory, which comes too where there are some four thousand million names.
-    pub(crate) fn push(&mut self, name: &str, what: Entry) -> Result<(), Memory>
+    /// Puts a name last. Unchanged after OutOfMemory, which comes too where there are some four thousand million names.
+    pub(crate) fn push(&mut self, name: &str, what: Entry) -> Result<(), OutOfMemory>
         ensures { MatchResult result (λ _. self.new ≡ self.old ++ (name.now, what) ∷ []) (λ _. self.new ≡ self.old) }
     {
         if self.names.len() >= u32::MAX as usize {
-            return Err(Memory);
+            return Err(OutOfMemory);
         }
         let copy = Txt::of(*self.names.allocator(), name)?;
         self.names.reserve(1)?;

@@ -4,16 +4,16 @@ use Rattle.std.specs.Prelude.{is_some, ◌||◌, bytes_eq, nat_lt, ◌+◌, find
 use Rattle.std.specs.Option.{option_or, option_map}
 use Rattle.std.proofs.lemmas.List.{length_push}
 use Rattle.std.proofs.lemmas.List.Elements.{All-map}
-use Rattle.gq_value.specs.declared.catalog.Attribute.{Attribute}
-use Rattle.gq_value.specs.declared.catalog.IdShape.{IdShape}
-use Rattle.gq_value.specs.Catalog.{Schema, with_vertex_type, with_edge_types, edge_types_of, end_of, with_graph, graph_of, vertex_type_of, type_count, most_types}
-use Rattle.gq_value.specs.Defaults.{is_plain, is_plain_sort, sort_of, has_good_default}
-use Rattle.gq_value.specs.SortLaws.{sort-Int, sort-UInt, sort-Bool, sort-Text, sort-Time}
+use Rattle.gq_graph.specs.declared.types.Attribute.{Attribute}
+use Rattle.gq_graph.specs.declared.types.IdShape.{IdShape}
+use Rattle.gq_graph.specs.Catalog.{Schema, with_vertex_type, with_edge_types, edge_types_of, end_of, with_graph, graph_of, vertex_type_of, type_count, most_types}
+use Rattle.gq_graph.specs.Defaults.{is_plain, is_plain_sort, sort_of, has_good_default}
+use Rattle.gq_graph.specs.SortLaws.{sort-Int, sort-UInt, sort-Bool, sort-Text, sort-Time}
 use Rattle.gq_schema.specs.declared.fault.SchemaFault.{SchemaFault}
 use Rattle.gq_schema.specs.declared.fault.SchemaFault.TheVariants as fault
 use Rattle.gq_schema.specs.Members.{graph_with, misfit}
 use Rattle.gq_schema.specs.Refusals.{is_type, taken, reverse_taken, no_end, twice, twice_after, bad_default, too_many, attribute_names, shown_id, attribute_refusal, vertex_refusal, edge_refusal, graph_taken, member_refusal, graph_refusal}
-use Rattle.gq_refusal.specs.declared.refusal.Refusal.{Refusal}
+use Rattle.gq_diagnostics.specs.declared.refusal.Refusal.{Refusal}
 use Rattle.gq_tree.specs.declared.schema.AttributeKind.{AttributeKind}
 use Rattle.gq_tree.specs.declared.schema.AttributeKind.TheVariants as kind
 use Rattle.gq_tree.specs.declared.schema.AttributeTree.{AttributeTree}
@@ -22,10 +22,10 @@ use Rattle.gq_tree.specs.declared.schema.EndsTree.{EndsTree}
 use Rattle.gq_tree.specs.declared.schema.EdgeTree.{EdgeTree}
 use Rattle.gq_tree.specs.declared.schema.EdgeTree.TheVariants as edge
 use Rattle.gq_tree.specs.declared.schema.GraphTree.{GraphTree}
-use Rattle.gq_define.specs.Attributes.{kind_of, attribute_of, discriminator_of, id_of}
-use Rattle.gq_define.specs.Declarations.{unless_refused, vertex_created, ends_created, edge_created, graph_created, members_of}
-use Rattle.gq_job.specs.Fits.{HasGrown}
-use Rattle.gq_job.specs.GrowthLaws.{grows_not, grows_by_vertex_type, grows_by_edge_types, grows_by_graph}
+use Rattle.gq_ddl.specs.Attributes.{kind_of, attribute_of, discriminator_of, id_of}
+use Rattle.gq_ddl.specs.Declarations.{unless_refused, vertex_created, ends_created, edge_created, graph_created, members_of}
+use Rattle.gq_load_plan.specs.Fits.{HasGrown}
+use Rattle.gq_load_plan.specs.GrowthLaws.{grows_not, grows_by_vertex_type, grows_by_edge_types, grows_by_graph}
 use Rattle.gq_insert.specs.Fits.{IsSound}
 use Rattle.gq_insert.specs.SoundLaws.{sound_with_graph, sound_with_vertex_type, sound_with_edge_type}
 
@@ -37,24 +37,24 @@ pub record Grown (before after : Schema) : Type 0 where
 pub not_grown : (schema : Schema) → Grown schema schema
 not_grown schema = record { grown = grows_not schema; whole = λ sound. sound }
 
--- ---- no rule tells of want of memory
+-- ---- no rule tells of OutOfMemory
 
 abbrev Tells : Option SchemaFault → Type 0
-Tells o = o ≢ Some fault.Memory
+Tells o = o ≢ Some fault.OutOfMemory
 
 or_tells : (a b : Option SchemaFault) → Tells a → Tells b → Tells (option_or a b)
 or_tells None b first second = second
 or_tells (Some f) b first second = first
 
-cond_tells : (b : Bool) (f : SchemaFault) → f ≢ fault.Memory → Tells (cond b (Some f) None)
+cond_tells : (b : Bool) (f : SchemaFault) → f ≢ fault.OutOfMemory → Tells (cond b (Some f) None)
 cond_tells true f other e = other (cc)
 cond_tells false f other e = cc
 
-unless_tells : (b : Bool) (f : SchemaFault) → f ≢ fault.Memory → Tells (cond b None (Some f))
+unless_tells : (b : Bool) (f : SchemaFault) → f ≢ fault.OutOfMemory → Tells (cond b None (Some f))
 unless_tells true f other e = cc
 unless_tells false f other e = other (cc)
 
-map_tells : {A : Type 0} (g : A → SchemaFault) (o : Option A) → ((a : A) → g a ≢ fault.Memory) → Tells (option_map g o)
+map_tells : {A : Type 0} (g : A → SchemaFault) (o : Option A) → ((a : A) → g a ≢ fault.OutOfMemory) → Tells (option_map g o)
 map_tells g None other e = cc
 map_tells g (Some a) other e = other a (cc)
 
@@ -116,7 +116,7 @@ unless_ok (Some (fault.NoSuchType x)) made new tells is = absurd (cc)
 unless_ok (Some (fault.AttributeTwice x)) made new tells is = absurd (cc)
 unless_ok (Some (fault.GraphExists x)) made new tells is = absurd (cc)
 unless_ok (Some fault.TooMany) made new tells is = absurd (cc)
-unless_ok (Some fault.Memory) made new tells is = absurd (tells refl)
+unless_ok (Some fault.OutOfMemory) made new tells is = absurd (tells refl)
 unless_ok (Some (fault.BadDefault x)) made new tells is = absurd (cc)
 
 plain_kind : (k : AttributeKind) → is_plain_sort (sort_of (kind_of k)) ≡ true

@@ -1,3 +1,4 @@
+pub mod RunLemmas
 pub mod GrowthLemmas
 pub mod SessionLemmas
 pub mod QueryLemmas

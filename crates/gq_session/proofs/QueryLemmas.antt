@@ -5,21 +5,21 @@ use Rattle.std.specs.declared.alloc.Global.{Global}
 use Rattle.serde_json.specs.Data.{Data}
 use Rattle.gq_tree.specs.declared.query.QueryTree.{QueryTree}
 use Rattle.gq_tree.specs.declared.query.RunTree.{RunTree}
-use Rattle.gq_refusal.specs.declared.refusal.Refusal.{Refusal}
-use Rattle.gq_refusal.specs.declared.refusal.StatementFault.{StatementFault}
-use Rattle.gq_refusal.specs.declared.refusal.StatementFault.TheVariants as fault
-use Rattle.gq_refusal.specs.Messages.{message_of}
-use Rattle.gq_typing.specs.StatementViews.{view_query}
-use Rattle.gq_meaning.specs.Sessions as sessions
-use Rattle.gq_meaning.specs.Sessions.{ran, interpreted}
-use Rattle.gq_calendar.specs.Gregorian.{gregorian}
+use Rattle.gq_diagnostics.specs.declared.refusal.Refusal.{Refusal}
+use Rattle.gq_diagnostics.specs.declared.refusal.StatementFault.{StatementFault}
+use Rattle.gq_diagnostics.specs.declared.refusal.StatementFault.TheVariants as fault
+use Rattle.gq_diagnostics.specs.Messages.{message_of}
+use Rattle.gq_rules_typing.specs.StatementViews.{view_query}
+use Rattle.gq_rules_meaning.specs.Sessions as sessions
+use Rattle.gq_rules_meaning.specs.Sessions.{ran, interpreted}
+use Rattle.gq_rules_calendar.specs.Gregorian.{gregorian}
 use Rattle.gq_arguments.specs.Given.{view_argument}
 use Rattle.gq_arguments.specs.Members.{members_for}
-use Rattle.gq_queries.specs.Kept.{Kept}
-use Rattle.gq_queries.specs.Judging.{Judges, interpret_refusal}
-use Rattle.gq_runs.specs.Answers.{Says}
-use Rattle.gq_runs.specs.Sessions.{session_of}
-use Rattle.gq_script.specs.Effects.{Effect, Becomes, Refused, lines_of}
+use Rattle.gq_query_run.specs.Kept.{Kept}
+use Rattle.gq_query_run.specs.Judging.{Judges, interpret_refusal}
+use Rattle.gq_query_run.specs.Answers.{Says}
+use Rattle.gq_query_run.specs.Sessions.{session_of}
+use Rattle.gq_diagnostics.specs.Effects.{Effect, Becomes, Refused, lines_of}
 use Rattle.gq_session.specs.Arguments.{object_of}
 use Rattle.gq_session.specs.Paths.{has_path, walks_path}
 use Rattle.gq_session.specs.Statements.{State, Prints, session_in, effect_in, query_ran, query_interpreted, unsupported, unless_due}
@@ -40,7 +40,7 @@ prints_line s t effect answer (Err (fault.Refused refusal)) is says =
 prints_line s t effect answer (Err fault.ReadFault) is says =
     let P : Result (Vec ℕ Global) StatementFault → Type 0 = λ a. Says t effect a in
     subst P is says
-prints_line s t effect answer (Err fault.Memory) is says = tt
+prints_line s t effect answer (Err fault.OutOfMemory) is says = tt
 
 pub prints_done : (s : State) (effect : Effect State) (r : Result (Option (Vec ℕ Global)) StatementFault) → Prints s effect r → IfOk r (λ line. Becomes s (lines_of line) ≡ effect)
 prints_done s effect (Ok line) prints = sym prints
@@ -114,7 +114,7 @@ module _ (s v : State) (same : v ≡ s) (number : ℕ) (tree : QueryTree) (r : R
       told : (f : StatementFault) → Judges (interpret_refusal v.schema v.in_use tree) (Err f) → Prints v (unless_due (interpret_refusal v.schema v.in_use tree) (unsupported number)) (Err f)
       told (fault.Refused refusal) judged = ap (λ due. unless_due due (unsupported number)) judged
       told fault.ReadFault judged = judged
-      told fault.Memory judged = tt
+      told fault.OutOfMemory judged = tt
 
   -- it runs, or is refused
   pub interpreted_says : (answer : Result (Vec ℕ Global) StatementFault) → has_path (view_query tree) ≡ false → IsLine answer r → Says (session_in v) (interpreted_over v) answer

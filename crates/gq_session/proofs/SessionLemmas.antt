@@ -3,22 +3,22 @@ use Rattle.std.proofs.Common.{◌≡◌, ℕ, List, [], ◌∷◌, Option, Some,
 use Rattle.std.specs.Prelude.{IfErr, IsSome, Vec}
 use Rattle.std.specs.Option.{ForSome}
 use Rattle.std.specs.declared.alloc.Global.{Global}
-use Rattle.gq_value.specs.Catalog.{Schema}
+use Rattle.gq_graph.specs.Catalog.{Schema}
 use Rattle.gq_index.specs.declared.store.Store.{Store}
-use Rattle.gq_refusal.specs.declared.refusal.Refusal.{Refusal}
-use Rattle.gq_refusal.specs.declared.refusal.StatementFault.{StatementFault}
-use Rattle.gq_refusal.specs.declared.refusal.StatementFault.TheVariants as fault
-use Rattle.gq_refusal.specs.Answers.{Answers, Denies}
+use Rattle.gq_diagnostics.specs.declared.refusal.Refusal.{Refusal}
+use Rattle.gq_diagnostics.specs.declared.refusal.StatementFault.{StatementFault}
+use Rattle.gq_diagnostics.specs.declared.refusal.StatementFault.TheVariants as fault
+use Rattle.gq_diagnostics.specs.Answers.{Answers, Denies}
 use Rattle.gq_insert.specs.Fits.{IsSound}
-use Rattle.gq_row.specs.Records.{AllHaveEnds}
-use Rattle.gq_job.specs.Targets.{no_edge_type}
-use Rattle.gq_jobs.specs.declared.named.NamedJob.{NamedJob}
-use Rattle.gq_jobs.specs.FittingLaws.{jobs_stay}
-use Rattle.gq_kept.specs.KeepingLaws.{growth_fits}
+use Rattle.gq_load.specs.Records.{AllHaveEnds}
+use Rattle.gq_load_plan.specs.Targets.{no_edge_type}
+use Rattle.gq_ddl.specs.declared.named.NamedJob.{NamedJob}
+use Rattle.gq_ddl.specs.FittingLaws.{jobs_stay}
+use Rattle.gq_load.specs.KeepingLaws.{growth_fits}
 use Rattle.gq_tree.specs.declared.job.RunJobTree.{RunJobTree}
-use Rattle.gq_script.specs.Known.{Known}
-use Rattle.gq_script.specs.Effects.{Becomes, Refused, lines_of}
-use Rattle.gq_loads.specs.JobRuns.{JobDoes, JobLeaves}
+use Rattle.gq_io.specs.Known.{Known}
+use Rattle.gq_diagnostics.specs.Effects.{Becomes, Refused, lines_of}
+use Rattle.gq_load_run.specs.JobRuns.{JobDoes, JobLeaves}
 use Rattle.gq_session.specs.Statements.{State, RunsJob, JobLeft}
 use Rattle.gq_session.specs.Keeping.{SessionFits}
 use Rattle.gq_session.proofs.GrowthLemmas.{Grown, not_grown}
@@ -60,14 +60,14 @@ pub answers_grow : {R : Type 0} (meant : Result Schema Refusal) (before after : 
 answers_grow meant before after (Ok x) grows is = grows after is
 answers_grow meant before after (Err (fault.Refused refusal)) grows denies = subst (Grown before) (sym denies.1) (not_grown before)
 answers_grow meant before after (Err fault.ReadFault) grows denies = absurd denies
-answers_grow meant before after (Err fault.Memory) grows same = subst (Grown before) (sym same) (not_grown before)
+answers_grow meant before after (Err fault.OutOfMemory) grows same = subst (Grown before) (sym same) (not_grown before)
 
 -- ---- what is left
 
 denied_same : (meant : Result State Refusal) (s t : State) (f : StatementFault) → Denies meant s t f → t ≡ s
 denied_same meant s t (fault.Refused refusal) denies = denies.1
 denied_same meant s t fault.ReadFault never = absurd never
-denied_same meant s t fault.Memory same = same
+denied_same meant s t fault.OutOfMemory same = same
 
 -- a statement that prints nothing leaves the session as it was, where it doesn't run to its end
 pub silent_left : {R A : Type 0} (meant : Result State Refusal) (s t : State) (answer : Result R StatementFault) (r : Result A StatementFault)

@@ -1,4 +1,4 @@
--- Arguments: the object of the file of arguments.
+-- Arguments: the object of the file of arguments, by its bytes.
 use Rattle.std.specs.Prelude.{ℕ, List, Option, option_and_then}
 use Rattle.serde_json.specs.Data.{Data}
 use Rattle.serde_json.specs.Read.{read}

@@ -1,12 +1,12 @@
 -- Keeping: what is true of each session: its types are whole, and the graph in use, its jobs and its store are those of its catalog.
 use Rattle.std.specs.Prelude.{ℕ, ◌<◌, List, Option, length}
 use Rattle.std.specs.Option.{ForSome}
-use Rattle.gq_value.specs.Catalog.{Schema}
+use Rattle.gq_graph.specs.Catalog.{Schema}
 use Rattle.gq_index.specs.declared.store.Store.{Store}
 use Rattle.gq_insert.specs.Fits.{IsSound}
-use Rattle.gq_jobs.specs.declared.named.NamedJob.{NamedJob}
-use Rattle.gq_jobs.specs.Fitting.{JobsFit}
-use Rattle.gq_kept.specs.Keeping.{StoreFits}
+use Rattle.gq_ddl.specs.declared.named.NamedJob.{NamedJob}
+use Rattle.gq_ddl.specs.Fitting.{JobsFit}
+use Rattle.gq_load.specs.Keeping.{StoreFits}
 
 pub record SessionFits (schema : Schema) (in_use : Option ℕ) (jobs : List NamedJob) (store : Store) : Type 0 where
   pub there : ForSome in_use (λ graph. graph < length schema.graphs)

@@ -1,10 +1,10 @@
 -- Paths: which queries walk paths of several steps. These aren't run yet.
 use Rattle.std.specs.Prelude.{Bool, true, false, ◌&&◌, ◌||◌, List, find, Option, Some, None}
-use Rattle.gq_typing.specs.Selecting.{Walk, Nowhere, OneHop, Path}
-use Rattle.gq_typing.specs.Statements.{Bytes, Right, Selects, Sets, Expression, Stmt, Local, Assign, ChangeGlobal, If, While, Foreach, Print, Stmts, no_stmt, stmt_and, Branches, else_, if_, Query}
-use Rattle.gq_typing.specs.StatementViews.{view_query}
-use Rattle.gq_queries.specs.Kept.{Kept}
-use Rattle.gq_queries.specs.Queries.{is_named}
+use Rattle.gq_rules_typing.specs.Selecting.{Walk, Nowhere, OneHop, Path}
+use Rattle.gq_rules_typing.specs.Statements.{Bytes, Right, Selects, Sets, Expression, Stmt, Local, Assign, ChangeGlobal, If, While, Foreach, Print, Stmts, no_stmt, stmt_and, Branches, else_, if_, Query}
+use Rattle.gq_rules_typing.specs.StatementViews.{view_query}
+use Rattle.gq_query_run.specs.Kept.{Kept}
+use Rattle.gq_query_run.specs.Queries.{is_named}
 
 abbrev pub is_path : {N : Type 0} → Walk N → Bool
 is_path Nowhere = false

@@ -4,9 +4,9 @@ use Rattle.gq_io.specs.Listing.{Listing}
 use Rattle.gq_tree.specs.declared.job.RunJobTree.{RunJobTree}
 use Rattle.gq_tree.specs.declared.statement.Statement.{Statement}
 use Rattle.gq_tree.specs.declared.statement.Statement.TheVariants as top
-use Rattle.gq_script.specs.Known.{Told}
-use Rattle.gq_script.specs.Effects.{Effect}
-use Rattle.gq_loads.specs.JobLaws.{job_determined}
+use Rattle.gq_io.specs.Known.{Told}
+use Rattle.gq_diagnostics.specs.Effects.{Effect}
+use Rattle.gq_load_run.specs.JobLaws.{job_determined}
 use Rattle.gq_session.specs.Statements.{State, RunsJob, store_done, Does}
 
 job_does_one : (pairs : Listing) (s : State) (tree : RunJobTree) (e f : Effect State) → RunsJob (Told pairs) s tree e → RunsJob (Told pairs) s tree f → e ≡ f

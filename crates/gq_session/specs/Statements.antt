@@ -1,7 +1,7 @@
 -- Statements: what each statement of a script does to a session, what it prints, and what it leaves where it doesn't run to its end.
 use Rattle.std.specs.Prelude.{◌≡◌, ℕ, Bool, if◌then◌else◌, List, [], length, map, Option, Some, None, Result, Ok, Err, Vec, option_map}
 use Rattle.std.specs.declared.alloc.Global.{Global}
-use Rattle.gq_value.specs.Catalog.{Schema, graph_of}
+use Rattle.gq_graph.specs.Catalog.{Schema, graph_of}
 use Rattle.gq_index.specs.declared.store.Store.{Store}
 use Rattle.gq_tree.specs.declared.schema.VertexTree.{VertexTree}
 use Rattle.gq_tree.specs.declared.schema.EdgeTree.{EdgeTree}
@@ -13,30 +13,30 @@ use Rattle.gq_tree.specs.declared.query.QueryTree.{QueryTree}
 use Rattle.gq_tree.specs.declared.query.Installed.{Installed}
 use Rattle.gq_tree.specs.declared.statement.Statement.{Statement}
 use Rattle.gq_tree.specs.declared.statement.Statement.TheVariants as top
-use Rattle.gq_refusal.specs.declared.refusal.Refusal.{Refusal}
-use Rattle.gq_refusal.specs.declared.refusal.Refusal.TheVariants as refusal
-use Rattle.gq_refusal.specs.declared.refusal.StatementFault.{StatementFault}
-use Rattle.gq_refusal.specs.declared.refusal.StatementFault.TheVariants as fault
-use Rattle.gq_refusal.specs.Messages.{message_of}
-use Rattle.gq_define.specs.Declarations.{vertex_created, edge_created, graph_created}
-use Rattle.gq_jobs.specs.declared.named.NamedJob.{NamedJob}
-use Rattle.gq_jobs.specs.Jobs.{job_created}
-use Rattle.gq_kept.specs.Keeping.{no_rows}
-use Rattle.gq_loads.specs.JobRuns.{JobDoes, JobLeaves}
-use Rattle.gq_inserts.specs.Inserting.{row_inserted}
+use Rattle.gq_diagnostics.specs.declared.refusal.Refusal.{Refusal}
+use Rattle.gq_diagnostics.specs.declared.refusal.Refusal.TheVariants as refusal
+use Rattle.gq_diagnostics.specs.declared.refusal.StatementFault.{StatementFault}
+use Rattle.gq_diagnostics.specs.declared.refusal.StatementFault.TheVariants as fault
+use Rattle.gq_diagnostics.specs.Messages.{message_of}
+use Rattle.gq_ddl.specs.Declarations.{vertex_created, edge_created, graph_created}
+use Rattle.gq_ddl.specs.declared.named.NamedJob.{NamedJob}
+use Rattle.gq_ddl.specs.Jobs.{job_created}
+use Rattle.gq_load.specs.Keeping.{no_rows}
+use Rattle.gq_load_run.specs.JobRuns.{JobDoes, JobLeaves}
+use Rattle.gq_insert.specs.Inserting.{row_inserted}
 use Rattle.gq_tree.specs.declared.query.RunTree.{RunTree}
-use Rattle.gq_typing.specs.StatementViews.{view_query}
-use Rattle.gq_meaning.specs.Sessions as sessions
-use Rattle.gq_meaning.specs.Sessions.{ran, interpreted}
-use Rattle.gq_calendar.specs.Gregorian.{gregorian}
+use Rattle.gq_rules_typing.specs.StatementViews.{view_query}
+use Rattle.gq_rules_meaning.specs.Sessions as sessions
+use Rattle.gq_rules_meaning.specs.Sessions.{ran, interpreted}
+use Rattle.gq_rules_calendar.specs.Gregorian.{gregorian}
 use Rattle.gq_arguments.specs.Given.{view_argument}
 use Rattle.gq_arguments.specs.Members.{members_for}
-use Rattle.gq_queries.specs.Kept.{Kept}
-use Rattle.gq_queries.specs.Judging.{interpret_refusal}
-use Rattle.gq_queries.specs.Queries.{query_created, query_installed}
-use Rattle.gq_runs.specs.Sessions.{session_of}
-use Rattle.gq_script.specs.Known.{Known}
-use Rattle.gq_script.specs.Effects.{Effect, Becomes, Refused, lines_of}
+use Rattle.gq_query_run.specs.Kept.{Kept}
+use Rattle.gq_query_run.specs.Judging.{interpret_refusal}
+use Rattle.gq_query_run.specs.Queries.{query_created, query_installed}
+use Rattle.gq_query_run.specs.Sessions.{session_of}
+use Rattle.gq_io.specs.Known.{Known}
+use Rattle.gq_diagnostics.specs.Effects.{Effect, Becomes, Refused, lines_of}
 use Rattle.gq_session.specs.Arguments.{object_of}
 use Rattle.gq_session.specs.Paths.{has_path, walks_path}
 
@@ -141,7 +141,7 @@ abbrev pub unless_due : Option Refusal → Effect State → Effect State
 unless_due (Some due) effect = Refused (message_of due)
 unless_due None effect = effect
 
--- the session of gq_meaning's definitions, and what is done to it: RUN QUERY and INTERPRET QUERY leave it as it is
+-- the session of gq_rules_meaning's definitions, and what is done to it: RUN QUERY and INTERPRET QUERY leave it as it is
 abbrev pub session_in : State → sessions.Session
 session_in s = session_of s.schema s.in_use s.queries s.store
 
@@ -184,7 +184,7 @@ abbrev pub Prints : State → Effect State → Result (Option (Vec ℕ Global)) 
 Prints s effect (Ok line) = effect ≡ Becomes s (lines_of line)
 Prints s effect (Err (fault.Refused refusal)) = effect ≡ Refused (message_of refusal)
 Prints s effect (Err fault.ReadFault) = ⊥
-Prints s effect (Err fault.Memory) = Unit {0}
+Prints s effect (Err fault.OutOfMemory) = Unit {0}
 
 -- ---- what is left
 

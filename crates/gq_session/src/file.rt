@@ -2,11 +2,11 @@
 ghost use Rattle.std.specs.Prelude.{◌≡◌, Some, None};
 ghost use Rattle.std.specs.Option.{option_copied};
 ghost use Rattle.serde_json.specs.Data.{Members, object};
-ghost use Rattle.gq_args.specs.Holds.{held};
-ghost use Rattle.gq_args.specs.Objects.{IsObject};
+ghost use Rattle.gq_arguments.specs.Holds.{held};
+ghost use Rattle.gq_arguments.specs.Objects.{IsObject};
 ghost use Rattle.gq_session.specs.Arguments.{object_of};
 
-use gq_args::Args;
+use gq_arguments::Args;
 use std::marker::Model;
 
 /// The file of arguments of a run, read once. Contracts see its bytes.
@@ -20,7 +20,7 @@ impl<'s> Model for ArgsFile<'s> {
     ghost use Rattle.std.specs.Prelude.{◌≡◌, ℕ, List, Option};
     ghost use Rattle.std.specs.Option.{option_copied};
     ghost use Rattle.std.specs.Coded.{codes};
-    ghost use Rattle.gq_args.specs.Holds.{held};
+    ghost use Rattle.gq_arguments.specs.Holds.{held};
     ghost use Rattle.gq_session.specs.Arguments.{object_of};
 
     ghost Value = { Option (List ℕ) };

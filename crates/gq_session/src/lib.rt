@@ -1,12 +1,22 @@
-//! A session: what a script's statements leave to one another.
+//! Sessions: executes the statements of a script in order, and keeps what each leaves to the next.
 //!
-//! Read `specs/Statements.antt` first, what each statement does. A refused statement leaves the session as it was, the store of a
-//! loading job apart. What runs queries is handed in, as a type with the trait `RunsQueries` of `gq_runs`.
+//! A session has a catalog, the graph in use, loading jobs, queries and a store. A refused statement leaves
+//! the session as it was, except for the store of a loading job. The line of a statement is written before
+//! the next one begins.
+//!
+//! Read `specs/Statements.antt` first, what each statement does to a session, then `specs/Runs.antt`, what a
+//! script prints, and `specs/Keeping.antt`, the invariant of a session. `src/session.rt` has the session and
+//! `src/run.rt` the loop over statements, which works with any `Machine` (`src/machine.rt`). Queries run
+//! through the trait `RunsQueries` of `gq_query_run`.
 #![tactic(auto)]
 
 mod file;
+mod machine;
 mod path;
+mod run;
 mod session;
 
 pub use file::ArgsFile;
+pub use machine::Machine;
+pub use run::run_statements;
 pub use session::Session;

@@ -1,11 +1,11 @@
 // Paths of several steps, which aren't run yet.
 ghost use Rattle.std.specs.Prelude.{◌≡◌};
-ghost use Rattle.gq_typing.specs.SelectViews.{view_walk};
-ghost use Rattle.gq_typing.specs.StatementViews.{view_query, view_right, view_stmt, view_stmts};
+ghost use Rattle.gq_rules_typing.specs.SelectViews.{view_walk};
+ghost use Rattle.gq_rules_typing.specs.StatementViews.{view_query, view_right, view_stmt, view_stmts};
 ghost use Rattle.gq_session.specs.Paths as spec;
 
-use gq_queries::{Stored, query_named};
-use gq_tree::{QueryTree, Right, Stmt, Walk};
+use gq_query_run::{Stored, query_named};
+use gq_tree::{PatternTree, QueryTree, RightTree, Stmt};
 
 /// Whether the query of a name, where it is installed, walks a path.
 pub(crate) fn walks_path(queries: &[Stored<'_>], name: &str) -> bool
@@ -25,7 +25,7 @@ pub(crate) fn has_path(query: &QueryTree) -> bool
 }
 
 #[cycle(walks)]
-#[tactic(auto, using(gq_typing::proofs::ViewLaws::statement_laws))]
+#[tactic(auto, using(gq_rules_typing::proofs::ViewLaws::statement_laws))]
 fn statements_walk(trees: &[Stmt]) -> bool
     ensures { result ≡ spec.stmts_walk (view_stmts trees.now) }
 {
@@ -38,7 +38,7 @@ fn statements_walk(trees: &[Stmt]) -> bool
 }
 
 #[cycle(walks)]
-#[tactic(auto, using(gq_typing::proofs::ViewLaws::statement_laws))]
+#[tactic(auto, using(gq_rules_typing::proofs::ViewLaws::statement_laws))]
 fn statement_walks(tree: &Stmt) -> bool
     ensures { result ≡ spec.stmt_walks (view_stmt tree.now) }
 {
@@ -61,20 +61,20 @@ fn statement_walks(tree: &Stmt) -> bool
     }
 }
 
-fn right_walks(right: &Right) -> bool
+fn right_walks(right: &RightTree) -> bool
     ensures { result ≡ spec.right_walks (view_right right.now) }
 {
     match right {
-        Right::Select(select) => is_path(&select.walk),
-        Right::Sets(_) | Right::Value(_) => false,
+        RightTree::Select(select) => is_path(&select.walk),
+        RightTree::Sets(_) | RightTree::Value(_) => false,
     }
 }
 
-fn is_path(walk: &Option<Walk>) -> bool
+fn is_path(walk: &Option<PatternTree>) -> bool
     ensures { result ≡ spec.is_path (view_walk walk.now) }
 {
     match walk {
-        Some(Walk::Path(_)) => true,
-        Some(Walk::Hop(_)) | None => false,
+        Some(PatternTree::Path(_)) => true,
+        Some(PatternTree::Hop(_)) | None => false,
     }
 }

@@ -1,35 +1,36 @@
 // The session, and what each statement does to it.
 ghost use Rattle.std.specs.Prelude.{◌≡◌, ◌≤◌, ℕ, IfOk, IfErr, IfSome, IsSome, IsErrOf, Err, Result};
 ghost use Rattle.gq_io.specs.Counts.{Rose};
-ghost use Rattle.gq_refusal.specs.declared.refusal.Refusal.{Refusal};
-ghost use Rattle.gq_refusal.specs.Answers.{Answers};
-ghost use Rattle.gq_refusal.specs.Messages.{message_of};
-ghost use Rattle.gq_script.specs.Effects.{Becomes, Refused, lines_of};
-ghost use Rattle.gq_script.specs.Known.{known_of};
-ghost use Rattle.gq_queries.specs.Judging.{interpret_refusal};
-ghost use Rattle.gq_kept.specs.Keeping.{no_rows as rows_of_none};
+ghost use Rattle.gq_diagnostics.specs.declared.refusal.Refusal.{Refusal};
+ghost use Rattle.gq_diagnostics.specs.Answers.{Answers};
+ghost use Rattle.gq_diagnostics.specs.Messages.{message_of};
+ghost use Rattle.gq_diagnostics.specs.Effects.{Becomes, Refused, lines_of};
+ghost use Rattle.gq_io.specs.Known.{known_of};
+ghost use Rattle.gq_query_run.specs.Judging.{interpret_refusal};
+ghost use Rattle.gq_load.specs.Keeping.{no_rows as rows_of_none};
 ghost use Rattle.gq_session.specs.Statements.{Does, JobLeft, Leaves, Prints, RunsJob, State, edge_made, effect_of, graph_made, graph_used, install_made, job_made, opening, query_interpreted, query_made, query_ran, row_made, unless_due, unsupported as not_yet, vertex_made};
 
 use crate::file::ArgsFile;
+use crate::machine::Machine;
 use crate::path::{has_path, walks_path};
-use gq_define::{create_edge, create_graph, create_vertex};
+use gq_base::{List, OutOfMemory};
+use gq_ddl::{NamedJob, create_edge, create_graph, create_job, create_vertex};
+use gq_diagnostics::{Refusal, StatementFault};
 use gq_edge::Edges;
 use gq_index::Store;
-use gq_inserts::insert_row;
+use gq_insert::insert_row;
 use gq_io::Files;
-use gq_jobs::{NamedJob, create_job};
-use gq_list::List;
-use gq_loads::run_job;
-use gq_queries::{Stored, create_query, install_queries, judge_interpreted};
-use gq_refusal::{Refusal, StatementFault};
-use gq_runs::{Runner, RunsQueries, interpret_query, run_query};
+use gq_load_run::run_job;
+use gq_query_run::{
+    Runner, RunsQueries, Stored, create_query, install_queries, interpret_query, judge_interpreted,
+    run_query,
+};
 use gq_schema::Catalog;
-use gq_script::Machine;
 use gq_tree::{
     EdgeTree, GraphTree, InsertTree, Installed, JobTree, QueryTree, RunJobTree, RunTree, Statement,
     VertexTree,
 };
-use gq_value::{Memory, Txt};
+use gq_value::Txt;
 use gq_vertex::Vertices;
 use std::alloc::Global;
 use std::marker::Model;
@@ -86,7 +87,7 @@ impl<'s, M: RunsQueries> Session<'s, M> {
     /// Runs the statement of this number, on threads of this runtime, and gives the line that it prints, if any.
     ///
     /// Where it doesn't run to its end the session is as it was. Only RUN LOADING JOB leaves upserts in the store: those of the LOADs
-    /// that ended, and of a LOAD that didn't those before the one that was refused, or some of them for want of memory.
+    /// that ended, and of a LOAD that didn't those before the one that was refused, or some of them for `OutOfMemory`.
     pub fn run<R: Threads + Sync, F: Files>(
         &mut self,
         rt: &R,
@@ -156,7 +157,7 @@ impl<'s, M: RunsQueries> Session<'s, M> {
             }
             None => match Txt::of(self.alloc, name.as_str()) {
                 Ok(name) => Err(StatementFault::Refused(Refusal::UnknownName(name))),
-                Err(Memory) => Err(StatementFault::Memory),
+                Err(OutOfMemory) => Err(StatementFault::OutOfMemory),
             },
         }
     }

@@ -1,4 +1,8 @@
-//! Tests: scalars, and the accumulators of all targets. They stand in a crate of their own, so that no library is proved a second time with its tests.
+//! Tests of scalar contents, and of the targets of all accumulators of a query.
+//!
+//! They are a separate crate, so that the libraries aren't proved a second time with their tests.
+//!
+//! The tests are in `src/scalars.rt` and `src/targets.rt`.
 #![tactic(auto)]
 
 #[cfg(test)]

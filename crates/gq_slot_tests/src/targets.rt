@@ -1,14 +1,14 @@
 // Numbers of targets, and what stands there.
 use gq_accum::Scalar;
-use gq_list::{List, Memory};
+use gq_base::{List, OutOfMemory};
+use gq_frame::{Accums, Slots};
 use gq_nest::Content;
-use gq_slots::{Accums, Slots};
 use gq_value::{BaseType, Input, Kind, Number, Slot, Value};
 use std::alloc::Global;
 use std::test::Fail;
 
 // An attached sum, a set, and an attached maximum.
-fn three(alloc: Global, vertices: u32) -> Result<Slots, Memory> {
+fn three(alloc: Global, vertices: u32) -> Result<Slots, OutOfMemory> {
     let mut declared = List::new(alloc);
     for (kind, attached) in [
         (Kind::Sum(Number::Int), true),

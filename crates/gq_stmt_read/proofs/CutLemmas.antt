@@ -10,8 +10,8 @@ use Rattle.gq_grammar.specs.Parsers.{Found, one, token, token_at}
 use Rattle.gq_grammar.specs.Reading.{IsLongest, HasNone}
 use Rattle.gq_grammar.proofs.SignLemmas.{one_reads}
 use Rattle.gq_tree.specs.declared.statement.Placed.{Placed}
-use Rattle.gq_tree.specs.Scripts.{StatementOf}
-use Rattle.gq_tree.specs.Cutting.{IsSemicolon, AreSemicolons, IsNext, Cuts, IsScript, FailsAt}
+use Rattle.gq_grammar.specs.Scripts.{StatementOf}
+use Rattle.gq_grammar.specs.Cutting.{IsSemicolon, AreSemicolons, IsNext, Cuts, IsScript, FailsAt}
 use Rattle.gq_stmt_read.proofs.PlaceLemmas.{as_many, at_place, no_semicolons, semicolon_more}
 
 some_none : {X : Type 0} {x : X} → Some x ≡ None → ⊥

@@ -9,7 +9,7 @@ use Rattle.gq_token.specs.declared.token.Token.{Token}
 use Rattle.gq_grammar.specs.Lexemes.{Lexeme, Lexemes, Terminal, lexeme_of, lexemes_of, is_of}
 use Rattle.gq_grammar.specs.Reading.{between}
 use Rattle.gq_grammar.proofs.Sets.{Starts, or_left}
-use Rattle.gq_tree.specs.Cutting.{IsSemicolon, AreSemicolons}
+use Rattle.gq_grammar.specs.Cutting.{IsSemicolon, AreSemicolons}
 
 -- ---- on lists
 

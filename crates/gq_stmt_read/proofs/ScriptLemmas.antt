@@ -11,8 +11,8 @@ use Rattle.gq_grammar.specs.Reading.{between, IsLongest, HasNone, HasOneTree}
 use Rattle.gq_grammar.proofs.Sets.{Starts, clash, starts_on}
 use Rattle.gq_tree.specs.declared.statement.Statement.{Statement}
 use Rattle.gq_tree.specs.declared.statement.Placed.{Placed}
-use Rattle.gq_tree.specs.Scripts.{StatementOf}
-use Rattle.gq_tree.specs.Cutting.{IsSemicolon, AreSemicolons, IsNext, Cuts, IsScript, FailsAt}
+use Rattle.gq_grammar.specs.Scripts.{StatementOf}
+use Rattle.gq_grammar.specs.Cutting.{IsSemicolon, AreSemicolons, IsNext, Cuts, IsScript, FailsAt}
 use Rattle.gq_stmt_read.proofs.StatementReads.{firsts}
 use Rattle.gq_stmt_read.proofs.PlaceLemmas.{parted, head_starts, as_many, at_place, semicolon_at}
 

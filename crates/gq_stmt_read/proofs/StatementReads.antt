@@ -3,12 +3,12 @@ use Rattle.std.proofs.Common.{ℕ, List, [], ◌∷◌, Some, None, refl}
 use Rattle.gq_tree.specs.declared.body.Body.{Body}
 use Rattle.gq_tree.specs.declared.statement.Statement.{Statement}
 use Rattle.gq_tree.specs.declared.statement.Statement.TheVariants as top
-use Rattle.gq_tree.specs.Scripts.{created_query}
-use Rattle.gq_tree.specs.Scripts as g
-use Rattle.gq_tree.specs.Literals.{OfGraph}
-use Rattle.gq_tree.specs.Schema.{VertexOf, EdgeOf, GraphOf}
-use Rattle.gq_tree.specs.Jobs.{JobOf, RunJobOf}
-use Rattle.gq_tree.specs.Queries.{RunOf}
+use Rattle.gq_grammar.specs.Scripts.{created_query}
+use Rattle.gq_grammar.specs.Scripts as g
+use Rattle.gq_grammar.specs.Literals.{OfGraph}
+use Rattle.gq_grammar.specs.Schema.{VertexOf, EdgeOf, GraphOf}
+use Rattle.gq_grammar.specs.Jobs.{JobOf, RunJobOf}
+use Rattle.gq_grammar.specs.Queries.{RunOf}
 use Rattle.gq_grammar.specs.Lexemes.{Lexemes, Terminal, sign, word}
 use Rattle.gq_grammar.specs.Reserved.{is_reserved}
 use Rattle.gq_grammar.specs.Languages.{Made, ◌∣◌}
@@ -20,13 +20,13 @@ use Rattle.gq_grammar.proofs.Claims.{Reads}
 use Rattle.gq_grammar.proofs.MadeLemmas.{made_reads, either_reads}
 use Rattle.gq_grammar.proofs.SignLemmas.{stands_reads, after_reads}
 use Rattle.gq_grammar.proofs.WholeLemmas.{one_value}
-use Rattle.gq_part_read.specs.Exact.{IsExact}
-use Rattle.gq_part_read.proofs.ExactReads.{exact}
-use Rattle.gq_part_read.proofs.LiteralReads.{of_graph_reads}
-use Rattle.gq_def_read.proofs.SchemaReads.{vertex_reads, edge_reads, graph_reads, insert_reads}
-use Rattle.gq_def_read.proofs.JobReads.{job_reads, run_job_reads}
-use Rattle.gq_query_read.specs.Bodies.{ReadsBodies}
-use Rattle.gq_query_read.proofs.QueryReads.{created_query_reads, interpret_reads, install_reads, run_reads}
+use Rattle.gq_parse_common.specs.Exact.{IsExact}
+use Rattle.gq_parse_common.proofs.ExactReads.{exact}
+use Rattle.gq_parse_common.proofs.LiteralReads.{of_graph_reads}
+use Rattle.gq_parse_ddl.proofs.SchemaReads.{vertex_reads, edge_reads, graph_reads, insert_reads}
+use Rattle.gq_parse_ddl.proofs.JobReads.{job_reads, run_job_reads}
+use Rattle.gq_stmt_read.specs.Bodies.{ReadsBodies}
+use Rattle.gq_stmt_read.proofs.QueryReads.{created_query_reads, interpret_reads, install_reads, run_reads}
 use Rattle.gq_stmt_read.specs.Statements as d
 
 -- with what statements begin

@@ -11,10 +11,10 @@ use Rattle.gq_grammar.proofs.Sets.{starts_some}
 use Rattle.gq_tree.specs.declared.body.Body.{Body}
 use Rattle.gq_tree.specs.declared.statement.Statement.{Statement}
 use Rattle.gq_tree.specs.declared.statement.Placed.{Placed}
-use Rattle.gq_tree.specs.Cutting.{IsScript, FailsAt}
-use Rattle.gq_query_read.specs.Bodies.{ReadsBodies}
+use Rattle.gq_grammar.specs.Cutting.{IsScript, FailsAt}
+use Rattle.gq_stmt_read.specs.Bodies.{ReadsBodies}
 use Rattle.gq_stmt_read.specs.declared.fault.ScriptFault.{ScriptFault}
-use Rattle.gq_stmt_read.specs.declared.fault.ScriptFault.TheVariants.{Syntax, TooDeep, Memory}
+use Rattle.gq_stmt_read.specs.declared.fault.ScriptFault.TheVariants.{Syntax, TooDeep, OutOfMemory}
 use Rattle.gq_stmt_read.specs.Outcomes.{IsRead, HasFault, IsSyntaxFault}
 use Rattle.gq_stmt_read.specs.Statements.{statement_parser}
 use Rattle.gq_stmt_read.proofs.StatementReads.{firsts, statement_longest, statement_none, statement_one, statement_begins}
@@ -97,7 +97,7 @@ module _ {X : Type 0} (items : X → List Placed) (known : Known) (bytes : List 
   none_beside : (statements : List Placed) → IsScript bytes tokens statements → IsNeverDeep → (fault : ScriptFault) → HasFault bytes tokens fault → ⊥
   none_beside statements s never (Syntax number at) h = script_apart bytes tokens known statements number at s h.1
   none_beside statements s never (TooDeep place) h = never place h
-  none_beside statements s never Memory h = h
+  none_beside statements s never OutOfMemory h = h
 
   pub no_fault : IsNeverDeep → (r : Result X ScriptFault) → IfOk r (λ found. IsScript bytes tokens (items found)) → IfOk r (λ found. (fault : ScriptFault) → HasFault bytes tokens fault → ⊥)
   no_fault never (Err e) h = h
@@ -108,23 +108,23 @@ module _ {X : Type 0} (items : X → List Placed) (known : Known) (bytes : List 
       let w = fault_alike bytes tokens known m place number at h.1 f in
       ap (λ n. Syntax n place) w.0 ∙ ap (λ n. Syntax number n) w.1
   other_fault never number at f (TooDeep place) h = absurd (never place h)
-  other_fault never number at f Memory h = absurd h
+  other_fault never number at f OutOfMemory h = absurd h
 
-  only_this : IsNeverDeep → (fault : ScriptFault) → IsSyntaxFault bytes tokens fault → fault ≢ Memory → (other : ScriptFault) → HasFault bytes tokens other → other ≡ fault
+  only_this : IsNeverDeep → (fault : ScriptFault) → IsSyntaxFault bytes tokens fault → fault ≢ OutOfMemory → (other : ScriptFault) → HasFault bytes tokens other → other ≡ fault
   only_this never (Syntax number at) h ne = other_fault never number at h
   only_this never (TooDeep at) h ne = absurd h
-  only_this never Memory h ne = absurd (ne refl)
+  only_this never OutOfMemory h ne = absurd (ne refl)
 
-  pub only_fault : IsNeverDeep → (r : Result X ScriptFault) → IfErr r (IsSyntaxFault bytes tokens) → IfErr r (λ fault. fault ≢ Memory → (other : ScriptFault) → HasFault bytes tokens other → other ≡ fault)
+  pub only_fault : IsNeverDeep → (r : Result X ScriptFault) → IfErr r (IsSyntaxFault bytes tokens) → IfErr r (λ fault. fault ≢ OutOfMemory → (other : ScriptFault) → HasFault bytes tokens other → other ≡ fault)
   only_fault never (Ok found) h = h
   only_fault never (Err fault) h = only_this never fault h
 
-  not_this : (fault : ScriptFault) → IsSyntaxFault bytes tokens fault → fault ≢ Memory → (statements : List Placed) → IsRead bytes tokens statements → ⊥
+  not_this : (fault : ScriptFault) → IsSyntaxFault bytes tokens fault → fault ≢ OutOfMemory → (statements : List Placed) → IsRead bytes tokens statements → ⊥
   not_this (Syntax number at) h ne = λ statements s. script_apart bytes tokens known statements number at s.1 h
   not_this (TooDeep at) h ne = absurd h
-  not_this Memory h ne = absurd (ne refl)
+  not_this OutOfMemory h ne = absurd (ne refl)
 
-  pub no_script : (r : Result X ScriptFault) → IfErr r (IsSyntaxFault bytes tokens) → IfErr r (λ fault. fault ≢ Memory → (statements : List Placed) → IsRead bytes tokens statements → ⊥)
+  pub no_script : (r : Result X ScriptFault) → IfErr r (IsSyntaxFault bytes tokens) → IfErr r (λ fault. fault ≢ OutOfMemory → (statements : List Placed) → IsRead bytes tokens statements → ⊥)
   no_script (Ok found) h = h
   no_script (Err fault) h = not_this fault h
 
@@ -134,4 +134,4 @@ module _ (bytes : List ℕ) (tokens : List Token) (at : ℕ) where
   pub deep_only : ((place : ℕ) → IsTooDeepAt bytes tokens place → Some at ≡ Some place) → (IsShallow bytes tokens → ⊥) → (other : ScriptFault) → HasFault bytes tokens other → other ≡ TooDeep at
   deep_only only shallow (Syntax number place) h = absurd (shallow h.0)
   deep_only only shallow (TooDeep place) h = ap TooDeep (sym (some_inj (only place h)))
-  deep_only only shallow Memory h = absurd h
+  deep_only only shallow OutOfMemory h = absurd h

@@ -1,2 +1,4 @@
+pub mod Queries
+pub mod Bodies
 pub mod Statements
 pub mod Outcomes

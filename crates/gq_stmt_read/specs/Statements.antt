@@ -3,13 +3,13 @@
 use Rattle.gq_tree.specs.declared.body.Body.{Body}
 use Rattle.gq_tree.specs.declared.statement.Statement.{Statement}
 use Rattle.gq_tree.specs.declared.statement.Statement.TheVariants as top
-use Rattle.gq_tree.specs.Scripts.{created_query}
+use Rattle.gq_grammar.specs.Scripts.{created_query}
 use Rattle.gq_grammar.specs.Lexemes.{word}
 use Rattle.gq_grammar.specs.Parsers.{Parser, made, ◌or◌, stands, after}
-use Rattle.gq_part_read.specs.Literals.{of_graph_parser}
-use Rattle.gq_def_read.specs.Schema.{vertex_parser, edge_parser, graph_parser, insert_parser}
-use Rattle.gq_def_read.specs.Jobs.{job_parser, run_job_parser}
-use Rattle.gq_query_read.specs.Queries.{created_query_parser, interpret_parser, install_parser, run_parser}
+use Rattle.gq_parse_common.specs.Literals.{of_graph_parser}
+use Rattle.gq_parse_ddl.specs.Schema.{vertex_parser, edge_parser, graph_parser, insert_parser}
+use Rattle.gq_parse_ddl.specs.Jobs.{job_parser, run_job_parser}
+use Rattle.gq_stmt_read.specs.Queries.{created_query_parser, interpret_parser, install_parser, run_parser}
 
 unfoldable pub declared_parser : Parser Statement
 declared_parser =

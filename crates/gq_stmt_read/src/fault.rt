@@ -1,8 +1,8 @@
 // Why a script isn't read.
 ghost use Rattle.std.specs.Prelude.{◌≡◌};
-ghost use Rattle.gq_stmt_read.specs.declared.fault.ScriptFault.TheVariants.{Memory};
+ghost use Rattle.gq_stmt_read.specs.declared.fault.ScriptFault.TheVariants.{OutOfMemory};
 
-use gq_list::Memory;
+use gq_base::OutOfMemory;
 use std::alloc::AllocFailed;
 use thiserror::Error;
 
@@ -18,21 +18,21 @@ pub enum ScriptFault {
     TooDeep { at: usize },
 
     #[error("out of memory")]
-    Memory,
+    OutOfMemory,
 }
 
-impl From<Memory> for ScriptFault {
-    ghost from_gives = { λ _ e. e ≡ Memory };
+impl From<OutOfMemory> for ScriptFault {
+    ghost from_gives = { λ _ e. e ≡ OutOfMemory };
 
-    fn from(_: Memory) -> Self {
-        ScriptFault::Memory
+    fn from(_: OutOfMemory) -> Self {
+        ScriptFault::OutOfMemory
     }
 }
 
 impl<T: Drop> From<AllocFailed<T>> for ScriptFault {
-    ghost from_gives = { λ _ e. e ≡ Memory };
+    ghost from_gives = { λ _ e. e ≡ OutOfMemory };
 
     fn from(_: AllocFailed<T>) -> Self {
-        ScriptFault::Memory
+        ScriptFault::OutOfMemory
     }
 }

@@ -3,12 +3,12 @@ ghost use Rattle.std.specs.Prelude.{◌≡◌, ℕ, List};
 ghost use Rattle.gq_token.specs.declared.token.Token.{Token};
 ghost use Rattle.gq_tree.specs.declared.body.Body.{Body};
 ghost use Rattle.gq_tree.specs.declared.statement.Placed.{Placed};
-ghost use Rattle.gq_tree.specs.Scripts.{StatementOf};
-ghost use Rattle.gq_tree.specs.Cutting.{IsScript, FailsAt};
+ghost use Rattle.gq_grammar.specs.Scripts.{StatementOf};
+ghost use Rattle.gq_grammar.specs.Cutting.{IsScript, FailsAt};
 ghost use Rattle.gq_grammar.specs.Parsers.{Parser};
 ghost use Rattle.gq_grammar.specs.Reading.{HasOneTree};
-ghost use Rattle.gq_part_read.specs.Exact.{IsExact};
-ghost use Rattle.gq_query_read.specs.Bodies.{ReadsBodies};
+ghost use Rattle.gq_parse_common.specs.Exact.{IsExact};
+ghost use Rattle.gq_stmt_read.specs.Bodies.{ReadsBodies};
 ghost use Rattle.gq_stmt_read.specs.Statements.{statement_parser};
 
 /// Does nothing. Its contract is a law: with every reader that reads bodies, what `statement` finds is the longest prefix that the

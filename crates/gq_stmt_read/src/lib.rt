@@ -1,15 +1,33 @@
-//! Reads whole scripts: the statements that the tokens of a script are cut into, or the first that can't be read.
+//! Parses whole scripts: cuts the tokens into statements, or says where the first statement that can't be
+//! read begins.
 //!
-//! The grammar is `gq_tree`'s `specs/Scripts.antt`, and `specs/Cutting.antt` says how a script is cut. Types and jobs are read by
-//! `gq_def_read`, queries by `gq_query_read`, and bodies by what is given, a type with the trait `Bodies`. Read `read_with` first.
+//! A script is cut from the left, each statement being the longest prefix of the rest that is one. Types and
+//! jobs are parsed by `gq_parse_ddl`, query bodies by any type with the trait `Bodies`; here that is
+//! `gq_parse_query`.
+//!
+//! Read `Scripts.antt` and `Cutting.antt` of `gq_grammar` first, then `specs/Outcomes.antt`: what a script is
+//! read as, and why it isn't read. `specs/Statements.antt` and `specs/Queries.antt` say what each function
+//! computes. The code begins in `src/scripts.rt`; `src/queries.rt`, `src/installs.rt` and `src/runs.rt` read
+//! statements on queries.
 #![tactic(auto)]
 
+mod bodies;
+mod body_reader;
 mod fault;
+mod installs;
 mod laws;
+mod parameters;
+mod queries;
+mod query_laws;
+mod runs;
 mod script;
+mod scripts;
+mod series;
 mod statements;
 
+pub use bodies::Bodies;
+pub use body_reader::QueryBodies;
 pub use fault::ScriptFault;
 pub use laws::{one_script, statements_are_exact};
+pub use query_laws::queries_are_exact;
 pub use script::read_with;
-pub use statements::statement;

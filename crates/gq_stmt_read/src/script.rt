@@ -3,16 +3,16 @@ ghost use Rattle.std.specs.Prelude.{◌≡◌, ◌≢◌, ℕ, List, All, IfOk, 
 ghost use Rattle.gq_token.specs.Cut.{IsSpelledIn};
 ghost use Rattle.gq_token.specs.Nesting.{IsTooDeepAt};
 ghost use Rattle.gq_tree.specs.declared.statement.Placed.{Placed};
-ghost use Rattle.gq_tree.specs.Cutting.{IsScript};
-ghost use Rattle.gq_query_read.specs.Bodies.{ReadsBodies};
+ghost use Rattle.gq_grammar.specs.Cutting.{IsScript};
+ghost use Rattle.gq_stmt_read.specs.Bodies.{ReadsBodies};
 ghost use Rattle.gq_stmt_read.specs.declared.fault.ScriptFault.{ScriptFault};
-ghost use Rattle.gq_stmt_read.specs.declared.fault.ScriptFault.TheVariants.{TooDeep, Memory};
+ghost use Rattle.gq_stmt_read.specs.declared.fault.ScriptFault.TheVariants.{TooDeep, OutOfMemory};
 ghost use Rattle.gq_stmt_read.specs.Outcomes.{IsRead, HasFault, IsSyntaxFault};
 
+use crate::bodies::Bodies;
 use crate::fault::ScriptFault;
 use crate::statements::statement;
 use gq_grammar::Source;
-use gq_query_read::Bodies;
 use gq_token::{Token, too_deep};
 use gq_tree::Placed;
 use std::alloc::Global;
@@ -31,12 +31,12 @@ pub fn read_with<B: Bodies>(
     requires bodies { ReadsBodies B.parser }
     ensures script { IfOk result (λ found. IsRead bytes.now tokens.now found.items) }
     ensures only { IfOk result (λ found. (statements : List Placed) → IsRead bytes.now tokens.now statements → statements ≡ found.items) }
-    ensures fault { IfErr result (λ fault. fault ≢ Memory → HasFault bytes.now tokens.now fault) }
+    ensures fault { IfErr result (λ fault. fault ≢ OutOfMemory → HasFault bytes.now tokens.now fault) }
 
     // A script that is read has no fault, and one that has a fault has no other and isn't read.
     ensures no_fault { IfOk result (λ found. (fault : ScriptFault) → HasFault bytes.now tokens.now fault → ⊥) }
-    ensures only_fault { IfErr result (λ fault. fault ≢ Memory → (other : ScriptFault) → HasFault bytes.now tokens.now other → other ≡ fault) }
-    ensures no_script { IfErr result (λ fault. fault ≢ Memory → (statements : List Placed) → IsRead bytes.now tokens.now statements → ⊥) }
+    ensures only_fault { IfErr result (λ fault. fault ≢ OutOfMemory → (other : ScriptFault) → HasFault bytes.now tokens.now other → other ≡ fault) }
+    ensures no_script { IfErr result (λ fault. fault ≢ OutOfMemory → (statements : List Placed) → IsRead bytes.now tokens.now statements → ⊥) }
 
     // To refuse a script that nests too deep takes no memory.
     ensures too_deep { (at : ℕ) → IsTooDeepAt bytes.now tokens.now at → result ≡ Err (TooDeep at) }

@@ -4,10 +4,14 @@ ghost use Rattle.gq_grammar.specs.Lexemes as lexemes;
 ghost use Rattle.gq_grammar.specs.Parsers.{Found, after};
 ghost use Rattle.gq_stmt_read.specs.Statements as spec;
 
-use gq_def_read::{edge, graph, insert, job, run_job, vertex};
+use crate::bodies::Bodies;
+use crate::installs::install;
+use crate::queries::{created_query, interpret};
+use crate::runs::run_query;
+use gq_expr_read::Read;
 use gq_grammar::Source;
-use gq_part_read::{Read, need, of_graph};
-use gq_query_read::{Bodies, created_query, install, interpret, run_query};
+use gq_parse_common::{need, of_graph};
+use gq_parse_ddl::{edge, graph, insert, job, run_job, vertex};
 use gq_tree::Statement;
 use std::alloc::Global;
 

@@ -12,11 +12,11 @@ use Rattle.gq_value.specs.declared.kind.Input.{Input}
 use Rattle.gq_value.specs.Accums.{Accum, Given}
 use Rattle.gq_value.specs.AccumViews.{accum_of, given}
 use Rattle.gq_value.specs.Typed.{is_scalar, suits}
-use Rattle.gq_content.specs.Holds.{Holds}
-use Rattle.gq_content.specs.After as model
-use Rattle.gq_content.specs.Fits.{HasRoom}
-use Rattle.gq_content.proofs.FedLaws.{fed_law}
-use Rattle.gq_content.proofs.KindLaws.{after_cut}
+use Rattle.gq_accum_laws.specs.Holds.{Holds}
+use Rattle.gq_accum_laws.specs.After as model
+use Rattle.gq_accum_laws.specs.Fits.{HasRoom}
+use Rattle.gq_accum_laws.proofs.FedLaws.{fed_law}
+use Rattle.gq_accum_laws.proofs.KindLaws.{after_cut}
 use Rattle.gq_nest.specs.declared.content.Content.{Content}
 use Rattle.gq_nest.specs.Shows.{Shows, TakesInput}
 use Rattle.gq_core.specs.Contents.{inputs_to, given_to}

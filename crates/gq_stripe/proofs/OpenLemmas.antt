@@ -11,7 +11,7 @@ use lib.ListN.{get_elem?, length-replicate}
 use Rattle.gq_value.specs.declared.kind.Kind.{Kind}
 use Rattle.gq_value.specs.Accums.{Accum, SumAccum, MinAccum, MaxAccum, OrAccum, AndAccum, BitwiseOrAccum, BitwiseAndAccum, AvgAccum, SetAccum, BagAccum, ListAccum, MapAccum, GroupByAccum, HeapAccum, Parts, no_part, part_and}
 use Rattle.gq_value.specs.AccumViews.{accum_of}
-use Rattle.gq_content.specs.After as model
+use Rattle.gq_accum_laws.specs.After as model
 use Rattle.gq_nest.specs.declared.content.Content.{Content}
 use Rattle.gq_nest.specs.Shows.{Shows}
 use Rattle.gq_core.proofs.TotalLemmas.{at_same, at_other}

@@ -12,8 +12,8 @@ use Rattle.gq_value.specs.declared.kind.Kind.{Kind}
 use Rattle.gq_value.specs.declared.kind.Input.{Input}
 use Rattle.gq_value.specs.AccumViews.{accum_of, given}
 use Rattle.gq_value.specs.Typed.{has_no_list}
-use Rattle.gq_content.specs.After as model
-use Rattle.gq_content.proofs.KindLaws.{order_law}
+use Rattle.gq_accum_laws.specs.After as model
+use Rattle.gq_accum_laws.proofs.KindLaws.{order_law}
 use Rattle.gq_core.specs.Accounts.{one_if, below, times}
 use Rattle.gq_core.specs.Contents.{numbers, inputs_to, given_to}
 use Rattle.gq_core.proofs.TotalLemmas.{is_same, is_other, below_yes, below_no, below-next, first_same, first_other, times-append}

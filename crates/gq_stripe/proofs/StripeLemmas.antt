@@ -12,7 +12,7 @@ use Rattle.gq_value.specs.declared.kind.Input.{Input}
 use Rattle.gq_value.specs.Accums.{Accum, SumAccum, MinAccum, MaxAccum, OrAccum, AndAccum, BitwiseOrAccum, BitwiseAndAccum, AvgAccum, SetAccum, BagAccum, ListAccum, MapAccum, GroupByAccum, HeapAccum, Given, One, Keyed}
 use Rattle.gq_value.specs.AccumViews.{accum_of, given}
 use Rattle.gq_value.specs.Typed.{is_scalar, suits}
-use Rattle.gq_content.specs.Holds.{Holds}
+use Rattle.gq_accum_laws.specs.Holds.{Holds}
 use Rattle.gq_nest.specs.declared.content.Content.{Content, Content-F, out-Content}
 use Rattle.gq_nest.specs.Forms.{HasForm}
 use Rattle.gq_nest.specs.Shows.{Shows, TakesInput, plain_in, is_plain, is_one}

@@ -6,8 +6,8 @@ use Rattle.gq_value.specs.declared.kind.Kind.{Kind}
 use Rattle.gq_value.specs.declared.kind.Input.{Input}
 use Rattle.gq_value.specs.AccumViews.{accum_of, given}
 use Rattle.gq_value.specs.Typed.{is_scalar, has_no_list, suits}
-use Rattle.gq_content.specs.Holds.{Holds}
-use Rattle.gq_content.specs.After as model
+use Rattle.gq_accum_laws.specs.Holds.{Holds}
+use Rattle.gq_accum_laws.specs.After as model
 use Rattle.gq_nest.specs.declared.content.Content.{Content}
 use Rattle.gq_nest.specs.Shows.{Shows}
 use Rattle.gq_core.specs.Contents.{given_to}

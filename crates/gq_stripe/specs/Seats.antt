@@ -16,7 +16,7 @@ use Rattle.gq_stripe.specs.declared.seat.Seat.{Seat}
 use Rattle.gq_stripe.specs.declared.book.Book.{Book}
 use Rattle.gq_stripe.specs.declared.partials.Partials.{Partials}
 use Rattle.gq_stripe.specs.declared.fault.CloseFault.{CloseFault}
-use Rattle.gq_stripe.specs.declared.fault.CloseFault.TheVariants.{Unfinished, Memory}
+use Rattle.gq_stripe.specs.declared.fault.CloseFault.TheVariants.{Unfinished, OutOfMemory}
 use Rattle.gq_stripe.specs.Contents.{Batch, FitsInput, content_after, inputs_of, any_spoiled}
 use Rattle.gq_stripe.specs.Rule.{worker}
 
@@ -98,7 +98,7 @@ pub record HasContents (plan : Plan) (puts : List Put) (partials : Partials) : T
 -- why the book can't be closed: fewer puts were made than there are to be, or there was no memory
 abbrev pub IsFault : Book → Seat → CloseFault → Type 0
 IsFault book seat (Unfinished put of) = (put ≡ length (view_of seat).puts) × (of ≡ puts_wanted (plan_of book)) × (put < of)
-IsFault book seat Memory = puts_wanted (plan_of book) ≤ length (view_of seat).puts
+IsFault book seat OutOfMemory = puts_wanted (plan_of book) ≤ length (view_of seat).puts
 
 -- a plan of this layout and these numbers
 abbrev pub IsOpenedWith : List Kind → ℕ → ℕ → ℕ → Plan → Type 0

@@ -1,14 +1,14 @@
 // A book in its table, and the steps that don't wait.
 ghost use Rattle.std.specs.Prelude.{◌≡◌, ◌+◌, ◌*◌, ◌-◌, ◌^◌, ◌<◌, ◌≤◌, false, None, IfOk, IfSome, IfNone};
 
-use crate::Layout;
+use crate::layout::Layout;
 use crate::opening::{first_stripes, first_words};
 use crate::rule::{Count, Cut, Draw, Merge, Shows};
 use crate::seat::Seat;
 use crate::stripe::Stripe;
 use crate::view::{Plan, Stage, View};
 use atomic_table::Table;
-use gq_list::Memory;
+use gq_base::OutOfMemory;
 use std::alloc::Global;
 
 /// Contents for the targets of a layout, cut into stripes, which threads fill chunk by chunk. A book is shared by reference;
@@ -45,7 +45,7 @@ impl Book {
         chunks: u64,
         stripes: u32,
         seats: u32,
-    ) -> Result<(Book, Seat), Memory>
+    ) -> Result<(Book, Seat), OutOfMemory>
         requires stripes { (1 ≤ stripes) × (stripes ≤ 256) }
         requires seats { (1 ≤ seats) × (seats ≤ 1024) }
         requires chunks { chunks ≤ 2 ^ 25 }
@@ -62,7 +62,7 @@ impl Book {
         let slots = first_stripes(alloc, layout, stripes)?;
         let made = Table::new(alloc, words.as_slice(), slots, &plan);
         let Ok((table, place)) = made else {
-            return Err(Memory);
+            return Err(OutOfMemory);
         };
         let book = Book {
             table,

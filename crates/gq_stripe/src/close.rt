@@ -1,15 +1,17 @@
 // The end of a book.
 ghost use Rattle.std.specs.Prelude.{◌≡◌, ◌+◌, ◌<◌, ◌≤◌, None, [], true, length, vec_len, vec_capacity, IfOk, IfErr};
 ghost use Rattle.std.specs.Slots.{slots_items, slots_len, IsFull};
-ghost use Rattle.gq_stripe.specs.declared.fault.CloseFault.TheVariants.{Memory};
+ghost use Rattle.gq_stripe.specs.declared.fault.CloseFault.TheVariants.{OutOfMemory};
 ghost use Rattle.gq_stripe.specs.Ending.{AreTaken, IsTakenBehind};
 
 use crate::book::Book;
+use crate::fault::CloseFault;
+use crate::partials::Partials;
 use crate::rule::Count;
+use crate::seat::Seat;
 use crate::stripe::Stripe;
-use crate::{CloseFault, Partials, Seat};
 use atomic_table::Closed;
-use gq_list::List;
+use gq_base::List;
 use gq_nest::Content;
 use std::alloc::Global;
 
@@ -24,7 +26,7 @@ impl Book {
         ensures contents { IfOk result (HasContents (plan_of self) (view_of seat).puts) }
         ensures fault { IfErr result (IsFault self seat) }
         // All seats are joined into this one, and a draw has found no chunk: then no put is missing.
-        ensures finished { chunk_held (view_of seat).phase ≡ None → (view_of seat).stands ≡ (plan_of self).seats → 0 < (view_of seat).ended → IfErr result (λ e. e ≡ Memory) }
+        ensures finished { chunk_held (view_of seat).phase ≡ None → (view_of seat).stands ≡ (plan_of self).seats → 0 < (view_of seat).ended → IfErr result (λ e. e ≡ OutOfMemory) }
     {
         let Book {
             table,
@@ -49,13 +51,13 @@ impl Book {
             });
         }
         let Ok(taken) = Vec::with_capacity(alloc, stripes as usize) else {
-            return Err(CloseFault::Memory);
+            return Err(CloseFault::OutOfMemory);
         };
         let (taken, fine) = take_all(table.close_with(place), taken, stripes as usize);
         if fine {
             Ok(Partials { stripes: taken })
         } else {
-            Err(CloseFault::Memory)
+            Err(CloseFault::OutOfMemory)
         }
     }
 }

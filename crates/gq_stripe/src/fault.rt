@@ -1,8 +1,8 @@
 // Why a book can't be closed.
 ghost use Rattle.std.specs.Prelude.{◌≡◌};
-ghost use Rattle.gq_stripe.specs.declared.fault.CloseFault.TheVariants.{Memory};
+ghost use Rattle.gq_stripe.specs.declared.fault.CloseFault.TheVariants.{OutOfMemory};
 
-use gq_value::Memory;
+use gq_base::OutOfMemory;
 use thiserror::Error;
 
 /// Why a book can't be closed. It is given up all the same, with the seat.
@@ -14,13 +14,13 @@ pub enum CloseFault {
 
     /// A stripe is spoiled, or there was no memory.
     #[error("out of memory")]
-    Memory,
+    OutOfMemory,
 }
 
-impl From<Memory> for CloseFault {
-    ghost from_gives = { λ _ e. e ≡ Memory };
+impl From<OutOfMemory> for CloseFault {
+    ghost from_gives = { λ _ e. e ≡ OutOfMemory };
 
-    fn from(_: Memory) -> Self {
-        CloseFault::Memory
+    fn from(_: OutOfMemory) -> Self {
+        CloseFault::OutOfMemory
     }
 }

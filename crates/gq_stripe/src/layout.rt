@@ -1,7 +1,7 @@
 // Layouts.
 ghost use Rattle.std.specs.Prelude.{◌≡◌, ◌<◌, [], ◌∷◌, ◌++◌, length, replicate, slice_get, Some, IfOk, OnOk, OnErr};
 
-use gq_list::{List, Memory};
+use gq_base::{List, OutOfMemory};
 use gq_value::Kind;
 use std::alloc::Global;
 use std::marker::Model;
@@ -47,16 +47,16 @@ impl Layout {
         }
     }
 
-    /// Puts a target of this kind last. After want of memory the layout is as it was.
-    pub fn push(&mut self, kind: Kind) -> Result<(), Memory>
+    /// Puts a target of this kind last. After `OutOfMemory` the layout is as it was.
+    pub fn push(&mut self, kind: Kind) -> Result<(), OutOfMemory>
         ensures ok { OnOk result (self.new ≡ self.old ++ kind ∷ []) }
         ensures err { OnErr result (self.new ≡ self.old) }
     {
         self.push_all(kind, 1)
     }
 
-    /// Puts so many targets of this kind last, as one for each vertex. After want of memory the layout is as it was.
-    pub fn push_all(&mut self, kind: Kind, targets: u32) -> Result<(), Memory>
+    /// Puts so many targets of this kind last, as one for each vertex. After `OutOfMemory` the layout is as it was.
+    pub fn push_all(&mut self, kind: Kind, targets: u32) -> Result<(), OutOfMemory>
         ensures ok { OnOk result (self.new ≡ self.old ++ replicate targets kind) }
         ensures err { OnErr result (self.new ≡ self.old) }
     {
@@ -71,7 +71,7 @@ impl Layout {
     }
 
     /// The same layout with memory of its own.
-    pub fn duplicate(&self, alloc: Global) -> Result<Layout, Memory>
+    pub fn duplicate(&self, alloc: Global) -> Result<Layout, OutOfMemory>
         ensures { IfOk result (λ copy. copy ≡ self.now) }
     {
         let mut runs = List::new(alloc);

@@ -1,12 +1,13 @@
-//! A book of accumulator contents, cut into stripes, which many threads fill chunk by chunk.
+//! A table of accumulator contents, cut into stripes, which many threads fill chunk by chunk.
 //!
-//! Each thread has a seat. It draws the number of a chunk by one atomic step, and puts the chunk's contributions at each
-//! stripe in turn, in the order of the tickets that are taken there. A seat's view, which exists in proofs alone, lists what
-//! it has drawn and put. Between any two steps the words of the table, its slots and all views together show a core of
-//! `gq_core` that meets the accounts, and each stripe holds the contents after all inputs that were put there.
+//! Each thread has a seat. It takes a chunk by one atomic step, and puts the chunk's contributions into each
+//! stripe in turn, in the order of the tickets taken there. The view of a seat is ghost state that lists what
+//! it took and put. Between any two steps, the atomic words, the slots and all views together represent a
+//! core of `gq_core` that meets its invariant, and each stripe holds the contents after all inputs put there.
 //!
-//! Read `specs/Contents.antt` (what a stripe holds) and `specs/Rule.antt` (what holds between any two steps), then
-//! `specs/Seats.antt` (what contracts see). The code begins in `book.rt`; the one loop that waits is `wait_for` in `turn.rt`.
+//! Read `specs/Contents.antt` (what a stripe holds) and `specs/Rule.antt` (the invariant), then
+//! `specs/Seats.antt` (what contracts see). The code begins in `src/book.rt`; the only loop that waits is
+//! `wait_for` in `src/turn.rt`.
 #![tactic(auto)]
 
 mod book;

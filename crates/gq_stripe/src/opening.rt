@@ -2,19 +2,19 @@
 ghost use Rattle.std.specs.Prelude.{◌≡◌, ◌+◌, ◌*◌, ◌<◌, ◌≤◌, [], length, replicate, slice_get, slice_set, Some, IfOk, OnOk};
 ghost use Rattle.gq_value.specs.declared.kind.Kind.{Kind};
 ghost use Rattle.gq_value.specs.AccumViews.{accum_of};
-ghost use Rattle.gq_content.specs.After as model;
+ghost use Rattle.gq_accum_laws.specs.After as model;
 ghost use Rattle.gq_nest.specs.Shows.{Shows};
 ghost use Rattle.gq_stripe.specs.Opening.{AreOpen, AreRows, IsPushedAt};
 
-use crate::Layout;
+use crate::layout::Layout;
 use crate::stripe::Stripe;
-use gq_list::{List, Memory};
+use gq_base::{List, OutOfMemory};
 use gq_nest::Content;
 use std::alloc::Global;
 use std::mem;
 
 /// Nothing is drawn yet, and no ticket taken or served.
-pub(crate) fn first_words(alloc: Global, stripes: u32) -> Result<Vec<u64>, Memory>
+pub(crate) fn first_words(alloc: Global, stripes: u32) -> Result<Vec<u64>, OutOfMemory>
     requires { stripes ≤ 256 }
     ensures { IfOk result (λ v. v.items ≡ replicate (2 * stripes + 1) 0) }
 {
@@ -26,7 +26,7 @@ pub(crate) fn first_stripes(
     alloc: Global,
     layout: &Layout,
     stripes: u32,
-) -> Result<Vec<Option<Stripe>>, Memory>
+) -> Result<Vec<Option<Stripe>>, OutOfMemory>
     requires { 1 ≤ stripes }
     ensures { IfOk result (λ v. AreOpen layout.now stripes v.items) }
 {
@@ -43,7 +43,11 @@ pub(crate) fn first_stripes(
 }
 
 /// A row of contents for each stripe: one pass over the targets, which go to the stripes in turn.
-fn first_rows(alloc: Global, layout: &Layout, stripes: u32) -> Result<Vec<List<Content>>, Memory>
+fn first_rows(
+    alloc: Global,
+    layout: &Layout,
+    stripes: u32,
+) -> Result<Vec<List<Content>>, OutOfMemory>
     requires { 1 ≤ stripes }
     ensures { IfOk result (λ v. AreRows layout.now stripes v.items) }
 {
@@ -60,7 +64,7 @@ fn first_rows(alloc: Global, layout: &Layout, stripes: u32) -> Result<Vec<List<C
 }
 
 /// A row without contents for each stripe.
-fn empty_rows(alloc: Global, stripes: u32) -> Result<Vec<List<Content>>, Memory>
+fn empty_rows(alloc: Global, stripes: u32) -> Result<Vec<List<Content>>, OutOfMemory>
     ensures { IfOk result (λ v. v.items ≡ replicate stripes []) }
 {
     let mut rows = Vec::with_capacity(alloc, stripes as usize)?;
@@ -80,7 +84,7 @@ fn take_row(alloc: Global, rows: &mut Vec<List<Content>>, at: usize) -> List<Con
 }
 
 /// Puts a content behind those of a row.
-fn push_at(rows: &mut Vec<List<Content>>, at: usize, content: Content) -> Result<(), Memory>
+fn push_at(rows: &mut Vec<List<Content>>, at: usize, content: Content) -> Result<(), OutOfMemory>
     requires { at < length rows.old.items }
     ensures { OnOk result (IsPushedAt at content rows.old.items rows.new.items) }
 {

@@ -1,7 +1,7 @@
 // What a closed book gives.
 ghost use Rattle.std.specs.Prelude.{◌≡◌, ◌<◌, length, Some};
 
-use gq_list::List;
+use gq_base::List;
 use gq_nest::Content;
 
 /// The content of each target after all its inputs, without an opening: stripe by stripe, as the book had them.

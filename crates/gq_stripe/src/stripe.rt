@@ -2,7 +2,7 @@
 ghost use Rattle.std.specs.Prelude.{◌<◌, OnOk, IsOk};
 ghost use Rattle.gq_stripe.specs.Feeding.{CanFeed, CanFeedScalars, IsFed, CanLay, IsLaidOn};
 
-use gq_list::{List, Memory};
+use gq_base::{List, OutOfMemory};
 use gq_nest::Content;
 use gq_value::Input;
 use std::alloc::Global;
@@ -30,18 +30,18 @@ impl Stripe {
         }
         match feed_all(alloc, &mut self.contents, stripes, batch) {
             Ok(()) => (),
-            Err(Memory) => self.spoiled = true,
+            Err(OutOfMemory) => self.spoiled = true,
         }
     }
 }
 
-/// Feeds each target of the batch, whose place is the quotient. After want of memory some may be fed.
+/// Feeds each target of the batch, whose place is the quotient. After `OutOfMemory` some may be fed.
 fn feed_all(
     alloc: Global,
     contents: &mut List<Content>,
     stripes: u32,
     batch: &[(u64, Input)],
-) -> Result<(), Memory>
+) -> Result<(), OutOfMemory>
     requires some { 0 < stripes }
     requires fits { CanFeed stripes batch.now contents.old }
     ensures fed { OnOk result (IsFed stripes batch.now contents.old contents.new) }

@@ -1,13 +1,12 @@
 // A chunk's turn at each stripe: a ticket, the wait for it, the batch laid there, and the leave.
 ghost use Rattle.std.specs.Prelude.{◌≡◌, ◌+◌, ◌<◌, [], true, false, Some, IsOk, MatchResult};
 
-use crate::Seat;
 use crate::book::Book;
 use crate::rule::{InHand, Leave, Look, Ticket};
-use crate::seat::Place;
+use crate::seat::{Place, Seat};
 use crate::view::Stage;
+use gq_base::OutOfMemory;
 use gq_core::{Batches, Turn};
-use gq_list::Memory;
 use gq_value::Input;
 use std::marker::Brand;
 use std::sync::Wait;
@@ -140,7 +139,7 @@ impl Book {
     /// Waits for the chunk's turn at each stripe in order, and lays its batch there.
     ///
     /// The chunk is put at each stripe in any case. A batch that finds no memory spoils its stripe; this put and each later
-    /// one there then answers `Memory`, and the book can't be closed. On a layout of numbers, truths and averages alone it
+    /// one there then answers `OutOfMemory`, and the book can't be closed. On a layout of numbers, truths and averages alone it
     /// takes no memory. A batch fits where it was made for this number of stripes, for targets of the layout whose kinds
     /// hold no ListAccum and take it; there are at most 2^35 contributions.
     pub fn put<R: Wait>(
@@ -149,7 +148,7 @@ impl Book {
         seat: &mut Seat,
         chunk: u64,
         batches: &Batches,
-    ) -> Result<(), Memory>
+    ) -> Result<(), OutOfMemory>
         requires own { IsSeatOf self.now seat.old }
         requires holds { chunk_held (view_of seat.old).phase ≡ Some chunk }
         requires fit { FitBatches (plan_of self.now) batches.now }
@@ -160,6 +159,6 @@ impl Book {
         let spoiled = self.put_all(rt, &mut seat.place, chunk, batches);
         seat.stage = Stage::Idle;
         seat.puts += u64::from(self.stripes);
-        if spoiled { Err(Memory) } else { Ok(()) }
+        if spoiled { Err(OutOfMemory) } else { Ok(()) }
     }
 }

@@ -1,7 +1,7 @@
 // What is known of a book and of a seat. Only contracts speak of both.
-use crate::Layout;
+use crate::layout::Layout;
+use gq_base::List;
 use gq_core::Phase;
-use gq_list::List;
 use gq_value::Input;
 
 /// What a book is opened with.

@@ -1,9 +1,10 @@
 ghost use Rattle.std.specs.Prelude.{◌≡◌, All, true, IfOk};
-ghost use Rattle.gq_value.specs.Defaults.{is_plain};
+ghost use Rattle.gq_graph.specs.Defaults.{is_plain};
 
-use gq_list::List;
+use gq_base::{List, OutOfMemory};
+use gq_graph::{Attribute, Attributes, IdKind, IdShape, Names};
 use gq_schema::{Catalog, SchemaFault};
-use gq_value::{Attribute, Attributes, BaseType, IdKind, IdShape, Memory, Names, Txt, Value};
+use gq_value::{BaseType, Txt, Value};
 use std::alloc::Global;
 use std::test::Fail;
 
@@ -15,7 +16,7 @@ fn none(alloc: Global) -> Attributes
     List::new(alloc)
 }
 
-#[tactic(auto, using(gq_value::specs::SortLaws::sort_laws))]
+#[tactic(auto, using(gq_graph::specs::SortLaws::sort_laws))]
 fn unsigned(name: Txt, default: Option<Value>) -> Attribute
     ensures { is_plain result ≡ true }
 {
@@ -26,7 +27,7 @@ fn unsigned(name: Txt, default: Option<Value>) -> Attribute
     }
 }
 
-fn one(alloc: Global, name: &str, default: Option<Value>) -> Result<Attributes, Memory>
+fn one(alloc: Global, name: &str, default: Option<Value>) -> Result<Attributes, OutOfMemory>
     ensures { IfOk result (λ attributes. All (λ a. is_plain a ≡ true) attributes) }
 {
     let attribute = unsigned(Txt::of(alloc, name)?, default);
@@ -35,7 +36,7 @@ fn one(alloc: Global, name: &str, default: Option<Value>) -> Result<Attributes, 
     Ok(attributes)
 }
 
-fn names(alloc: Global, list: &[&str]) -> Result<Names, Memory> {
+fn names(alloc: Global, list: &[&str]) -> Result<Names, OutOfMemory> {
     let mut names = List::new(alloc);
     for name in list {
         names.push(Txt::of(alloc, name)?)?;
@@ -94,7 +95,7 @@ fn is_refused(answer: &Result<u32, SchemaFault>, variant: u8, named: &str) -> bo
         Err(SchemaFault::AttributeTwice(name)) => variant == 3 && name.as_str() == named,
         Err(SchemaFault::GraphExists(name)) => variant == 4 && name.as_str() == named,
         Err(SchemaFault::TooMany) => variant == 5,
-        Err(SchemaFault::Memory) => variant == 6,
+        Err(SchemaFault::OutOfMemory) => variant == 6,
         Err(SchemaFault::BadDefault(name)) => variant == 7 && name.as_str() == named,
         Ok(_) => false,
     }
@@ -108,7 +109,7 @@ fn refuses_vertex(
     default: Option<Value>,
     variant: u8,
     named: &str,
-) -> Result<bool, Memory> {
+) -> Result<bool, OutOfMemory> {
     let attributes = one(alloc, attribute, default)?;
     let answer = vertex(catalog, alloc, name, &attributes);
     Ok(is_refused(&answer, variant, named))
@@ -132,7 +133,7 @@ fn refuses_graph(
     name: &str,
     members: &[&str],
     variant: u8,
-) -> Result<bool, Memory> {
+) -> Result<bool, OutOfMemory> {
     let members = names(alloc, members)?;
     let answer = catalog.add_graph(name, Some(&members));
     Ok(is_refused(&answer, variant, if variant == 4 { name } else { "lives" }))

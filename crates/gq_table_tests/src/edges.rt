@@ -1,13 +1,13 @@
 ghost use Rattle.std.specs.Prelude.{◌≡◌, true, Some, IfOk};
-ghost use Rattle.gq_value.specs.Edges.{naming_of, naming_with};
+ghost use Rattle.gq_graph.specs.Edges.{naming_of, naming_with};
 
+use gq_base::{List, OutOfMemory};
 use gq_edge::Edges;
-use gq_list::List;
-use gq_value::{Memory, Row, Value};
+use gq_value::{Row, Value};
 use std::alloc::Global;
 use std::test::Fail;
 
-fn one(alloc: Global, a: i64) -> Result<Row, Memory> {
+fn one(alloc: Global, a: i64) -> Result<Row, OutOfMemory> {
     let values = Vec::from_array(alloc, [Value::Int(a)])?;
     Ok(List::from_vec(values))
 }

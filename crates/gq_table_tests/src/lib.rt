@@ -1,4 +1,8 @@
-//! Tests: tables of vertices and edges, and the catalog. They stand in a crate of their own, so that no library is proved a second time with its tests.
+//! Tests of the tables of vertices and edges, and of the catalog.
+//!
+//! They are a separate crate, so that the libraries aren't proved a second time with their tests.
+//!
+//! The tests are in `src/vertices.rt`, `src/edges.rt` and `src/catalogs.rt`.
 #![tactic(auto)]
 
 #[cfg(test)]

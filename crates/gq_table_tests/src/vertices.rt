@@ -1,10 +1,10 @@
-use gq_list::List;
-use gq_value::{Memory, Row, Value};
+use gq_base::{List, OutOfMemory};
+use gq_value::{Row, Value};
 use gq_vertex::Vertices;
 use std::alloc::Global;
 use std::test::Fail;
 
-fn row(alloc: Global, n: i64) -> Result<Row, Memory> {
+fn row(alloc: Global, n: i64) -> Result<Row, OutOfMemory> {
     let mut row = List::new(alloc);
     row.push(Value::Int(n))?;
     Ok(row)

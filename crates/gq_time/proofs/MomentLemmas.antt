@@ -12,7 +12,7 @@ use Rattle.jiff_core.proofs.SignedLemmas.{signed_arith}
 use Rattle.jiff_core.proofs.MarchLemmas.{day_count-early}
 use Rattle.jiff_core.proofs.CalendarLemmas.{days_from_civil-day_count, day_count-lt_year, day_count-day_of_year, day_count-later_year}
 use Rattle.jiff_core.proofs.DateLemmas.{civil, epoch_day_range, epoch_day_injective}
-use Rattle.gq_time.specs.declared.shown.Parts.{Parts}
+use Rattle.gq_time.specs.declared.shown.DateTimeParts.{DateTimeParts}
 use Rattle.gq_time.specs.Moments.{IsDatetime, IsMoment, HasParts}
 
 -- the definition, for a proof that doesn't unfold it
@@ -56,7 +56,7 @@ pub same_date : (a b : DateTime) → civil_seconds a ≡ civil_seconds b → (a.
 same_date a b e = epoch_day_injective a.date b.date (same_day_and_time a b e).0
 
 -- parts with the same fields are the same
-same_parts : (p q : Parts) → p.year ≡ q.year → p.month ≡ q.month → p.day ≡ q.day → p.hour ≡ q.hour → p.minute ≡ q.minute → p.second ≡ q.second → p ≡ q
+same_parts : (p q : DateTimeParts) → p.year ≡ q.year → p.month ≡ q.month → p.day ≡ q.day → p.hour ≡ q.hour → p.minute ≡ q.minute → p.second ≡ q.second → p ≡ q
 same_parts p q year month day hour minute second =
     λ i. record { year = year i; month = month i; day = day i; hour = hour i; minute = minute i; second = second i }
 
@@ -65,7 +65,7 @@ pub same_time : (a b : Time) → time_seconds a ≡ time_seconds b → (a.hour �
 same_time a b e = (omega (arith, a.hour_in, b.hour_in, a.minute_in, b.minute_in, a.second_in, b.second_in), omega (arith, a.minute_in, b.minute_in, a.second_in, b.second_in), omega (arith, a.second_in, b.second_in))
 
 -- seconds have the same parts
-pub parts_same : (s : ℤ) (p q : Parts) → HasParts s p → HasParts s q → p ≡ q
+pub parts_same : (s : ℤ) (p q : DateTimeParts) → HasParts s p → HasParts s q → p ≡ q
 parts_same s p q (a, h, shows) (b, k, shown) =
     let same = sym h.are ∙ k.are in
     let date = same_date a b same in

@@ -4,7 +4,7 @@ use Rattle.std.specs.Prelude.{◌≡◌, ℤ, pos, neg_ℤ, ◌≤ℤ◌}
 use Rattle.jiff_core.specs.declared.civil.datetime.DateTime.{DateTime}
 use Rattle.jiff_core.specs.Calendar.{IsBetween}
 use Rattle.jiff_core.specs.DateTime.{civil_seconds}
-use Rattle.gq_time.specs.declared.shown.Parts.{Parts}
+use Rattle.gq_time.specs.declared.shown.DateTimeParts.{DateTimeParts}
 
 -- the seconds lie from 0000-01-01 00:00:00 to 9999-12-31 23:59:59
 abbrev pub IsDatetime : ℤ → Type 0
@@ -17,7 +17,7 @@ pub record IsMoment (seconds : ℤ) (moment : DateTime) : Type 0 where
   pub whole : moment.time.subsec_nanosecond ≡ 0
 
 -- a moment has these parts
-pub record ShowsParts (moment : DateTime) (parts : Parts) : Type 0 where
+pub record ShowsParts (moment : DateTime) (parts : DateTimeParts) : Type 0 where
   pub year : parts.year ≡ moment.date.year
   pub month : parts.month ≡ pos moment.date.month
   pub day : parts.day ≡ pos moment.date.day
@@ -26,5 +26,5 @@ pub record ShowsParts (moment : DateTime) (parts : Parts) : Type 0 where
   pub second : parts.second ≡ pos moment.time.second
 
 -- the seconds are those of a moment with these parts
-abbrev pub HasParts : ℤ → Parts → Type 0
+abbrev pub HasParts : ℤ → DateTimeParts → Type 0
 HasParts seconds parts = (moment : DateTime) × IsMoment seconds moment × ShowsParts moment parts

@@ -24,5 +24,5 @@ pub use adding::{Unit, add};
 pub use laws::written_texts;
 pub use moment::{in_range, parts};
 pub use reading::read_time;
-pub use shown::Parts;
+pub use shown::DateTimeParts;
 pub use writing::write_time;

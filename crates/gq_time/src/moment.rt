@@ -1,9 +1,9 @@
 // Seconds as dates and times of day.
 ghost use Rattle.std.specs.Prelude.{◌≡◌, ◌↔◌, IsTrue};
-ghost use Rattle.gq_time.specs.declared.shown.Parts.{Parts};
+ghost use Rattle.gq_time.specs.declared.shown.DateTimeParts.{DateTimeParts};
 ghost use Rattle.gq_time.specs.Moments.{IsDatetime, IsMoment, HasParts};
 
-use crate::Parts;
+use crate::shown::DateTimeParts;
 use jiff_core::civil::{Date, DateTime, Time};
 
 // The seconds from -9999-01-01 00:00:00, where jiff's days begin, to 1970-01-01 00:00:00.
@@ -17,13 +17,13 @@ pub fn in_range(seconds: i64) -> bool
 }
 
 /// The parts of a DATETIME. Takes no memory.
-pub fn parts(seconds: i64) -> Parts
+pub fn parts(seconds: i64) -> DateTimeParts
     requires { IsDatetime seconds }
     ensures parts { HasParts seconds result }
-    ensures only { (other : Parts) → HasParts seconds other → other ≡ result }
+    ensures only { (other : DateTimeParts) → HasParts seconds other → other ≡ result }
 {
     let moment = moment_of(seconds);
-    Parts {
+    DateTimeParts {
         year: i64::from(moment.date.year),
         month: i64::from(moment.date.month),
         day: i64::from(moment.date.day),

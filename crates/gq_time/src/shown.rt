@@ -2,7 +2,7 @@
 
 /// The parts of a DATETIME, as its text shows them: months and days count from 1.
 #[derive(Clone, Copy, Debug)]
-pub struct Parts {
+pub struct DateTimeParts {
     pub year: i64,
     pub month: i64,
     pub day: i64,

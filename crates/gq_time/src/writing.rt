@@ -4,11 +4,12 @@ ghost use Rattle.gq_time.specs.Moments.{IsDatetime};
 ghost use Rattle.gq_time.specs.Texts.{digits, IsWritten};
 
 use crate::moment::moment_of;
-use gq_value::{Memory, Txt};
+use gq_base::OutOfMemory;
+use gq_value::Txt;
 use std::alloc::Global;
 
 /// The text of a DATETIME, `YYYY-MM-DD HH:MM:SS` with leading zeros.
-pub fn write_time(alloc: Global, seconds: i64) -> Result<Txt, Memory>
+pub fn write_time(alloc: Global, seconds: i64) -> Result<Txt, OutOfMemory>
     requires { IsDatetime seconds }
     ensures text { IfOk result (IsWritten seconds) }
     ensures only { IfOk result (λ text. (other : List ℕ) → IsWritten seconds other → other ≡ text) }
@@ -27,7 +28,7 @@ pub fn write_time(alloc: Global, seconds: i64) -> Result<Txt, Memory>
 }
 
 // A mark and a number of two digits, put behind a text.
-fn push_part(text: &mut String, mark: u8, number: u8) -> Result<(), Memory>
+fn push_part(text: &mut String, mark: u8, number: u8) -> Result<(), OutOfMemory>
     requires mark { mark < 128 }
     requires number { number < 100 }
     ensures { OnOk result (string_bytes text.new ≡ string_bytes text.old ++ mark ∷ digits 2 number) }
@@ -37,7 +38,7 @@ fn push_part(text: &mut String, mark: u8, number: u8) -> Result<(), Memory>
 }
 
 // A number of two digits, put behind a text.
-fn push_two(text: &mut String, number: u8) -> Result<(), Memory>
+fn push_two(text: &mut String, number: u8) -> Result<(), OutOfMemory>
     requires { number < 100 }
     ensures { OnOk result (string_bytes text.new ≡ string_bytes text.old ++ digits 2 number) }
 {

@@ -6,7 +6,7 @@ use Rattle.std.specs.List.{list_all, list_any}
 use Rattle.std.specs.Str.{bytes_eq}
 use Rattle.std.proofs.lemmas.Bool.{agree_below, agree_below_at, and_parts, not-true, eqb-true}
 use Rattle.std.proofs.lemmas.Bool.Decides.{nat_tests}
-use Rattle.gq_token.specs.declared.token.Shape.TheVariants.{Word, Global, Attached, Number, Text, Symbol}
+use Rattle.gq_token.specs.declared.token.TokenKind.TheVariants.{Word, Global, Attached, Number, Text, Symbol}
 use Rattle.gq_token.specs.Bytes.{is_blank, is_word_start, is_word_byte, is_digit, is_symbol, symbols, number_of}
 use Rattle.gq_token.specs.Texts.{said}
 use Rattle.gq_token.specs.declared.class.Class.TheVariants as class

@@ -4,9 +4,9 @@ use Rattle.std.specs.Prelude.{if◌then◌else◌, nat_eq, codes, option_map, �
 use Rattle.std.specs.List.{starts_with}
 use Rattle.std.proofs.lemmas.Bool.{and_parts, eqb-true, cases_lt}
 use Rattle.std.proofs.lemmas.List.{take_all}
-use Rattle.gq_token.specs.declared.token.Shape.TheVariants.{Number, Text}
+use Rattle.gq_token.specs.declared.token.TokenKind.TheVariants.{Number, Text}
 use Rattle.gq_token.specs.declared.fault.LexFault.{LexFault}
-use Rattle.gq_token.specs.declared.fault.LexFault.TheVariants.{NotUtf8, BadToken, OpenComment, OpenText, TooBig, Memory}
+use Rattle.gq_token.specs.declared.fault.LexFault.TheVariants.{NotUtf8, BadToken, OpenComment, OpenText, TooBig, OutOfMemory}
 use Rattle.gq_token.specs.Texts.{closes, said, bad_escape}
 use Rattle.gq_token.specs.Spelling.{Item, Gap, TokenOf, spelled, ends_at_close, is_block_comment}
 use Rattle.gq_token.specs.Cut.{IsLongest, IsNext}
@@ -144,9 +144,9 @@ too_big_stops rest big text next =
     let fits : big.number < 2 ^ 64 = next.fits (TokenOf (Number big.number)) (ap spelled same ∙ big.is_number) in
     omega (arith, fits, big.too_big)
 
--- a fault that was found, and isn't want of memory
+-- a fault that was found, and isn't OutOfMemory
 abbrev pub IsFound : LexFault → Type 0
-IsFound fault = fault ≢ Memory
+IsFound fault = fault ≢ OutOfMemory
 
 -- so at each fault
 pub fault_stops : (rest : List ℕ) (at : ℕ) (fault : LexFault) → FaultHere rest at fault → IsFound fault → HasNoNext rest
@@ -159,7 +159,7 @@ fault_stops rest at (BadToken place) is found = by is.0 is.1
 fault_stops rest at (OpenComment place) is found = open_comment_stops rest is.0
 fault_stops rest at (OpenText place) is found = open_text_stops rest is.0
 fault_stops rest at (TooBig place) is found = too_big_stops rest is.0
-fault_stops rest at Memory is found = absurd (found refl)
+fault_stops rest at OutOfMemory is found = absurd (found refl)
 
 -- bytes that begin with `/*` don't begin with a quote
 comment_no_text : (rest : List ℕ) → starts_with nat_eq rest (codes "/*") ≡ true → starts_with nat_eq rest (codes "\"") ≡ true → ⊥
@@ -245,23 +245,23 @@ fault_unique rest at (BadToken a) (BadToken b) p q found_e found_f =
 fault_unique rest at (BadToken a) (OpenComment b) p q found_e found_f = absurd (bad_not_comment rest p.0 p.1 q.0)
 fault_unique rest at (BadToken a) (OpenText b) p q found_e found_f = absurd (bad_not_text rest p.0 p.1 q.0)
 fault_unique rest at (BadToken a) (TooBig b) p q found_e found_f = absurd (bad_not_big rest p.0 p.1 q.0)
-fault_unique rest at (BadToken a) Memory p q found_e found_f = absurd (found_f refl)
+fault_unique rest at (BadToken a) OutOfMemory p q found_e found_f = absurd (found_f refl)
 fault_unique rest at (OpenComment a) (NotUtf8 b) p q found_e found_f = absurd q
 fault_unique rest at (OpenComment a) (BadToken b) p q found_e found_f = absurd (bad_not_comment rest q.0 q.1 p.0)
 fault_unique rest at (OpenComment a) (OpenComment b) p q found_e found_f = ap OpenComment (p.1 ∙ sym q.1)
 fault_unique rest at (OpenComment a) (OpenText b) p q found_e found_f = absurd (comment_no_text rest p.0.opens q.0.opens)
 fault_unique rest at (OpenComment a) (TooBig b) p q found_e found_f = absurd (comment_not_big rest p.0.opens q.0)
-fault_unique rest at (OpenComment a) Memory p q found_e found_f = absurd (found_f refl)
+fault_unique rest at (OpenComment a) OutOfMemory p q found_e found_f = absurd (found_f refl)
 fault_unique rest at (OpenText a) (NotUtf8 b) p q found_e found_f = absurd q
 fault_unique rest at (OpenText a) (BadToken b) p q found_e found_f = absurd (bad_not_text rest q.0 q.1 p.0)
 fault_unique rest at (OpenText a) (OpenComment b) p q found_e found_f = absurd (comment_no_text rest q.0.opens p.0.opens)
 fault_unique rest at (OpenText a) (OpenText b) p q found_e found_f = ap OpenText (p.1 ∙ sym q.1)
 fault_unique rest at (OpenText a) (TooBig b) p q found_e found_f = absurd (text_not_big rest p.0.opens q.0)
-fault_unique rest at (OpenText a) Memory p q found_e found_f = absurd (found_f refl)
+fault_unique rest at (OpenText a) OutOfMemory p q found_e found_f = absurd (found_f refl)
 fault_unique rest at (TooBig a) (NotUtf8 b) p q found_e found_f = absurd q
 fault_unique rest at (TooBig a) (BadToken b) p q found_e found_f = absurd (bad_not_big rest q.0 q.1 p.0)
 fault_unique rest at (TooBig a) (OpenComment b) p q found_e found_f = absurd (comment_not_big rest q.0.opens p.0)
 fault_unique rest at (TooBig a) (OpenText b) p q found_e found_f = absurd (text_not_big rest q.0.opens p.0)
 fault_unique rest at (TooBig a) (TooBig b) p q found_e found_f = ap TooBig (p.1 ∙ sym q.1)
-fault_unique rest at (TooBig a) Memory p q found_e found_f = absurd (found_f refl)
-fault_unique rest at Memory f p q found_e found_f = absurd (found_e refl)
+fault_unique rest at (TooBig a) OutOfMemory p q found_e found_f = absurd (found_f refl)
+fault_unique rest at OutOfMemory f p q found_e found_f = absurd (found_e refl)

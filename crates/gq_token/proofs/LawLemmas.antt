@@ -4,7 +4,7 @@ use Rattle.std.specs.Str.{IsUtf8}
 use Rattle.std.specs.Str.Lossy.{utf8_valid_len}
 use Rattle.gq_token.specs.declared.token.Token.{Token}
 use Rattle.gq_token.specs.declared.fault.LexFault.{LexFault}
-use Rattle.gq_token.specs.declared.fault.LexFault.TheVariants.{NotUtf8, BadToken, OpenComment, OpenText, TooBig, Memory}
+use Rattle.gq_token.specs.declared.fault.LexFault.TheVariants.{NotUtf8, BadToken, OpenComment, OpenText, TooBig, OutOfMemory}
 use Rattle.gq_token.specs.Cut.{IsNext, Cuts, HasTokens}
 use Rattle.gq_token.specs.Faults.{HasFaultAt, HasFault}
 use Rattle.gq_token.specs.Items.{FaultHere}
@@ -48,7 +48,7 @@ fault_in bytes (OpenComment at) utf8 is =
     record { utf8 = utf8; at = at; below = is.below; texts = is.texts; cuts = is.cuts; here = (is.fault, refl); found = λ e. cc }
 fault_in bytes (OpenText at) utf8 is = record { utf8 = utf8; at = at; below = is.below; texts = is.texts; cuts = is.cuts; here = (is.fault, refl); found = λ e. cc }
 fault_in bytes (TooBig at) utf8 is = record { utf8 = utf8; at = at; below = is.below; texts = is.texts; cuts = is.cuts; here = (is.fault, refl); found = λ e. cc }
-fault_in bytes Memory utf8 is = absurd is
+fault_in bytes OutOfMemory utf8 is = absurd is
 
 -- and the other way round
 pub has_fault : (bytes : List ℕ) (fault : LexFault) → FaultIn bytes fault → HasFault bytes fault
@@ -60,7 +60,7 @@ has_fault bytes (OpenText place) is =
     subst (HasFaultAt _ bytes) (sym is.here.1) record { utf8 = is.utf8; below = is.below; texts = is.texts; cuts = is.cuts; fault = is.here.0 }
 has_fault bytes (TooBig place) is =
     subst (HasFaultAt _ bytes) (sym is.here.1) record { utf8 = is.utf8; below = is.below; texts = is.texts; cuts = is.cuts; fault = is.here.0 }
-has_fault bytes Memory is = absurd (is.found refl)
+has_fault bytes OutOfMemory is = absurd (is.found refl)
 
 -- the cut is stuck at a fault
 stops : (bytes : List ℕ) (fault : LexFault) (is : FaultIn bytes fault) → HasNoNext (drop is.at bytes)
@@ -81,7 +81,7 @@ kind bytes (BadToken at) is = inl is.2.utf8
 kind bytes (OpenComment at) is = inl is.utf8
 kind bytes (OpenText at) is = inl is.utf8
 kind bytes (TooBig at) is = inl is.utf8
-kind bytes Memory is = absurd is
+kind bytes OutOfMemory is = absurd is
 
 -- the bytes have one fault at most
 pub one_fault_at_most : (bytes : List ℕ) (e f : LexFault) → HasFault bytes e → HasFault bytes f → e ≡ f

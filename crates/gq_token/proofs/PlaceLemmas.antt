@@ -5,7 +5,7 @@ use Rattle.std.proofs.lemmas.Str.{utf8_valid_len_le}
 use Rattle.std.proofs.lemmas.List.{take-append-le, get_or-append-add}
 use Rattle.gq_token.specs.declared.token.Token.{Token}
 use Rattle.gq_token.specs.declared.fault.LexFault.{LexFault}
-use Rattle.gq_token.specs.declared.fault.LexFault.TheVariants.{NotUtf8, BadToken, OpenComment, OpenText, TooBig, Memory}
+use Rattle.gq_token.specs.declared.fault.LexFault.TheVariants.{NotUtf8, BadToken, OpenComment, OpenText, TooBig, OutOfMemory}
 use Rattle.gq_token.specs.Texts.{escape_of, at_escape, bad_escape}
 use Rattle.gq_token.specs.Cut.{IsSpelledIn}
 use Rattle.gq_token.specs.Faults.{HasFault, HasFaultAt, BeginsNothing, BeginsBadEscape, BeginsBadToken, place_of}
@@ -40,7 +40,7 @@ bad_token_within rest place some (inr bad) =
     omega (arith, bad.bad.2, below, length-take bad.size (drop 1 rest), length-drop 1 rest)
 
 -- the place of a fault
-pub place_within : (bytes : List ℕ) (fault : LexFault) → (fault ≢ Memory → HasFault bytes fault) → place_of fault ≤ length bytes
+pub place_within : (bytes : List ℕ) (fault : LexFault) → (fault ≢ OutOfMemory → HasFault bytes fault) → place_of fault ≤ length bytes
 place_within bytes (NotUtf8 at) has = let fault = has (λ is. cc is) in omega (arith, fault.1, utf8_valid_len_le bytes)
 place_within bytes (BadToken at) has =
     let fault = has (λ is. cc is) in
@@ -50,7 +50,7 @@ place_within bytes (BadToken at) has =
 place_within bytes (OpenComment at) has = omega (arith, (has (λ is. cc is)).below)
 place_within bytes (OpenText at) has = omega (arith, (has (λ is. cc is)).below)
 place_within bytes (TooBig at) has = omega (arith, (has (λ is. cc is)).below)
-place_within bytes Memory has = omega arith
+place_within bytes OutOfMemory has = omega arith
 
 -- ---- the one place at which a script is too deep
 

@@ -4,7 +4,7 @@ use Rattle.std.specs.Prelude.{nat_eq, codes, not, ◌==◌}
 use Rattle.std.specs.List.{starts_with}
 use Rattle.std.proofs.lemmas.Bool.{ne_eqb}
 use Rattle.gq_token.specs.declared.class.Class.TheVariants as class
-use Rattle.gq_token.specs.declared.token.Shape.TheVariants.{Word, Global, Attached, Number}
+use Rattle.gq_token.specs.declared.token.TokenKind.TheVariants.{Word, Global, Attached, Number}
 use Rattle.gq_token.specs.Bytes.{is_blank, is_word_start, is_word_byte, is_digit, number_of}
 use Rattle.gq_token.specs.Spelling.{Item, Gap, TokenOf, spelled, is_word}
 use Rattle.gq_token.specs.Faults.{BeginsTooBig, BeginsNothing}

@@ -3,10 +3,10 @@ use Rattle.std.proofs.Common.{◌≡◌, ℕ, ◌+◌, ◌-◌, ◌<◌, ◌≤�
 use Rattle.std.specs.Str.{IsUtf8}
 use Rattle.std.proofs.lemmas.List.{take_rest, get_or-drop}
 use Rattle.std.proofs.lemmas.Str.{IsUtf8-drop, IsCharBoundary-before_ascii}
-use Rattle.gq_token.specs.declared.token.Shape.{Shape}
+use Rattle.gq_token.specs.declared.token.TokenKind.{TokenKind}
 use Rattle.gq_token.specs.declared.token.Token.{Token}
 use Rattle.gq_token.specs.declared.fault.LexFault.{LexFault}
-use Rattle.gq_token.specs.declared.fault.LexFault.TheVariants.{Memory}
+use Rattle.gq_token.specs.declared.fault.LexFault.TheVariants.{OutOfMemory}
 use Rattle.gq_token.specs.Spelling.{Item, TokenOf, spelled}
 use Rattle.gq_token.specs.Cut.{placed, HasTokens, IsSpelledIn}
 use Rattle.gq_token.specs.Faults.{HasFault}
@@ -32,7 +32,7 @@ module _ (bytes : List ℕ) (at : ℕ) where
   step_within size item within is = omega (arith, is.within, length-take (length bytes - at) (drop at bytes))
 
   -- a token there is spelled
-  pub step_spelled : (size : ℕ) (shape : Shape) → at ≤ length bytes → IsItem remains size (TokenOf shape)
+  pub step_spelled : (size : ℕ) (shape : TokenKind) → at ≤ length bytes → IsItem remains size (TokenOf shape)
       → IsSpelledIn bytes (record { shape = shape; from = at; to = at + size })
   step_spelled size shape within is = record {
     ordered = omega (arith, is.some);
@@ -54,12 +54,12 @@ module _ (bytes : List ℕ) (at : ℕ) where
         cut_more bytes at (at + size) found longer (take size (drop at bytes)) had real.is_next total tokens
 
     -- a fault there is the fault of the bytes
-    pub step_fault : (fault : LexFault) → IsUtf8 bytes → at < length bytes → FaultHere remains at fault → fault ≢ Memory → HasFault bytes fault
+    pub step_fault : (fault : LexFault) → IsUtf8 bytes → at < length bytes → FaultHere remains at fault → fault ≢ OutOfMemory → HasFault bytes fault
     step_fault fault utf8 below is other =
         has_fault bytes fault record
         { utf8 = utf8; at = at; below = below; texts = had.texts; cuts = had.cuts; here = subst (λ l. FaultHere l at fault) (take_rest bytes at) is; found = other }
 
     -- beside which they have no tokens
-    pub step_apart : (fault : LexFault) → IsUtf8 bytes → at < length bytes → FaultHere remains at fault → fault ≢ Memory → (tokens : List Token)
+    pub step_apart : (fault : LexFault) → IsUtf8 bytes → at < length bytes → FaultHere remains at fault → fault ≢ OutOfMemory → (tokens : List Token)
         → HasTokens bytes tokens → ⊥
     step_apart fault utf8 below is other tokens has = no_fault_beside bytes fault tokens (step_fault fault utf8 below is other) has

@@ -7,7 +7,7 @@ use Rattle.std.proofs.lemmas.Bool.{and_parts, false_from_ne_true, eqb-true, eqb-
 use Rattle.std.proofs.lemmas.Bool.Decides.{nat_tests}
 use Rattle.std.proofs.lemmas.Slice.Eq.{bytes_eq-Decides}
 use Rattle.gq_token.specs.declared.class.Class.TheVariants as class
-use Rattle.gq_token.specs.declared.token.Shape.TheVariants.{Symbol}
+use Rattle.gq_token.specs.declared.token.TokenKind.TheVariants.{Symbol}
 use Rattle.gq_token.specs.Bytes.{is_symbol, symbols}
 use Rattle.gq_token.specs.Spelling.{TokenOf, spelled}
 use Rattle.gq_token.specs.Faults.{BeginsNothing}

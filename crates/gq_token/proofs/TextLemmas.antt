@@ -3,9 +3,9 @@ use Rattle.std.proofs.Common.{◌≡◌, ℕ, zero, suc, ◌+◌, ◌<◌, ◌�
 use Rattle.std.specs.Prelude.{if◌then◌else◌, nat_eq, option_map}
 use Rattle.std.proofs.lemmas.List.{drop_more, append-nil, append_assoc}
 use Rattle.std.proofs.lemmas.Bool.{ne_eqb}
-use Rattle.gq_token.specs.declared.token.Shape.TheVariants.{Text}
+use Rattle.gq_token.specs.declared.token.TokenKind.TheVariants.{Text}
 use Rattle.gq_token.specs.declared.fault.LexFault.{LexFault}
-use Rattle.gq_token.specs.declared.fault.LexFault.TheVariants.{NotUtf8, BadToken, OpenComment, OpenText, TooBig, Memory}
+use Rattle.gq_token.specs.declared.fault.LexFault.TheVariants.{NotUtf8, BadToken, OpenComment, OpenText, TooBig, OutOfMemory}
 use Rattle.gq_token.specs.Spelling.{TokenOf, spelled}
 use Rattle.gq_token.specs.Faults.{BeginsOpenText, BeginsBadEscape}
 use Rattle.gq_token.specs.Items.{IsItem, FaultHere, BodyFault, EndsAt, NeverEnds}
@@ -216,4 +216,4 @@ text_fault rest size at (BadToken place) some quote ends is = (is.0 + 1, inr (te
 text_fault rest size at (OpenComment place) some quote ends is = absurd is
 text_fault rest size at (OpenText place) some quote ends is = absurd is
 text_fault rest size at (TooBig place) some quote ends is = absurd is
-text_fault rest size at Memory some quote ends is = tt
+text_fault rest size at OutOfMemory some quote ends is = tt

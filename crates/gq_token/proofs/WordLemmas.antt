@@ -8,8 +8,8 @@ use Rattle.std.proofs.lemmas.Bool.Decides.{nat_tests, same_from_decides}
 use Rattle.std.proofs.lemmas.Slice.Eq.{bytes_eq-Decides}
 use Rattle.std.specs.Bool.{Decides}
 use Rattle.std.specs.Char.{to_ascii_lowercase}
-use Rattle.gq_token.specs.declared.token.Shape.{Shape}
-use Rattle.gq_token.specs.declared.token.Shape.TheVariants.{Word, Global, Attached, Number, Text, Symbol}
+use Rattle.gq_token.specs.declared.token.TokenKind.{TokenKind}
+use Rattle.gq_token.specs.declared.token.TokenKind.TheVariants.{Word, Global, Attached, Number, Text, Symbol}
 use Rattle.gq_token.specs.Kinds.{is_word_shape}
 use Rattle.gq_token.specs.Bytes.{is_word_start, is_word_byte, is_digit, is_symbol, number_of}
 use Rattle.gq_token.specs.Spelling.{Gap, TokenOf, spelled, is_gap, is_word, are_all, text_spelled}
@@ -127,7 +127,7 @@ pub word_ascii : (text : List ℕ) → spelled text ≡ Some (TokenOf Word) → 
 word_ascii text is = word_is_ascii text (spelled_is_word text is)
 
 -- a word whose spelling passes is the keyword
-pub keyword_is : (shape : Shape) (text bytes word : List ℕ) (same : Bool) → shape ≡ Word → text ≡ bytes
+pub keyword_is : (shape : TokenKind) (text bytes word : List ℕ) (same : Bool) → shape ≡ Word → text ≡ bytes
     → Decides same (map to_ascii_lowercase text ≡ map to_ascii_lowercase word)
     → same ≡ (is_word_shape shape && str_eq_ignore_ascii_case bytes word)
 keyword_is shape text bytes word same is copy tested =

@@ -1,4 +1,4 @@
--- Bytes: which of them begin and continue the items of a script.
+-- Bytes: which bytes begin and continue words, numbers and gaps, and which texts are symbols.
 use Rattle.std.specs.Prelude.{ℕ, ◌+◌, ◌-◌, ◌*◌, Bool, ◌||◌, ◌&&◌, ◌==◌, nat_le, List, [], ◌∷◌, fold, codes}
 use Rattle.std.specs.List.{list_any}
 use Rattle.std.specs.Str.{bytes_eq}

@@ -3,8 +3,8 @@ use Rattle.std.specs.Prelude.{◌≡◌, ℕ, ◌<◌, ◌≤◌, Bool, true, fa
 use Rattle.std.specs.List.{list_all}
 use Rattle.gq_token.specs.declared.class.Class.{Class}
 use Rattle.gq_token.specs.declared.class.Class.TheVariants as class
-use Rattle.gq_token.specs.declared.class.Run.{Run}
-use Rattle.gq_token.specs.declared.class.Run.TheVariants as run
+use Rattle.gq_token.specs.declared.class.ByteRun.{ByteRun}
+use Rattle.gq_token.specs.declared.class.ByteRun.TheVariants as run
 use Rattle.gq_token.specs.Bytes.{is_blank, is_digit, is_word_start, is_word_byte}
 
 -- what a `/` before this byte begins
@@ -41,7 +41,7 @@ abbrev pub symbol_size : ℕ → ℕ → ℕ
 symbol_size c d = if is_pair c d then 2 else (if is_single c then 1 else 0)
 
 -- whether a byte goes on with a run of bytes of one kind
-abbrev pub goes_on : Run → ℕ → Bool
+abbrev pub goes_on : ByteRun → ℕ → Bool
 goes_on run.Blank c = is_blank c
 goes_on run.Line c = not (c == 10)
 goes_on run.Word c = is_word_byte c

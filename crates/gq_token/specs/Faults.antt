@@ -3,9 +3,9 @@ use Rattle.std.specs.Prelude.{◌≡◌, ◌⊎◌, ℕ, ◌+◌, ◌^◌, ◌<�
 use Rattle.std.specs.List.{starts_with}
 use Rattle.std.specs.Str.{IsUtf8}
 use Rattle.std.specs.Str.Lossy.{utf8_valid_len}
-use Rattle.gq_token.specs.declared.token.Shape.TheVariants.{Number}
+use Rattle.gq_token.specs.declared.token.TokenKind.TheVariants.{Number}
 use Rattle.gq_token.specs.declared.fault.LexFault.{LexFault}
-use Rattle.gq_token.specs.declared.fault.LexFault.TheVariants.{NotUtf8, BadToken, OpenComment, OpenText, TooBig, Memory}
+use Rattle.gq_token.specs.declared.fault.LexFault.TheVariants.{NotUtf8, BadToken, OpenComment, OpenText, TooBig, OutOfMemory}
 use Rattle.gq_token.specs.Texts.{closes, bad_escape}
 use Rattle.gq_token.specs.Spelling.{TokenOf, spelled, is_block_comment}
 use Rattle.gq_token.specs.Cut.{IsLongest, Cuts}
@@ -68,7 +68,7 @@ HasFault bytes (BadToken at) = HasBadTokenAt bytes at
 HasFault bytes (OpenComment at) = HasFaultAt BeginsOpenComment bytes at
 HasFault bytes (OpenText at) = HasFaultAt BeginsOpenText bytes at
 HasFault bytes (TooBig at) = HasFaultAt BeginsTooBig bytes at
-HasFault bytes Memory = ⊥
+HasFault bytes OutOfMemory = ⊥
 
 -- the byte at which a fault is
 abbrev pub place_of : LexFault → ℕ
@@ -77,4 +77,4 @@ place_of (BadToken at) = at
 place_of (OpenComment at) = at
 place_of (OpenText at) = at
 place_of (TooBig at) = at
-place_of Memory = 0
+place_of OutOfMemory = 0

@@ -1,15 +1,15 @@
 -- Items: what begins at a place of a script, as the functions for each kind of item find it.
 use Rattle.std.specs.Prelude.{◌≡◌, ℕ, ◌+◌, ◌<◌, ◌≤◌, Bool, true, false, List, length, take, Option, Some, None}
-use Rattle.gq_token.specs.declared.token.Shape.{Shape}
+use Rattle.gq_token.specs.declared.token.TokenKind.{TokenKind}
 use Rattle.gq_token.specs.declared.fault.LexFault.{LexFault}
-use Rattle.gq_token.specs.declared.fault.LexFault.TheVariants.{NotUtf8, BadToken, OpenComment, OpenText, TooBig, Memory}
+use Rattle.gq_token.specs.declared.fault.LexFault.TheVariants.{NotUtf8, BadToken, OpenComment, OpenText, TooBig, OutOfMemory}
 use Rattle.gq_token.specs.Texts.{bad_escape}
 use Rattle.gq_token.specs.Spelling.{Item, Gap, TokenOf, spelled}
 use Rattle.gq_token.specs.Cut.{IsNext}
 use Rattle.gq_token.specs.Faults.{BeginsOpenComment, BeginsOpenText, BeginsBadToken, BeginsTooBig}
 
 -- a gap, or the token of a shape
-abbrev pub item_with : Option Shape → Item
+abbrev pub item_with : Option TokenKind → Item
 item_with None = Gap
 item_with (Some shape) = TokenOf shape
 
@@ -27,7 +27,7 @@ FaultHere rest at (BadToken place) = (n : ℕ) × BeginsBadToken rest n × (plac
 FaultHere rest at (OpenComment place) = BeginsOpenComment rest × (place ≡ at)
 FaultHere rest at (OpenText place) = BeginsOpenText rest × (place ≡ at)
 FaultHere rest at (TooBig place) = BeginsTooBig rest × (place ≡ at)
-FaultHere rest at Memory = Unit {0}
+FaultHere rest at OutOfMemory = Unit {0}
 
 -- so many of the bytes pass a test that tells their end
 pub record EndsAt (test : List ℕ → Bool) (bytes : List ℕ) (size : ℕ) : Type 0 where
@@ -45,4 +45,4 @@ BodyFault body at (BadToken place) = (n : ℕ) × (bad_escape body ≡ Some n) �
 BodyFault body at (OpenComment place) = ⊥
 BodyFault body at (OpenText place) = ⊥
 BodyFault body at (TooBig place) = ⊥
-BodyFault body at Memory = Unit {0}
+BodyFault body at OutOfMemory = Unit {0}

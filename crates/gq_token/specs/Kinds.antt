@@ -2,12 +2,12 @@
 use Rattle.std.specs.Prelude.{ℕ, Bool, true, false, ◌&&◌, List}
 use Rattle.std.specs.Str.{bytes_eq, str_eq_ignore_ascii_case}
 use Rattle.gq_token.specs.declared.token.Token.{Token}
-use Rattle.gq_token.specs.declared.token.Shape.{Shape}
-use Rattle.gq_token.specs.declared.token.Shape.TheVariants.{Word, Global, Attached, Number, Text, Symbol}
+use Rattle.gq_token.specs.declared.token.TokenKind.{TokenKind}
+use Rattle.gq_token.specs.declared.token.TokenKind.TheVariants.{Word, Global, Attached, Number, Text, Symbol}
 use Rattle.gq_token.specs.Cut.{text_of}
 
 -- a word
-abbrev pub is_word_shape : Shape → Bool
+abbrev pub is_word_shape : TokenKind → Bool
 is_word_shape Word = true
 is_word_shape Global = false
 is_word_shape Attached = false
@@ -16,7 +16,7 @@ is_word_shape (Text said) = false
 is_word_shape Symbol = false
 
 -- a symbol
-abbrev pub is_symbol_shape : Shape → Bool
+abbrev pub is_symbol_shape : TokenKind → Bool
 is_symbol_shape Word = false
 is_symbol_shape Global = false
 is_symbol_shape Attached = false

@@ -1,15 +1,15 @@
 -- Spelling: what a whole text spells, of the gaps and tokens that a script is cut into.
 use Rattle.std.specs.Prelude.{ℕ, ◌^◌, ◌<◌, Bool, false, not, ◌&&◌, ◌||◌, ◌==◌, List, [], ◌∷◌, Option, Some, None, option_map, drop, codes, if◌then◌else◌, nat_eq}
 use Rattle.std.specs.List.{list_all, starts_with}
-use Rattle.gq_token.specs.declared.token.Shape.{Shape}
-use Rattle.gq_token.specs.declared.token.Shape.TheVariants.{Word, Global, Attached, Number, Text, Symbol}
+use Rattle.gq_token.specs.declared.token.TokenKind.{TokenKind}
+use Rattle.gq_token.specs.declared.token.TokenKind.TheVariants.{Word, Global, Attached, Number, Text, Symbol}
 use Rattle.gq_token.specs.Bytes.{is_blank, is_digit, is_word_start, is_word_byte, is_symbol, number_of}
 use Rattle.gq_token.specs.Texts.{said}
 
 -- a gap, or a token of a shape
 pub data Item : Type 0 where
   Gap : Item
-  TokenOf : Shape → Item
+  TokenOf : TokenKind → Item
 
 -- the text has bytes, and all of them pass
 abbrev pub are_all : (ℕ → Bool) → List ℕ → Bool

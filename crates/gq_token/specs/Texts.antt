@@ -1,4 +1,5 @@
--- Texts: what stands between quotes. These definitions are over the bytes behind an opening quote.
+-- Texts: what a text in quotes says, where it closes, and its first bad escape. These definitions are over the bytes behind
+-- an opening quote.
 use Rattle.std.specs.Prelude.{ℕ, ◌+◌, Bool, false, ◌||◌, ◌==◌, List, [], ◌∷◌, Option, Some, None, option_map, if◌then◌else◌}
 
 -- the byte that the escape of a backslash and this byte stands for: `\"` `\\` `\n` `\t` `\r`

@@ -18,7 +18,7 @@ pub enum Class {
 
 // A kind of bytes that stand in a row.
 #[derive(Clone, Copy)]
-pub enum Run {
+pub enum ByteRun {
     Blank,
     Line,
     Word,
@@ -44,14 +44,14 @@ pub fn class_of(first: u8, second: u8) -> Class
     }
 }
 
-pub fn goes_on(run: Run, byte: u8) -> bool
+pub fn goes_on(run: ByteRun, byte: u8) -> bool
     ensures { result ≡ goes_on run byte }
 {
     match run {
-        Run::Blank => matches!(byte, b' ' | b'\t' | b'\r' | b'\n'),
-        Run::Line => byte != b'\n',
-        Run::Word => matches!(byte, b'A'..=b'Z' | b'a'..=b'z' | b'_' | b'0'..=b'9'),
-        Run::Digit => byte.is_ascii_digit(),
+        ByteRun::Blank => matches!(byte, b' ' | b'\t' | b'\r' | b'\n'),
+        ByteRun::Line => byte != b'\n',
+        ByteRun::Word => matches!(byte, b'A'..=b'Z' | b'a'..=b'z' | b'_' | b'0'..=b'9'),
+        ByteRun::Digit => byte.is_ascii_digit(),
     }
 }
 
@@ -62,7 +62,7 @@ pub fn begins_word(byte: u8) -> bool
 }
 
 // How many of the first bytes go on with a run.
-pub fn run_size(bytes: &[u8], run: Run) -> usize
+pub fn run_size(bytes: &[u8], run: ByteRun) -> usize
     ensures { IsRun (goes_on run) bytes.now result }
 {
     let mut size = 0;

@@ -5,19 +5,19 @@ ghost use Rattle.gq_token.specs.declared.class.Class.TheVariants.{BlockComment};
 ghost use Rattle.gq_token.specs.Spelling.{ends_at_close};
 ghost use Rattle.gq_token.specs.Items.{IsItem, item_with, FaultHere, EndsAt, NeverEnds};
 
-use crate::LexFault;
 use crate::class::byte_at;
-use crate::item::Item;
+use crate::fault::LexFault;
+use crate::item::LexItem;
 
 // The comment that the bytes begin with. The first of them stands at the place `at` of the script.
-pub fn block_comment(rest: &[u8], at: usize) -> Result<Item, LexFault>
+pub fn block_comment(rest: &[u8], at: usize) -> Result<LexItem, LexFault>
     requires some { 0 < length rest.now }
     requires opens { class_of (slice_index rest.now 0) (slice_index rest.now 1) ≡ BlockComment }
     ensures item { IfOk result (λ item. IsItem rest.now item.size (item_with item.shape)) }
     ensures fault { IfErr result (λ fault. FaultHere rest.now at fault) }
 {
     match end(&rest[2..]) {
-        Some(size) => Ok(Item {
+        Some(size) => Ok(LexItem {
             size: 2 + size,
             shape: None,
         }),

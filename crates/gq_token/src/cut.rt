@@ -2,12 +2,13 @@
 ghost use Rattle.std.specs.Prelude.{◌≡◌, ◌≢◌, List, All, IfOk, IfErr, ◌≤◌, length};
 ghost use Rattle.gq_token.specs.declared.token.Token.{Token};
 ghost use Rattle.gq_token.specs.declared.fault.LexFault.{LexFault};
-ghost use Rattle.gq_token.specs.declared.fault.LexFault.TheVariants.{Memory};
+ghost use Rattle.gq_token.specs.declared.fault.LexFault.TheVariants.{OutOfMemory};
 ghost use Rattle.gq_token.specs.Cut.{HasTokens, IsSpelledIn};
 ghost use Rattle.gq_token.specs.Faults.{HasFault, place_of};
 
+use crate::fault::LexFault;
 use crate::item::next_item;
-use crate::{LexFault, Token};
+use crate::token::Token;
 use std::alloc::Global;
 
 /// The tokens of a script, in order.
@@ -17,12 +18,12 @@ pub fn tokens(alloc: Global, bytes: &[u8]) -> Result<Vec<Token>, LexFault>
     ensures cut { IfOk result (λ found. HasTokens bytes.now found.items) }
     ensures only { IfOk result (λ found. (tokens : List Token) → HasTokens bytes.now tokens → tokens ≡ found.items) }
     ensures spelled { IfOk result (λ found. All (IsSpelledIn bytes.now) found.items) }
-    ensures fault { IfErr result (λ fault. fault ≢ Memory → HasFault bytes.now fault) }
+    ensures fault { IfErr result (λ fault. fault ≢ OutOfMemory → HasFault bytes.now fault) }
 
     // A script that has tokens has no fault, and one that has a fault has no other and no tokens.
     ensures no_fault { IfOk result (λ found. (fault : LexFault) → HasFault bytes.now fault → ⊥) }
-    ensures only_fault { IfErr result (λ fault. fault ≢ Memory → (other : LexFault) → HasFault bytes.now other → other ≡ fault) }
-    ensures no_cut { IfErr result (λ fault. fault ≢ Memory → (tokens : List Token) → HasTokens bytes.now tokens → ⊥) }
+    ensures only_fault { IfErr result (λ fault. fault ≢ OutOfMemory → (other : LexFault) → HasFault bytes.now other → other ≡ fault) }
+    ensures no_cut { IfErr result (λ fault. fault ≢ OutOfMemory → (tokens : List Token) → HasTokens bytes.now tokens → ⊥) }
     ensures within { IfErr result (λ fault. place_of fault ≤ length bytes.now) }
 {
     if let Err(error) = str::from_utf8(bytes) {

@@ -1,6 +1,6 @@
 // Why a script can't be cut into tokens.
 ghost use Rattle.std.specs.Prelude.{◌≡◌};
-ghost use Rattle.gq_token.specs.declared.fault.LexFault.TheVariants.{Memory};
+ghost use Rattle.gq_token.specs.declared.fault.LexFault.TheVariants.{OutOfMemory};
 
 use std::alloc::{AllocError, AllocFailed};
 use thiserror::Error;
@@ -29,21 +29,21 @@ pub enum LexFault {
     TooBig { at: usize },
 
     #[error("out of memory")]
-    Memory,
+    OutOfMemory,
 }
 
 impl From<AllocError> for LexFault {
-    ghost from_gives = { λ _ e. e ≡ Memory };
+    ghost from_gives = { λ _ e. e ≡ OutOfMemory };
 
     fn from(_: AllocError) -> Self {
-        LexFault::Memory
+        LexFault::OutOfMemory
     }
 }
 
 impl<T: Drop> From<AllocFailed<T>> for LexFault {
-    ghost from_gives = { λ _ e. e ≡ Memory };
+    ghost from_gives = { λ _ e. e ≡ OutOfMemory };
 
     fn from(_: AllocFailed<T>) -> Self {
-        LexFault::Memory
+        LexFault::OutOfMemory
     }
 }

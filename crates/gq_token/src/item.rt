@@ -3,24 +3,25 @@ ghost use Rattle.std.specs.Prelude.{◌≡◌, ◌+◌, ◌<◌, ◌^◌, length
 ghost use Rattle.std.specs.Str.{IsUtf8};
 ghost use Rattle.gq_token.specs.Items.{IsItem, item_with, FaultHere};
 
-use crate::class::{Class, Run, byte_at, class_of, run_size};
+use crate::class::{ByteRun, Class, byte_at, class_of, run_size};
 use crate::comments::block_comment;
+use crate::fault::LexFault;
 use crate::numbers::number;
 use crate::symbols::symbol;
 use crate::texts::text;
+use crate::token::TokenKind;
 use crate::words::sign_word;
-use crate::{LexFault, Shape};
 use std::alloc::Global;
 
 // An item: how many bytes it has, and its shape, where it is no gap.
 #[derive(Drop)]
-pub struct Item {
+pub struct LexItem {
     pub size: usize,
-    pub shape: Option<Shape>,
+    pub shape: Option<TokenKind>,
 }
 
 // The item that the bytes begin with. The first of them stands at the place `at` of the script.
-pub fn next_item(alloc: Global, rest: &[u8], at: usize) -> Result<Item, LexFault>
+pub fn next_item(alloc: Global, rest: &[u8], at: usize) -> Result<LexItem, LexFault>
     requires some { 0 < length rest.now }
     requires place { at + length rest.now < 2 ^ 64 }
     requires utf8 { slice_index rest.now 0 ≡ 34 → IsUtf8 rest.now }
@@ -28,18 +29,18 @@ pub fn next_item(alloc: Global, rest: &[u8], at: usize) -> Result<Item, LexFault
     ensures fault { IfErr result (λ fault. FaultHere rest.now at fault) }
 {
     match class_of(rest[0], byte_at(rest, 1)) {
-        Class::Blank => Ok(Item {
-            size: run_size(rest, Run::Blank),
+        Class::Blank => Ok(LexItem {
+            size: run_size(rest, ByteRun::Blank),
             shape: None,
         }),
-        Class::LineComment => Ok(Item {
-            size: run_size(rest, Run::Line),
+        Class::LineComment => Ok(LexItem {
+            size: run_size(rest, ByteRun::Line),
             shape: None,
         }),
         Class::BlockComment => block_comment(rest, at),
-        Class::Word => Ok(Item {
-            size: run_size(rest, Run::Word),
-            shape: Some(Shape::Word),
+        Class::Word => Ok(LexItem {
+            size: run_size(rest, ByteRun::Word),
+            shape: Some(TokenKind::Word),
         }),
         Class::Sign => sign_word(rest, at),
         Class::Number => number(rest, at),

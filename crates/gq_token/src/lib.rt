@@ -24,8 +24,7 @@ mod words;
 
 pub use cut::tokens;
 pub use fault::LexFault;
-pub use gq_value::{Memory, Txt};
 pub use laws::one_fault;
 pub use lines::line_of;
 pub use nesting::too_deep;
-pub use token::{Shape, Token};
+pub use token::{Token, TokenKind};

@@ -3,7 +3,7 @@ ghost use Rattle.std.specs.Prelude.{◌≡◌, ◌≤◌, All, IfSome, IfNone, �
 ghost use Rattle.gq_token.specs.Cut.{IsSpelledIn};
 ghost use Rattle.gq_token.specs.Nesting.{depth_with, opens, shuts, IsTooDeepAt, IsShallow};
 
-use crate::Token;
+use crate::token::Token;
 
 /// The place of the first token that raises the depth to 65, where one does.
 ///

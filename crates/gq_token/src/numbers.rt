@@ -4,22 +4,23 @@ ghost use Rattle.std.specs.Option.{SomeIff};
 ghost use Rattle.gq_token.specs.Bytes.{is_digit, number_of};
 ghost use Rattle.gq_token.specs.Items.{IsItem, item_with, FaultHere};
 
-use crate::class::{Run, run_size};
-use crate::item::Item;
-use crate::{LexFault, Shape};
+use crate::class::{ByteRun, run_size};
+use crate::fault::LexFault;
+use crate::item::LexItem;
+use crate::token::TokenKind;
 
 // The number that the bytes begin with. The first of them stands at the place `at` of the script.
-pub fn number(rest: &[u8], at: usize) -> Result<Item, LexFault>
+pub fn number(rest: &[u8], at: usize) -> Result<LexItem, LexFault>
     requires some { 0 < length rest.now }
     requires digit { is_digit (slice_index rest.now 0) ≡ true }
     ensures item { IfOk result (λ item. IsItem rest.now item.size (item_with item.shape)) }
     ensures fault { IfErr result (λ fault. FaultHere rest.now at fault) }
 {
-    let size = run_size(rest, Run::Digit);
+    let size = run_size(rest, ByteRun::Digit);
     match value(&rest[..size]) {
-        Some(number) => Ok(Item {
+        Some(number) => Ok(LexItem {
             size,
-            shape: Some(Shape::Number(number)),
+            shape: Some(TokenKind::Number(number)),
         }),
         None => Err(LexFault::TooBig { at }),
     }

@@ -5,11 +5,12 @@ ghost use Rattle.gq_token.specs.declared.class.Class.TheVariants.{Other};
 ghost use Rattle.gq_token.specs.Items.{IsItem, item_with, FaultHere};
 
 use crate::class::byte_at;
-use crate::item::Item;
-use crate::{LexFault, Shape};
+use crate::fault::LexFault;
+use crate::item::LexItem;
+use crate::token::TokenKind;
 
 // The symbol that the bytes begin with. The first of them stands at the place `at` of the script.
-pub fn symbol(rest: &[u8], at: usize) -> Result<Item, LexFault>
+pub fn symbol(rest: &[u8], at: usize) -> Result<LexItem, LexFault>
     requires some { 0 < length rest.now }
     requires other { class_of (slice_index rest.now 0) (slice_index rest.now 1) ≡ Other }
     ensures item { IfOk result (λ item. IsItem rest.now item.size (item_with item.shape)) }
@@ -17,9 +18,9 @@ pub fn symbol(rest: &[u8], at: usize) -> Result<Item, LexFault>
 {
     match symbol_size(rest[0], byte_at(rest, 1)) {
         0 => Err(LexFault::BadToken { at }),
-        size => Ok(Item {
+        size => Ok(LexItem {
             size,
-            shape: Some(Shape::Symbol),
+            shape: Some(TokenKind::Symbol),
         }),
     }
 }

@@ -4,13 +4,14 @@ ghost use Rattle.std.specs.Str.{IsUtf8};
 ghost use Rattle.gq_token.specs.Texts.{closes, said, escape_of};
 ghost use Rattle.gq_token.specs.Items.{IsItem, item_with, FaultHere, BodyFault, EndsAt, NeverEnds};
 
-use crate::item::Item;
-use crate::{LexFault, Shape};
+use crate::fault::LexFault;
+use crate::item::LexItem;
+use crate::token::TokenKind;
 use gq_value::Txt;
 use std::alloc::Global;
 
 // The text that the bytes begin with. The first of them stands at the place `at` of the script.
-pub fn text(alloc: Global, rest: &[u8], at: usize) -> Result<Item, LexFault>
+pub fn text(alloc: Global, rest: &[u8], at: usize) -> Result<LexItem, LexFault>
     requires some { 0 < length rest.now }
     requires quote { slice_index rest.now 0 ≡ 34 }
     requires place { at + length rest.now < 2 ^ 64 }
@@ -24,9 +25,9 @@ pub fn text(alloc: Global, rest: &[u8], at: usize) -> Result<Item, LexFault>
         None => return Err(LexFault::OpenText { at }),
     };
     match resolved(alloc, &behind[..size], at + 1) {
-        Ok(text) => Ok(Item {
+        Ok(text) => Ok(LexItem {
             size: 1 + size,
-            shape: Some(Shape::Text(text)),
+            shape: Some(TokenKind::Text(text)),
         }),
         Err(fault) => Err(fault),
     }

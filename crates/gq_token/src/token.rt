@@ -1,7 +1,7 @@
 // Tokens.
 ghost use Rattle.std.specs.Prelude.{◌≡◌, ◌≢◌, IfSome, IfNone};
 ghost use Rattle.std.specs.Str.{IsAscii};
-ghost use Rattle.gq_token.specs.declared.token.Shape.TheVariants.{Word, Global, Attached};
+ghost use Rattle.gq_token.specs.declared.token.TokenKind.TheVariants.{Word, Global, Attached};
 ghost use Rattle.gq_token.specs.Cut.{IsSpelledIn, text_of};
 ghost use Rattle.gq_token.specs.Kinds.{is_keyword, is_mark};
 
@@ -9,7 +9,7 @@ use gq_value::Txt;
 
 /// What kind of token it is, with what it tells beside its bytes.
 #[derive(Drop)]
-pub enum Shape {
+pub enum TokenKind {
     /// An ASCII letter or `_`, and the ASCII letters, digits and `_` after it. Keywords and names are words.
     Word,
 
@@ -33,7 +33,7 @@ pub enum Shape {
 /// A token, and the places of its bytes in the script: from `from` to before `to`.
 #[derive(Drop)]
 pub struct Token {
-    pub shape: Shape,
+    pub shape: TokenKind,
     pub from: usize,
     pub to: usize,
 }
@@ -54,7 +54,7 @@ impl Token {
         ensures none { IfNone result (self.now.shape ≢ Word) }
     {
         match self.shape {
-            Shape::Word => Some(ascii(self.text(bytes))),
+            TokenKind::Word => Some(ascii(self.text(bytes))),
             _ => None,
         }
     }
@@ -66,7 +66,7 @@ impl Token {
         ensures none { IfNone result (self.now.shape ≢ Global) }
     {
         match self.shape {
-            Shape::Global => Some(ascii(self.text(bytes))),
+            TokenKind::Global => Some(ascii(self.text(bytes))),
             _ => None,
         }
     }
@@ -78,7 +78,7 @@ impl Token {
         ensures none { IfNone result (self.now.shape ≢ Attached) }
     {
         match self.shape {
-            Shape::Attached => Some(ascii(self.text(bytes))),
+            TokenKind::Attached => Some(ascii(self.text(bytes))),
             _ => None,
         }
     }
@@ -100,7 +100,7 @@ impl Token {
         ensures { result ≡ is_mark bytes.now mark.now self.now }
     {
         match self.shape {
-            Shape::Symbol => self.text(bytes) == mark.as_bytes(),
+            TokenKind::Symbol => self.text(bytes) == mark.as_bytes(),
             _ => false,
         }
     }

@@ -1,14 +1,14 @@
 // The trees of statements in a body.
 use crate::expr::Node;
-use crate::kind::Definition;
+use crate::kind::DefinitionTree;
 use crate::query::BaseTree;
-use crate::select::{Change, SelectTree};
-use gq_list::List;
+use crate::select::{ChangeTree, SelectTree};
+use gq_base::List;
 use gq_value::Txt;
 
 /// What a written vertex set holds.
 #[derive(Drop)]
-pub enum Seed {
+pub enum SeedTree {
     /// `T.*`.
     Type(Txt),
 
@@ -24,9 +24,9 @@ pub enum Seed {
 
 /// An operand of set operators.
 #[derive(Drop)]
-pub enum SetTerm {
+pub enum SetTermTree {
     Name(Txt),
-    Seeds(List<Seed>),
+    Seeds(List<SeedTree>),
 }
 
 /// Between operands of sets.
@@ -39,29 +39,29 @@ pub enum SetOp {
 
 /// A written set, or several in a chain. A name alone is no set.
 #[derive(Drop)]
-pub struct Sets {
-    pub first: SetTerm,
-    pub others: List<(SetOp, SetTerm)>,
+pub struct SetsTree {
+    pub first: SetTermTree,
+    pub others: List<(SetOp, SetTermTree)>,
 }
 
 /// The types that a set variable is declared with.
 #[derive(Drop)]
-pub enum SetTypes {
+pub enum SetTypesTree {
     Any,
     Of(Txt),
 }
 
 /// The right side of `=` behind a name.
 #[derive(Drop)]
-pub enum Right {
+pub enum RightTree {
     Select(SelectTree),
-    Sets(Sets),
+    Sets(SetsTree),
     Value(Node),
 }
 
 /// What FOREACH goes over.
 #[derive(Drop)]
-pub enum Over {
+pub enum OverTree {
     Elements(Node),
     Range(Node, Node),
 }
@@ -78,7 +78,7 @@ pub enum Label {
 
 /// What PRINT prints.
 #[derive(Drop)]
-pub enum Item {
+pub enum ItemTree {
     Value(Node, Label),
 
     /// A vertex set with columns, and the name behind AS.
@@ -91,23 +91,23 @@ pub enum Item {
 pub enum Stmt {
     /// New variables, each with its value where one is given.
     Local(BaseTree, List<(Txt, Option<Node>)>),
-    Assign(Txt, Option<SetTypes>, Right),
+    Assign(Txt, Option<SetTypesTree>, RightTree),
 
     /// A change of the global accumulator of this name.
-    Global(Txt, Change),
+    Global(Txt, ChangeTree),
 
     /// IF and each ELSE IF with its condition, and what stands behind ELSE.
     If(List<(Node, List<Stmt>)>, Option<List<Stmt>>),
 
     /// WHILE: the condition, the LIMIT and the body.
     While(Node, Option<Node>, List<Stmt>),
-    Foreach(Txt, Over, List<Stmt>),
-    Print(List<Item>),
+    Foreach(Txt, OverTree, List<Stmt>),
+    Print(List<ItemTree>),
 }
 
 /// The body of a query.
 #[derive(Drop)]
 pub struct Body {
-    pub definitions: List<Definition>,
+    pub definitions: List<DefinitionTree>,
     pub statements: List<Stmt>,
 }

@@ -2,13 +2,13 @@
 ghost use Rattle.std.specs.Prelude.{◌≡◌, IfOk};
 
 use crate::expr::{AddSign, CmpSign, MulSign, Node, Part};
-use gq_list::{Boxed, List, Memory};
+use gq_base::{Boxed, List, OutOfMemory};
 use gq_value::Txt;
 use std::alloc::Global;
 
 impl Node {
     /// An equal tree. It takes a few frames of the stack for each level of the tree.
-    pub fn duplicate(&self, alloc: Global) -> Result<Node, Memory>
+    pub fn duplicate(&self, alloc: Global) -> Result<Node, OutOfMemory>
         ensures { IfOk result (λ copy. copy ≡ self.now) }
     {
         node(alloc, self)
@@ -16,7 +16,7 @@ impl Node {
 }
 
 #[cycle(copies)]
-fn node(alloc: Global, tree: &Node) -> Result<Node, Memory>
+fn node(alloc: Global, tree: &Node) -> Result<Node, OutOfMemory>
     ensures { IfOk result (λ copy. copy ≡ tree.now) }
 {
     match tree {
@@ -55,32 +55,32 @@ fn node(alloc: Global, tree: &Node) -> Result<Node, Memory>
     }
 }
 
-fn copied(alloc: Global, text: &Txt) -> Result<Txt, Memory>
+fn copied(alloc: Global, text: &Txt) -> Result<Txt, OutOfMemory>
     ensures { IfOk result (λ copy. copy ≡ text.now) }
 {
     Txt::of(alloc, text.as_str())
 }
 
-fn text(alloc: Global, said: &Txt) -> Result<Node, Memory>
+fn text(alloc: Global, said: &Txt) -> Result<Node, OutOfMemory>
     ensures { IfOk result (λ copy. copy ≡ Node.Text said.now) }
 {
     Ok(Node::Text(copied(alloc, said)?))
 }
 
-fn global(alloc: Global, name: &Txt) -> Result<Node, Memory>
+fn global(alloc: Global, name: &Txt) -> Result<Node, OutOfMemory>
     ensures { IfOk result (λ copy. copy ≡ Node.Global name.now) }
 {
     Ok(Node::Global(copied(alloc, name)?))
 }
 
-fn name(alloc: Global, name: &Txt) -> Result<Node, Memory>
+fn name(alloc: Global, name: &Txt) -> Result<Node, OutOfMemory>
     ensures { IfOk result (λ copy. copy ≡ Node.Name name.now) }
 {
     Ok(Node::Name(copied(alloc, name)?))
 }
 
 #[cycle(copies)]
-fn boxed(alloc: Global, tree: &Node) -> Result<Boxed<Node>, Memory>
+fn boxed(alloc: Global, tree: &Node) -> Result<Boxed<Node>, OutOfMemory>
     ensures { IfOk result (λ copy. copy ≡ tree.now) }
 {
     let copy = node(alloc, tree)?;
@@ -88,7 +88,7 @@ fn boxed(alloc: Global, tree: &Node) -> Result<Boxed<Node>, Memory>
 }
 
 #[cycle(copies)]
-fn call(alloc: Global, name: &Txt, arguments: &[Node]) -> Result<Node, Memory>
+fn call(alloc: Global, name: &Txt, arguments: &[Node]) -> Result<Node, OutOfMemory>
     ensures { IfOk result (λ copy. copy ≡ Node.Call name.now arguments.now) }
 {
     let name = copied(alloc, name)?;
@@ -96,63 +96,63 @@ fn call(alloc: Global, name: &Txt, arguments: &[Node]) -> Result<Node, Memory>
 }
 
 #[cycle(copies)]
-fn post(alloc: Global, behind: &[Part], first: Boxed<Node>) -> Result<Node, Memory>
+fn post(alloc: Global, behind: &[Part], first: Boxed<Node>) -> Result<Node, OutOfMemory>
     ensures { IfOk result (λ copy. copy ≡ Node.Post first behind.now) }
 {
     Ok(Node::Post(first, parts(alloc, behind)?))
 }
 
 #[cycle(copies)]
-fn neg(alloc: Global, signs: usize, operand: &Node) -> Result<Node, Memory>
+fn neg(alloc: Global, signs: usize, operand: &Node) -> Result<Node, OutOfMemory>
     ensures { IfOk result (λ copy. copy ≡ Node.Neg signs operand.now) }
 {
     Ok(Node::Neg(signs, boxed(alloc, operand)?))
 }
 
 #[cycle(copies)]
-fn mul(alloc: Global, others: &[(MulSign, Node)], first: Boxed<Node>) -> Result<Node, Memory>
+fn mul(alloc: Global, others: &[(MulSign, Node)], first: Boxed<Node>) -> Result<Node, OutOfMemory>
     ensures { IfOk result (λ copy. copy ≡ Node.Mul first others.now) }
 {
     Ok(Node::Mul(first, factors(alloc, others)?))
 }
 
 #[cycle(copies)]
-fn sum(alloc: Global, others: &[(AddSign, Node)], first: Boxed<Node>) -> Result<Node, Memory>
+fn sum(alloc: Global, others: &[(AddSign, Node)], first: Boxed<Node>) -> Result<Node, OutOfMemory>
     ensures { IfOk result (λ copy. copy ≡ Node.Sum first others.now) }
 {
     Ok(Node::Sum(first, terms(alloc, others)?))
 }
 
 #[cycle(copies)]
-fn cmp(alloc: Global, right: &Node, left: Boxed<Node>, sign: CmpSign) -> Result<Node, Memory>
+fn cmp(alloc: Global, right: &Node, left: Boxed<Node>, sign: CmpSign) -> Result<Node, OutOfMemory>
     ensures { IfOk result (λ copy. copy ≡ Node.Cmp left sign right.now) }
 {
     Ok(Node::Cmp(left, sign, boxed(alloc, right)?))
 }
 
 #[cycle(copies)]
-fn not(alloc: Global, words: usize, operand: &Node) -> Result<Node, Memory>
+fn not(alloc: Global, words: usize, operand: &Node) -> Result<Node, OutOfMemory>
     ensures { IfOk result (λ copy. copy ≡ Node.Not words operand.now) }
 {
     Ok(Node::Not(words, boxed(alloc, operand)?))
 }
 
 #[cycle(copies)]
-fn and(alloc: Global, others: &[Node], first: Boxed<Node>) -> Result<Node, Memory>
+fn and(alloc: Global, others: &[Node], first: Boxed<Node>) -> Result<Node, OutOfMemory>
     ensures { IfOk result (λ copy. copy ≡ Node.And first others.now) }
 {
     Ok(Node::And(first, nodes(alloc, others)?))
 }
 
 #[cycle(copies)]
-fn or(alloc: Global, others: &[Node], first: Boxed<Node>) -> Result<Node, Memory>
+fn or(alloc: Global, others: &[Node], first: Boxed<Node>) -> Result<Node, OutOfMemory>
     ensures { IfOk result (λ copy. copy ≡ Node.Or first others.now) }
 {
     Ok(Node::Or(first, nodes(alloc, others)?))
 }
 
 #[cycle(copies)]
-fn part(alloc: Global, part: &Part) -> Result<Part, Memory>
+fn part(alloc: Global, part: &Part) -> Result<Part, OutOfMemory>
     ensures { IfOk result (λ copy. copy ≡ part.now) }
 {
     match part {
@@ -164,7 +164,7 @@ fn part(alloc: Global, part: &Part) -> Result<Part, Memory>
 }
 
 #[cycle(copies)]
-fn method(alloc: Global, name: &Txt, arguments: &[Node]) -> Result<Part, Memory>
+fn method(alloc: Global, name: &Txt, arguments: &[Node]) -> Result<Part, OutOfMemory>
     ensures { IfOk result (λ copy. copy ≡ Part.Method name.now arguments.now) }
 {
     let name = copied(alloc, name)?;
@@ -172,7 +172,7 @@ fn method(alloc: Global, name: &Txt, arguments: &[Node]) -> Result<Part, Memory>
 }
 
 #[cycle(copies)]
-fn nodes(alloc: Global, nodes: &[Node]) -> Result<List<Node>, Memory>
+fn nodes(alloc: Global, nodes: &[Node]) -> Result<List<Node>, OutOfMemory>
     ensures { IfOk result (λ copies. copies ≡ nodes.now) }
 {
     let mut copies = List::new(alloc);
@@ -184,7 +184,7 @@ fn nodes(alloc: Global, nodes: &[Node]) -> Result<List<Node>, Memory>
 }
 
 #[cycle(copies)]
-fn parts(alloc: Global, parts: &[Part]) -> Result<List<Part>, Memory>
+fn parts(alloc: Global, parts: &[Part]) -> Result<List<Part>, OutOfMemory>
     ensures { IfOk result (λ copies. copies ≡ parts.now) }
 {
     let mut copies = List::new(alloc);
@@ -196,7 +196,7 @@ fn parts(alloc: Global, parts: &[Part]) -> Result<List<Part>, Memory>
 }
 
 #[cycle(copies)]
-fn factors(alloc: Global, factors: &[(MulSign, Node)]) -> Result<List<(MulSign, Node)>, Memory>
+fn factors(alloc: Global, factors: &[(MulSign, Node)]) -> Result<List<(MulSign, Node)>, OutOfMemory>
     ensures { IfOk result (λ copies. copies ≡ factors.now) }
 {
     let mut copies = List::new(alloc);
@@ -208,7 +208,7 @@ fn factors(alloc: Global, factors: &[(MulSign, Node)]) -> Result<List<(MulSign, 
 }
 
 #[cycle(copies)]
-fn terms(alloc: Global, terms: &[(AddSign, Node)]) -> Result<List<(AddSign, Node)>, Memory>
+fn terms(alloc: Global, terms: &[(AddSign, Node)]) -> Result<List<(AddSign, Node)>, OutOfMemory>
     ensures { IfOk result (λ copies. copies ≡ terms.now) }
 {
     let mut copies = List::new(alloc);

@@ -1,5 +1,5 @@
 // The syntax tree of an expression.
-use gq_list::{Boxed, List};
+use gq_base::{Boxed, List};
 use gq_value::Txt;
 
 /// Between the operands of a sum.

@@ -1,5 +1,5 @@
 // The trees of loading jobs.
-use gq_list::List;
+use gq_base::List;
 use gq_value::Txt;
 
 /// Where a LOAD reads from.

@@ -1,7 +1,7 @@
 // The trees of what a body declares: tuple types and accumulators.
 use crate::expr::Node;
 use crate::query::BaseTree;
-use gq_list::{Boxed, List};
+use gq_base::{Boxed, List};
 use gq_value::Txt;
 
 /// What a plain accumulator holds: a type, or a tuple type of this name.
@@ -40,7 +40,7 @@ pub enum KindTree {
     Avg,
 
     /// Keys of a type, and what is held for each.
-    Map(Elem, Held),
+    Map(Elem, EntryTree),
 
     /// The keys with their names, and the accumulators of each group with theirs.
     Group(List<(BaseTree, Txt)>, List<(KindTree, Txt)>),
@@ -52,7 +52,7 @@ pub enum KindTree {
 /// What a map holds for a key.
 #[cycle(kind)]
 #[derive(Drop)]
-pub enum Held {
+pub enum EntryTree {
     Elem(Elem),
     Kind(Boxed<KindTree>),
 }
@@ -67,7 +67,7 @@ pub struct AccumTree {
 
 /// A line before the statements of a body.
 #[derive(Drop)]
-pub enum Definition {
+pub enum DefinitionTree {
     /// TYPEDEF TUPLE: the fields, and the name of the type.
     Tuple(List<(BaseTree, Txt)>, Txt),
     Accums(KindTree, List<AccumTree>),

@@ -1,7 +1,7 @@
 // The trees of queries, around their bodies.
 use crate::body::Body;
 use crate::schema::Literal;
-use gq_list::List;
+use gq_base::List;
 use gq_value::Txt;
 
 /// A type that a value may have.
@@ -21,7 +21,7 @@ pub enum BaseTree {
 
 /// A parameter of a query.
 #[derive(Drop)]
-pub struct Parameter {
+pub struct ParameterTree {
     pub base: BaseTree,
     pub name: Txt,
     pub default: Option<Literal>,
@@ -37,7 +37,7 @@ pub enum Mode {
 /// What CREATE QUERY and INTERPRET QUERY have alike. INTERPRET has no parameters.
 #[derive(Drop)]
 pub struct QueryTree {
-    pub parameters: List<Parameter>,
+    pub parameters: List<ParameterTree>,
     pub graph: Option<Txt>,
     pub modes: List<Mode>,
     pub body: Body,

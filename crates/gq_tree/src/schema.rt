@@ -1,6 +1,7 @@
 // The trees of what declares types and graphs, and of INSERT.
-use gq_list::List;
-use gq_value::{IdKind, Txt};
+use gq_base::List;
+use gq_graph::IdKind;
+use gq_value::Txt;
 
 /// A value as a script writes it.
 #[derive(Drop)]
@@ -70,7 +71,7 @@ pub enum EdgeTree {
 
 /// The types of a graph.
 #[derive(Drop)]
-pub enum Members {
+pub enum MembersTree {
     /// `*`.
     All,
     Named(List<Txt>),
@@ -80,7 +81,7 @@ pub enum Members {
 #[derive(Drop)]
 pub struct GraphTree {
     pub name: Txt,
-    pub members: Members,
+    pub members: MembersTree,
 }
 
 /// INSERT: the type, and its values in order, where None is `_`.

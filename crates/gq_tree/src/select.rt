@@ -1,6 +1,6 @@
 // The trees of SELECT.
 use crate::expr::Node;
-use gq_list::List;
+use gq_base::List;
 use gq_value::Txt;
 
 /// What `+=` feeds an accumulator.
@@ -15,7 +15,7 @@ pub enum InputTree {
 
 /// What happens to an accumulator.
 #[derive(Drop)]
-pub enum Change {
+pub enum ChangeTree {
     /// `+=`.
     Feed(InputTree),
 
@@ -26,20 +26,20 @@ pub enum Change {
 /// An act of ACCUM or POST-ACCUM.
 #[cycle(act)]
 #[derive(Drop)]
-pub enum Act {
+pub enum ActTree {
     /// A change of the accumulator of this name, with its `@`, at an alias.
-    Attached(Txt, Txt, Change),
+    Attached(Txt, Txt, ChangeTree),
 
     /// A change of the global accumulator of this name.
-    Global(Txt, Change),
+    Global(Txt, ChangeTree),
 
     /// IF and each ELSE IF with its condition, and what stands behind ELSE.
-    If(List<(Node, List<Act>)>, Option<List<Act>>),
+    If(List<(Node, List<ActTree>)>, Option<List<ActTree>>),
 }
 
 /// The types at a place of a pattern.
 #[derive(Drop)]
-pub enum Types {
+pub enum TypesTree {
     /// ANY and `_`.
     Any,
     Named(List<Txt>),
@@ -48,9 +48,9 @@ pub enum Types {
 /// One hop: edges and where they lead, each with types and an alias that may be left out.
 #[derive(Drop)]
 pub struct HopTree {
-    pub edges: Option<Types>,
+    pub edges: Option<TypesTree>,
     pub edge_alias: Option<Txt>,
-    pub targets: Option<Types>,
+    pub targets: Option<TypesTree>,
     pub target_alias: Option<Txt>,
 }
 
@@ -72,13 +72,13 @@ pub enum Way {
 pub struct StepTree {
     pub ways: List<(Way, Txt)>,
     pub edge_alias: Option<Txt>,
-    pub targets: Types,
+    pub targets: TypesTree,
     pub target_alias: Option<Txt>,
 }
 
 /// The pattern of a SELECT, behind its source.
 #[derive(Drop)]
-pub enum Walk {
+pub enum PatternTree {
     Hop(HopTree),
 
     /// One to three steps.
@@ -91,10 +91,10 @@ pub struct SelectTree {
     pub selected: Txt,
     pub source: Txt,
     pub alias: Option<Txt>,
-    pub walk: Option<Walk>,
+    pub walk: Option<PatternTree>,
     pub filter: Option<Node>,
-    pub accum: Option<List<Act>>,
-    pub post: Option<List<Act>>,
+    pub accum: Option<List<ActTree>>,
+    pub post: Option<List<ActTree>>,
     pub having: Option<Node>,
 
     /// The values to order by, each with whether it descends; there is one at least.

@@ -2,9 +2,9 @@
 use Rattle.std.proofs.Common.{ℕ, ◌+◌, ◌<◌, ◌≡◌, List, [], ◌∷◌, ◌++◌, length, get_or, drop, map, Option, Some, None, Result, Ok, Err, refl, ap, sym, ◌∙◌}
 use Rattle.std.proofs.lemmas.List.{append_assoc, append-nil}
 use Rattle.gq_tree.specs.Tree.{Tree, Name}
-use Rattle.gq_typing.specs.Judging.{Typed, TypingFault, Judged, ◌>>=◌, each_judged}
-use Rattle.gq_typing.specs.ExpressionTypes.{Names, before_dot}
-use Rattle.gq_type.specs.Parts.{name_in}
+use Rattle.gq_rules_typing.specs.Judging.{Typed, TypingFault, Judged, ◌>>=◌, each_judged}
+use Rattle.gq_rules_typing.specs.ExpressionTypes.{Names, before_dot}
+use Rattle.gq_scope.specs.Parts.{name_in}
 
 -- ---- before a dot
 

@@ -9,17 +9,17 @@ use Rattle.std.specs.Option.{option_map}
 use Rattle.std.specs.List.{slice_get, position}
 use Rattle.std.proofs.lemmas.Option.{slice_get-get_or}
 use Rattle.std.proofs.lemmas.List.Quantifiers.{position-Some}
-use Rattle.gq_hash.proofs.Seeks.{nowhere}
+use Rattle.gq_base.proofs.Seeks.{nowhere}
 use Rattle.gq_value.specs.declared.kind.BaseType.{BaseType}
 use Rattle.gq_value.specs.AccumViews.{base_of}
-use Rattle.gq_typing.specs.Statements.{Bytes}
-use Rattle.gq_typing.specs.Sorts.{Sorts, Fields, bases_of}
+use Rattle.gq_rules_typing.specs.Statements.{Bytes}
+use Rattle.gq_rules_typing.specs.Sorts.{Sorts, Fields, bases_of}
 use Rattle.gq_scope.specs.Held.{Held, setting_in, fields_of}
-use Rattle.gq_typing.specs.Words.{under, functions, function_from, function_named, Function, Makes, Abs, ToString, ToDatetime, EpochToDatetime, DatetimeToEpoch, DatetimeDiff, DatetimeAdd, PartOf, PartOfTime}
-use Rattle.gq_typing.specs.Judging.{Typed, Mismatch, ◌>>=◌, ◌>>◌, unless}
-use Rattle.gq_typing.specs.CallTypes.{function_type, unit_known, outdegree_type}
-use Rattle.gq_typing.specs.Types.{is_number}
-use Rattle.gq_type.specs.Parts.{text_in}
+use Rattle.gq_rules_typing.specs.Words.{under, functions, function_from, function_named, Function, Makes, Abs, ToString, ToDatetime, EpochToDatetime, DatetimeToEpoch, DatetimeDiff, DatetimeAdd, PartOf, PartOfTime}
+use Rattle.gq_rules_typing.specs.Judging.{Typed, Mismatch, ◌>>=◌, ◌>>◌, unless}
+use Rattle.gq_rules_typing.specs.CallTypes.{function_type, unit_known, outdegree_type}
+use Rattle.gq_rules_typing.specs.Types.{is_number}
+use Rattle.gq_scope.specs.Parts.{text_in}
 use Rattle.gq_type.specs.Calls.{only, absolute, said, time_of_text, time_of_number, number_of_time, pair, triple, difference, later, third_text, unit_of, degree_of_all, degree_of}
 
 -- ---- one argument

@@ -11,17 +11,17 @@ use Rattle.std.proofs.lemmas.Option.{slice_get-get_or, slice_get_past}
 use Rattle.gq_value.specs.Accums.{Base, Accum}
 use Rattle.gq_value.specs.AccumViews.{accum_of}
 use Rattle.gq_value.specs.declared.kind.Kind.{Kind}
-use Rattle.gq_value.specs.declared.catalog.EdgeType.{EdgeType}
-use Rattle.gq_value.specs.declared.catalog.VertexType.{VertexType}
-use Rattle.gq_typing.specs.Statements.{Bytes}
-use Rattle.gq_typing.specs.Sorts.{Fields, Sorts, VertexSort, EdgeSort, vertex_sort, edge_sort, vertex_fields, edge_fields, attribute_fields, with_id, names_of, bases_of}
-use Rattle.gq_typing.specs.Words.{Setting, Owner, place_of, names_of_parts}
-use Rattle.gq_typing.specs.Types.{same_base}
-use Rattle.gq_typing.specs.Kinds.{kinds_in}
-use Rattle.gq_typing.specs.FieldTypes.{field_base, at_place, tuple_fields, one_base, agreed, of_parts}
+use Rattle.gq_graph.specs.declared.types.EdgeType.{EdgeType}
+use Rattle.gq_graph.specs.declared.types.VertexType.{VertexType}
+use Rattle.gq_rules_typing.specs.Statements.{Bytes}
+use Rattle.gq_rules_typing.specs.Sorts.{Fields, Sorts, VertexSort, EdgeSort, vertex_sort, edge_sort, vertex_fields, edge_fields, attribute_fields, with_id, names_of, bases_of}
+use Rattle.gq_rules_typing.specs.Words.{Setting, Owner, place_of, names_of_parts}
+use Rattle.gq_rules_typing.specs.Types.{same_base}
+use Rattle.gq_rules_typing.specs.Kinds.{kinds_in}
+use Rattle.gq_rules_typing.specs.FieldTypes.{field_base, at_place, tuple_fields, one_base, agreed, of_parts}
 use Rattle.gq_scope.specs.Held.{Held, sorts_in, setting_in}
-use Rattle.gq_type.specs.Views.{parts_are, part_read}
-use Rattle.gq_type.specs.Parts.{first_named, chained}
+use Rattle.gq_scope.specs.Views.{parts_are, part_read}
+use Rattle.gq_scope.specs.Parts.{first_named, chained}
 
 -- ---- by name
 

@@ -1,4 +1,3 @@
-pub mod BaseLemmas
 pub mod RuleLemmas
 pub mod ScopeLemmas
 pub mod FieldLemmas

@@ -5,8 +5,8 @@ use Rattle.std.proofs.lemmas.List.{drop_more, get_or-map}
 use Rattle.std.proofs.lemmas.Option.{slice_get-get_or, slice_get_within, get_or_from_slice_get}
 use Rattle.gq_value.specs.Accums.{Base, INT, UINT, BOOL, STRING, DATETIME, VERTEX, VERTEX_OF, TUPLE, Bases, no_base, base_and}
 use Rattle.gq_value.specs.AccumViews.{bases}
-use Rattle.gq_typing.specs.Types.{same_base, same_bases, converts, convert_all, vertex_base}
-use Rattle.gq_type.specs.Parts.{form_of}
+use Rattle.gq_rules_typing.specs.Types.{same_base, same_bases, converts, convert_all, vertex_base}
+use Rattle.gq_scope.specs.Parts.{form_of}
 
 -- two types, of which the first is VERTEX or no vertex and no tuple, are the same where their forms are
 pub same_form : (b c : Base) → form_of b < 6 → same_base b c ≡ (form_of b == form_of c)

@@ -1,10 +1,10 @@
 -- ScopeLemmas: names in a scope whose names are bytes.
 use Rattle.std.proofs.Common.{◌≡◌, Bool, true, false, not, Option, Some, None, Ok, Err, codes, refl}
 use Rattle.std.specs.Str.{bytes_eq}
-use Rattle.gq_typing.specs.Statements.{Bytes}
-use Rattle.gq_typing.specs.Judging.{◌>>=◌}
-use Rattle.gq_typing.specs.Words.{edge_quoted, under, methods}
-use Rattle.gq_typing.specs.Scopes.{entry, name_at, declared_kind, global_at, before_at}
+use Rattle.gq_rules_typing.specs.Statements.{Bytes}
+use Rattle.gq_rules_typing.specs.Judging.{◌>>=◌}
+use Rattle.gq_rules_typing.specs.Words.{edge_quoted, under, methods}
+use Rattle.gq_rules_typing.specs.Scopes.{entry, name_at, declared_kind, global_at, before_at}
 use Rattle.gq_scope.specs.Held.{Held, scope_in, setting_in, sorts_in, names_in}
 
 pub said_is : (h : Held) (x : Bytes) → (scope_in h).setting.words.said x ≡ x

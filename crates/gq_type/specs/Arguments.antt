@@ -1,15 +1,15 @@
--- Arguments: what a call and a part behind a dot give, once the arguments have types. Each is a line of gq_typing's rules.
+-- Arguments: what a call and a part behind a dot give, once the arguments have types. Each is a line of gq_rules_typing's rules.
 use Rattle.std.specs.Prelude.{Bool, List, Option, Ok}
 use Rattle.gq_value.specs.Accums as plain
 use Rattle.gq_tree.specs.Tree.{Trees}
-use Rattle.gq_typing.specs.Statements.{Bytes}
-use Rattle.gq_typing.specs.Words.{function_named}
-use Rattle.gq_typing.specs.Judging as judging
-use Rattle.gq_typing.specs.Judging.{Judged, NotAllowedHere, UnknownName, ◌>>=◌, ◌>>◌, unless, or_fault, each_judged}
-use Rattle.gq_typing.specs.Types.{as_base, has_accums}
-use Rattle.gq_typing.specs.Kinds.{read_type}
-use Rattle.gq_typing.specs.CallTypes.{function_type, method_type}
-use Rattle.gq_typing.specs.ExpressionTypes.{Names}
+use Rattle.gq_rules_typing.specs.Statements.{Bytes}
+use Rattle.gq_rules_typing.specs.Words.{function_named}
+use Rattle.gq_rules_typing.specs.Judging as judging
+use Rattle.gq_rules_typing.specs.Judging.{Judged, NotAllowedHere, UnknownName, ◌>>=◌, ◌>>◌, unless, or_fault, each_judged}
+use Rattle.gq_rules_typing.specs.Types.{as_base, has_accums}
+use Rattle.gq_rules_typing.specs.Kinds.{read_type}
+use Rattle.gq_rules_typing.specs.CallTypes.{function_type, method_type}
+use Rattle.gq_rules_typing.specs.ExpressionTypes.{Names}
 
 -- arguments that are values each
 abbrev pub all_bases : List judging.Typed → Judged (List plain.Base)

@@ -1,29 +1,29 @@
 -- Calls: what the code's functions and methods are, and rules on their arguments by how many there are.
 use Rattle.std.specs.Prelude.{ℕ, Bool, true, false, ◌&&◌, List, [], ◌∷◌, map, codes, Option, Some, None, Ok, Err}
 use Rattle.gq_tree.specs.Tree.{Trees, no_tree, tree}
-use Rattle.gq_type.specs.Parts.{text_in}
+use Rattle.gq_scope.specs.Parts.{text_in}
 use Rattle.gq_value.specs.Accums.{Base, INT, BOOL, STRING, DATETIME, TUPLE}
 use Rattle.gq_value.specs.AccumViews.{base_of, bases}
-use Rattle.gq_typing.specs.Statements.{Bytes}
-use Rattle.gq_typing.specs.Sorts.{Sorts}
-use Rattle.gq_typing.specs.Words as words
-use Rattle.gq_typing.specs.Words.{PartOf, Year, Month, Day, Hour, Minute, Second, edge_quoted, unit_named}
-use Rattle.gq_typing.specs.Judging.{Typed, Of, Mismatch, UnknownName, Judged, ◌>>=◌, ◌>>◌, unless, or_fault}
-use Rattle.gq_typing.specs.Types.{is_number, stands_for_vertex, convert_all}
-use Rattle.gq_typing.specs.CallTypes.{has_text}
-use Rattle.gq_type.specs.declared.calls.Method.{Method}
-use Rattle.gq_type.specs.declared.calls.Method.TheVariants as method
-use Rattle.gq_type.specs.declared.calls.Function.{Function}
-use Rattle.gq_type.specs.declared.calls.Function.TheVariants as function
+use Rattle.gq_rules_typing.specs.Statements.{Bytes}
+use Rattle.gq_rules_typing.specs.Sorts.{Sorts}
+use Rattle.gq_rules_typing.specs.Words as words
+use Rattle.gq_rules_typing.specs.Words.{PartOf, Year, Month, Day, Hour, Minute, Second, edge_quoted, unit_named}
+use Rattle.gq_rules_typing.specs.Judging.{Typed, Of, Mismatch, UnknownName, Judged, ◌>>=◌, ◌>>◌, unless, or_fault}
+use Rattle.gq_rules_typing.specs.Types.{is_number, stands_for_vertex, convert_all}
+use Rattle.gq_rules_typing.specs.CallTypes.{has_text}
+use Rattle.gq_type.specs.declared.calls.CheckedMethod.{CheckedMethod}
+use Rattle.gq_type.specs.declared.calls.CheckedMethod.TheVariants as method
+use Rattle.gq_type.specs.declared.calls.CheckedFunction.{CheckedFunction}
+use Rattle.gq_type.specs.declared.calls.CheckedFunction.TheVariants as function
 
-abbrev pub method_is : Method → words.Method
+abbrev pub method_is : CheckedMethod → words.Method
 method_is method.Size = words.Size
 method_is method.Contains = words.Contains
 method_is method.ContainsKey = words.ContainsKey
 method_is method.Get = words.Get
 method_is method.Outdegree = words.Outdegree
 
-abbrev pub function_is : Function → words.Function
+abbrev pub function_is : CheckedFunction → words.Function
 function_is (function.Makes n fields) = words.Makes n (map (λ f. base_of f.1) fields.now)
 function_is function.Abs = words.Abs
 function_is function.ToString = words.ToString

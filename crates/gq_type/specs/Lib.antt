@@ -1,4 +1,2 @@
-pub mod Views
-pub mod Parts
 pub mod Calls
 pub mod Arguments

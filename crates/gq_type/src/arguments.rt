@@ -2,21 +2,18 @@
 ghost use Rattle.std.specs.Prelude.{◌≡◌, ◌≢◌, map, true, Ok, Err, MatchResult};
 ghost use Rattle.std.specs.Option.{option_map};
 ghost use Rattle.gq_tree.specs.View.{views};
-ghost use Rattle.gq_typing.specs.FieldTypes as dots;
+ghost use Rattle.gq_rules_typing.specs.FieldTypes as dots;
 ghost use Rattle.gq_scope.specs.Held.{names_in};
-ghost use Rattle.gq_type.specs.Views.{base_is, typed_is, fault_is, Judges};
+ghost use Rattle.gq_scope.specs.Views.{base_is, typed_is, fault_is, Judges};
 ghost use Rattle.gq_type.specs.Arguments as spec;
 ghost use Rattle.gq_type.specs.Calls.{function_is, method_is};
 
-use crate::calls::{Function, Method, function_named, method_named, method_type};
-use crate::fault::{TypeFault, unknown};
+use crate::calls::{CheckedFunction, CheckedMethod, function_named, method_named, method_type};
 use crate::fields::behind_dot;
 use crate::functions::function_type;
-use crate::kinds::read_type;
 use crate::names::{attached, before};
 use crate::rules::{as_base, has_accums};
-use crate::typed::{Base, Typed};
-use gq_scope::Scope;
+use gq_scope::{Base, Scope, TypeFault, Typed, read_type, unknown};
 use gq_tree::Node;
 use std::alloc::Global;
 
@@ -25,7 +22,7 @@ use std::alloc::Global;
 fn bases<'s>(alloc: Global, typed: &[Typed<'s>]) -> Result<Vec<Base<'s>>, TypeFault>
     ensures { MatchResult result
         (λ bases. spec.all_bases (map typed_is typed.now) ≡ Ok (map base_is bases.items))
-        (λ e. e ≢ TypeFault.Memory → spec.all_bases (map typed_is typed.now) ≡ Err (fault_is e)) }
+        (λ e. e ≢ TypeFault.OutOfMemory → spec.all_bases (map typed_is typed.now) ≡ Err (fault_is e)) }
 {
     let mut bases = Vec::new(alloc);
     for x in typed {
@@ -54,8 +51,8 @@ pub(crate) fn called<'s>(
 fn known_function<'s>(
     alloc: Global,
     name: &str,
-    found: Option<Function<'s>>,
-) -> Result<Function<'s>, TypeFault>
+    found: Option<CheckedFunction<'s>>,
+) -> Result<CheckedFunction<'s>, TypeFault>
     ensures { Judges function_is (spec.known name.now (option_map function_is found.entry)) result }
 {
     match found {
@@ -64,7 +61,11 @@ fn known_function<'s>(
     }
 }
 
-fn known_method(alloc: Global, name: &str, found: Option<Method>) -> Result<Method, TypeFault>
+fn known_method(
+    alloc: Global,
+    name: &str,
+    found: Option<CheckedMethod>,
+) -> Result<CheckedMethod, TypeFault>
     ensures { Judges method_is (spec.known name.now (option_map method_is found)) result }
 {
     match found {

@@ -4,28 +4,27 @@ ghost use Rattle.std.specs.Str.{bytes_eq};
 ghost use Rattle.std.specs.Option.{option_copied, option_map};
 ghost use Rattle.gq_value.specs.AccumViews.{accum_of};
 ghost use Rattle.gq_tree.specs.View.{views};
-ghost use Rattle.gq_typing.specs.CallTypes as spec;
-ghost use Rattle.gq_typing.specs.Words as words;
-ghost use Rattle.gq_typing.specs.Judging as judging;
+ghost use Rattle.gq_rules_typing.specs.CallTypes as spec;
+ghost use Rattle.gq_rules_typing.specs.Words as words;
+ghost use Rattle.gq_rules_typing.specs.Judging as judging;
 ghost use Rattle.gq_scope.specs.Held.{setting_in};
-ghost use Rattle.gq_type.specs.Views.{base_is, typed_is, parts_are, Judges};
+ghost use Rattle.gq_scope.specs.Views.{base_is, typed_is, parts_are, Judges};
 ghost use Rattle.gq_type.specs.Calls as calls;
 ghost use Rattle.gq_type.specs.Calls.{function_is, method_is};
 
-use crate::fault::{TypeFault, unknown};
-use crate::kinds::{contained_type, key_types, read_type};
 use crate::operators::matched;
 use crate::rules::{convert_all, converts, is_number, stands_for_vertex};
-use crate::trees::text_of;
-use crate::typed::{Base, Typed, Types};
-use gq_scope::Scope;
+use gq_scope::{
+    Base, Scope, TupleFieldTypes, TypeFault, Typed, contained_type, key_types, read_type, text_of,
+    unknown,
+};
 use gq_tree::Node;
 use gq_value::{BaseType, Kind, Txt};
 use std::alloc::Global;
 
 /// What may stand behind a dot with arguments.
 #[derive(Clone, Copy)]
-pub(crate) enum Method {
+pub(crate) enum CheckedMethod {
     Size,
     Contains,
     ContainsKey,
@@ -35,7 +34,7 @@ pub(crate) enum Method {
 
 /// A function: it makes a tuple of a type, or is one of the language's own.
 #[derive(Clone, Copy)]
-pub(crate) enum Function<'a> {
+pub(crate) enum CheckedFunction<'a> {
     Makes(u32, &'a [(Txt, BaseType)]),
     Abs,
     ToString,
@@ -53,76 +52,76 @@ pub(crate) enum Function<'a> {
 }
 
 /// The method of a name.
-pub(crate) fn method_named(name: &str) -> Option<Method>
+pub(crate) fn method_named(name: &str) -> Option<CheckedMethod>
     ensures { option_map method_is result ≡ words.under bytes_eq name.now words.methods }
 {
     if "size" == name {
-        Some(Method::Size)
+        Some(CheckedMethod::Size)
     } else if "contains" == name {
-        Some(Method::Contains)
+        Some(CheckedMethod::Contains)
     } else if "containsKey" == name {
-        Some(Method::ContainsKey)
+        Some(CheckedMethod::ContainsKey)
     } else if "get" == name {
-        Some(Method::Get)
+        Some(CheckedMethod::Get)
     } else if "outdegree" == name {
-        Some(Method::Outdegree)
+        Some(CheckedMethod::Outdegree)
     } else {
         None
     }
 }
 
 /// The language's own function of a name.
-fn own_function<'a>(name: &str) -> Option<Function<'a>>
+fn own_function<'a>(name: &str) -> Option<CheckedFunction<'a>>
     ensures { option_map function_is result ≡ words.under bytes_eq name.now words.functions }
 {
     if "abs" == name {
-        Some(Function::Abs)
+        Some(CheckedFunction::Abs)
     } else if "to_string" == name {
-        Some(Function::ToString)
+        Some(CheckedFunction::ToString)
     } else if "to_datetime" == name {
-        Some(Function::ToDatetime)
+        Some(CheckedFunction::ToDatetime)
     } else if "epoch_to_datetime" == name {
-        Some(Function::EpochToDatetime)
+        Some(CheckedFunction::EpochToDatetime)
     } else if "datetime_to_epoch" == name {
-        Some(Function::DatetimeToEpoch)
+        Some(CheckedFunction::DatetimeToEpoch)
     } else if "datetime_diff" == name {
-        Some(Function::DatetimeDiff)
+        Some(CheckedFunction::DatetimeDiff)
     } else if "datetime_add" == name {
-        Some(Function::DatetimeAdd)
+        Some(CheckedFunction::DatetimeAdd)
     } else {
         part_function(name)
     }
 }
 
-fn part_function<'a>(name: &str) -> Option<Function<'a>>
+fn part_function<'a>(name: &str) -> Option<CheckedFunction<'a>>
     ensures { option_map function_is result ≡ words.under bytes_eq name.now calls.part_functions }
 {
     if "year" == name {
-        Some(Function::Year)
+        Some(CheckedFunction::Year)
     } else if "month" == name {
-        Some(Function::Month)
+        Some(CheckedFunction::Month)
     } else if "day" == name {
-        Some(Function::Day)
+        Some(CheckedFunction::Day)
     } else if "hour" == name {
-        Some(Function::Hour)
+        Some(CheckedFunction::Hour)
     } else if "minute" == name {
-        Some(Function::Minute)
+        Some(CheckedFunction::Minute)
     } else if "second" == name {
-        Some(Function::Second)
+        Some(CheckedFunction::Second)
     } else {
         None
     }
 }
 
 /// The function of a name: a tuple type goes before one of the language's own.
-pub(crate) fn function_named<'s>(scope: &'s Scope<'_>, name: &str) -> Option<Function<'s>>
+pub(crate) fn function_named<'s>(scope: &'s Scope<'_>, name: &str) -> Option<CheckedFunction<'s>>
     ensures { option_map function_is result ≡ words.function_named (setting_in scope.now) name.now }
 {
     match scope.tuple_named(name) {
         None => own_function(name),
         Some(number) => match scope.tuple_at(number) {
             None => own_function(name),
-            Some(fields) => Some(Function::Makes(number, fields.as_slice())),
+            Some(fields) => Some(CheckedFunction::Makes(number, fields.as_slice())),
         },
     }
 }
@@ -257,7 +256,7 @@ fn degree_of<'s>(
 pub(crate) fn method_type<'s>(
     alloc: Global,
     scope: &'s Scope<'_>,
-    method: Method,
+    method: CheckedMethod,
     x: Typed<'s>,
     arguments: &[Node],
     types: &[Base<'_>],
@@ -267,19 +266,19 @@ pub(crate) fn method_type<'s>(
         result }
 {
     match method {
-        Method::Size => {
+        CheckedMethod::Size => {
             matched(has_size(x) && types.len() == 0)?;
             Ok(Typed::Of(Base::Int))
         }
-        Method::Contains => {
+        CheckedMethod::Contains => {
             matched(may_contain(x, types))?;
             Ok(Typed::Of(Base::Bool))
         }
-        Method::ContainsKey => {
+        CheckedMethod::ContainsKey => {
             got_type(x, types)?;
             Ok(Typed::Of(Base::Bool))
         }
-        Method::Get => got_type(x, types),
-        Method::Outdegree => outdegree_type(alloc, scope, x, arguments),
+        CheckedMethod::Get => got_type(x, types),
+        CheckedMethod::Outdegree => outdegree_type(alloc, scope, x, arguments),
     }
 }

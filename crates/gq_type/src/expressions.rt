@@ -3,24 +3,20 @@
 ghost use Rattle.std.specs.Prelude.{◌≡◌, ◌≢◌, map, Ok, Err, MatchResult};
 ghost use Rattle.std.specs.Option.{option_map};
 ghost use Rattle.gq_tree.specs.View.{view, views, view_part, view_parts, view_factors, view_terms};
-ghost use Rattle.gq_typing.specs.ExpressionTypes.{literal_type, typing, typing_all, typing_parts, typing_part};
-ghost use Rattle.gq_typing.specs.ExpressionTypes.{typing_factors, typing_terms, typing_bools};
+ghost use Rattle.gq_rules_typing.specs.ExpressionTypes.{literal_type, typing, typing_all, typing_parts, typing_part};
+ghost use Rattle.gq_rules_typing.specs.ExpressionTypes.{typing_factors, typing_terms, typing_bools};
 ghost use Rattle.gq_scope.specs.Held.{names_in};
-ghost use Rattle.gq_type.specs.Views.{base_is, typed_is, fault_is, Judges};
+ghost use Rattle.gq_scope.specs.Views.{base_is, typed_is, fault_is, Judges};
 
 use crate::arguments::{called, field, method_called, read_attached, read_before};
-use crate::fault::TypeFault;
-use crate::kinds::read_type;
 use crate::names::{global, named};
 use crate::operators::{compared, joined, multiplied, negated, summed, truth};
 use crate::rules::alone;
-use crate::trees::name_of;
-use crate::typed::{Base, Typed};
-use gq_scope::Scope;
+use gq_scope::{Base, Scope, TypeFault, Typed, name_of, read_type};
 use gq_tree::{AddSign, MulSign, Node, Part};
 use std::alloc::Global;
 
-/// The type of an expression at the scope's place, or the fault of the first rule that fails in order of text. Memory may come
+/// The type of an expression at the scope's place, or the fault of the first rule that fails in order of text. OutOfMemory may come
 /// at any time.
 pub fn type_of<'s>(alloc: Global, scope: &'s Scope<'_>, node: &Node) -> Result<Typed<'s>, TypeFault>
     ensures { Judges typed_is (typing (names_in scope.now) (view node.now)) result }
@@ -112,7 +108,7 @@ fn typed_all<'s>(
 ) -> Result<Vec<Typed<'s>>, TypeFault>
     ensures { MatchResult result
         (λ types. typing_all (names_in scope.now) (views nodes.now) ≡ Ok (map typed_is types.items))
-        (λ e. e ≢ TypeFault.Memory → typing_all (names_in scope.now) (views nodes.now) ≡ Err (fault_is e)) }
+        (λ e. e ≢ TypeFault.OutOfMemory → typing_all (names_in scope.now) (views nodes.now) ≡ Err (fault_is e)) }
 {
     let mut types = Vec::new(alloc);
     for node in nodes {

@@ -2,22 +2,20 @@
 ghost use Rattle.std.specs.Prelude.{◌≡◌, ◌≢◌, ℕ, map, true, false, List, length, slice_get, Ok};
 ghost use Rattle.std.specs.Option.{option_copied, option_map};
 ghost use Rattle.gq_value.specs.AccumViews.{base_of, accum_of};
-ghost use Rattle.gq_typing.specs.Sorts as sorts;
-ghost use Rattle.gq_typing.specs.FieldTypes as spec;
+ghost use Rattle.gq_rules_typing.specs.Sorts as sorts;
+ghost use Rattle.gq_rules_typing.specs.FieldTypes as spec;
 ghost use Rattle.gq_scope.specs.Held.{setting_in, sorts_in, fields_of};
-ghost use Rattle.gq_typing.specs.Words.{OfTupleType};
-ghost use Rattle.gq_typing.specs.Judging.{Of};
-ghost use Rattle.gq_type.specs.Views.{base_is, typed_is, parts_are, Judges};
-ghost use Rattle.gq_type.specs.Views as views;
-ghost use Rattle.gq_type.specs.Parts.{first_named, type_field, chained};
+ghost use Rattle.gq_rules_typing.specs.Words.{OfTupleType};
+ghost use Rattle.gq_rules_typing.specs.Judging.{Of};
+ghost use Rattle.gq_scope.specs.Views.{base_is, typed_is, parts_are, Judges};
+ghost use Rattle.gq_scope.specs.Views as views;
+ghost use Rattle.gq_scope.specs.Parts.{first_named, type_field, chained};
 
-use crate::fault::{TypeFault, no_attribute};
-use crate::kinds::read_type;
 use crate::operators::matched;
 use crate::rules::{same, stands_for_vertex};
-use crate::typed::{Base, Typed};
-use gq_scope::Scope;
-use gq_value::{Attribute, BaseType, IdKind, IdShape, Kind, Txt};
+use gq_graph::{Attribute, IdKind, IdShape};
+use gq_scope::{Base, Scope, TypeFault, Typed, no_attribute, read_type};
+use gq_value::{BaseType, Kind, Txt};
 use std::alloc::Global;
 
 // ---- a field of one type

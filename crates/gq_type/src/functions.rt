@@ -3,18 +3,16 @@ ghost use Rattle.std.specs.Prelude.{◌≡◌, map, true};
 ghost use Rattle.gq_value.specs.AccumViews.{base_of};
 ghost use Rattle.std.specs.Option.{option_copied, option_map};
 ghost use Rattle.gq_tree.specs.View.{views};
-ghost use Rattle.gq_typing.specs.CallTypes as spec;
-ghost use Rattle.gq_typing.specs.Words as words;
-ghost use Rattle.gq_type.specs.Views.{base_is, typed_is, Judges};
+ghost use Rattle.gq_rules_typing.specs.CallTypes as spec;
+ghost use Rattle.gq_rules_typing.specs.Words as words;
+ghost use Rattle.gq_scope.specs.Views.{base_is, typed_is, Judges};
 ghost use Rattle.gq_type.specs.Calls as calls;
 ghost use Rattle.gq_type.specs.Calls.{function_is};
 
-use crate::calls::{Function, only};
-use crate::fault::{TypeFault, unknown};
+use crate::calls::{CheckedFunction, only};
 use crate::operators::matched;
 use crate::rules::{convert_all, is_number};
-use crate::trees::text_of;
-use crate::typed::{Base, Typed, Types};
+use gq_scope::{Base, TupleFieldTypes, TypeFault, Typed, text_of, unknown};
 use gq_time::Unit;
 use gq_tree::Node;
 use gq_value::{BaseType, Txt};
@@ -90,8 +88,8 @@ fn made<'s>(
 ) -> Result<Typed<'s>, TypeFault>
     ensures { Judges typed_is (calls.made number (map (λ f. base_of f.1) fields.now) (map base_is types.now)) result }
 {
-    matched(convert_all(types, Types::Named(fields)))?;
-    Ok(Typed::Of(Base::Tuple(number, Types::Named(fields))))
+    matched(convert_all(types, TupleFieldTypes::Named(fields)))?;
+    Ok(Typed::Of(Base::Tuple(number, TupleFieldTypes::Named(fields))))
 }
 
 fn absolute<'s>(types: &[Base<'s>]) -> Result<Typed<'s>, TypeFault>
@@ -207,22 +205,26 @@ pub fn unit_named(text: &str) -> Option<Unit>
 #[tactic(auto, using(crate::proofs::CallLemmas::function_laws))]
 pub(crate) fn function_type<'s>(
     alloc: Global,
-    function: Function<'s>,
+    function: CheckedFunction<'s>,
     arguments: &[Node],
     types: &[Base<'s>],
 ) -> Result<Typed<'s>, TypeFault>
     ensures { Judges typed_is (spec.function_type (function_is function.entry) (views arguments.now) (map base_is types.now)) result }
 {
     match function {
-        Function::Makes(number, fields) => made(number, fields, types),
-        Function::Abs => absolute(types),
-        Function::ToString => said(types),
-        Function::ToDatetime => time_of_text(types),
-        Function::EpochToDatetime => time_of_number(types),
-        Function::DatetimeToEpoch => number_of_time(types),
-        Function::DatetimeDiff => difference(types),
-        Function::DatetimeAdd => later(alloc, arguments, types),
-        Function::Year | Function::Month | Function::Day => number_of_time(types),
-        Function::Hour | Function::Minute | Function::Second => number_of_time(types),
+        CheckedFunction::Makes(number, fields) => made(number, fields, types),
+        CheckedFunction::Abs => absolute(types),
+        CheckedFunction::ToString => said(types),
+        CheckedFunction::ToDatetime => time_of_text(types),
+        CheckedFunction::EpochToDatetime => time_of_number(types),
+        CheckedFunction::DatetimeToEpoch => number_of_time(types),
+        CheckedFunction::DatetimeDiff => difference(types),
+        CheckedFunction::DatetimeAdd => later(alloc, arguments, types),
+        CheckedFunction::Year | CheckedFunction::Month | CheckedFunction::Day => number_of_time(
+            types,
+        ),
+        CheckedFunction::Hour | CheckedFunction::Minute | CheckedFunction::Second => number_of_time(
+            types,
+        ),
     }
 }

@@ -2,13 +2,11 @@
 ghost use Rattle.std.specs.Prelude.{◌≡◌, true, false};
 ghost use Rattle.std.specs.Option.{option_copied, option_map};
 ghost use Rattle.gq_value.specs.AccumViews.{accum_of};
-ghost use Rattle.gq_typing.specs.Scopes as typing;
+ghost use Rattle.gq_rules_typing.specs.Scopes as typing;
 ghost use Rattle.gq_scope.specs.Held.{entry_of, place_of, scope_in, names_in};
-ghost use Rattle.gq_type.specs.Views.{typed_is, kind_is, Judges};
+ghost use Rattle.gq_scope.specs.Views.{typed_is, kind_is, Judges};
 
-use crate::fault::{TypeFault, unknown};
-use crate::typed::{Base, Typed};
-use gq_scope::{Entry, Place, Scope};
+use gq_scope::{Base, Entry, Place, Scope, TypeFault, Typed, unknown};
 use gq_value::Kind;
 use std::alloc::Global;
 

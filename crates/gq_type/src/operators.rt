@@ -1,14 +1,13 @@
 // What operators take and give.
 ghost use Rattle.std.specs.Prelude.{◌≡◌, true};
 ghost use Rattle.gq_value.specs.Accums.{UINT, BOOL, STRING, DATETIME};
-ghost use Rattle.gq_typing.specs.Types as spec;
-ghost use Rattle.gq_typing.specs.ExpressionTypes as forms;
-ghost use Rattle.gq_type.specs.Views.{base_is, typed_is, Judges, on_value};
-ghost use Rattle.gq_type.specs.Views as views;
+ghost use Rattle.gq_rules_typing.specs.Types as spec;
+ghost use Rattle.gq_rules_typing.specs.ExpressionTypes as forms;
+ghost use Rattle.gq_scope.specs.Views.{base_is, typed_is, Judges, on_value};
+ghost use Rattle.gq_scope.specs.Views as views;
 
-use crate::fault::TypeFault;
 use crate::rules::{as_base, is_bool, is_number, is_numeric, is_vertex, value};
-use crate::typed::{Base, Typed};
+use gq_scope::{Base, TypeFault, Typed};
 use gq_tree::{AddSign, CmpSign};
 
 /// Type mismatch, where a test fails.

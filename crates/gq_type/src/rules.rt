@@ -2,12 +2,11 @@
 ghost use Rattle.std.specs.Prelude.{◌≡◌, ◌<◌, map};
 ghost use Rattle.gq_value.specs.Accums.{VERTEX_OF, TUPLE};
 ghost use Rattle.gq_value.specs.AccumViews.{bases, base_of};
-ghost use Rattle.gq_typing.specs.Types as spec;
-ghost use Rattle.gq_type.specs.Views.{types_are, base_is, typed_is, Judges, IsValue};
-ghost use Rattle.gq_type.specs.Parts.{form_of};
+ghost use Rattle.gq_rules_typing.specs.Types as spec;
+ghost use Rattle.gq_scope.specs.Views.{types_are, base_is, typed_is, Judges, IsValue};
+ghost use Rattle.gq_scope.specs.Parts.{form_of};
 
-use crate::fault::TypeFault;
-use crate::typed::{Base, Typed, Types};
+use gq_scope::{Base, TupleFieldTypes, TypeFault, Typed};
 use gq_value::BaseType;
 
 // ---- one type
@@ -98,7 +97,7 @@ fn same_vertex(t: u32, b: Base<'_>) -> bool
     }
 }
 
-fn same_tuple(n: u32, types: Types<'_>, b: Base<'_>) -> bool
+fn same_tuple(n: u32, types: TupleFieldTypes<'_>, b: Base<'_>) -> bool
     ensures { result ≡ spec.same_base (TUPLE n (bases (types_are types.entry))) (base_is b.entry) }
 {
     match b {
@@ -108,7 +107,7 @@ fn same_tuple(n: u32, types: Types<'_>, b: Base<'_>) -> bool
     }
 }
 
-fn same_types(a: Types<'_>, b: Types<'_>) -> bool
+fn same_types(a: TupleFieldTypes<'_>, b: TupleFieldTypes<'_>) -> bool
     ensures { result ≡ spec.same_bases (bases (types_are a.entry)) (bases (types_are b.entry)) }
 {
     if a.len() != b.len() {
@@ -124,7 +123,7 @@ fn same_types(a: Types<'_>, b: Types<'_>) -> bool
 
 /// Whether two types, as they are kept, are the same.
 #[cycle(kept)]
-#[tactic(auto, using(crate::proofs::BaseLemmas::base_laws))]
+#[tactic(auto, using(gq_scope::proofs::BaseLemmas::base_laws))]
 fn same_kept(a: &BaseType, b: &BaseType) -> bool
     ensures { result ≡ spec.same_base (base_of a.now) (base_of b.now) }
 {
@@ -182,7 +181,7 @@ fn vertex_converts(t: u32, to: Base<'_>) -> bool
 }
 
 /// Whether these convert to those, one after the other, and there are as many of both.
-pub fn convert_all(from: &[Base<'_>], to: Types<'_>) -> bool
+pub fn convert_all(from: &[Base<'_>], to: TupleFieldTypes<'_>) -> bool
     ensures { result ≡ spec.convert_all (map base_is from.now) (types_are to.entry) }
 {
     if from.len() != to.len() {

@@ -1,16 +1,14 @@
 // What a place wants of an expression.
 ghost use Rattle.std.specs.Prelude.{◌≡◌, true};
 ghost use Rattle.gq_tree.specs.View.{view};
-ghost use Rattle.gq_typing.specs.ExpressionTypes as spec;
+ghost use Rattle.gq_rules_typing.specs.ExpressionTypes as spec;
 ghost use Rattle.gq_scope.specs.Held.{names_in};
-ghost use Rattle.gq_type.specs.Views.{base_is, Judges};
+ghost use Rattle.gq_scope.specs.Views.{base_is, Judges};
 
 use crate::expressions::type_of;
-use crate::fault::TypeFault;
 use crate::operators::matched;
 use crate::rules::{as_base, converts, is_bool, is_number};
-use crate::typed::Base;
-use gq_scope::Scope;
+use gq_scope::{Base, Scope, TypeFault};
 use gq_tree::Node;
 use std::alloc::Global;
 

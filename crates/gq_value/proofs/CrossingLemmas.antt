@@ -3,7 +3,7 @@
 use denote.Param.Send.{IsSend, IsSync, sendable}
 use Rattle.std.proofs.Crossing.{crosses}
 use Rattle.std.proofs.MapsCrossing as maps
-use Rattle.gq_list.proofs.list.List.TheSendSync as list_crosses
+use Rattle.gq_base.proofs.list.List.TheSendSync as list_crosses
 use Rattle.gq_value.specs.contracts.txt.Txt as txt
 use Rattle.gq_value.specs.contracts.value.Value as value
 use Rattle.gq_value.specs.contracts.kind.Input as input

@@ -2,6 +2,5 @@ pub mod PairLemmas
 pub mod RowLemmas
 pub mod ArithmeticLemmas
 pub mod AgreeLemmas
-pub mod CandidateExamples
 pub mod AccumLemmas
 pub mod CrossingLemmas

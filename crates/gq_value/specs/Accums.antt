@@ -1,5 +1,5 @@
--- Accumulators: their kinds with the types in them, and what they are fed.
--- Here they are plain data. The code's kinds and inputs own memory: AccumViews says what they stand for.
+-- Accums: types, kinds of accumulators and their inputs, as plain data. The code's kinds and inputs own memory: AccumViews
+-- says what they stand for.
 use Rattle.std.specs.Prelude.{ℕ, Bool, List}
 use Rattle.gq_value.specs.Val.{Val}
 use Rattle.gq_value.specs.declared.kind.Number.{Number}

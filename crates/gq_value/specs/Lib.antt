@@ -7,12 +7,6 @@ pub mod SameLaws
 pub mod OrderLaws
 pub mod Arithmetic
 pub mod Answers
-pub mod Candidates
 pub mod Accums
 pub mod AccumViews
 pub mod Typed
-pub mod Vertices
-pub mod Edges
-pub mod Defaults
-pub mod Catalog
-pub mod SortLaws

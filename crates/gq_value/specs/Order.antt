@@ -1,6 +1,7 @@
--- Order: in which order values stand. Numbers and averages come first, by their exact value; then false and true; then
--- texts by their bytes; then vertices by their number; then tuples, field by field.
--- The code looks at the two variants and compares what they hold; here all values are compared part by part.
+-- Order: the order of values: by GSQL's comparisons, and as keys, where only the same value is equal. Numbers and averages
+-- come first, by their exact value; then false and true; then texts by their bytes; then vertices by their number; then
+-- tuples, field by field. The code looks at the two variants and compares what they hold; here all values are compared part
+-- by part.
 use Rattle.std.specs.Prelude.{◌≡◌, ℕ, ℤ, pos, ◌*ℤ◌, max, Bool, true, false}
 use Rattle.std.specs.declared.cmp.Ordering.{Ordering}
 use Rattle.std.specs.Ordering.{nat_cmp, int_cmp, ordering_then, on, then_cmp}

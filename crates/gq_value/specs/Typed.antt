@@ -1,5 +1,5 @@
--- Which values are of a type, and which inputs a kind of accumulator takes.
--- Only the form of a value is judged here, and not whether a vertex is there. The code has these as conditions.
+-- Typed: which values are of a type, and which inputs a kind of accumulator takes. Only the form of a value is judged here,
+-- and not whether a vertex is there. The code has these as conditions.
 use Rattle.std.specs.Prelude.{ℕ, ◌^◌, Bool, true, false, ◌&&◌, nat_lt, List, [], ◌∷◌, map, ℤ, pos, negsuc, int_le}
 use Rattle.gq_value.specs.declared.kind.Number.{Number}
 use Rattle.gq_value.specs.declared.kind.Number.TheVariants as number

@@ -1,4 +1,4 @@
--- Views: what the code's values hold.
+-- Views: what a value of the code holds, as plain data.
 use Rattle.std.specs.Prelude.{List, map}
 use Rattle.gq_value.specs.declared.value.Value.{Value, Value-F, fold-Value}
 use Rattle.gq_value.specs.Val.{Val, Vals, vals_of, Int, UInt, Truth, Text, Vertex, Tuple, Fraction}

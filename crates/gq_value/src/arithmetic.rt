@@ -7,7 +7,10 @@ ghost use Rattle.gq_value.specs.Views.{val};
 ghost use Rattle.gq_value.specs.Answers.{Gives};
 ghost use Rattle.gq_value.specs.Arithmetic.{IsWhole, IsText, IsSummable, IsWide, whole, type_of, type_of_both, in_type, added, subtracted, multiplied, divided, remainder, negated, absolute, converted};
 
-use crate::{EvalFault, Memory, Number, Txt, Value, Wrong};
+use crate::kind::Number;
+use crate::txt::Txt;
+use crate::value::{EvalFault, Value, Wrong};
+use gq_base::OutOfMemory;
 use std::alloc::Global;
 
 /// `a + b`: of whole numbers a UINT where both are UINT, else an INT; of two texts, the one followed by the other. Takes memory
@@ -40,7 +43,7 @@ fn sum(a: &Value, b: &Value) -> Result<Value, EvalFault>
     in_type(type_of_both(a, b), whole(a) + whole(b))
 }
 
-fn joined(alloc: Global, left: &str, right: &str) -> Result<Txt, Memory>
+fn joined(alloc: Global, left: &str, right: &str) -> Result<Txt, OutOfMemory>
     ensures { IfOk result (λ text. text ≡ left.now ++ right.now) }
 {
     let mut text = String::with_capacity(alloc, left.len().saturating_add(right.len()))?;

@@ -1,6 +1,7 @@
 // Types of values, kinds of accumulators, and what they are fed.
-use crate::{Row, Txt, Value};
-use gq_list::{Boxed, List};
+use crate::txt::Txt;
+use crate::value::{Row, Value};
+use gq_base::{Boxed, List};
 
 /// The two types of whole numbers: signed and unsigned, 64 bits each.
 #[derive(Clone, Copy, Debug, PartialEq, Eq)]

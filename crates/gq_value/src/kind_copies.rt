@@ -1,14 +1,15 @@
 // Copies of types and kinds, with memory of their own.
 ghost use Rattle.std.specs.Prelude.{◌≡◌, IfOk};
 
-use crate::{BaseType, Fields, GroupShape, HeapShape, Kind, Memory, Txt};
-use gq_list::{Boxed, List};
+use crate::kind::{BaseType, Fields, GroupShape, HeapShape, Kind};
+use crate::txt::Txt;
+use gq_base::{Boxed, List, OutOfMemory};
 use std::alloc::Global;
 
 impl BaseType {
     /// An equal type with memory of its own. Takes memory for tuples alone.
     #[cycle(type_copies)]
-    pub fn duplicate(&self, alloc: Global) -> Result<BaseType, Memory>
+    pub fn duplicate(&self, alloc: Global) -> Result<BaseType, OutOfMemory>
         ensures { IfOk result (λ copy. copy ≡ self.now) }
     {
         match self {
@@ -28,7 +29,7 @@ impl BaseType {
 
 /// Equal types in the same order.
 #[cycle(type_copies)]
-fn duplicate_fields(alloc: Global, fields: &[BaseType]) -> Result<Fields, Memory>
+fn duplicate_fields(alloc: Global, fields: &[BaseType]) -> Result<Fields, OutOfMemory>
     ensures { IfOk result (λ copy. copy ≡ fields.now) }
 {
     let mut copy = List::new(alloc);
@@ -41,7 +42,7 @@ fn duplicate_fields(alloc: Global, fields: &[BaseType]) -> Result<Fields, Memory
 impl Kind {
     /// An equal kind with memory of its own. A scalar kind takes none.
     #[cycle(kind_copies)]
-    pub fn duplicate(&self, alloc: Global) -> Result<Kind, Memory>
+    pub fn duplicate(&self, alloc: Global) -> Result<Kind, OutOfMemory>
         ensures { IfOk result (λ copy. copy ≡ self.now) }
     {
         match self {
@@ -75,7 +76,10 @@ impl Kind {
 }
 
 /// Equal names with equal types, in the same order.
-fn duplicate_keys(alloc: Global, keys: &[(Txt, BaseType)]) -> Result<List<(Txt, BaseType)>, Memory>
+fn duplicate_keys(
+    alloc: Global,
+    keys: &[(Txt, BaseType)],
+) -> Result<List<(Txt, BaseType)>, OutOfMemory>
     ensures { IfOk result (λ copy. copy ≡ keys.now) }
 {
     let mut copy = List::new(alloc);
@@ -87,7 +91,7 @@ fn duplicate_keys(alloc: Global, keys: &[(Txt, BaseType)]) -> Result<List<(Txt, 
 
 /// Equal names with equal kinds, in the same order.
 #[cycle(kind_copies)]
-fn duplicate_parts(alloc: Global, parts: &[(Txt, Kind)]) -> Result<List<(Txt, Kind)>, Memory>
+fn duplicate_parts(alloc: Global, parts: &[(Txt, Kind)]) -> Result<List<(Txt, Kind)>, OutOfMemory>
     ensures { IfOk result (λ copy. copy ≡ parts.now) }
 {
     let mut copy = List::new(alloc);

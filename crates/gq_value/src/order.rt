@@ -5,7 +5,7 @@ ghost use Rattle.gq_value.specs.Val.{Int, UInt, Fraction as Ratio};
 ghost use Rattle.gq_value.specs.Views.{val, vals};
 ghost use Rattle.gq_value.specs.Order.{tie_cmp, plain, order, order_rows, compare};
 
-use crate::{Fraction, Value};
+use crate::value::{Fraction, Value};
 use std::cmp::Ordering;
 
 /// The order of two values: numbers and averages by exact value, before BOOL with false first, before STRING by bytes, before

@@ -8,8 +8,8 @@ ghost use Rattle.gq_value.specs.Views.{val};
 ghost use Rattle.gq_value.specs.Order.{place};
 ghost use Rattle.gq_value.specs.OrderLaws.{place_total};
 
-use crate::Value;
 use crate::order::order;
+use crate::value::Value;
 use std::cmp::Ordering;
 
 impl PartialEq for Value {

@@ -1,7 +1,7 @@
 // Texts.
 ghost use Rattle.std.specs.Prelude.{◌≡◌, List, ℕ, IfOk, string_bytes};
 
-use crate::Memory;
+use gq_base::OutOfMemory;
 use std::alloc::Global;
 use std::marker::Model;
 
@@ -19,7 +19,7 @@ impl Model for Txt {
 
 impl Txt {
     /// A copy of `text`.
-    pub fn of(alloc: Global, text: &str) -> Result<Txt, Memory>
+    pub fn of(alloc: Global, text: &str) -> Result<Txt, OutOfMemory>
         ensures { IfOk result (λ copy. copy ≡ text.now) }
     {
         let text = String::from_str(alloc, text)?;

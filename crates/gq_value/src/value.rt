@@ -1,8 +1,8 @@
 // Values.
 ghost use Rattle.std.specs.Prelude.{◌≡◌, IfOk};
 
-use crate::{Memory, Txt};
-use gq_list::List;
+use crate::txt::Txt;
+use gq_base::{List, OutOfMemory};
 use std::alloc::Global;
 use thiserror::Error;
 
@@ -48,23 +48,23 @@ pub enum EvalFault {
     #[error("{0}")]
     Wrong(Wrong),
     #[error("out of memory")]
-    Memory,
+    OutOfMemory,
 }
 
-impl From<Memory> for EvalFault {
-    ghost use Rattle.gq_value.specs.declared.value.EvalFault.TheVariants.{Memory};
+impl From<OutOfMemory> for EvalFault {
+    ghost use Rattle.gq_value.specs.declared.value.EvalFault.TheVariants.{OutOfMemory};
 
-    ghost from_gives = { λ _ e. e ≡ Memory };
+    ghost from_gives = { λ _ e. e ≡ OutOfMemory };
 
-    fn from(_: Memory) -> Self {
-        EvalFault::Memory
+    fn from(_: OutOfMemory) -> Self {
+        EvalFault::OutOfMemory
     }
 }
 
 impl Value {
     /// An equal value with memory of its own. Takes memory for texts and tuples alone.
     #[cycle(copies)]
-    pub fn duplicate(&self, alloc: Global) -> Result<Value, Memory>
+    pub fn duplicate(&self, alloc: Global) -> Result<Value, OutOfMemory>
         ensures { IfOk result (λ copy. copy ≡ self.now) }
     {
         match self {
@@ -81,7 +81,7 @@ impl Value {
 
 /// Equal values in the same order, with memory of their own.
 #[cycle(copies)]
-pub fn duplicate_row(alloc: Global, row: &[Value]) -> Result<Row, Memory>
+pub fn duplicate_row(alloc: Global, row: &[Value]) -> Result<Row, OutOfMemory>
     ensures { IfOk result (λ copy. copy ≡ row.now) }
 {
     let mut copy = List::from_vec(Vec::with_capacity(alloc, row.len())?);

@@ -1,4 +1,4 @@
-use gq_hash::{Hashes, mixed, text_hash, wide_hash};
+use gq_base::{Hashes, mixed, text_hash, wide_hash};
 use std::test::Fail;
 
 #[test]

@@ -1,4 +1,9 @@
-//! Tests: values, times, hashes, lines of JSON and copies of trees. They stand in a crate of their own, so that no library is proved a second time with its tests.
+//! Tests of values, times, hashes, lines of JSON and copies of trees.
+//!
+//! They are a separate crate, so that the libraries aren't proved a second time with their tests. Each module
+//! tests one library.
+//!
+//! The modules are `src/values.rt`, `src/times.rt`, `src/hashes.rt`, `src/lines.rt` and `src/trees.rt`.
 #![tactic(auto)]
 
 #[cfg(test)]

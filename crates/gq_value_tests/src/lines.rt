@@ -1,23 +1,24 @@
 // What no clause says: that lines are written where there is memory, and that the definitions of the texts mean what a reader
 // of the documents would expect. Expected lines are written out here.
+use gq_base::OutOfMemory;
 use gq_json::{Members, Out, Outs, Printed, error_line, json_line};
-use gq_value::{Fraction, Memory, Txt};
+use gq_value::{Fraction, Txt};
 use std::alloc::Global;
 use std::test::Fail;
 
-fn text(alloc: Global, text: &str) -> Result<Out, Memory> {
+fn text(alloc: Global, text: &str) -> Result<Out, OutOfMemory> {
     Ok(Out::Text(Txt::of(alloc, text)?))
 }
 
 // An object with one member.
-fn single(alloc: Global, name: &str, value: Out) -> Result<Members, Memory> {
+fn single(alloc: Global, name: &str, value: Out) -> Result<Members, OutOfMemory> {
     let mut members = Members::new(alloc);
     members.push((Txt::of(alloc, name)?, value))?;
     Ok(members)
 }
 
 // The line of a query that printed one value under the name x.
-fn line_of(alloc: Global, value: Out) -> Result<Vec<u8>, Memory> {
+fn line_of(alloc: Global, value: Out) -> Result<Vec<u8>, OutOfMemory> {
     let members = single(alloc, "x", value)?;
     json_line(alloc, &[Printed { members }])
 }

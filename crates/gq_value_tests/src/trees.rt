@@ -1,5 +1,5 @@
 // What no clause says, and the program doesn't reach: that a tree is copied where there is memory.
-use gq_list::{Boxed, List};
+use gq_base::{Boxed, List};
 use gq_tree::{CmpSign, Node, Part};
 use gq_value::Txt;
 use std::alloc::Global;

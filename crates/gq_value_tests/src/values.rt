@@ -1,10 +1,11 @@
 // Worked values of the order, of arithmetic and of copies.
 #![tactic(auto, using(gq_value::specs::ViewLaws::view_laws))]
 
-use gq_list::List;
+use gq_base::List;
+use gq_graph::Steps;
 use gq_value::{
-    EvalFault, Fraction, Number, Row, Steps, Txt, Value, Wrong, absolute, add, compare, convert,
-    div, duplicate_row, mul, negate, rem, same, sub,
+    EvalFault, Fraction, Number, Row, Txt, Value, Wrong, absolute, add, compare, convert, div,
+    duplicate_row, mul, negate, rem, same, sub,
 };
 use std::cmp::Ordering;
 use std::test::Fail;
@@ -82,7 +83,7 @@ fn number(answer: Result<Value, EvalFault>) -> Result<i128, EvalFault> {
     match answer {
         Ok(Value::Int(x)) => Ok(i128::from(x)),
         Ok(Value::UInt(x)) => Ok(i128::from(x)),
-        Ok(_) => Err(EvalFault::Memory),
+        Ok(_) => Err(EvalFault::OutOfMemory),
         Err(fault) => Err(fault),
     }
 }

@@ -10,10 +10,10 @@ use Rattle.std.proofs.lemmas.Bool.Decides.{eqb_tells}
 use Rattle.std.proofs.Math.Seq.{map-set_same}
 use Rattle.std.specs.Option.{unwrap_or}
 use Rattle.gq_value.specs.declared.value.Value.{Value}
-use Rattle.gq_value.specs.declared.store.VertexRow.{VertexRow}
-use Rattle.gq_value.specs.Vertices.{is_vertex, vertex_number, vertex_put, upsert_vertex, no_vertex, vertex_at, VerticesApart, most_vertices}
-use Rattle.gq_hash.specs.Last.{IsLast}
-use Rattle.gq_hash.proofs.Seeks.{Seeks, Hits, seek_starts, seek_goes, seek_none, seek_found, nowhere}
+use Rattle.gq_graph.specs.declared.rows.VertexRow.{VertexRow}
+use Rattle.gq_graph.specs.Vertices.{is_vertex, vertex_number, vertex_put, upsert_vertex, no_vertex, vertex_at, VerticesApart, most_vertices}
+use Rattle.gq_base.specs.Last.{IsLast}
+use Rattle.gq_base.proofs.Seeks.{Seeks, Hits, seek_starts, seek_goes, seek_none, seek_found, nowhere}
 use Rattle.gq_vertex.specs.Named.{vertex_hash, row_hash, AreNamed}
 
 and_true : (a b : Bool) → a && b ≡ true → (a ≡ true) × (b ≡ true)

@@ -1,8 +1,8 @@
 -- Named: what the table of vertices keeps beside its rows, namely the hash of each row's name.
 use Rattle.std.specs.Prelude.{ℕ, ◌≡◌, ◌≤◌, List, length, map}
-use Rattle.gq_hash.specs.Hash.{mixed, hash_from}
-use Rattle.gq_value.specs.declared.store.VertexRow.{VertexRow}
-use Rattle.gq_value.specs.Vertices.{VerticesApart, most_vertices}
+use Rattle.gq_base.specs.Hash.{mixed, hash_from}
+use Rattle.gq_graph.specs.declared.rows.VertexRow.{VertexRow}
+use Rattle.gq_graph.specs.Vertices.{VerticesApart, most_vertices}
 
 -- the hash of a vertex's name
 abbrev pub vertex_hash : ℕ → List ℕ → ℕ

@@ -1,10 +1,10 @@
 // Vertices by name.
 ghost use Rattle.std.specs.Prelude.{◌≡◌};
-ghost use Rattle.gq_value.specs.Vertices.{is_vertex, vertex_number};
+ghost use Rattle.gq_graph.specs.Vertices.{is_vertex, vertex_number};
 ghost use Rattle.gq_vertex.specs.Named as spec;
 
-use gq_hash::{Hashes, mixed, text_hash};
-use gq_value::VertexRow;
+use gq_base::{Hashes, mixed, text_hash};
+use gq_graph::VertexRow;
 
 /// The hash of a vertex's name.
 pub(crate) fn vertex_hash(kind: u32, id: &str) -> u32

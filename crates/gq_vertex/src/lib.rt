@@ -1,9 +1,10 @@
-//! The vertices of a store, numbered in order of first naming over all types.
+//! The vertices of a store, numbered in the order in which they are first named.
 //!
-//! `Vertices` keeps its rows in a list, each id once, and finds a row by the hash of its type and id. A vertex's number is
-//! its row's place, so it never changes while the row is there.
+//! `Vertices` keeps its rows in a list, each id once, and finds a row by the hash of its type and id. The
+//! number of a vertex is the position of its row, so it never changes.
 //!
-//! Read `Vertices.antt` of `gq_value` first: what an upsert does to a list of rows.
+//! Read `Vertices.antt` of `gq_graph` first: what an upsert does to a list of rows. Then read
+//! `specs/Named.antt`. The table is in `src/vertices.rt`, the lookup in `src/find.rt`.
 #![tactic(auto)]
 
 mod find;

@@ -1,12 +1,13 @@
 // The table of vertices.
 ghost use Rattle.std.specs.Prelude.{◌≡◌, ◌<◌, ◌≤◌, ◌↔◌, ◌++◌, [], ◌∷◌, length, slice_set, take, vec_len, vec_capacity, slice_get, Some, None, Err, IfOk, MatchResult};
 ghost use Rattle.std.specs.Option.{unwrap_or};
-ghost use Rattle.gq_value.specs.Vertices.{vertex_number, upsert_vertex, vertex_at, most_vertices};
+ghost use Rattle.gq_graph.specs.Vertices.{vertex_number, upsert_vertex, vertex_at, most_vertices};
 ghost use Rattle.gq_vertex.specs.Named.{AreNamed};
 
 use crate::find::{find, vertex_hash};
-use gq_hash::Hashes;
-use gq_value::{Memory, Row, StoreFault, Txt, Value, VertexRow, duplicate_row};
+use gq_base::{Hashes, OutOfMemory};
+use gq_graph::{StoreFault, VertexRow};
+use gq_value::{Row, Txt, Value, duplicate_row};
 use std::alloc::Global;
 use std::marker::Model;
 
@@ -23,7 +24,7 @@ pub struct Vertices {
 impl Model for Vertices {
     ghost use Rattle.std.specs.Prelude.{List};
     ghost use Rattle.std.specs.Coded.{codes};
-    ghost use Rattle.gq_value.specs.declared.store.VertexRow.{VertexRow};
+    ghost use Rattle.gq_graph.specs.declared.rows.VertexRow.{VertexRow};
     ghost use Rattle.gq_value.specs.contracts.value.Value as value;
     ghost use Rattle.gq_vertex.specs.Named.{AreNamed};
 
@@ -116,7 +117,7 @@ impl Vertices {
                 }
                 match add(&mut self.rows, &mut self.hashes, kind, id, attributes) {
                     Ok(number) => Ok(number),
-                    Err(Memory) => Err(StoreFault::Memory),
+                    Err(OutOfMemory) => Err(StoreFault::OutOfMemory),
                 }
             }
         }
@@ -132,7 +133,7 @@ impl Vertices {
     }
 
     /// An equal table with memory of its own.
-    pub fn duplicate(&self) -> Result<Vertices, Memory>
+    pub fn duplicate(&self) -> Result<Vertices, OutOfMemory>
         ensures { IfOk result (λ copy. copy ≡ self.now) }
     {
         Ok(Vertices {
@@ -142,7 +143,7 @@ impl Vertices {
     }
 }
 
-fn copied(alloc: Global, rows: &[VertexRow]) -> Result<Vec<VertexRow>, Memory>
+fn copied(alloc: Global, rows: &[VertexRow]) -> Result<Vec<VertexRow>, OutOfMemory>
     ensures { IfOk result (λ copy. copy.items ≡ rows.now) }
 {
     let mut copy = Vec::with_capacity(alloc, rows.len())?;
@@ -163,7 +164,7 @@ fn add(
     kind: u32,
     id: &str,
     attributes: Row,
-) -> Result<u32, Memory>
+) -> Result<u32, OutOfMemory>
     requires named { AreNamed rows.old.items hashes.old }
     requires new { vertex_number rows.old.items kind id.now ≡ None }
     requires room { vec_len rows.old < most_vertices }

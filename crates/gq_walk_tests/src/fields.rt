@@ -1,5 +1,7 @@
-use gq_field::{read_id, read_key, read_value};
-use gq_value::{Attribute, BaseType, IdKind, Memory, Txt, Value};
+use gq_base::OutOfMemory;
+use gq_graph::{Attribute, IdKind};
+use gq_load_csv::{read_id, read_key, read_value};
+use gq_value::{BaseType, Txt, Value};
 use std::alloc::Global;
 use std::test::Fail;
 
@@ -26,7 +28,7 @@ fn shown(value: Option<Value>) -> i128 {
 
 /// What a field reads as, of an attribute of that kind whose default is 5: a number, 1 or 0, 1000 and the length of a text,
 /// and -77 where it can't be read.
-fn read(alloc: Global, kind: u8, key: bool, field: &[u8]) -> Result<i128, Memory> {
+fn read(alloc: Global, kind: u8, key: bool, field: &[u8]) -> Result<i128, OutOfMemory> {
     let attribute = Attribute {
         name: Txt::of(alloc, "a")?,
         kind: kind_of(kind),

@@ -1,4 +1,8 @@
-//! Tests: the index and its candidates, rows put into a store, and fields and records of files. They stand in a crate of their own, so that no library is proved a second time with its tests.
+//! Tests of the index and its candidates, of rows put into a store, and of fields and records of CSV files.
+//!
+//! They are a separate crate, so that the libraries aren't proved a second time with their tests.
+//!
+//! The tests are in `src/walks.rt`, `src/rows.rt`, `src/puts.rt` and `src/fields.rt`.
 #![tactic(auto)]
 
 #[cfg(test)]

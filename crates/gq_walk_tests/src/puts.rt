@@ -1,16 +1,16 @@
 ghost use Rattle.std.specs.Prelude.{◌≡◌, ℕ, false, length, IfOk};
-ghost use Rattle.gq_value.specs.Edges.{Agrees, naming_with};
+ghost use Rattle.gq_graph.specs.Edges.{Agrees, naming_with};
 
+use gq_base::{List, OutOfMemory};
 use gq_edge::Edges;
-use gq_index::Store;
-use gq_list::List;
-use gq_put::{End, put_edge, put_vertex};
-use gq_value::{Memory, Naming, Row, StoreFault, Value};
+use gq_graph::{Naming, StoreFault};
+use gq_index::{EndpointRef, Store, put_edge, put_vertex};
+use gq_value::{Row, Value};
 use gq_vertex::Vertices;
 use std::alloc::Global;
 use std::test::Fail;
 
-fn one(alloc: Global, n: i64) -> Result<Row, Memory>
+fn one(alloc: Global, n: i64) -> Result<Row, OutOfMemory>
     ensures { IfOk result (λ row. length row ≡ 1) }
 {
     let values = Vec::from_array(alloc, [Value::Int(n)])?;
@@ -45,19 +45,19 @@ fn near(alloc: Global, store: &mut Store, from: &str, to: &str, w: i64) -> Resul
         directed: false,
         key: 0,
     };
-    let from = End {
+    let from = EndpointRef {
         kind: 0,
         id: from,
         missing: missing.as_slice(),
     };
-    let to = End {
+    let to = EndpointRef {
         kind: 0,
         id: to,
         missing: missing.as_slice(),
     };
     let attributes = match one(alloc, w) {
         Ok(attributes) => attributes,
-        Err(Memory) => return Err(StoreFault::Memory),
+        Err(OutOfMemory) => return Err(StoreFault::OutOfMemory),
     };
     match put_edge(alloc, store, naming, from, to, attributes) {
         Ok(()) => Ok(()),

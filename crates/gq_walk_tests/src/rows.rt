@@ -1,11 +1,16 @@
 use csv::ByteRecord;
-use gq_records::Records;
-use gq_value::Memory;
+use gq_base::OutOfMemory;
+use gq_load_csv::Records;
 use std::alloc::Global;
 use std::test::Fail;
 
 /// The records of a text, each as its fields with `|` behind each, and `;` behind each record.
-fn shown(alloc: Global, separator: u8, quote: Option<u8>, text: &[u8]) -> Result<Vec<u8>, Memory> {
+fn shown(
+    alloc: Global,
+    separator: u8,
+    quote: Option<u8>,
+    text: &[u8],
+) -> Result<Vec<u8>, OutOfMemory> {
     let mut records = Records::open(alloc, separator, quote, text);
     let mut record = ByteRecord::new(alloc);
     let mut shown = Vec::new(alloc);

@@ -1,13 +1,14 @@
 // Helpers own what is built, and give numbers: proofs of tests grow with what a return drops.
 ghost use Rattle.std.specs.Prelude.{◌≡◌, All, true};
-ghost use Rattle.gq_value.specs.Defaults.{is_plain};
-ghost use Rattle.gq_value.specs.Edges.{Agrees, naming_with};
+ghost use Rattle.gq_graph.specs.Defaults.{is_plain};
+ghost use Rattle.gq_graph.specs.Edges.{Agrees, naming_with};
 
+use gq_base::List;
 use gq_edge::Edges;
+use gq_graph::{Attributes, Candidate, IdKind, IdShape, Pattern, Steps, StoreFault};
 use gq_index::{Candidates, Graph, Index, Store, VertexList, chunk};
-use gq_list::List;
 use gq_schema::Catalog;
-use gq_value::{Attributes, Candidate, IdKind, IdShape, Pattern, Row, Steps, StoreFault, Txt};
+use gq_value::{Row, Txt};
 use gq_vertex::Vertices;
 use std::alloc::Global;
 use std::test::Fail;

@@ -1,5 +1,5 @@
--- Fold: what inputs make of a word.
--- Here all that was ever fed is one list. The code keeps the words alone.
+-- Fold: what inputs make of a word: the greatest, the least, all bits or the common bits. Here all that was ever fed is one
+-- list. The code keeps the words alone.
 use Rattle.std.specs.Prelude.{◌≡◌, ℕ, ◌≤◌, ◌==◌, min, max, bit_and, bit_or, List, map, filter, fold, All, Contains}
 use Rattle.std.specs.Int.{bit_at}
 use Rattle.gq_words.specs.declared.fold.Op.{Op}

@@ -8,7 +8,7 @@ use Rattle.gq_words.specs.declared.view.View.{View}
 use Rattle.gq_words.specs.declared.seat.WordSeat.{WordSeat}
 use Rattle.gq_words.specs.declared.words.Words.{Words}
 use Rattle.gq_words.specs.declared.fault.WordFault.{WordFault}
-use Rattle.gq_words.specs.declared.fault.WordFault.TheVariants.{Apart, Memory}
+use Rattle.gq_words.specs.declared.fault.WordFault.TheVariants.{Apart, OutOfMemory}
 use Rattle.gq_words.specs.Fold.{Feed, folded}
 use Rattle.gq_words.specs.Rule.{IsKept, openings, all_feeds, made}
 
@@ -66,4 +66,4 @@ pub record IsApart (words : Words) (seat : WordSeat) (stands n : ℕ) : Type 0 w
 -- why the words can't be closed: a seat is apart, or there was no memory
 abbrev pub IsFault : Words → WordSeat → WordFault → Type 0
 IsFault words seat (Apart stands n) = IsApart words seat stands n
-IsFault words seat Memory = ⊤
+IsFault words seat OutOfMemory = ⊤

@@ -1,8 +1,8 @@
 // Why words can't be closed.
 ghost use Rattle.std.specs.Prelude.{◌≡◌};
-ghost use Rattle.gq_words.specs.declared.fault.WordFault.TheVariants.{Memory};
+ghost use Rattle.gq_words.specs.declared.fault.WordFault.TheVariants.{OutOfMemory};
 
-use gq_value::Memory;
+use gq_base::OutOfMemory;
 use thiserror::Error;
 
 /// Why words can't be closed. They are given up all the same, with the seat.
@@ -13,13 +13,13 @@ pub enum WordFault {
     Apart { joined: u32, made: u32 },
 
     #[error("out of memory")]
-    Memory,
+    OutOfMemory,
 }
 
-impl From<Memory> for WordFault {
-    ghost from_gives = { λ _ e. e ≡ Memory };
+impl From<OutOfMemory> for WordFault {
+    ghost from_gives = { λ _ e. e ≡ OutOfMemory };
 
-    fn from(_: Memory) -> Self {
-        WordFault::Memory
+    fn from(_: OutOfMemory) -> Self {
+        WordFault::OutOfMemory
     }
 }

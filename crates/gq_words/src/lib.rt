@@ -1,13 +1,12 @@
-//! Words of 64 bits that many threads feed by single atomic steps.
+//! Atomic words of 64 bits that many threads update without locks: max, min, or, and.
 //!
-//! Each word has an operation (max, min, or, and) and an opening. A thread feeds inputs through a seat of its own, and
-//! waits for nobody. A seat's view, which exists in proofs alone, lists what was fed through it. At any moment each
-//! word is the fold of its opening and of all inputs in all views, whatever the order in which they came. Seats are
-//! split off and joined again, and a word more counts those that were made, so that whoever closes the words knows
-//! whether a seat is still apart.
+//! A thread feeds inputs through a seat of its own and never waits. The view of a seat is ghost state that
+//! lists its inputs. At any moment each word is the fold of its opening value and all inputs in all views, in
+//! any order. Seats are split and joined; a counter of seats lets the thread that closes the words check that
+//! all are back.
 //!
-//! Read `specs/Fold.antt` (what inputs make of a word) and `specs/Rule.antt` (what holds between any two steps), then
-//! `specs/Seats.antt` (what contracts see). The steps are in `words.rt`.
+//! Read `specs/Fold.antt` (the value of a word after inputs) and `specs/Rule.antt` (the invariant between any
+//! two steps), then `specs/Seats.antt` (what contracts see). The steps are in `src/words.rt`.
 #![tactic(auto)]
 
 mod fault;

@@ -2,13 +2,17 @@
 ghost use Rattle.std.specs.Prelude.{◌≡◌, ◌<◌, [], ◌∷◌, ◌++◌, map, take, IfOk};
 ghost use Rattle.std.specs.Slots.{slots_items, slots_len, IsFull};
 
-use crate::Op;
+use crate::fold::Op;
 use crate::view::Opening;
 use atomic_table::Closed;
-use gq_value::Memory;
+use gq_base::OutOfMemory;
 use std::alloc::Global;
 
-pub(crate) fn opening(alloc: Global, openings: &[(Op, u64)], seats: u32) -> Result<Opening, Memory>
+pub(crate) fn opening(
+    alloc: Global,
+    openings: &[(Op, u64)],
+    seats: u32,
+) -> Result<Opening, OutOfMemory>
     ensures { IfOk result (λ o. (o.words.items ≡ openings.now) × (o.seats ≡ seats)) }
 {
     let words = Vec::from_slice(alloc, openings)?;
@@ -16,7 +20,7 @@ pub(crate) fn opening(alloc: Global, openings: &[(Op, u64)], seats: u32) -> Resu
 }
 
 // The openings, and behind them the one seat that is made.
-pub(crate) fn first_words(alloc: Global, openings: &[(Op, u64)]) -> Result<Vec<u64>, Memory>
+pub(crate) fn first_words(alloc: Global, openings: &[(Op, u64)]) -> Result<Vec<u64>, OutOfMemory>
     ensures { IfOk result (λ v. v.items ≡ map (λ o. o.1) openings.now ++ 1 ∷ []) }
 {
     let mut words = Vec::with_capacity(alloc, openings.len() + 1)?;
@@ -32,7 +36,7 @@ pub(crate) fn first_of(
     alloc: Global,
     closed: &Closed<(), Global>,
     count: usize,
-) -> Result<Vec<u64>, Memory>
+) -> Result<Vec<u64>, OutOfMemory>
     requires { IsFull closed.now.words × (count < slots_len closed.now.words) }
     ensures { IfOk result (λ v. v.items ≡ take count (slots_items closed.now.words)) }
 {

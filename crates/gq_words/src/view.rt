@@ -1,5 +1,5 @@
 // What is known of words and of a seat. Only contracts speak of both.
-use crate::Op;
+use crate::fold::Op;
 use std::collections::LinkedList;
 
 /// What words are opened with.

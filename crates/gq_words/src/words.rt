@@ -2,13 +2,14 @@
 ghost use Rattle.std.specs.Prelude.{◌≡◌, ◌+◌, ◌-◌, ◌≤◌, [], length, IfOk, IfErr};
 ghost use Rattle.gq_words.specs.Rule.{openings};
 
+use crate::fault::WordFault;
+use crate::fold::Op;
 use crate::parts::{first_of, first_words, opening};
 use crate::rule::{Count, Cut, Feed, Folds, Look, Merge};
 use crate::seat::WordSeat;
 use crate::view::{Opening, View};
-use crate::{Op, WordFault};
 use atomic_table::Table;
-use gq_value::Memory;
+use gq_base::OutOfMemory;
 use std::alloc::Global;
 
 /// Words that threads feed by single atomic steps. They are shared by reference; each thread has a seat.
@@ -35,7 +36,7 @@ impl Words {
         alloc: Global,
         openings: &[(Op, u64)],
         seats: u32,
-    ) -> Result<(Words, WordSeat), Memory>
+    ) -> Result<(Words, WordSeat), OutOfMemory>
         requires { (1 ≤ seats) × (seats ≤ 1024) }
         ensures words { IfOk result (λ r. (openings_of r.0 ≡ openings.now) × (seats_of r.0 ≡ seats)) }
         ensures seat { IfOk result (λ r. IsSeatOf r.0 r.1 × (view_of r.1 ≡ view 1 (seats - 1) [])) }

@@ -4,8 +4,9 @@ ghost use Rattle.gq_core.specs.Machine.{worker_at, draw, ticket, look, lift, lay
 ghost use Rattle.gq_core.specs.Accounts.{IsInOrder};
 
 use super::Core;
-use crate::{Job, Phase, Turn, Worker};
-use gq_list::Memory;
+use crate::job::FeedJob;
+use crate::worker::{Phase, Turn, Worker};
+use gq_base::OutOfMemory;
 use std::alloc::Global;
 use std::mem;
 
@@ -20,7 +21,7 @@ impl Core {
         }
     }
 
-    pub fn draw(&mut self, job: &Job, w: u32) -> Result<bool, Memory>
+    pub fn draw(&mut self, job: &FeedJob, w: u32) -> Result<bool, OutOfMemory>
         ensures ok { IfOk result (λ done. Tells (draw job.now self.old w (worker_at self.old w).phase) done self.old self.new) }
         ensures err { OnErr result (self.new ≡ self.old) }
     {
@@ -29,7 +30,7 @@ impl Core {
                 // No memory holds a job of so many chunks.
                 let next = match self.next.checked_add(1) {
                     Some(next) => next,
-                    None => return Err(Memory),
+                    None => return Err(OutOfMemory),
                 };
                 let worker = &mut self.workers[w as usize];
                 if self.next < job.chunks.len() as u64 {
@@ -44,7 +45,7 @@ impl Core {
         }
     }
 
-    pub fn ticket(&mut self, job: &Job, w: u32) -> bool
+    pub fn ticket(&mut self, job: &FeedJob, w: u32) -> bool
         requires { IsInOrder job.now self.old }
         ensures { Tells (ticket self.old w (worker_at self.old w).phase) result self.old self.new }
     {
@@ -65,7 +66,7 @@ impl Core {
         }
     }
 
-    pub fn look(&mut self, job: &Job, w: u32) -> bool
+    pub fn look(&mut self, job: &FeedJob, w: u32) -> bool
         requires { IsInOrder job.now self.old }
         ensures { Tells (look self.old w (worker_at self.old w).phase) result self.old self.new }
     {
@@ -80,7 +81,7 @@ impl Core {
         }
     }
 
-    pub fn lift(&mut self, job: &Job, w: u32) -> bool
+    pub fn lift(&mut self, job: &FeedJob, w: u32) -> bool
         requires { IsInOrder job.now self.old }
         ensures { Tells (lift self.old w (worker_at self.old w).phase) result self.old self.new }
     {
@@ -97,7 +98,7 @@ impl Core {
         }
     }
 
-    pub fn lay(&mut self, alloc: Global, job: &Job, w: u32) -> Result<bool, Memory>
+    pub fn lay(&mut self, alloc: Global, job: &FeedJob, w: u32) -> Result<bool, OutOfMemory>
         requires { IsInOrder job.now self.old }
         ensures ok { IfOk result (λ done. Tells (lay job.now self.old w (worker_at self.old w).phase) done self.old self.new) }
         ensures err { OnErr result (self.new ≡ self.old) }
@@ -112,7 +113,7 @@ impl Core {
         }
     }
 
-    pub fn leave(&mut self, job: &Job, w: u32) -> Result<bool, Memory>
+    pub fn leave(&mut self, job: &FeedJob, w: u32) -> Result<bool, OutOfMemory>
         requires { IsInOrder job.now self.old }
         ensures ok { IfOk result (λ done. Tells (leave job.now self.old w (worker_at self.old w).phase) done self.old self.new) }
         ensures err { OnErr result (self.new ≡ self.old) }
@@ -135,7 +136,7 @@ impl Core {
         }
     }
 
-    pub fn split(&mut self, alloc: Global, w: u32) -> Result<bool, Memory>
+    pub fn split(&mut self, alloc: Global, w: u32) -> Result<bool, OutOfMemory>
         ensures ok { IfOk result (λ done. Tells (split self.old (worker_at self.old w).phase) done self.old self.new) }
         ensures err { OnErr result (self.new ≡ self.old) }
     {
@@ -146,7 +147,7 @@ impl Core {
         Ok(true)
     }
 
-    pub fn join(&mut self, alloc: Global, w: u32, x: u32) -> Result<bool, Memory>
+    pub fn join(&mut self, alloc: Global, w: u32, x: u32) -> Result<bool, OutOfMemory>
         ensures ok { IfOk result (λ done. Tells (join self.old w x) done self.old self.new) }
         ensures err { OnErr result (self.new ≡ self.old) }
     {

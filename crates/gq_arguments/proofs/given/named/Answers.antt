@@ -2,8 +2,8 @@ use Rattle.std.proofs.Common.{ap, sym, ◌∙◌}
 use Rattle.std.specs.Prelude.{option_and_then}
 use Rattle.serde_json.specs.View.{view}
 use Rattle.serde_json.specs.Find.{as_number, as_integer}
-use Rattle.gq_typing.specs.StatementViews.{view_base}
-use Rattle.gq_meaning.specs.Arguments.{of_member}
+use Rattle.gq_rules_typing.specs.StatementViews.{view_base}
+use Rattle.gq_rules_meaning.specs.Arguments.{of_member}
 use Rattle.gq_arguments.proofs.MemberLemmas.{vertex_is, none_of}
 use Rattle.gq_arguments.proofs.given.named.Goals as goal
 

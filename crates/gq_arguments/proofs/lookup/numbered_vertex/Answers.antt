@@ -3,7 +3,7 @@ use Rattle.std.specs.Int.{w128}
 use Rattle.std.proofs.lemmas.Int.{to_z-of_z}
 use Rattle.std.specs.Fmt.{signed_decimal}
 use Rattle.gq_scope.specs.Held.{sorts_in}
-use Rattle.gq_meaning.specs.Arguments.{vertex_in}
+use Rattle.gq_rules_meaning.specs.Arguments.{vertex_in}
 use Rattle.gq_arguments.proofs.LookupLemmas.{id_of_number}
 use Rattle.gq_arguments.proofs.lookup.numbered_vertex.Goals as goal
 

@@ -1,9 +1,9 @@
 use Rattle.std.proofs.Common.{Bool, cond, map, Err, sym, subst, ◌∙◌}
-use Rattle.gq_refusal.specs.declared.refusal.Refusal.TheVariants as refusal
+use Rattle.gq_diagnostics.specs.declared.refusal.Refusal.TheVariants as refusal
 use Rattle.gq_scope.specs.Held.{Held, graph_in, sorts_in}
-use Rattle.gq_typing.specs.Sorts.{sorts_of}
-use Rattle.gq_typing.specs.StatementViews.{view_parameter}
-use Rattle.gq_meaning.specs.Arguments.{values_of}
+use Rattle.gq_rules_typing.specs.Sorts.{sorts_of}
+use Rattle.gq_rules_typing.specs.StatementViews.{view_parameter}
+use Rattle.gq_rules_meaning.specs.Arguments.{values_of}
 use Rattle.gq_arguments.specs.Rows.{Gives, all_given, of_values}
 use Rattle.gq_arguments.proofs.row.argument_row.Goals as goal
 

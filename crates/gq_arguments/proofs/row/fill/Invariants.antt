@@ -1,8 +1,8 @@
 use Rattle.std.proofs.Common.{◌≡◌, map}
 use Rattle.gq_value.specs.Views.{val}
 use Rattle.gq_scope.specs.Held.{sorts_in}
-use Rattle.gq_typing.specs.StatementViews.{view_parameter}
-use Rattle.gq_meaning.specs.Arguments.{values_of}
+use Rattle.gq_rules_typing.specs.StatementViews.{view_parameter}
+use Rattle.gq_rules_meaning.specs.Arguments.{values_of}
 use Rattle.gq_arguments.specs.Rows.{all_given}
 use Rattle.gq_arguments.proofs.RowLemmas.{behind, from}
 use Rattle.gq_arguments.proofs.row.fill.Given as goal

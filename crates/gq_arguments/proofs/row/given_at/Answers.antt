@@ -1,7 +1,7 @@
 use Rattle.std.proofs.Common.{map, Some, ap, sym, ◌∙◌}
 use Rattle.std.specs.Prelude.{option_map, slice_get}
 use Rattle.serde_json.specs.View.{view}
-use Rattle.gq_typing.specs.StatementViews.{view_parameter}
+use Rattle.gq_rules_typing.specs.StatementViews.{view_parameter}
 use Rattle.gq_arguments.specs.Given.{view_argument}
 use Rattle.gq_arguments.specs.Members.{members_in}
 use Rattle.gq_arguments.specs.Rows.{all_given}

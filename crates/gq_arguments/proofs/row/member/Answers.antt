@@ -1,7 +1,7 @@
 use Rattle.std.proofs.Common.{bytes_eq, ap, sym, ◌∙◌}
 use Rattle.std.specs.Prelude.{option_map}
 use Rattle.serde_json.specs.View.{view}
-use Rattle.gq_typing.specs.Words.{under}
+use Rattle.gq_rules_typing.specs.Words.{under}
 use Rattle.gq_arguments.specs.Members.{member_of, members_in}
 use Rattle.gq_arguments.proofs.MemberLemmas.{found, by_data}
 use Rattle.gq_arguments.proofs.row.member.Goals as goal

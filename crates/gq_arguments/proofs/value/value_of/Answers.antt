@@ -3,8 +3,8 @@ use Rattle.std.specs.Option.{option_map}
 use Rattle.gq_value.specs.Views.{val}
 use Rattle.gq_tree.specs.declared.query.BaseTree.{BaseTree}
 use Rattle.gq_scope.specs.Held.{sorts_in}
-use Rattle.gq_typing.specs.StatementViews.{view_base}
-use Rattle.gq_meaning.specs.Arguments.{argument_value}
+use Rattle.gq_rules_typing.specs.StatementViews.{view_base}
+use Rattle.gq_rules_meaning.specs.Arguments.{argument_value}
 use Rattle.gq_arguments.specs.Given.{view_given}
 use Rattle.gq_arguments.proofs.value.value_of.Goals as goal
 

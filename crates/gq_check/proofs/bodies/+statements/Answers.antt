@@ -1,12 +1,12 @@
 use Rattle.std.proofs.Common.{◌∙◌, ap, sym, List, Option}
 use Rattle.gq_tree.specs.declared.expr.Node.{Node}
 use Rattle.gq_tree.specs.declared.body.Stmt.{Stmt}
-use Rattle.gq_typing.specs.Statements.{Bytes, Local}
-use Rattle.gq_typing.specs.StatementTypes.{typing_stmt}
-use Rattle.gq_typing.specs.StatementViews.{view_base, view_locals, view_stmt}
-use Rattle.gq_typing.proofs.ViewLaws.{view_stmt-Local}
+use Rattle.gq_rules_typing.specs.Statements.{Bytes, Local}
+use Rattle.gq_rules_typing.specs.StatementTypes.{typing_stmt}
+use Rattle.gq_rules_typing.specs.StatementViews.{view_base, view_locals, view_stmt}
+use Rattle.gq_rules_typing.proofs.ViewLaws.{view_stmt-Local}
 use Rattle.gq_scope.specs.Held.{scope_in}
-use Rattle.gq_kind_check.proofs.HeadLemmas.{judged_by}
+use Rattle.gq_check_decls.proofs.HeadLemmas.{judged_by}
 use Rattle.gq_check.proofs.bodies.+statements.Goals as goal
 
 pub statement-returns-in-Local-clause-judged : goal.statement-returns-in-Local-clause-judged

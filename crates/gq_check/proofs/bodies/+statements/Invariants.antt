@@ -1,10 +1,10 @@
 use Rattle.std.proofs.Common.{◌≡◌, drop, Ok}
-use Rattle.gq_typing.specs.Judging.{◌>>◌}
-use Rattle.gq_typing.specs.StatementTypes.{typing_stmt, typing_stmts, typing_branches}
-use Rattle.gq_typing.specs.StatementViews.{view_stmt, view_stmts}
-use Rattle.gq_typing.proofs.ViewLaws.{view_branches}
+use Rattle.gq_rules_typing.specs.Judging.{◌>>◌}
+use Rattle.gq_rules_typing.specs.StatementTypes.{typing_stmt, typing_stmts, typing_branches}
+use Rattle.gq_rules_typing.specs.StatementViews.{view_stmt, view_stmts}
+use Rattle.gq_rules_typing.proofs.ViewLaws.{view_branches}
 use Rattle.gq_scope.specs.Held.{scope_in}
-use Rattle.gq_fault.specs.Faults.{Grows}
+use Rattle.gq_check_from.specs.Faults.{Grows}
 use Rattle.gq_check.proofs.bodies.+statements.Given as goal
 
 abbrev pub invariant-statements-loop-tree : goal.invariant-statements-loop-tree

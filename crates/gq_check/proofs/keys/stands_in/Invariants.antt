@@ -1,4 +1,4 @@
-use Rattle.gq_hash.proofs.Seeks.{steps_left}
+use Rattle.gq_base.proofs.Seeks.{steps_left}
 use Rattle.gq_check.specs.Keyed.{texts}
 use Rattle.gq_check.proofs.KeyLemmas.{SeeksKey}
 use Rattle.gq_check.proofs.keys.stands_in.Given as goal

@@ -1,10 +1,10 @@
 use Rattle.std.proofs.Common.{◌≡◌, drop}
 use Rattle.gq_value.specs.AccumViews.{base_of}
-use Rattle.gq_typing.specs.Judging.{through_judged}
-use Rattle.gq_typing.specs.StatementTypes.{typing_local}
-use Rattle.gq_typing.specs.StatementViews.{view_locals}
+use Rattle.gq_rules_typing.specs.Judging.{through_judged}
+use Rattle.gq_rules_typing.specs.StatementTypes.{typing_local}
+use Rattle.gq_rules_typing.specs.StatementViews.{view_locals}
 use Rattle.gq_scope.specs.Held.{scope_in}
-use Rattle.gq_fault.specs.Faults.{Grows}
+use Rattle.gq_check_from.specs.Faults.{Grows}
 use Rattle.gq_check.proofs.locals.all_locals.Given as goal
 
 abbrev pub invariant-loop-local : goal.invariant-loop-local

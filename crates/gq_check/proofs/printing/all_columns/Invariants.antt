@@ -1,7 +1,7 @@
 use Rattle.std.proofs.Common.{◌≡◌, [], drop, map}
-use Rattle.gq_typing.specs.Judging.{through_judged}
-use Rattle.gq_typing.specs.StatementTypes.{typing_item}
-use Rattle.gq_typing.specs.StatementViews.{view_labelled}
+use Rattle.gq_rules_typing.specs.Judging.{through_judged}
+use Rattle.gq_rules_typing.specs.StatementTypes.{typing_item}
+use Rattle.gq_rules_typing.specs.StatementViews.{view_labelled}
 use Rattle.gq_scope.specs.Held.{names_in}
 use Rattle.gq_check.proofs.printing.all_columns.Given as goal
 

@@ -1,6 +1,6 @@
 use Rattle.std.proofs.Common.{◌≡◌, drop}
 use Rattle.std.specs.List.{list_any}
-use Rattle.gq_typing.specs.StatementViews.{is_v2}
+use Rattle.gq_rules_typing.specs.StatementViews.{is_v2}
 use Rattle.gq_check.proofs.queries.allows_paths.Given as goal
 
 abbrev pub invariant-loop-mode : goal.invariant-loop-mode

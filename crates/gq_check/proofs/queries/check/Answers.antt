@@ -1,4 +1,4 @@
-use Rattle.gq_typing.specs.StatementViews.{view_query}
+use Rattle.gq_rules_typing.specs.StatementViews.{view_query}
 use Rattle.gq_scope.specs.Held.{graph_in}
 use Rattle.gq_check.proofs.SafeLemmas.{checked_safely}
 use Rattle.gq_check.proofs.queries.check.Goals as goal

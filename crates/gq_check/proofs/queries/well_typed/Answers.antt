@@ -1,13 +1,13 @@
 use Rattle.std.proofs.Common.{◌≡◌, ◌∙◌, ap, sym, map, rules, List, ℕ, Bool, false, Option}
 use Rattle.std.specs.List.{list_any}
-use Rattle.gq_value.specs.Catalog.{Schema}
+use Rattle.gq_graph.specs.Catalog.{Schema}
 use Rattle.gq_tree.specs.declared.query.QueryTree.{QueryTree}
 use Rattle.gq_tree.specs.declared.query.Mode.{Mode}
-use Rattle.gq_typing.specs.Sorts.{sorts_of}
-use Rattle.gq_typing.specs.QueryTypes.{typing_query}
-use Rattle.gq_typing.specs.StatementViews.{is_v2, view_parameter, view_definition, view_stmts, view_query}
+use Rattle.gq_rules_typing.specs.Sorts.{sorts_of}
+use Rattle.gq_rules_typing.specs.QueryTypes.{typing_query}
+use Rattle.gq_rules_typing.specs.StatementViews.{is_v2, view_parameter, view_definition, view_stmts, view_query}
 use Rattle.gq_scope.specs.Held.{Held, graph_in, scope_in}
-use Rattle.gq_kind_check.specs.Counts.{accum_count}
+use Rattle.gq_check_decls.specs.Counts.{accum_count}
 use Rattle.gq_check.specs.Rules.{query}
 use Rattle.gq_check.proofs.RuleLemmas.{opened, none_yet, query_is}
 use Rattle.gq_check.proofs.queries.well_typed.Goals as goal

@@ -1,5 +1,5 @@
 use Rattle.std.proofs.Common.{◌≡◌, ◌∙◌, ◌<◌, ◌++◌, ◌∷◌, [], ap, length, arith}
-use Rattle.gq_value.specs.Edges.{noted}
+use Rattle.gq_graph.specs.Edges.{noted}
 use Rattle.gq_edge.proofs.TableLemmas.{named_added}
 use Rattle.gq_edge.proofs.edges.add.Goals as goal
 

@@ -1,5 +1,5 @@
 use Rattle.std.proofs.Common.{◌≡◌, take, None}
-use Rattle.gq_value.specs.Edges.{naming_of}
+use Rattle.gq_graph.specs.Edges.{naming_of}
 use Rattle.gq_edge.proofs.edges.is_noted.Given as goal
 
 abbrev pub invariant-loop-naming : goal.invariant-loop-naming

@@ -1,5 +1,5 @@
-use Rattle.gq_hash.proofs.Seeks.{Seeks, steps_left}
-use Rattle.gq_value.specs.Edges.{is_edge, no_edge}
+use Rattle.gq_base.proofs.Seeks.{Seeks, steps_left}
+use Rattle.gq_graph.specs.Edges.{is_edge, no_edge}
 use Rattle.gq_edge.specs.Hashed.{edge_hash}
 use Rattle.gq_edge.proofs.find.find.Given as goal
 

@@ -1,4 +1,4 @@
-use Rattle.gq_seen.specs.Meant.{valued}
+use Rattle.gq_eval_operand.specs.Meant.{valued}
 use Rattle.gq_eval.proofs.SoundSteps.{later_sound}
 use Rattle.gq_eval.proofs.expressions.+eval.Goals as goal
 

@@ -1,12 +1,12 @@
 use Rattle.std.proofs.Common.{◌≡◌, ◌+◌, ◌*◌, drop, map, Some}
 use Rattle.gq_value.specs.Views.{val}
-use Rattle.gq_resolved.specs.ExprView.{views, view_parts, view_factors, view_terms}
-use Rattle.gq_meaning.specs.Expressions.{arguments, meaning_parts, meaning_factors, meaning_terms, meaning_all, meaning_any}
-use Rattle.gq_seen.specs.Meant.{meant}
-use Rattle.gq_seen.specs.Sound.{Sound}
-use Rattle.gq_call.specs.Wants.{wants_are}
-use Rattle.gq_eval.specs.Steps.{true_meant}
-use Rattle.gq_eval.proofs.RunLemmas.{after}
+use Rattle.gq_plan_ir.specs.ExprView.{views, view_parts, view_factors, view_terms}
+use Rattle.gq_rules_meaning.specs.Expressions.{arguments, meaning_parts, meaning_factors, meaning_terms, meaning_all, meaning_any}
+use Rattle.gq_eval_operand.specs.Meant.{meant}
+use Rattle.gq_eval_operand.specs.Sound.{Sound}
+use Rattle.gq_eval_builtins.specs.Wants.{wants_are}
+use Rattle.gq_eval_builtins.specs.Steps.{true_meant}
+use Rattle.gq_eval_builtins.proofs.RunLemmas.{after}
 use Rattle.gq_eval.proofs.expressions.+eval.Given as goal
 
 abbrev pub invariant-run_factors-loop-factor : goal.invariant-run_factors-loop-factor

@@ -1,4 +1,4 @@
-use Rattle.gq_resolved.specs.BlockView.{view_change}
+use Rattle.gq_plan_ir.specs.BlockView.{view_change}
 use Rattle.std.proofs.Common.{Err, refl, ap, ◌∙◌}
 use Rattle.gq_flow.proofs.ChangeLemmas.{change_done, change_stops, change_too_big, changed_sound}
 use Rattle.gq_flow.proofs.change.change.Goals as goal

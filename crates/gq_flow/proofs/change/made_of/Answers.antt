@@ -1,11 +1,11 @@
 use Rattle.std.proofs.Common.{subst}
 use Rattle.gq_value.specs.AccumViews.{accum_of}
-use Rattle.gq_meaning.specs.Writes.{made_by}
-use Rattle.gq_resolved.specs.BlockView.{view_change}
-use Rattle.gq_seen.specs.Meant.{Tells}
-use Rattle.gq_view.specs.Viewed.{Viewed}
-use Rattle.gq_view.specs.Looks.{look_of}
-use Rattle.gq_write.specs.Making.{making_of}
+use Rattle.gq_rules_meaning.specs.Writes.{made_by}
+use Rattle.gq_plan_ir.specs.BlockView.{view_change}
+use Rattle.gq_eval_operand.specs.Meant.{Tells}
+use Rattle.gq_eval_context.specs.Viewed.{Viewed}
+use Rattle.gq_eval_context.specs.Looks.{look_of}
+use Rattle.gq_exec_post.specs.Making.{making_of}
 use Rattle.gq_flow.proofs.change.made_of.Goals as goal
 
 pub returns : goal.returns

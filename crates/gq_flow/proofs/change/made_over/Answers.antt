@@ -1,5 +1,5 @@
-use Rattle.gq_resolved.specs.BlockView.{view_change}
-use Rattle.gq_ground.specs.Grounds.{look_on}
+use Rattle.gq_plan_ir.specs.BlockView.{view_change}
+use Rattle.gq_exec_control.specs.Grounds.{look_on}
 use Rattle.gq_flow.proofs.ChangeLemmas.{makes_told}
 use Rattle.gq_flow.proofs.change.made_over.Goals as goal
 

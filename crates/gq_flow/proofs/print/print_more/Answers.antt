@@ -1,6 +1,6 @@
 use Rattle.std.proofs.Common.{map, refl}
-use Rattle.gq_resolved.specs.PlanView.{view_item}
-use Rattle.gq_ground.specs.Grounds.{world_on}
+use Rattle.gq_plan_ir.specs.PlanView.{view_item}
+use Rattle.gq_exec_control.specs.Grounds.{world_on}
 use Rattle.gq_flow.proofs.PrintLemmas.{print_done, print_stops}
 use Rattle.gq_flow.proofs.print.print_more.Goals as goal
 

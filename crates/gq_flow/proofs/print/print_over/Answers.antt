@@ -1,5 +1,5 @@
 use Rattle.std.proofs.Common.{map}
-use Rattle.gq_resolved.specs.PlanView.{view_item}
+use Rattle.gq_plan_ir.specs.PlanView.{view_item}
 use Rattle.gq_flow.proofs.PrintLemmas.{prints_over}
 use Rattle.gq_flow.proofs.print.print_over.Goals as goal
 

@@ -1,6 +1,6 @@
 use Rattle.std.proofs.Common.{map}
-use Rattle.gq_resolved.specs.PlanView.{view_item}
-use Rattle.gq_ground.specs.Grounds.{world_on}
+use Rattle.gq_plan_ir.specs.PlanView.{view_item}
+use Rattle.gq_exec_control.specs.Grounds.{world_on}
 use Rattle.gq_flow.proofs.PrintLemmas.{one_printed}
 use Rattle.gq_flow.proofs.print.printed.Goals as goal
 

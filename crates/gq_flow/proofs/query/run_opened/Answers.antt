@@ -1,4 +1,4 @@
-use Rattle.gq_calendar.specs.Gregorian.{gregorian}
+use Rattle.gq_rules_calendar.specs.Gregorian.{gregorian}
 use Rattle.gq_flow.proofs.QueryLemmas.{steps_end, steps_stop}
 use Rattle.gq_flow.proofs.query.run_opened.Goals as goal
 

@@ -1,6 +1,6 @@
 use Rattle.std.proofs.Common.{map}
 use Rattle.gq_value.specs.Views.{val}
-use Rattle.gq_calendar.specs.Gregorian.{gregorian}
+use Rattle.gq_rules_calendar.specs.Gregorian.{gregorian}
 use Rattle.gq_flow.proofs.QueryLemmas.{query_runs, query_stops}
 use Rattle.gq_flow.proofs.query.run_query.Goals as goal
 

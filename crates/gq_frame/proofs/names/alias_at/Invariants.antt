@@ -1,5 +1,5 @@
 use Rattle.std.proofs.Common.{◌≡◌, ◌==◌, drop, map}
-use Rattle.gq_seen.specs.Words.{under}
+use Rattle.gq_eval_operand.specs.Words.{under}
 use Rattle.gq_frame.specs.Names.{alias_of}
 use Rattle.gq_frame.proofs.names.alias_at.Given as goal
 

@@ -1,6 +1,6 @@
 use Rattle.std.proofs.Common.{List, ℕ, filter, take, ap, subst}
 use Rattle.std.specs.List.{flat_map}
-use Rattle.gq_index.specs.declared.walks.Walk.{Walk}
+use Rattle.gq_index.specs.declared.walks.Traversal.{Traversal}
 use Rattle.gq_index.specs.Runs.{Holds}
 use Rattle.gq_index.specs.Segments.{is_wanted}
 use Rattle.gq_index.specs.Sights.{vertex_kinds}
@@ -16,7 +16,7 @@ pub loop-source-preserved : goal.loop-source-preserved
 loop-source-preserved c =
     let w = c.args.wanted.now in let i = c.loop-source.source-index in let sources = c.args.sources.now in
     let p = is_wanted w.edges (vertex_kinds c.args.vertices.now) w.targets in
-    let F : ℕ → List Walk = λ v. filter p (walks_at c.args.index.now v) in
-    let P : List Walk → Type 0 = λ l. Holds c.add_wanted.new.segments.items c.add_wanted.new.reached.items l in
+    let F : ℕ → List Traversal = λ v. filter p (walks_at c.args.index.now v) in
+    let P : List Traversal → Type 0 = λ l. Holds c.add_wanted.new.segments.items c.add_wanted.new.reached.items l in
     subst P (gathered_more F sources i _ c.loop-source-test.true (ap (filter p) c.ways.ensures))
     (c.in_ok-add_wanted.ensures (flat_map F (take i sources)) c.loop-source.invariant)

@@ -1,7 +1,7 @@
 use Rattle.std.proofs.Common.{sym, ap, ◌∙◌, ◌≡◌, eqb, ltb, length, filter}
 use Rattle.std.proofs.lemmas.List.{length-map}
 use Rattle.std.proofs.lemmas.List.Filters.{dedup_is}
-use Rattle.gq_value.specs.declared.store.VertexRow.{VertexRow}
+use Rattle.gq_graph.specs.declared.rows.VertexRow.{VertexRow}
 use Rattle.gq_index.specs.Sights.{sight_of, vertex_kinds}
 use Rattle.gq_index.proofs.OrderLemmas.{kept_by_number}
 use Rattle.gq_index.proofs.SightLemmas.{by_number_below}

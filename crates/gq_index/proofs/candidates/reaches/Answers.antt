@@ -1,5 +1,5 @@
 use Rattle.std.proofs.Common.{◌∙◌, ap, sym, arith}
-use Rattle.gq_value.specs.Candidates.{among}
+use Rattle.gq_graph.specs.Candidates.{among}
 use Rattle.gq_index.proofs.GatherLemmas.{target_there, target_past}
 use Rattle.gq_index.proofs.candidates.reaches.Goals as goal
 

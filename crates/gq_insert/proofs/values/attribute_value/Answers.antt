@@ -1,5 +1,5 @@
 use Rattle.std.proofs.Common.{ap, ◌∙◌}
-use Rattle.gq_value.specs.Defaults.{sort_of}
+use Rattle.gq_graph.specs.Defaults.{sort_of}
 use Rattle.gq_value.specs.Views.{val}
 use Rattle.gq_insert.specs.Fits.{is_value}
 use Rattle.gq_insert.proofs.FitLemmas.{default_fits}

@@ -1,6 +1,6 @@
 use Rattle.std.proofs.Common.{◌≡◌, ℕ, ℤ, List, true, take, drop}
 use Rattle.std.specs.Prelude.{Option}
-use Rattle.gq_field.specs.Fields.{TellsTimes}
+use Rattle.gq_load_csv.specs.Fields.{TellsTimes}
 use Rattle.gq_insert.specs.Fits.{row_fits}
 use Rattle.gq_insert.specs.Inserts.{row_of}
 use Rattle.gq_insert.proofs.RowLemmas.{behind}

@@ -2,7 +2,7 @@ use Rattle.std.proofs.Common.{◌≡◌, rules, FitsSigned, w64, Some, None, Lis
 use Rattle.std.specs.Prelude.{Option}
 use Rattle.std.proofs.lemmas.Int.{to_z-of_z}
 use Rattle.gq_time.specs.Reading.{Reads}
-use Rattle.gq_field.specs.Fields.{TellsTimes}
+use Rattle.gq_load_csv.specs.Fields.{TellsTimes}
 use Rattle.gq_insert.proofs.FitLemmas.{time_fits}
 use Rattle.gq_insert.proofs.values.time_value.Goals as goal
 

@@ -1,8 +1,8 @@
 use Rattle.std.proofs.Common.{List, ap₂, ap, ◌∙◌, subst}
-use Rattle.gq_value.specs.declared.store.VertexRow.{VertexRow}
+use Rattle.gq_graph.specs.declared.rows.VertexRow.{VertexRow}
 use Rattle.gq_value.specs.declared.value.Value.{Value}
-use Rattle.gq_put.specs.Steps.{Step, Done}
-use Rattle.gq_put.specs.Ends.{edge_steps}
+use Rattle.gq_index.specs.Steps.{Step, Done}
+use Rattle.gq_index.specs.Ends.{edge_steps}
 use Rattle.gq_load.specs.Inserts.{end_row}
 use Rattle.gq_load.proofs.inserting.insert_edge.Goals as goal
 

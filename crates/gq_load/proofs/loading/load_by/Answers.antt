@@ -1,10 +1,10 @@
 use Rattle.std.proofs.Common.{◌∙◌, sym, ap, subst, map, List}
 use Rattle.std.specs.Prelude.{All}
 use Rattle.std.specs.Option.{option_copied}
-use Rattle.gq_row.specs.declared.route.Route.{Route}
-use Rattle.gq_row.specs.Columns.{header_in}
-use Rattle.gq_row.specs.Routes.{route_of}
-use Rattle.gq_row.specs.Records.{IsThere}
+use Rattle.gq_load.specs.declared.route.Route.{Route}
+use Rattle.gq_load.specs.Columns.{header_in}
+use Rattle.gq_load.specs.Routes.{route_of}
+use Rattle.gq_load.specs.Records.{IsThere}
 use Rattle.gq_load.proofs.LoadLemmas.{all_there}
 use Rattle.gq_load.proofs.loading.load_by.Goals as goal
 

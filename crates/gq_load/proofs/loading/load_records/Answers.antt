@@ -1,7 +1,7 @@
 use Rattle.std.proofs.Common.{◌≡◌, ◌∷◌, ap, length, arith}
 use Rattle.std.proofs.lemmas.List.{length-take, length-append, length-drop}
 use Rattle.csv.specs.Records.{fields_of}
-use Rattle.gq_row.specs.declared.record.Verdict.{Verdict}
+use Rattle.gq_load.specs.declared.record.Verdict.{Verdict}
 use Rattle.gq_load.proofs.LoadLemmas.{goes_on, stops, wants_memory_behind}
 use Rattle.gq_load.proofs.loading.load_records.Goals as goal
 

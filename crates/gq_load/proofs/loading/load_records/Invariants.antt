@@ -1,6 +1,6 @@
 use Rattle.std.proofs.Common.{◌≡◌, length}
-use Rattle.gq_job.specs.Targets.{edge_type_at}
-use Rattle.gq_put.specs.Namings.{AreNamedBy}
+use Rattle.gq_load_plan.specs.Targets.{edge_type_at}
+use Rattle.gq_index.specs.Namings.{AreNamedBy}
 use Rattle.gq_load.proofs.LoadLemmas.{IsUnderWay}
 use Rattle.gq_load.proofs.loading.load_records.Given as goal
 

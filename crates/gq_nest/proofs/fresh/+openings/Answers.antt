@@ -1,6 +1,6 @@
 use Rattle.std.proofs.Common.{refl, ◌∙◌, rules}
 use Rattle.gq_value.specs.AccumViews.{accum_of}
-use Rattle.gq_content.specs.After.{fresh}
+use Rattle.gq_accum_laws.specs.After.{fresh}
 use Rattle.gq_nest.specs.Shows.{Shows}
 use Rattle.gq_nest.proofs.PartSteps.{pairs_next}
 use Rattle.gq_nest.proofs.GroupSteps.{fresh_group}

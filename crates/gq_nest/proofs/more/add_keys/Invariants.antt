@@ -1,7 +1,7 @@
 use Rattle.std.proofs.Common.{◌≡◌, map, false}
 use Rattle.gq_value.specs.Views.{val}
 use Rattle.gq_value.specs.Order.{place}
-use Rattle.gq_content.specs.Gather.{into, put, distinct}
+use Rattle.gq_accum_laws.specs.Gather.{into, put, distinct}
 use Rattle.gq_nest.proofs.more.add_keys.Given as goal
 
 abbrev pub invariant-loop-key : goal.invariant-loop-key

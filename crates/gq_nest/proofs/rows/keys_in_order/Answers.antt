@@ -3,7 +3,7 @@ use Rattle.std.specs.Map.Iter.{deref}
 use Rattle.std.proofs.lemmas.Map.Iter.{rest_all}
 use Rattle.gq_value.specs.Views.{val}
 use Rattle.gq_value.specs.Order.{place}
-use Rattle.gq_content.proofs.RowLaws.{place_linear}
+use Rattle.gq_accum_laws.proofs.RowLaws.{place_linear}
 use Rattle.gq_nest.proofs.SortSteps.{ascending_stays, copied_all}
 use Rattle.gq_nest.proofs.rows.keys_in_order.Goals as goal
 

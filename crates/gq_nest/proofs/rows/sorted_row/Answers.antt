@@ -1,8 +1,8 @@
 use Rattle.std.proofs.Common.{map, length, ap, ◌∙◌}
 use Rattle.gq_value.specs.Views.{val}
 use Rattle.gq_value.specs.Order.{place}
-use Rattle.gq_content.specs.Gather.{sorted}
-use Rattle.gq_content.proofs.RowLaws.{place_linear}
+use Rattle.gq_accum_laws.specs.Gather.{sorted}
+use Rattle.gq_accum_laws.proofs.RowLaws.{place_linear}
 use Rattle.gq_nest.proofs.SortSteps.{sorted_is, refilled}
 use Rattle.gq_nest.proofs.rows.sorted_row.Goals as goal
 

@@ -1,5 +1,5 @@
 use Rattle.std.proofs.Common.{drop, map}
-use Rattle.gq_typing.specs.StatementViews.{view_accum}
+use Rattle.gq_rules_typing.specs.StatementViews.{view_accum}
 use Rattle.gq_scope.specs.Held.{sorts_in}
 use Rattle.gq_plan.specs.Heading.{heads_of}
 use Rattle.gq_plan.proofs.HeadLemmas.{AccumsGo}

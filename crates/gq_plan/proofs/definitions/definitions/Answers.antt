@@ -1,5 +1,5 @@
 use Rattle.std.proofs.Common.{◌+◌, List, rules, sym, subst}
-use Rattle.gq_resolved.specs.declared.plan.Definition.{Definition}
+use Rattle.gq_plan_ir.specs.declared.plan.Definition.{Definition}
 use Rattle.gq_plan.proofs.HeadLemmas.{DefinitionsSoFar, definition_next}
 use Rattle.gq_plan.proofs.definitions.definitions.Goals as goal
 

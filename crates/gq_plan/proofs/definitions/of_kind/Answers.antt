@@ -1,5 +1,5 @@
 use Rattle.std.proofs.Common.{map}
-use Rattle.gq_typing.specs.StatementViews.{view_accum, view_kind}
+use Rattle.gq_rules_typing.specs.StatementViews.{view_accum, view_kind}
 use Rattle.gq_plan.specs.Heading.{heads_of}
 use Rattle.gq_plan.proofs.HeadLemmas.{kind_planned}
 use Rattle.gq_plan.proofs.definitions.of_kind.Goals as goal

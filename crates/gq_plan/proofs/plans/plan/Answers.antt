@@ -1,4 +1,4 @@
-use Rattle.gq_typing.specs.StatementViews.{view_query}
+use Rattle.gq_rules_typing.specs.StatementViews.{view_query}
 use Rattle.gq_scope.specs.Held.{sorts_in}
 use Rattle.gq_plan.proofs.PrintLaws.{scope_new, prints_new, safe_new, with_places}
 use Rattle.gq_plan.proofs.plans.plan.Goals as goal

@@ -1,9 +1,9 @@
 use Rattle.std.proofs.Common.{◌≡◌, drop}
-use Rattle.gq_typing.specs.StatementViews.{view_fields}
+use Rattle.gq_rules_typing.specs.StatementViews.{view_fields}
 use Rattle.gq_scope.specs.Held.{sorts_in}
-use Rattle.gq_expr_plan.proofs.ListLemmas.{after}
-use Rattle.gq_block_plan.specs.Resolved.{each_resolved}
-use Rattle.gq_found.specs.Found.{globals_of}
+use Rattle.gq_plan_expr.proofs.ListLemmas.{after}
+use Rattle.gq_plan_select.specs.Resolved.{each_resolved}
+use Rattle.gq_plan_laws.specs.Found.{globals_of}
 use Rattle.gq_plan.specs.Heading.{resolved_field}
 use Rattle.gq_plan.proofs.tuples.planned_fields.Given as goal
 

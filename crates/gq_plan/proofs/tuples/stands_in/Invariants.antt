@@ -1,5 +1,5 @@
 use Rattle.std.proofs.Common.{◌≡◌, drop, map}
-use Rattle.gq_typing.specs.KindTypes.{stands_in}
+use Rattle.gq_rules_typing.specs.KindTypes.{stands_in}
 use Rattle.gq_plan.proofs.tuples.stands_in.Given as goal
 
 abbrev pub invariant-loop-field : goal.invariant-loop-field

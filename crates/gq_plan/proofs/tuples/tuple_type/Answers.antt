@@ -1,8 +1,8 @@
 use Rattle.std.proofs.Common.{◌≡◌, Some, subst}
-use Rattle.gq_typing.specs.StatementViews.{view_fields}
+use Rattle.gq_rules_typing.specs.StatementViews.{view_fields}
 use Rattle.gq_scope.specs.Held.{sorts_in}
-use Rattle.gq_block_plan.specs.Resolved.{each_resolved}
-use Rattle.gq_found.specs.Found.{TupleTypes, globals_of}
+use Rattle.gq_plan_select.specs.Resolved.{each_resolved}
+use Rattle.gq_plan_laws.specs.Found.{TupleTypes, globals_of}
 use Rattle.gq_plan.specs.Heading.{resolved_field}
 use Rattle.gq_plan.proofs.HeadLemmas.{tuple_planned}
 use Rattle.gq_plan.proofs.tuples.tuple_type.Goals as goal

@@ -1,6 +1,6 @@
 use Rattle.std.proofs.Common.{◌≡◌, [], drop, map}
-use Rattle.gq_typing.specs.KindTypes.{fields_written}
-use Rattle.gq_typing.specs.StatementViews.{view_fields}
+use Rattle.gq_rules_typing.specs.KindTypes.{fields_written}
+use Rattle.gq_rules_typing.specs.StatementViews.{view_fields}
 use Rattle.gq_scope.specs.Held.{fields_of, scope_in}
 use Rattle.gq_type.proofs.ArgumentLemmas.{after}
 use Rattle.gq_plan.proofs.tuples.typed_fields.Given as goal

@@ -1,5 +1,5 @@
 use Rattle.std.proofs.Common.{◌≡◌, ◌++◌, take, map}
-use Rattle.gq_value.specs.Defaults.{settled}
+use Rattle.gq_graph.specs.Defaults.{settled}
 use Rattle.gq_schema.proofs.attributes.add_settled.Given as goal
 
 abbrev pub invariant-loop-attribute : goal.invariant-loop-attribute

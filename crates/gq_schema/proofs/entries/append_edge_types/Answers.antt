@@ -1,6 +1,6 @@
 use Rattle.std.proofs.Common.{◌∙◌, ◌++◌, ◌∷◌, [], ap, sym, List}
 use Rattle.std.specs.Option.{option_to_list}
-use Rattle.gq_value.specs.declared.catalog.EdgeType.{EdgeType}
+use Rattle.gq_graph.specs.declared.types.EdgeType.{EdgeType}
 use Rattle.gq_schema.proofs.JudgeLemmas.{seam}
 use Rattle.gq_schema.proofs.entries.append_edge_types.Goals as goal
 

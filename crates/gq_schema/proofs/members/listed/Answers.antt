@@ -1,7 +1,7 @@
 use Rattle.std.proofs.Common.{◌≡◌, ◌∙◌, ap, sym, length, take, List, ℕ, replicate, false, Bool}
 use Rattle.std.specs.List.{range_with_len}
 use Rattle.std.proofs.lemmas.List.FromFn.{length-range_with_len}
-use Rattle.gq_value.specs.Catalog.{name_place}
+use Rattle.gq_graph.specs.Catalog.{name_place}
 use Rattle.gq_schema.specs.Members.{below, marked_by, is_listed}
 use Rattle.gq_schema.proofs.MemberLemmas.{none_listed, marked_on, marks_long}
 use Rattle.gq_schema.proofs.members.listed.Goals as goal

@@ -1,4 +1,4 @@
-use Rattle.gq_hash.proofs.Seeks.{steps_left}
+use Rattle.gq_base.proofs.Seeks.{steps_left}
 use Rattle.gq_schema.proofs.NameLemmas.{SeeksName}
 use Rattle.gq_schema.proofs.names.find.Given as goal
 

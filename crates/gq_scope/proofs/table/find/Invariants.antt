@@ -1,4 +1,4 @@
-use Rattle.gq_hash.proofs.Seeks.{steps_left}
+use Rattle.gq_base.proofs.Seeks.{steps_left}
 use Rattle.gq_scope.proofs.NewestLemmas.{SeeksName}
 use Rattle.gq_scope.proofs.table.find.Given as goal
 

@@ -1,6 +1,6 @@
 use Rattle.std.proofs.Common.{◌≡◌, drop}
-use Rattle.gq_typing.specs.StatementViews.{view_stmt, view_stmts}
-use Rattle.gq_typing.proofs.ViewLaws.{view_branches}
+use Rattle.gq_rules_typing.specs.StatementViews.{view_stmt, view_stmts}
+use Rattle.gq_rules_typing.proofs.ViewLaws.{view_branches}
 use Rattle.gq_session.specs.Paths.{stmt_walks, stmts_walk, branches_walk}
 use Rattle.gq_session.proofs.path.+walks.Given as goal
 

@@ -1,5 +1,5 @@
 use Rattle.std.proofs.Common.{refl, sym, subst, arith}
-use Rattle.gq_token.specs.declared.token.Shape.TheVariants.{Number}
+use Rattle.gq_token.specs.declared.token.TokenKind.TheVariants.{Number}
 use Rattle.gq_token.specs.Spelling.{TokenOf}
 use Rattle.gq_token.specs.Items.{IsItem}
 use Rattle.gq_token.proofs.RunLemmas.{digits_item, digits_too_big}

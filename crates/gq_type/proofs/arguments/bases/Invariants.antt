@@ -1,7 +1,7 @@
 use Rattle.std.proofs.Common.{◌≡◌, drop, map}
-use Rattle.gq_typing.specs.Judging.{each_judged}
-use Rattle.gq_typing.specs.Types.{as_base}
-use Rattle.gq_type.specs.Views.{base_is, typed_is}
+use Rattle.gq_rules_typing.specs.Judging.{each_judged}
+use Rattle.gq_rules_typing.specs.Types.{as_base}
+use Rattle.gq_scope.specs.Views.{base_is, typed_is}
 use Rattle.gq_type.proofs.ArgumentLemmas.{after}
 use Rattle.gq_type.proofs.arguments.bases.Given as goal
 

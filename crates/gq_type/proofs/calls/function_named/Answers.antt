@@ -2,8 +2,8 @@ use Rattle.std.proofs.Common.{◌∙◌, ap, sym, map, List, Some}
 use Rattle.std.specs.Option.{option_copied, option_map}
 use Rattle.gq_value.specs.declared.kind.BaseType.{BaseType}
 use Rattle.gq_value.specs.AccumViews.{base_of}
-use Rattle.gq_typing.specs.Statements.{Bytes}
-use Rattle.gq_typing.specs.Words.{Makes}
+use Rattle.gq_rules_typing.specs.Statements.{Bytes}
+use Rattle.gq_rules_typing.specs.Words.{Makes}
 use Rattle.gq_scope.specs.Held.{fields_of}
 use Rattle.gq_type.proofs.CallLemmas.{own_function_is, tuple_function_is, tuple_there}
 use Rattle.gq_type.proofs.calls.function_named.Goals as goal

@@ -1,6 +1,6 @@
 use Rattle.std.proofs.Common.{sym}
 use Rattle.gq_scope.specs.Held.{setting_in}
-use Rattle.gq_type.specs.Views.{typed_is}
+use Rattle.gq_scope.specs.Views.{typed_is}
 use Rattle.gq_type.proofs.CallLemmas.{degree_many}
 use Rattle.gq_type.proofs.calls.outdegree_type.Goals as goal
 

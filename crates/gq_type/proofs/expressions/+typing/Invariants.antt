@@ -1,8 +1,8 @@
 use Rattle.std.proofs.Common.{◌≡◌, drop, map}
 use Rattle.gq_tree.specs.View.{views, view_parts, view_factors, view_terms}
-use Rattle.gq_typing.specs.ExpressionTypes.{typing_all, typing_parts, typing_factors, typing_terms, typing_bools}
+use Rattle.gq_rules_typing.specs.ExpressionTypes.{typing_all, typing_parts, typing_factors, typing_terms, typing_bools}
 use Rattle.gq_scope.specs.Held.{names_in}
-use Rattle.gq_type.specs.Views.{typed_is}
+use Rattle.gq_scope.specs.Views.{typed_is}
 use Rattle.gq_type.proofs.ArgumentLemmas.{after}
 use Rattle.gq_type.proofs.expressions.+typing.Given as goal
 

@@ -1,7 +1,7 @@
 use Rattle.std.proofs.Common.{◌≡◌, drop, map}
 use Rattle.gq_scope.specs.Held.{setting_in}
-use Rattle.gq_type.specs.Views.{base_is}
-use Rattle.gq_type.specs.Parts.{type_field, chained}
+use Rattle.gq_scope.specs.Views.{base_is}
+use Rattle.gq_scope.specs.Parts.{type_field, chained}
 use Rattle.gq_type.proofs.fields.all_have.Given as goal
 
 abbrev pub invariant-loop-t : goal.invariant-loop-t

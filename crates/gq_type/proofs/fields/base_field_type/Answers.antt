@@ -1,10 +1,10 @@
 use Rattle.std.proofs.Common.{◌∙◌, ap, sym, subst, map, false, List, ℕ}
-use Rattle.gq_typing.specs.Sorts.{Sorts}
-use Rattle.gq_typing.specs.FieldTypes.{field_or_fault, one_base, field_type}
-use Rattle.gq_typing.specs.Judging.{Of}
+use Rattle.gq_rules_typing.specs.Sorts.{Sorts}
+use Rattle.gq_rules_typing.specs.FieldTypes.{field_or_fault, one_base, field_type}
+use Rattle.gq_rules_typing.specs.Judging.{Of}
 use Rattle.gq_scope.specs.Held.{setting_in}
-use Rattle.gq_type.specs.Views.{Judges, typed_is, base_is}
-use Rattle.gq_type.specs.Parts.{type_field}
+use Rattle.gq_scope.specs.Views.{Judges, typed_is, base_is}
+use Rattle.gq_scope.specs.Parts.{type_field}
 use Rattle.gq_type.proofs.ScopeLemmas.{setting_sorts}
 use Rattle.gq_type.proofs.fields.base_field_type.Goals as goal
 

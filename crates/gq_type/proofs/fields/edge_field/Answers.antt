@@ -1,11 +1,11 @@
 use Rattle.std.proofs.Common.{◌≡◌, ◌≤◌, ◌∙◌, ap, sym, length, get_or, List, Some, arith}
 use Rattle.std.specs.List.{slice_get}
 use Rattle.std.proofs.lemmas.Option.{slice_get-get_or}
-use Rattle.gq_value.specs.declared.catalog.EdgeType.{EdgeType}
-use Rattle.gq_value.specs.declared.catalog.Attribute.{Attribute}
-use Rattle.gq_typing.specs.Sorts.{attribute_fields}
-use Rattle.gq_typing.specs.Words.{OfEdgeType}
-use Rattle.gq_type.specs.Parts.{first_named}
+use Rattle.gq_graph.specs.declared.types.EdgeType.{EdgeType}
+use Rattle.gq_graph.specs.declared.types.Attribute.{Attribute}
+use Rattle.gq_rules_typing.specs.Sorts.{attribute_fields}
+use Rattle.gq_rules_typing.specs.Words.{OfEdgeType}
+use Rattle.gq_scope.specs.Parts.{first_named}
 use Rattle.gq_type.proofs.FieldLemmas.{edge_field_is, no_edge_field}
 use Rattle.gq_type.proofs.fields.edge_field.Goals as goal
 

@@ -1,6 +1,6 @@
 use Rattle.std.proofs.Common.{◌∙◌, ap, subst, Option}
-use Rattle.gq_typing.specs.Judging as judging
-use Rattle.gq_type.specs.Views.{Judges, typed_is, part_read}
+use Rattle.gq_rules_typing.specs.Judging as judging
+use Rattle.gq_scope.specs.Views.{Judges, typed_is, part_read}
 use Rattle.gq_type.proofs.FieldLemmas.{parts_read}
 use Rattle.gq_type.proofs.fields.of_parts.Goals as goal
 

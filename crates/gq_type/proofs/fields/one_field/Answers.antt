@@ -1,8 +1,8 @@
 use Rattle.std.proofs.Common.{◌≡◌, ◌<◌, ◌∙◌, ap, sym, length}
 use Rattle.std.specs.Option.{option_map}
 use Rattle.gq_scope.specs.Held.{setting_in}
-use Rattle.gq_type.specs.Views.{base_is}
-use Rattle.gq_type.specs.Parts.{type_field}
+use Rattle.gq_scope.specs.Views.{base_is}
+use Rattle.gq_scope.specs.Parts.{type_field}
 use Rattle.gq_type.proofs.FieldLemmas.{some_types, one_then, one_else}
 use Rattle.gq_type.proofs.fields.one_field.Goals as goal
 

@@ -1,6 +1,6 @@
 use Rattle.std.proofs.Common.{◌≡◌, drop, map}
 use Rattle.gq_value.specs.AccumViews.{accum_of}
-use Rattle.gq_type.specs.Parts.{first_named}
+use Rattle.gq_scope.specs.Parts.{first_named}
 use Rattle.gq_type.proofs.fields.part_kind.Given as goal
 
 abbrev pub invariant-loop-part : goal.invariant-loop-part

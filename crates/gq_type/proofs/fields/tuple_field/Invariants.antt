@@ -1,6 +1,6 @@
 use Rattle.std.proofs.Common.{◌≡◌, drop}
 use Rattle.gq_scope.specs.Held.{fields_of}
-use Rattle.gq_type.specs.Parts.{first_named}
+use Rattle.gq_scope.specs.Parts.{first_named}
 use Rattle.gq_type.proofs.fields.tuple_field.Given as goal
 
 abbrev pub invariant-loop-field : goal.invariant-loop-field

@@ -1,10 +1,10 @@
 use Rattle.std.proofs.Common.{◌∙◌, ap, sym, List, ℕ, Some, Option}
 use Rattle.std.specs.Option.{option_copied, option_map}
 use Rattle.gq_value.specs.declared.kind.BaseType.{BaseType}
-use Rattle.gq_typing.specs.Statements.{Bytes}
-use Rattle.gq_typing.specs.Words.{OfTupleType}
+use Rattle.gq_rules_typing.specs.Statements.{Bytes}
+use Rattle.gq_rules_typing.specs.Words.{OfTupleType}
 use Rattle.gq_scope.specs.Held.{fields_of}
-use Rattle.gq_type.specs.Parts.{first_named}
+use Rattle.gq_scope.specs.Parts.{first_named}
 use Rattle.gq_type.proofs.FieldLemmas.{tuple_field_is}
 use Rattle.gq_type.proofs.fields.tuple_type.Goals as goal
 

@@ -1,11 +1,11 @@
 use Rattle.std.proofs.Common.{◌≡◌, ◌≤◌, ◌∙◌, ap, sym, length, List, Some, arith}
 use Rattle.std.specs.List.{slice_get}
-use Rattle.gq_value.specs.Catalog.{Schema}
-use Rattle.gq_value.specs.declared.catalog.VertexType.{VertexType}
-use Rattle.gq_value.specs.declared.catalog.Attribute.{Attribute}
-use Rattle.gq_typing.specs.Sorts.{attribute_fields, with_id}
-use Rattle.gq_typing.specs.Words.{OfVertexType}
-use Rattle.gq_type.specs.Parts.{first_named}
+use Rattle.gq_graph.specs.Catalog.{Schema}
+use Rattle.gq_graph.specs.declared.types.VertexType.{VertexType}
+use Rattle.gq_graph.specs.declared.types.Attribute.{Attribute}
+use Rattle.gq_rules_typing.specs.Sorts.{attribute_fields, with_id}
+use Rattle.gq_rules_typing.specs.Words.{OfVertexType}
+use Rattle.gq_scope.specs.Parts.{first_named}
 use Rattle.gq_type.proofs.FieldLemmas.{vertex_field_is, no_vertex_field}
 use Rattle.gq_type.proofs.fields.vertex_field.Goals as goal
 

@@ -1,7 +1,7 @@
 use Rattle.std.proofs.Common.{◌≡◌, map, length, refl, sym, ap, ◌∙◌, arith}
 use Rattle.std.proofs.lemmas.List.{length-map}
 use Rattle.gq_value.specs.AccumViews.{base_of}
-use Rattle.gq_type.proofs.BaseLemmas.{read_map}
+use Rattle.gq_scope.proofs.BaseLemmas.{read_map}
 use Rattle.gq_type.proofs.RuleLemmas.{same_short, same_stops, same_goes}
 use Rattle.gq_type.proofs.rules.+kept.Goals as goal
 

@@ -1,9 +1,9 @@
 use Rattle.std.proofs.Common.{◌≡◌, map, sym, ap, ◌∙◌}
 use Rattle.std.proofs.lemmas.List.{length-map}
-use Rattle.gq_typing.specs.Types.{converts}
+use Rattle.gq_rules_typing.specs.Types.{converts}
 use Rattle.gq_value.specs.AccumViews.{base_of}
-use Rattle.gq_type.specs.Views.{types_are, base_is}
-use Rattle.gq_type.proofs.BaseLemmas.{read_map}
+use Rattle.gq_scope.specs.Views.{types_are, base_is}
+use Rattle.gq_scope.proofs.BaseLemmas.{read_map}
 use Rattle.gq_type.proofs.RuleLemmas.{convert_short, convert_stops, convert_goes}
 use Rattle.gq_type.proofs.rules.convert_all.Goals as goal
 

@@ -1,5 +1,5 @@
 use Rattle.std.proofs.Common.{◌≡◌, map}
-use Rattle.gq_type.specs.Views.{types_are, base_is}
+use Rattle.gq_scope.specs.Views.{types_are, base_is}
 use Rattle.gq_type.proofs.RuleLemmas.{convert_rest}
 use Rattle.gq_type.proofs.rules.convert_all.Given as goal
 

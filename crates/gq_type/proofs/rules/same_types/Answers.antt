@@ -1,6 +1,6 @@
 use Rattle.std.proofs.Common.{◌≡◌, sym, ◌∙◌}
 use Rattle.gq_value.specs.AccumViews.{base_of}
-use Rattle.gq_type.specs.Views.{types_are}
+use Rattle.gq_scope.specs.Views.{types_are}
 use Rattle.gq_type.proofs.RuleLemmas.{same_short, same_stops, same_goes}
 use Rattle.gq_type.proofs.rules.same_types.Goals as goal
 

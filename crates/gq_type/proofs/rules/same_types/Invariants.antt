@@ -1,5 +1,5 @@
 use Rattle.std.proofs.Common.{◌≡◌}
-use Rattle.gq_type.specs.Views.{types_are}
+use Rattle.gq_scope.specs.Views.{types_are}
 use Rattle.gq_type.proofs.RuleLemmas.{same_rest}
 use Rattle.gq_type.proofs.rules.same_types.Given as goal
 

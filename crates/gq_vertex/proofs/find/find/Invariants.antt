@@ -1,5 +1,5 @@
-use Rattle.gq_hash.proofs.Seeks.{Seeks, steps_left}
-use Rattle.gq_value.specs.Vertices.{is_vertex, no_vertex}
+use Rattle.gq_base.proofs.Seeks.{Seeks, steps_left}
+use Rattle.gq_graph.specs.Vertices.{is_vertex, no_vertex}
 use Rattle.gq_vertex.specs.Named as spec
 use Rattle.gq_vertex.proofs.find.find.Given as goal
 

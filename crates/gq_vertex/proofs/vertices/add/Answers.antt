@@ -1,5 +1,5 @@
 use Rattle.std.proofs.Common.{◌≡◌, ◌<◌, ◌++◌, ◌∷◌, [], length, arith}
-use Rattle.gq_value.specs.declared.store.VertexRow.{VertexRow}
+use Rattle.gq_graph.specs.declared.rows.VertexRow.{VertexRow}
 use Rattle.gq_vertex.proofs.VertexLemmas.{named_added}
 use Rattle.gq_vertex.proofs.vertices.add.Goals as goal
 

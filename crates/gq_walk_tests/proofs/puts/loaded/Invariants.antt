@@ -1,5 +1,5 @@
 use Rattle.std.proofs.Common.{ℕ, false}
-use Rattle.gq_value.specs.Edges.{Agrees, naming_with}
+use Rattle.gq_graph.specs.Edges.{Agrees, naming_with}
 use Rattle.gq_walk_tests.proofs.puts.loaded.Given as goal
 
 abbrev pub invariant-loop-from : goal.invariant-loop-from

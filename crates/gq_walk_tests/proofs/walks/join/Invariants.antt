@@ -1,4 +1,4 @@
-use Rattle.gq_value.specs.Edges.{Agrees, naming_with}
+use Rattle.gq_graph.specs.Edges.{Agrees, naming_with}
 use Rattle.gq_walk_tests.proofs.walks.join.Given as goal
 
 abbrev pub invariant-loop-from : goal.invariant-loop-from

@@ -1,6 +1,6 @@
 use Rattle.std.proofs.Common.{ap, sym, ◌∙◌}
 use Rattle.std.specs.Option.{unwrap_or}
-use Rattle.gq_value.specs.Edges.{EdgeTable, naming_of, naming_with}
+use Rattle.gq_graph.specs.Edges.{EdgeTable, naming_of, naming_with}
 use Rattle.gq_edge.proofs.TableLemmas.{noted_own}
 use Rattle.gq_walk_tests.proofs.walks.put.Goals as goal
 

@@ -1,6 +1,6 @@
 use Rattle.std.proofs.Common.{◌≡◌, ◌∙◌, refl, ap, sym, subst, Some, List}
-use Rattle.gq_value.specs.declared.store.EdgeRow.{EdgeRow}
-use Rattle.gq_value.specs.Edges.{EdgeTable, Agrees, edge_with, naming_with, edge_number}
+use Rattle.gq_graph.specs.declared.rows.EdgeRow.{EdgeRow}
+use Rattle.gq_graph.specs.Edges.{EdgeTable, Agrees, edge_with, naming_with, edge_number}
 use Rattle.gq_edge.specs.Named.{IsFindable}
 use Rattle.gq_edge.proofs.TableLemmas.{findable, found_row, replaced_is}
 use Rattle.gq_edge.proofs.edges.Edges.upsert.Goals as goal

@@ -1,9 +1,9 @@
 use Rattle.std.proofs.Common.{map}
 use Rattle.gq_value.specs.Views.{val}
-use Rattle.gq_meaning.specs.Queries.{run_query}
-use Rattle.gq_calendar.specs.Gregorian.{gregorian}
-use Rattle.gq_typing.specs.StatementViews.{view_query}
-use Rattle.gq_runs.specs.Sessions.{graph_read}
+use Rattle.gq_rules_meaning.specs.Queries.{run_query}
+use Rattle.gq_rules_calendar.specs.Gregorian.{gregorian}
+use Rattle.gq_rules_typing.specs.StatementViews.{view_query}
+use Rattle.gq_query_run.specs.Sessions.{graph_read}
 use Rattle.gq_engine.specs.Engines.{plan_over}
 use Rattle.gq_engine.proofs.EngineLemmas.{runs_same}
 use Rattle.gq_engine.proofs.engine.EngineRunsQueries.run.Goals as goal

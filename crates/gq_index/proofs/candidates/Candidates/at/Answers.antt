@@ -1,7 +1,7 @@
 use Rattle.std.proofs.Common.{ℕ, ◌<◌, ◌^◌, ◌≡◌, ◌∙◌, arith, subst, sym, ap, length, map}
 use Rattle.std.specs.List.{slice_get}
 use Rattle.std.proofs.lemmas.List.{length-map, get_or_read}
-use Rattle.gq_value.specs.Candidates.{alone}
+use Rattle.gq_graph.specs.Candidates.{alone}
 use Rattle.gq_index.specs.Segments.{listed, segment_count, of_walk}
 use Rattle.gq_index.proofs.CandidateLemmas.{segments_are, walk_found, vertex_found}
 use Rattle.gq_index.proofs.candidates.Candidates.at.Goals as goal

@@ -1,5 +1,5 @@
 use Rattle.std.proofs.Common.{◌∙◌, ap, false, arith, get_or, length}
-use Rattle.gq_value.specs.Candidates.{among}
+use Rattle.gq_graph.specs.Candidates.{among}
 use Rattle.gq_index.proofs.CandidateLemmas.{flagged_is}
 use Rattle.gq_index.proofs.marks.Marks.has.Goals as goal
 

@@ -1,5 +1,5 @@
 use Rattle.std.proofs.Common.{ap, ◌∙◌}
-use Rattle.gq_value.specs.Candidates.{among}
+use Rattle.gq_graph.specs.Candidates.{among}
 use Rattle.gq_index.proofs.OrderLemmas.{pushed_distinct}
 use Rattle.gq_index.proofs.vertex_list.VertexList.push.Goals as goal
 

@@ -2,8 +2,8 @@ use Rattle.std.proofs.Common.{◌≡◌, List, map, take, ap}
 use Rattle.gq_value.specs.declared.value.Value.{Value}
 use Rattle.gq_value.specs.Views.{val}
 use Rattle.gq_value.specs.Order.{place}
-use Rattle.gq_content.specs.Gather.{sorted, distinct}
-use Rattle.gq_content.specs.Holds.{heap_cmp}
+use Rattle.gq_accum_laws.specs.Gather.{sorted, distinct}
+use Rattle.gq_accum_laws.specs.Holds.{heap_cmp}
 use Rattle.gq_nest.specs.Tells.{Tells, elements_of}
 use Rattle.gq_nest.proofs.TellSteps.{if_ok, tells_set, tells_bag, tells_list, tells_heap}
 use Rattle.gq_nest.proofs.content.Content.elements.Goals as goal

@@ -1,8 +1,8 @@
 use Rattle.std.proofs.Common.{◌≡◌, List, map}
 use Rattle.gq_value.specs.declared.value.Value.{Value}
 use Rattle.gq_value.specs.Views.{val}
-use Rattle.gq_content.specs.Gather.{distinct}
-use Rattle.gq_content.specs.Holds.{row_cmp}
+use Rattle.gq_accum_laws.specs.Gather.{distinct}
+use Rattle.gq_accum_laws.specs.Holds.{row_cmp}
 use Rattle.gq_nest.specs.Entries.{key_row, group_row, rows}
 use Rattle.gq_nest.specs.Tells.{Tells, keys_of}
 use Rattle.gq_nest.proofs.TellSteps.{if_ok, tells_map}

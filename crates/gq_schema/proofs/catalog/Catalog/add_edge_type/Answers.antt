@@ -1,7 +1,7 @@
 use Rattle.std.proofs.Common.{◌≡◌, ◌∙◌, ◌<◌, ◌++◌, ◌∷◌, [], ap, refl, sym, subst, List, ℕ, length, None, Some, ◌+◌, ◌≤◌, arith}
 use Rattle.std.specs.Option.{option_copied, option_to_list}
-use Rattle.gq_value.specs.declared.catalog.EdgeType.{EdgeType}
-use Rattle.gq_value.specs.Catalog.{Schema, edge_names, edge_type_with, name_place, type_count}
+use Rattle.gq_graph.specs.declared.types.EdgeType.{EdgeType}
+use Rattle.gq_graph.specs.Catalog.{Schema, edge_names, edge_type_with, name_place, type_count}
 use Rattle.gq_schema.specs.Refusals.{bad_default}
 use Rattle.gq_schema.proofs.JudgeLemmas.{edge_parts, edge_good, all_good, apart_of, edge_room}
 use Rattle.gq_schema.proofs.catalog.Catalog.add_edge_type.Goals as goal

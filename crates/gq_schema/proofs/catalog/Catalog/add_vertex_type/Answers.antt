@@ -1,5 +1,5 @@
 use Rattle.std.proofs.Common.{◌≡◌, ◌∙◌, ◌<◌, ap, sym, subst, List, length, None}
-use Rattle.gq_value.specs.declared.catalog.Attribute.{Attribute}
+use Rattle.gq_graph.specs.declared.types.Attribute.{Attribute}
 use Rattle.gq_schema.specs.Refusals.{vertex_refusal, bad_default}
 use Rattle.gq_schema.proofs.JudgeLemmas.{vertex_good, all_good}
 use Rattle.gq_schema.proofs.catalog.Catalog.add_vertex_type.Goals as goal

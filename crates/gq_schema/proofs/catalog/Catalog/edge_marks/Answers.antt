@@ -1,6 +1,6 @@
 use Rattle.std.proofs.Common.{◌≡◌, map, length, subst, List, ℕ}
 use Rattle.std.specs.Result.{IfOk}
-use Rattle.gq_value.specs.Catalog.{Schema}
+use Rattle.gq_graph.specs.Catalog.{Schema}
 use Rattle.gq_schema.specs.Members as spec
 use Rattle.gq_schema.proofs.catalog.Catalog.edge_marks.Goals as goal
 

@@ -1,5 +1,5 @@
 use Rattle.std.proofs.Common.{◌≡◌, ◌∙◌, ◌++◌, ◌∷◌, [], ap, None, List, ℕ}
-use Rattle.gq_value.specs.Catalog.{name_place}
+use Rattle.gq_graph.specs.Catalog.{name_place}
 use Rattle.gq_schema.proofs.NameLemmas.{hashed_added}
 use Rattle.gq_schema.proofs.names.NameTable.push.Goals as goal
 

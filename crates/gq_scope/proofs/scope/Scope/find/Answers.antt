@@ -1,7 +1,7 @@
 use Rattle.std.proofs.Common.{◌∙◌, ap, reverse}
 use Rattle.std.specs.Option.{option_map}
 use Rattle.std.specs.Str.{bytes_eq}
-use Rattle.gq_typing.specs.Words.{under}
+use Rattle.gq_rules_typing.specs.Words.{under}
 use Rattle.gq_scope.specs.Held.{Held, entry_of, scope_in, setting_in}
 use Rattle.gq_scope.proofs.NewestLemmas.{under_map}
 use Rattle.gq_scope.proofs.scope.Scope.find.Goals as goal

@@ -1,6 +1,6 @@
 use Rattle.std.proofs.Common.{◌∙◌, ap, sym, ℕ, Option}
-use Rattle.gq_value.specs.declared.catalog.GraphType.{GraphType}
-use Rattle.gq_typing.specs.Sorts.{sorts_of}
+use Rattle.gq_graph.specs.declared.types.GraphType.{GraphType}
+use Rattle.gq_rules_typing.specs.Sorts.{sorts_of}
 use Rattle.gq_scope.specs.Held.{Held, graph_in, sorts_in}
 use Rattle.gq_scope.proofs.scope.Scope.own_edges.Goals as goal
 

@@ -1,8 +1,8 @@
 use Rattle.std.proofs.Common.{◌∙◌, ap, map, List, ℕ}
-use Rattle.gq_value.specs.Catalog.{name_place}
-use Rattle.gq_typing.specs.Statements.{Bytes}
-use Rattle.gq_typing.specs.Sorts.{VertexSort, vertex_sort}
-use Rattle.gq_typing.specs.Words.{if_own, place_of}
+use Rattle.gq_graph.specs.Catalog.{name_place}
+use Rattle.gq_rules_typing.specs.Statements.{Bytes}
+use Rattle.gq_rules_typing.specs.Sorts.{VertexSort, vertex_sort}
+use Rattle.gq_rules_typing.specs.Words.{if_own, place_of}
 use Rattle.gq_scope.specs.Held.{Held, setting_in, sorts_in}
 use Rattle.gq_scope.proofs.WordLemmas.{vertex_sorts}
 use Rattle.gq_scope.proofs.scope.Scope.vertex_type.Goals as goal

@@ -1,4 +1,4 @@
-use Rattle.gq_define.specs.Declarations.{edge_created}
+use Rattle.gq_ddl.specs.Declarations.{edge_created}
 use Rattle.gq_session.proofs.GrowthLemmas.{edge_grown}
 use Rattle.gq_session.proofs.SessionLemmas.{answers_grow, session_grows}
 use Rattle.gq_session.proofs.session.Session.make_edge.Goals as goal

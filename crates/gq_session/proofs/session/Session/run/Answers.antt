@@ -1,8 +1,8 @@
 use Rattle.std.proofs.Common.{IfOk, sym, subst}
 use Rattle.std.specs.Prelude.{IfErr}
-use Rattle.gq_refusal.specs.Messages.{message_of}
-use Rattle.gq_script.specs.Effects.{Becomes, Refused, lines_of}
-use Rattle.gq_script.specs.Known.{known_of}
+use Rattle.gq_diagnostics.specs.Messages.{message_of}
+use Rattle.gq_diagnostics.specs.Effects.{Becomes, Refused, lines_of}
+use Rattle.gq_io.specs.Known.{known_of}
 use Rattle.gq_tree.specs.declared.statement.Statement.{Statement}
 use Rattle.gq_session.specs.Statements.{Does, Leaves, query_interpreted, query_ran}
 use Rattle.gq_session.proofs.SessionLemmas.{left_same, silent_left}

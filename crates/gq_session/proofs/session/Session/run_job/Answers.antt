@@ -1,11 +1,11 @@
 use Rattle.std.proofs.Common.{List, [], ◌∷◌, IfOk, subst}
 use Rattle.std.specs.Prelude.{IfErr}
-use Rattle.gq_refusal.specs.Messages.{message_of}
-use Rattle.gq_refusal.specs.declared.refusal.StatementFault.TheVariants as fault
-use Rattle.gq_script.specs.Effects.{Becomes, Refused}
-use Rattle.gq_script.specs.Known.{known_of}
-use Rattle.gq_jobs.specs.declared.named.NamedJob.{NamedJob}
-use Rattle.gq_loads.specs.JobRuns.{JobDoes, JobLeaves}
+use Rattle.gq_diagnostics.specs.Messages.{message_of}
+use Rattle.gq_diagnostics.specs.declared.refusal.StatementFault.TheVariants as fault
+use Rattle.gq_diagnostics.specs.Effects.{Becomes, Refused}
+use Rattle.gq_io.specs.Known.{known_of}
+use Rattle.gq_ddl.specs.declared.named.NamedJob.{NamedJob}
+use Rattle.gq_load_run.specs.JobRuns.{JobDoes, JobLeaves}
 use Rattle.gq_session.specs.Statements.{State}
 use Rattle.gq_session.proofs.SessionLemmas.{is_line, job_printed, job_refused, job_left, refused_back}
 use Rattle.gq_session.proofs.session.Session.run_job.Goals as goal

@@ -1,5 +1,5 @@
 use Rattle.std.proofs.Common.{sym, ◌∙◌, ap}
-use Rattle.gq_args.specs.Holds.{held}
+use Rattle.gq_arguments.specs.Holds.{held}
 use Rattle.gq_session.specs.Paths.{walks_path}
 use Rattle.gq_session.specs.Statements.{State}
 use Rattle.gq_session.proofs.SessionLemmas.{is_line}

@@ -1,6 +1,6 @@
 use Rattle.std.proofs.Common.{◌≡◌, ◌∙◌, refl, ap, sym, Some, List}
-use Rattle.gq_value.specs.declared.store.VertexRow.{VertexRow}
-use Rattle.gq_value.specs.Vertices.{vertex_number, vertex_at}
+use Rattle.gq_graph.specs.declared.rows.VertexRow.{VertexRow}
+use Rattle.gq_graph.specs.Vertices.{vertex_number, vertex_at}
 use Rattle.gq_vertex.proofs.VertexLemmas.{number_low, named_replaced, replaced_is}
 use Rattle.gq_vertex.proofs.vertices.Vertices.upsert.Goals as goal
 

@@ -1,3 +1,0 @@
-pub mod TreeLemmas
-pub mod InputLemmas
-pub mod PlaceLemmas

@@ -1,0 +1,12 @@
+use Rattle.std.proofs.Common.{◌≡◌, drop, map}
+use Rattle.gq_value.specs.Views.{val}
+use Rattle.gq_rules_meaning.specs.Answers.{each}
+use Rattle.gq_rules_meaning.specs.Expressions.{value_of}
+use Rattle.gq_plan_ir.specs.ExprView.{view}
+use Rattle.gq_after.proofs.EachSteps.{and_more}
+use Rattle.gq_after.proofs.keys.keys_seen.Given as goal
+
+-- the keys that are there, and what those that are left give
+abbrev pub invariant-loop-key : goal.invariant-loop-key
+invariant-loop-key g l =
+    each (λ key. value_of (g.V.Sees.look l.sight) (view key.0)) l.order ≡ and_more (map val l.row) (each (λ key. value_of (g.V.Sees.look l.sight) (view key.0)) (drop l.key-index l.order))

@@ -1,0 +1,12 @@
+use Rattle.std.proofs.Common.{◌≡◌, drop, map}
+use Rattle.gq_rules_meaning.specs.Answers.{each}
+use Rattle.gq_rules_meaning.specs.Tails as plain
+use Rattle.gq_after.specs.Ranks.{order_of, ranked}
+use Rattle.gq_after.specs.Sights.{vertex_look}
+use Rattle.gq_after.proofs.EachSteps.{and_more}
+use Rattle.gq_after.proofs.keys.with_keys.Given as goal
+
+-- the rows that are there, and what the vertices that are left give
+abbrev pub invariant-loop-vertex : goal.invariant-loop-vertex
+invariant-loop-vertex g l =
+    each (plain.ranked (vertex_look g.C.Clock.clock l.over l.accums l.end) (order_of l.order)) l.vertices ≡ and_more (map ranked l.rows) (each (plain.ranked (vertex_look g.C.Clock.clock l.over l.accums l.end) (order_of l.order)) (drop l.vertex-index l.vertices))

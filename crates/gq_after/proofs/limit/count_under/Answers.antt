@@ -1,0 +1,11 @@
+use Rattle.std.proofs.Common.{ℕ, subst}
+use Rattle.gq_rules_meaning.specs.Expressions.{number_of}
+use Rattle.gq_plan_ir.specs.ExprView.{view}
+use Rattle.gq_eval_operand.specs.Meant.{itself, Tells}
+use Rattle.gq_eval_context.specs.Viewed.{Viewed}
+use Rattle.gq_eval_context.specs.Looks.{look_of}
+use Rattle.gq_eval_context.specs.Limits.{most_of}
+use Rattle.gq_after.proofs.limit.count_under.Goals as goal
+
+pub returns : goal.returns
+returns g c = subst (λ (v : Viewed). Tells (itself {A = ℕ}) (most_of (number_of (look_of g.C.Clock.clock v) (view c.args.expr.now))) c.count_seen.result) c.view-sight.ensures c.count_seen.ensures

@@ -1,0 +1,91 @@
+// HAVING.
+ghost use Rattle.std.specs.Prelude.{◌≡◌, ◌++◌, [], ◌∷◌, IfOk, map};
+ghost use Rattle.std.specs.Option.{option_map};
+ghost use Rattle.gq_rules_meaning.specs.Blocks.{passes};
+ghost use Rattle.gq_rules_meaning.specs.Tails.{passing};
+ghost use Rattle.gq_plan_ir.specs.ExprView.{view};
+ghost use Rattle.gq_eval_operand.specs.Meant.{itself, Tells};
+ghost use Rattle.gq_frame.specs.Names.{alias_of};
+ghost use Rattle.gq_frame.specs.Slots.{AreSound};
+ghost use Rattle.gq_eval_context.specs.Looks.{look_of};
+ghost use Rattle.gq_eval_context.specs.Answered.{Answered};
+ghost use Rattle.gq_eval_context.specs.Viewed.{viewed};
+ghost use Rattle.gq_after.specs.Sights.{vertex_look};
+
+use gq_base::List;
+use gq_eval::run_truth;
+use gq_eval_context::{BlockFault, Clock, Setting, fault_at};
+use gq_eval_operand::{Halt, Sees};
+use gq_exec_source::End;
+use gq_frame::{Accums, Alias};
+use gq_plan_ir::Expr;
+use std::alloc::Global;
+
+/// The vertices that pass HAVING, in order; all are judged.
+#[tactic(auto, using(crate::proofs::PassLemmas::pass_laws))]
+pub(crate) fn passing<C: Clock>(
+    having: &Option<Expr>,
+    alloc: Global,
+    over: &Setting<'_, C>,
+    accums: &Accums,
+    end: &End,
+    vertices: &[u32],
+) -> Result<List<u32>, BlockFault>
+    requires { AreSound accums.now }
+    ensures { Answered itself (passing (vertex_look C.clock over.now accums.now end.now) (option_map view having.now) vertices.now) result }
+{
+    let mut kept = List::new(alloc);
+    for vertex in vertices {
+        match passes_at(having, alloc, over, accums, end, *vertex) {
+            Err(halt) => return Err(fault_at(*vertex, halt)),
+            Ok(false) => {}
+            Ok(true) => match kept.push(*vertex) {
+                Ok(()) => {}
+                Err(_) => return Err(BlockFault::OutOfMemory),
+            },
+        }
+    }
+    Ok(kept)
+}
+
+/// Whether a vertex passes, under the alias of its end.
+fn passes_at<C: Clock>(
+    having: &Option<Expr>,
+    alloc: Global,
+    over: &Setting<'_, C>,
+    accums: &Accums,
+    end: &End,
+    vertex: u32,
+) -> Result<bool, Halt>
+    requires { AreSound accums.now }
+    ensures { Tells itself (passes (vertex_look C.clock over.now accums.now end.now vertex) (option_map view having.now)) result }
+{
+    match end.alias(vertex) {
+        Some(alias) => passes_under(having, alloc, over, accums, &[alias]),
+        None => passes_under(having, alloc, over, accums, &[]),
+    }
+}
+
+fn passes_under<C: Clock>(
+    having: &Option<Expr>,
+    alloc: Global,
+    over: &Setting<'_, C>,
+    accums: &Accums,
+    aliases: &[Alias<'_>],
+) -> Result<bool, Halt>
+    requires { AreSound accums.now }
+    ensures { Tells itself (passes (look_of C.clock (viewed over.now (map alias_of aliases.now) accums.now accums.now)) (option_map view having.now)) result }
+{
+    let sight = over.view(aliases, accums, accums);
+    has_passed(having, alloc, &sight)
+}
+
+/// No HAVING lets every vertex pass.
+fn has_passed<V: Sees>(having: &Option<Expr>, alloc: Global, sight: &V) -> Result<bool, Halt>
+    ensures { Tells itself (passes (V.look sight.now) (option_map view having.now)) result }
+{
+    match having {
+        None => Ok(true),
+        Some(expr) => run_truth(expr, alloc, sight),
+    }
+}

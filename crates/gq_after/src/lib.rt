@@ -1,0 +1,18 @@
+//! The tail of a SELECT block: HAVING, ORDER BY and LIMIT.
+//!
+//! All vertices are filtered first; then all keys are evaluated; then the list is sorted and cut. Vertices
+//! with equal keys are ordered by vertex number.
+//!
+//! Read `Tails.antt` of `gq_rules_meaning` first, then `specs/Ranks.antt` (the order in which rows of keys
+//! are compared, for rows of any length) and `specs/Sights.antt` (what the expressions see). The code begins
+//! in `src/whole.rt`; `src/having.rt`, `src/keys.rt`, `src/rows.rt` and `src/limit.rt` have one step each.
+#![tactic(auto)]
+
+mod having;
+mod keys;
+mod limit;
+mod rows;
+mod whole;
+
+pub use rows::Ranked;
+pub use whole::tail;

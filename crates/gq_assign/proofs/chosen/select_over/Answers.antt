@@ -1,7 +1,0 @@
-use Rattle.std.proofs.Common.{subst}
-use Rattle.gq_view.specs.Viewed.{Over}
-use Rattle.gq_select.specs.Selecting.{Selects}
-use Rattle.gq_assign.proofs.chosen.select_over.Goals as goal
-
-pub returns-clause-selects : goal.returns-clause-selects
-returns-clause-selects g c = subst (λ (o : Over). Selects g.C.Clock.clock o c.args.block.now c.select.result) c.over-over.ensures c.select.ensures.selects

@@ -1,9 +1,0 @@
-use Rattle.gq_value.specs.AccumViews.{base_of}
-use Rattle.gq_value.specs.Views.{val}
-use Rattle.gq_meaning.specs.Expressions.{value_as}
-use Rattle.gq_resolved.specs.ExprView.{view}
-use Rattle.gq_ground.proofs.GroundLemmas.{reads_on}
-use Rattle.gq_assign.proofs.value.converted_value.Goals as goal
-
-pub returns : goal.returns
-returns g c = reads_on g.C.Clock.clock c.args.ground.now c.args.frame.now val (λ look. value_as look (base_of c.args.base.now) (view c.args.expr.now)) c.value_over.result c.or_fault.result c.value_over.ensures c.or_fault.ensures

@@ -1,0 +1,5 @@
+pub mod formers
+pub mod Lends
+pub mod Chains
+pub mod Hash
+pub mod Last

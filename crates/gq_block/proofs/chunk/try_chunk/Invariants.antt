@@ -1,6 +1,0 @@
-use Rattle.gq_block.specs.Running.{come}
-use Rattle.gq_block.proofs.RunLemmas.{ChunkTo}
-use Rattle.gq_block.proofs.chunk.try_chunk.Given as goal
-
-abbrev pub invariant-loop-place : goal.invariant-loop-place
-invariant-loop-place g l = ChunkTo (come g.C.Clock.clock l.over l.work) l.work.candidates l.over l.start l.end l.place l.fn.found l.found

@@ -1,9 +1,0 @@
-use Rattle.std.proofs.Common.{refl, rules}
-use Rattle.gq_block.specs.declared.found.Found.{Found}
-use Rattle.gq_block.proofs.FoundLemmas.{settled}
-use Rattle.gq_block.proofs.found.Found.settle.Goals as goal
-
-pub returns-in_ok-add_ints-clause-kept : goal.returns-in_ok-add_ints-clause-kept
-returns-in_ok-add_ints-clause-kept c =
-    let new : Found = record { batches = c.add_ints.new.into; ints = c.truncate.new.self; room = c.args.self.now.room; sources = c.args.self.now.sources; targets = c.args.self.now.targets; edges = c.args.self.now.edges } in
-    settled c.args.self.now new c.as_slice.result.now c.requires c.as_slice.ensures c.in_ok-add_ints.ensures (search rules) refl refl

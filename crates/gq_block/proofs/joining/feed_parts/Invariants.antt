@@ -1,6 +1,0 @@
-use Rattle.std.proofs.Common.{None}
-use Rattle.gq_block.specs.Rounds.{FeedsParts}
-use Rattle.gq_block.proofs.joining.feed_parts.Given as goal
-
-abbrev pub invariant-loop-spot : goal.invariant-loop-spot
-invariant-loop-spot l = FeedsParts l.parts l.fn.run l.run None

@@ -1,5 +1,0 @@
-use Rattle.gq_block.proofs.RoundLemmas.{JoinTo}
-use Rattle.gq_block.proofs.joining.join.Given as goal
-
-abbrev pub invariant-loop-place : goal.invariant-loop-place
-invariant-loop-place l = JoinTo l.fn.words l.other l.place l.words

@@ -1,5 +1,0 @@
-use Rattle.gq_block.proofs.RoundLemmas.{MarksTo}
-use Rattle.gq_block.proofs.joining.mark_parts.Given as goal
-
-abbrev pub invariant-loop-part : goal.invariant-loop-part
-invariant-loop-part l = MarksTo l.parts l.part-index l.fn.found l.found

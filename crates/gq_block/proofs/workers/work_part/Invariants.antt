@@ -1,5 +1,0 @@
-use Rattle.gq_block.proofs.RoundLemmas.{PartTo}
-use Rattle.gq_block.proofs.workers.work_part.Given as goal
-
-abbrev pub invariant-loop : goal.invariant-loop
-invariant-loop g l = PartTo g.C.Clock.clock l.over l.work l.first l.last l.lefts l.found

@@ -1,7 +1,0 @@
-use Rattle.std.proofs.Common.{◌≡◌, drop}
-use Rattle.gq_expr_plan.proofs.ListLemmas.{after}
-use Rattle.gq_block_plan.specs.Resolved.{each_resolved, resolved_key, view_keys}
-use Rattle.gq_block_plan.proofs.exprs.keys.Given as goal
-
-abbrev pub invariant-loop-key : goal.invariant-loop-key
-invariant-loop-key g l = each_resolved (resolved_key (g.R.Resolves.known l.names)) (view_keys l.keys) ≡ after l.planned (each_resolved (resolved_key (g.R.Resolves.known l.names)) (view_keys (drop l.key-index l.keys)))

@@ -1,7 +1,0 @@
-use Rattle.std.proofs.Common.{◌≡◌, drop}
-use Rattle.gq_expr_plan.proofs.ListLemmas.{after}
-use Rattle.gq_block_plan.specs.Resolved.{resolved_inputs, view_inputs}
-use Rattle.gq_block_plan.proofs.inputs.+inputs.Given as goal
-
-abbrev pub invariant-inputs-loop-tree : goal.invariant-inputs-loop-tree
-invariant-inputs-loop-tree g l = resolved_inputs (g.R.Resolves.known l.names) (view_inputs l.trees) ≡ after l.planned (resolved_inputs (g.R.Resolves.known l.names) (view_inputs (drop l.tree-index l.trees)))

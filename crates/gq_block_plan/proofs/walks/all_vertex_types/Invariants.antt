@@ -1,7 +1,0 @@
-use Rattle.std.proofs.Common.{◌≡◌, drop}
-use Rattle.gq_expr_plan.proofs.ListLemmas.{after}
-use Rattle.gq_block_plan.specs.Resolved.{each_resolved}
-use Rattle.gq_block_plan.proofs.walks.all_vertex_types.Given as goal
-
-abbrev pub invariant-loop-name : goal.invariant-loop-name
-invariant-loop-name g l = each_resolved (g.R.SeesTypes.sees l.names).vertex_type l.listed ≡ after l.planned (each_resolved (g.R.SeesTypes.sees l.names).vertex_type (drop l.name-index l.listed))

@@ -1,7 +1,0 @@
-use Rattle.std.proofs.Common.{◌≡◌, drop}
-use Rattle.gq_expr_plan.proofs.ListLemmas.{after}
-use Rattle.gq_block_plan.specs.Resolved.{each_resolved, resolved_way}
-use Rattle.gq_block_plan.proofs.walks.ways.Given as goal
-
-abbrev pub invariant-loop-way : goal.invariant-loop-way
-invariant-loop-way g l = each_resolved (resolved_way (g.R.SeesTypes.sees l.names)) l.ways ≡ after l.planned (each_resolved (resolved_way (g.R.SeesTypes.sees l.names)) (drop l.way-index l.ways))

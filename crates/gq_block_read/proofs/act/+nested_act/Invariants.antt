@@ -1,4 +1,0 @@
-use Rattle.gq_block_read.proofs.act.+nested_act.Given as goal
-
-abbrev pub decreases-nested_act : goal.decreases-nested_act
-decreases-nested_act l = l.levels

@@ -1,4 +1,0 @@
-use Rattle.gq_block_read.proofs.input.+nested_input.Given as goal
-
-abbrev pub decreases-nested_input : goal.decreases-nested_input
-decreases-nested_input l = l.levels

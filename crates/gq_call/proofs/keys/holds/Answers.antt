@@ -1,9 +1,0 @@
-use Rattle.std.proofs.Common.{map, ap, ◌∙◌}
-use Rattle.gq_value.specs.AccumViews.{accum_of}
-use Rattle.gq_value.specs.Views.{val}
-use Rattle.gq_value.proofs.AccumLemmas.{accum_of-Group}
-use Rattle.gq_call.proofs.KeyLemmas.{group_lacks, first_part}
-use Rattle.gq_call.proofs.keys.holds.Goals as goal
-
-pub returns-in-None-part : goal.returns-in-None-part
-returns-in-None-part c = group_lacks (accum_of c.args.kind.now) _ _ c.args.content.now (map val c.args.row.now) c.requires (ap accum_of c.in-Group.is ∙ accum_of-Group _) (first_part c.in-Group.shape.parts (rw c.as_slice.ensures at c.in-len1-up.len_at_least)) c.in-None-part.ensures ∙ c.truly-in-None-part.ensures

@@ -1,0 +1,57 @@
+// Aliases come into view.
+ghost use Rattle.std.specs.Prelude.{◌≡◌, IfOk};
+ghost use Rattle.gq_rules_typing.specs.Scopes as typing;
+ghost use Rattle.gq_rules_typing.specs.SelectTypes as spec;
+ghost use Rattle.gq_scope.specs.Held.{scope_in};
+ghost use Rattle.gq_check_from.specs.Faults.{Judges, Grows};
+
+use crate::fault::CheckFault;
+use crate::names::{add, new_name};
+use gq_base::List;
+use gq_scope::{Entry, Scope};
+use gq_value::Txt;
+use std::alloc::Global;
+
+/// A vertex alias of these types is a new name; there may be none.
+#[tactic(auto, using(crate::proofs::ScopeLemmas::grow_laws))]
+pub fn with_alias(
+    alloc: Global,
+    scope: &mut Scope<'_>,
+    name: &Option<Txt>,
+    types: &[u32],
+) -> Result<(), CheckFault>
+    ensures judged { Judges (λ _. scope_in scope.new) (spec.with_alias name.now (typing.Alias types.now) (scope_in scope.old)) result }
+    ensures grows { IfOk result (λ _. Grows scope.old scope.new) }
+{
+    match name {
+        None => Ok(()),
+        Some(name) => {
+            new_name(alloc, scope, name.as_str())?;
+            let kept = List::from_slice(alloc, types)?;
+            add(scope, name.as_str(), Entry::Alias(kept))?;
+            Ok(())
+        }
+    }
+}
+
+/// An edge alias, likewise.
+#[tactic(auto, using(crate::proofs::ScopeLemmas::grow_laws))]
+pub(crate) fn with_edge_alias(
+    alloc: Global,
+    scope: &mut Scope<'_>,
+    name: &Option<Txt>,
+    types: &[u32],
+) -> Result<(), CheckFault>
+    ensures judged { Judges (λ _. scope_in scope.new) (spec.with_alias name.now (typing.EdgeAlias types.now) (scope_in scope.old)) result }
+    ensures grows { IfOk result (λ _. Grows scope.old scope.new) }
+{
+    match name {
+        None => Ok(()),
+        Some(name) => {
+            new_name(alloc, scope, name.as_str())?;
+            let kept = List::from_slice(alloc, types)?;
+            add(scope, name.as_str(), Entry::EdgeAlias(kept))?;
+            Ok(())
+        }
+    }
+}

@@ -1,0 +1,299 @@
+// Walks: a hop, or a path of one to three steps.
+ghost use Rattle.std.specs.Prelude.{◌≡◌, map, true, IfOk};
+ghost use Rattle.std.specs.Option.{option_copied};
+ghost use Rattle.gq_rules_typing.specs.Sorts.{edge_sort};
+ghost use Rattle.gq_rules_typing.specs.Judging.{each_judged};
+ghost use Rattle.gq_rules_typing.specs.SelectViews.{view_types, view_types_if, view_hop, view_step, view_walk};
+ghost use Rattle.gq_rules_typing.specs.Patterns as patterns;
+ghost use Rattle.gq_rules_typing.specs.SelectTypes as spec;
+ghost use Rattle.gq_scope.specs.Held.{scope_in};
+ghost use Rattle.gq_check_from.specs.Faults.{Judges, Grows};
+ghost use Rattle.gq_check_from.specs.Walks as walks;
+
+use crate::aliases::{with_alias, with_edge_alias};
+use crate::fault::CheckFault;
+use crate::names::{edge_type, vertex_type};
+use crate::patterns::{edge_at, edge_types, text_of};
+use gq_base::List;
+use gq_graph::{EdgeType, Numbers};
+use gq_scope::Scope;
+use gq_tree::{HopTree, PatternTree, StepTree, TypesTree, Way};
+use gq_value::Txt;
+use std::alloc::Global;
+
+// ---- types that are named
+
+/// Names are edge types of the graph.
+fn edges_known(alloc: Global, scope: &Scope<'_>, names: &[Txt]) -> Result<(), CheckFault>
+    ensures { Judges (λ _. true) (walks.passes (each_judged (walks.edge_known (scope_in scope.now)) names.now)) result }
+{
+    for name in names {
+        edge_type(alloc, scope, name.as_str())?;
+    }
+    Ok(())
+}
+
+/// Names are vertex types of the graph.
+fn vertices_known(alloc: Global, scope: &Scope<'_>, names: &[Txt]) -> Result<(), CheckFault>
+    ensures { Judges (λ _. true) (walks.passes (each_judged (walks.vertex_known (scope_in scope.now)) names.now)) result }
+{
+    for name in names {
+        vertex_type(alloc, scope, name.as_str())?;
+    }
+    Ok(())
+}
+
+fn known_edges(
+    alloc: Global,
+    scope: &Scope<'_>,
+    types: &Option<TypesTree>,
+) -> Result<(), CheckFault>
+    ensures { Judges (λ _. true) (walks.known_edges (scope_in scope.now) (view_types_if types.now)) result }
+{
+    match types {
+        None => Ok(()),
+        Some(types) => match types {
+            TypesTree::Any => Ok(()),
+            TypesTree::Named(names) => edges_known(alloc, scope, names.as_slice()),
+        },
+    }
+}
+
+fn known_targets(alloc: Global, scope: &Scope<'_>, types: &TypesTree) -> Result<(), CheckFault>
+    ensures { Judges (λ _. true) (walks.known_targets (scope_in scope.now) (view_types types.now)) result }
+{
+    match types {
+        TypesTree::Any => Ok(()),
+        TypesTree::Named(names) => vertices_known(alloc, scope, names.as_slice()),
+    }
+}
+
+fn known_targets_if(
+    alloc: Global,
+    scope: &Scope<'_>,
+    types: &Option<TypesTree>,
+) -> Result<(), CheckFault>
+    ensures { Judges (λ _. true) (walks.known_targets (scope_in scope.now) (view_types_if types.now)) result }
+{
+    match types {
+        None => Ok(()),
+        Some(types) => known_targets(alloc, scope, types),
+    }
+}
+
+// ---- hops, which stand in v1
+
+/// Not allowed here, where a test fails.
+fn allowed(test: bool) -> Result<(), CheckFault>
+    ensures { Judges (λ _. true) (walks.allowed test) result }
+{
+    match test {
+        true => Ok(()),
+        false => Err(CheckFault::NotAllowedHere),
+    }
+}
+
+/// Type mismatch, where a test fails.
+fn matched(test: bool) -> Result<(), CheckFault>
+    ensures { Judges (λ _. true) (walks.matched test) result }
+{
+    match test {
+        true => Ok(()),
+        false => Err(CheckFault::Mismatch),
+    }
+}
+
+/// The parts of a hop, in order.
+#[tactic(auto, using(crate::proofs::ScopeLemmas::walk_laws))]
+fn hop_parts(
+    alloc: Global,
+    scope: &mut Scope<'_>,
+    ends: &[u32],
+    tree: &HopTree,
+) -> Result<(), CheckFault>
+    ensures judged { Judges (λ _. scope_in scope.new) (walks.hop_within (scope_in scope.old) ends.now (view_hop tree.now)) result }
+    ensures grows { IfOk result (λ _. Grows scope.old scope.new) }
+{
+    allowed(!scope.with_paths())?;
+    known_edges(alloc, scope, &tree.edges)?;
+    let edges = edge_types(alloc, scope, &tree.edges)?;
+    with_edge_alias(alloc, scope, &tree.edge_alias, edges.as_slice())?;
+    known_targets_if(alloc, scope, &tree.targets)?;
+    with_alias(alloc, scope, &tree.target_alias, ends)
+}
+
+/// A hop with its aliases.
+fn hop(alloc: Global, scope: &mut Scope<'_>, ends: &[u32], tree: &HopTree) -> Result<(), CheckFault>
+    ensures judged { Judges (λ _. scope_in scope.new) (spec.typing_hop (scope_in scope.old) ends.now (view_hop tree.now)) result }
+    ensures grows { IfOk result (λ _. Grows scope.old scope.new) }
+{
+    hop_parts(alloc, scope, ends, tree)
+}
+
+// ---- paths, which stand in v2
+
+fn is_both(way: Way) -> bool
+    ensures { result ≡ spec.is_both way }
+{
+    match way {
+        Way::Both => true,
+        Way::Forward | Way::Backward => false,
+    }
+}
+
+/// A directed type has a sign, an undirected one has none.
+fn suits_way(edge: &EdgeType, way: Way) -> bool
+    ensures { result ≡ spec.suits_way (edge_sort edge.now) way }
+{
+    if edge.directed {
+        !is_both(way)
+    } else {
+        is_both(way)
+    }
+}
+
+/// An edge type of the graph that may be walked in this way.
+fn way_known(alloc: Global, scope: &Scope<'_>, way: Way, name: &str) -> Result<u32, CheckFault>
+    ensures { Judges (λ t. t) (spec.way_known (scope_in scope.now) (way, name.now)) result }
+{
+    let t = edge_type(alloc, scope, name)?;
+    walked(scope, way, t)
+}
+
+/// The edge type with a number, where it may be walked in this way.
+#[tactic(auto, using(crate::proofs::ScopeLemmas::walk_laws))]
+fn walked(scope: &Scope<'_>, way: Way, t: u32) -> Result<u32, CheckFault>
+    ensures { Judges (λ t. t) (walks.walked (scope_in scope.now) way t) result }
+{
+    match edge_at(scope, t) {
+        None => Err(CheckFault::Mismatch),
+        Some(edge) => {
+            matched(suits_way(edge, way))?;
+            Ok(t)
+        }
+    }
+}
+
+/// The edge types of a step.
+#[tactic(auto, using(crate::proofs::StepLemmas::all_laws))]
+fn ways_known(alloc: Global, scope: &Scope<'_>, ways: &[(Way, Txt)]) -> Result<Numbers, CheckFault>
+    ensures { Judges (λ l. l) (each_judged (spec.way_known (scope_in scope.now)) ways.now) result }
+{
+    let mut types = List::new(alloc);
+    for way in ways {
+        let t = way_known(alloc, scope, way.0, way.1.as_str())?;
+        types.push(t)?;
+    }
+    Ok(types)
+}
+
+/// Only the last step names its edge and its vertex.
+fn nameless(is_last: bool, name: &Option<Txt>) -> Result<(), CheckFault>
+    ensures { Judges (λ _. true) (spec.nameless is_last name.now) result }
+{
+    match is_last {
+        true => Ok(()),
+        false => allowed(!name.is_some()),
+    }
+}
+
+/// A step, which is the last or not.
+#[tactic(auto, using(crate::proofs::ScopeLemmas::walk_laws))]
+fn step(
+    alloc: Global,
+    scope: &mut Scope<'_>,
+    ends: &[u32],
+    is_last: bool,
+    tree: &StepTree,
+) -> Result<(), CheckFault>
+    ensures judged { Judges (λ _. scope_in scope.new) (walks.step_within (scope_in scope.old) ends.now is_last (view_step tree.now)) result }
+    ensures grows { IfOk result (λ _. Grows scope.old scope.new) }
+{
+    let edges = ways_known(alloc, scope, tree.ways.as_slice())?;
+    nameless(is_last, &tree.edge_alias)?;
+    with_edge_alias(alloc, scope, &tree.edge_alias, edges.as_slice())?;
+    known_targets(alloc, scope, &tree.targets)?;
+    nameless(is_last, &tree.target_alias)?;
+    with_alias(alloc, scope, &tree.target_alias, ends)
+}
+
+fn steps(
+    alloc: Global,
+    scope: &mut Scope<'_>,
+    ends: &[u32],
+    list: &[StepTree],
+) -> Result<(), CheckFault>
+    ensures judged { Judges (λ _. scope_in scope.new) (spec.typing_steps (scope_in scope.old) ends.now (map view_step list.now)) result }
+    ensures grows { IfOk result (λ _. Grows scope.old scope.new) }
+{
+    for (place, tree) in list.iter().enumerate() {
+        step(alloc, scope, ends, place + 1 == list.len(), tree)?;
+    }
+    Ok(())
+}
+
+/// One to three steps.
+fn is_path(list: &[StepTree]) -> bool
+    ensures { result ≡ walks.is_path (map view_step list.now) }
+{
+    0 < list.len() && list.len() <= 3
+}
+
+#[tactic(auto, using(crate::proofs::ScopeLemmas::walk_laws))]
+fn path(
+    alloc: Global,
+    scope: &mut Scope<'_>,
+    ends: &[u32],
+    list: &[StepTree],
+) -> Result<(), CheckFault>
+    ensures judged { Judges (λ _. scope_in scope.new) (walks.path_within (scope_in scope.old) ends.now (map view_step list.now)) result }
+    ensures grows { IfOk result (λ _. Grows scope.old scope.new) }
+{
+    allowed(scope.with_paths())?;
+    matched(is_path(list))?;
+    steps(alloc, scope, ends, list)
+}
+
+// ---- walks
+
+/// The walk behind a source, with its aliases, which come into view; `ends` are the types of its target alias.
+#[tactic(auto, using(crate::proofs::ScopeLemmas::grow_laws))]
+pub fn walk(
+    alloc: Global,
+    scope: &mut Scope<'_>,
+    ends: &[u32],
+    tree: &Option<PatternTree>,
+) -> Result<(), CheckFault>
+    ensures judged { Judges (λ _. scope_in scope.new) (spec.typing_walk (scope_in scope.old) ends.now (view_walk tree.now)) result }
+    ensures grows { IfOk result (λ _. Grows scope.old scope.new) }
+{
+    match tree {
+        None => Ok(()),
+        Some(tree) => match tree {
+            PatternTree::Hop(tree) => hop(alloc, scope, ends, tree),
+            PatternTree::Path(list) => path(alloc, scope, ends, list.as_slice()),
+        },
+    }
+}
+
+/// The target alias: that of a hop, or of the last step of a path.
+pub fn target_alias(tree: &Option<PatternTree>) -> Option<&str>
+    ensures { option_copied result ≡ patterns.target_alias (view_walk tree.now) }
+{
+    match tree {
+        None => None,
+        Some(tree) => match tree {
+            PatternTree::Hop(tree) => text_of(&tree.target_alias),
+            PatternTree::Path(list) => last_alias(list.as_slice()),
+        },
+    }
+}
+
+fn last_alias(list: &[StepTree]) -> Option<&str>
+    ensures { option_copied result ≡ walks.last_alias (patterns.last_step (map view_step list.now)) }
+{
+    match list.last() {
+        None => None,
+        Some(tree) => text_of(&tree.target_alias),
+    }
+}

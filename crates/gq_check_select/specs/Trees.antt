@@ -1,0 +1,37 @@
+-- Trees: lists of inputs, and the branches of an IF, as plain data; and two rules of ACCUM and POST-ACCUM over names that are bytes.
+use Rattle.std.specs.Prelude.{ℕ, Bool, true, not, ◌&&◌, List, map, Option, Ok}
+use Rattle.std.specs.Option.{option_map}
+use Rattle.std.specs.Str.{bytes_eq}
+use Rattle.gq_tree.specs.View.{Named, view}
+use Rattle.gq_tree.specs.declared.expr.Node.{Node}
+use Rattle.gq_tree.specs.declared.select.ActTree.{ActTree}
+use Rattle.gq_tree.specs.declared.select.InputTree.{InputTree}
+use Rattle.gq_value.specs.Accums.{Accum}
+use Rattle.gq_rules_typing.specs.Statements.{Bytes}
+use Rattle.gq_rules_typing.specs.Selecting as plain
+use Rattle.gq_rules_typing.specs.SelectViews.{inputs_of, view_input, choices_of, view_act}
+use Rattle.gq_rules_typing.specs.Judging.{TwoAliases, OrderDependent, Judged, ◌>>=◌, ◌>>◌, unless}
+use Rattle.gq_rules_typing.specs.Kinds.{is_list}
+use Rattle.gq_rules_typing.specs.Scopes.{Scope}
+use Rattle.gq_rules_typing.specs.ActTypes.{one_more, typing_act}
+use Rattle.gq_rules_typing.specs.Patterns.{is_alias}
+use Rattle.gq_rules_typing.specs.Mentions.{in_act}
+
+abbrev pub view_inputs : List InputTree → plain.Inputs Named
+view_inputs xs = inputs_of (map view_input xs)
+
+-- IF and each ELSE IF with what its acts are, and what stands behind ELSE
+abbrev pub view_choices : List (Node × List ActTree) → Option (List ActTree) → plain.Choices Named
+view_choices branches others = choices_of (map (λ b. (view b.0, map view_act b.1)) branches) (option_map (map view_act) others)
+
+-- a ListAccum takes no input in ACCUM
+abbrev pub in_any_order : Bytes → Accum → Judged Bool
+in_any_order a k = unless (OrderDependent a) (not (is_list k))
+
+-- a statement of POST-ACCUM names one vertex alias at most
+abbrev pub names_one : Option Bytes → Option Bytes → plain.Act Named → Judged Bool
+names_one source target a = unless TwoAliases (not (in_act (is_alias bytes_eq source) a && in_act (is_alias bytes_eq target) a))
+
+-- one statement of POST-ACCUM more, behind n; how many there are then
+abbrev pub post_act : Scope Bytes → Option Bytes → Option Bytes → ℕ → plain.Act Named → Judged ℕ
+post_act s source target n a = one_more n >>= λ m. typing_act s true m a >>= λ k. names_one source target a >> Ok k

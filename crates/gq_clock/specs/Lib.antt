@@ -1,4 +1,0 @@
-pub mod Deciding
-pub mod Numbers
-pub mod Moments
-pub mod Readings

@@ -1,3 +1,0 @@
-pub mod ControlLemmas
-pub mod LoopLemmas
-pub mod RoundLemmas

@@ -1,0 +1,3 @@
+mod AttributeLemmas
+mod DeniedLemmas
+mod CreatedLemmas

@@ -1,0 +1,6 @@
+pub mod Attributes
+pub mod Declarations
+pub mod Jobs
+pub mod Tells
+pub mod Fitting
+pub mod FittingLaws

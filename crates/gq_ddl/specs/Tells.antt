@@ -1,0 +1,11 @@
+-- Tells: when an answer is the refusal that is due, or out of memory for its name.
+use Rattle.std.specs.Prelude.{◌≡◌}
+use Rattle.gq_diagnostics.specs.declared.refusal.Refusal.{Refusal}
+use Rattle.gq_diagnostics.specs.declared.refusal.StatementFault.{StatementFault}
+use Rattle.gq_diagnostics.specs.declared.refusal.StatementFault.TheVariants as fault
+
+-- the fault is this refusal, or OutOfMemory
+abbrev pub Tells : Refusal → StatementFault → Type 0
+Tells due (fault.Refused found) = found ≡ due
+Tells due fault.ReadFault = ⊥
+Tells due fault.OutOfMemory = Unit {0}

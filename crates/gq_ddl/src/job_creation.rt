@@ -1,0 +1,83 @@
+// CREATE LOADING JOB.
+ghost use Rattle.std.specs.Prelude.{◌≡◌, ◌<◌, Some, OnErr, length};
+ghost use Rattle.gq_diagnostics.specs.Answers.{Answers};
+ghost use Rattle.gq_ddl.specs.Fitting.{JobsFit};
+ghost use Rattle.gq_ddl.specs.Jobs.{job_created, job_for};
+ghost use Rattle.gq_ddl.specs.Tells.{Tells};
+
+use crate::job_fault::statement_fault;
+use crate::named::{NamedJob, has_job};
+use gq_base::{List, OutOfMemory};
+use gq_diagnostics::{Refusal, StatementFault};
+use gq_load_plan::check_job;
+use gq_schema::Catalog;
+use gq_tree::JobTree;
+use gq_value::Txt;
+use std::alloc::Global;
+
+/// CREATE LOADING JOB. The jobs gain the one of the tree, or are as they were.
+///
+/// Refused where a job of the name is there, else where its graph isn't, else by the first rule that the job fails.
+pub fn create_job(
+    alloc: Global,
+    catalog: &Catalog,
+    jobs: &mut List<NamedJob>,
+    tree: &JobTree,
+) -> Result<(), StatementFault>
+    ensures created { Answers (job_created catalog.now jobs.old tree.now) jobs.old jobs.new result }
+    // Jobs of the catalog stay so, and the new one is one.
+    ensures fit { JobsFit catalog.now jobs.old → JobsFit catalog.now jobs.new }
+{
+    if has_job(jobs.as_slice(), tree.name.as_str()) {
+        return Err(name_taken(alloc, tree.name.as_str()));
+    }
+    match catalog.graph(tree.graph.as_str()) {
+        Some(graph) => add_job(alloc, catalog, graph, jobs, tree),
+        None => Err(unknown_graph(alloc, tree.graph.as_str())),
+    }
+}
+
+fn add_job(
+    alloc: Global,
+    catalog: &Catalog,
+    graph: u32,
+    jobs: &mut List<NamedJob>,
+    tree: &JobTree,
+) -> Result<(), StatementFault>
+    requires { graph < length catalog.now.graphs }
+    ensures created { Answers (job_for catalog.now jobs.old tree.now (Some graph)) jobs.old jobs.new result }
+    ensures fit { JobsFit catalog.now jobs.old → JobsFit catalog.now jobs.new }
+{
+    let job = match check_job(alloc, catalog, graph, tree) {
+        Ok(job) => job,
+        Err(fault) => return Err(statement_fault(fault)),
+    };
+    let name = match Txt::of(alloc, tree.name.as_str()) {
+        Ok(name) => name,
+        Err(OutOfMemory) => return Err(StatementFault::OutOfMemory),
+    };
+    match jobs.push(NamedJob { name, job }) {
+        Ok(()) => Ok(()),
+        Err(OutOfMemory) => Err(StatementFault::OutOfMemory),
+    }
+}
+
+// A job of the name is there, or memory for the name is wanting.
+fn name_taken(alloc: Global, name: &str) -> StatementFault
+    ensures { Tells (Refusal.NameTaken name.now) result }
+{
+    match Txt::of(alloc, name) {
+        Ok(name) => StatementFault::Refused(Refusal::NameTaken(name)),
+        Err(OutOfMemory) => StatementFault::OutOfMemory,
+    }
+}
+
+// No graph has the name, or memory for the name is wanting.
+fn unknown_graph(alloc: Global, name: &str) -> StatementFault
+    ensures { Tells (Refusal.UnknownName name.now) result }
+{
+    match Txt::of(alloc, name) {
+        Ok(name) => StatementFault::Refused(Refusal::UnknownName(name)),
+        Err(OutOfMemory) => StatementFault::OutOfMemory,
+    }
+}

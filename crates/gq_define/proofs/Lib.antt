@@ -1,2 +1,0 @@
-mod AttributeLemmas
-mod DeniedLemmas

@@ -1,3 +1,0 @@
-pub mod SortLemmas
-pub mod StepLemmas
-pub mod EndLemmas

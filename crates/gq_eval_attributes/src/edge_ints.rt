@@ -1,0 +1,41 @@
+// INTs of edges.
+ghost use Rattle.std.specs.Prelude.{◌≡◌, slice_get};
+ghost use Rattle.std.specs.Option.{option_copied};
+ghost use Rattle.gq_rules_meaning.specs.States as states;
+ghost use Rattle.gq_plan_ir.specs.ExprView.{field_of};
+ghost use Rattle.gq_eval_attributes.specs.Reads.{IsReadInt};
+
+use crate::int_items::{int_at, place_in};
+use crate::items::edge_type;
+use gq_edge::Edges;
+use gq_graph::EdgeRow;
+use gq_index::Graph;
+use gq_plan_ir::Field;
+
+/// The INT that an attribute of an edge is, of the edge and the type under which it was walked. None where it is something else, and where
+/// the plan's table doesn't say where it stands. Takes no memory.
+#[tactic(auto, using(crate::proofs::ReadLemmas::edge_laws))]
+pub fn edge_int(graph: Graph<'_>, field: &Field, edge: u32, kind: u32) -> Option<i64>
+    ensures { IsReadInt graph.entry (λ world. states.edge_field world (field_of field.now) edge kind) result }
+{
+    match field {
+        Field::Type => None,
+        Field::Named(places) => match place_in(&places.edges, kind) {
+            None => None,
+            Some(place) => match edge_row(&graph.store.edges, edge) {
+                None => None,
+                Some(row) => match edge_type(graph.catalog, kind) {
+                    None => None,
+                    Some(of) => int_at(&of.attributes, &row.attributes, place),
+                },
+            },
+        },
+    }
+}
+
+/// An edge by its number, if there is one.
+fn edge_row(edges: &Edges, edge: u32) -> Option<&EdgeRow>
+    ensures { slice_get edges.now.rows edge ≡ option_copied result }
+{
+    edges.rows().get(edge as usize)
+}

@@ -1,0 +1,43 @@
+// Items at places.
+ghost use Rattle.std.specs.Prelude.{◌≡◌, IfSome, Some, slice_get};
+ghost use Rattle.std.specs.Option.{option_copied, option_flatten};
+ghost use Rattle.gq_value.specs.Val.{Int};
+ghost use Rattle.gq_rules_meaning.specs.Answers.{Gives};
+ghost use Rattle.gq_eval_attributes.specs.Attributes.{attribute_at};
+ghost use Rattle.gq_eval_attributes.specs.Reads.{value_meant};
+
+use gq_base::List;
+use gq_graph::Attribute;
+use gq_value::Value;
+
+/// The item at a place, if there is one.
+pub(crate) fn item<T>(items: &List<T>, at: u32) -> Option<&T>
+    ensures { slice_get items.now at ≡ option_copied result }
+{
+    items.as_slice().get(at as usize)
+}
+
+/// The place that a table has for a type, if it has one.
+pub(crate) fn place_in(table: &List<Option<u32>>, kind: u32) -> Option<u32>
+    ensures { result ≡ option_flatten (slice_get table.now kind) }
+{
+    match item(table, kind) {
+        Some(Some(place)) => Some(*place),
+        Some(None) => None,
+        None => None,
+    }
+}
+
+/// The INT at a place of a row, of the attribute there.
+#[tactic(auto, using(crate::proofs::ReadLemmas::value_laws))]
+pub(crate) fn int_at(attributes: &List<Attribute>, row: &List<Value>, place: u32) -> Option<i64>
+    ensures { IfSome result (λ x. value_meant (attribute_at attributes.now row.now (Some place)) ≡ Gives (Int x)) }
+{
+    match item(row, place) {
+        Some(Value::Int(x)) => match item(attributes, place) {
+            Some(_) => Some(*x),
+            None => None,
+        },
+        _ => None,
+    }
+}

@@ -1,0 +1,9 @@
+pub mod TimeLemmas
+pub mod FunctionLemmas
+pub mod ContainLemmas
+pub mod MethodLemmas
+pub mod KeyLemmas
+pub mod RunLemmas
+pub mod CallSteps
+pub mod MethodSteps
+pub mod ListSteps

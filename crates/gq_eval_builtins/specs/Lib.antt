@@ -1,0 +1,4 @@
+pub mod Clock
+pub mod Elements
+pub mod Wants
+pub mod Steps

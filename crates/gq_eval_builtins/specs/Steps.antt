@@ -1,0 +1,37 @@
+-- Steps: parts of the meaning of an expression, as the code goes through them.
+use Rattle.std.specs.Prelude.{◌≡◌, Bool, [], ◌∷◌, None}
+use Rattle.gq_tree.specs.Tree.{Tree}
+use Rattle.gq_tree.specs.declared.expr.MulSign.{MulSign}
+use Rattle.gq_tree.specs.declared.expr.AddSign.{AddSign}
+use Rattle.gq_value.specs.declared.value.Wrong.{Wrong}
+use Rattle.gq_value.specs.declared.kind.Number.TheVariants as number
+use Rattle.gq_value.specs.Val.{Val, Truth}
+use Rattle.gq_rules_typing.specs.Words.{Function}
+use Rattle.gq_plan_ir.specs.Reference.{Reference, Calls}
+use Rattle.gq_rules_meaning.specs.Calls.{function_wants}
+use Rattle.gq_eval_operand.specs.Meant.{number_to}
+use Rattle.gq_eval_operand.specs.Sound.{IsOwn}
+use Rattle.gq_value.specs.Accums.{BOOL}
+use Rattle.gq_rules_meaning.specs.Answers.{Answer, ◌>>=◌}
+use Rattle.gq_rules_meaning.specs.Meanings.{Meant, Is, Outcome, value_of_meant}
+use Rattle.gq_rules_meaning.specs.Expressions.{Look, meaning, value_of, product, summed}
+
+abbrev pub true_meant : Bool → Meant
+true_meant b = Is BOOL (Truth b)
+
+-- one more factor, and one more term
+abbrev pub times_meaning : {N : Type 0} → Look N → Meant → MulSign → Tree N → Outcome
+times_meaning look m sign t = value_of_meant m >>= λ v. meaning look t >>= value_of_meant >>= product sign v
+
+abbrev pub plus_meaning : {N : Type 0} → Look N → Meant → AddSign → Tree N → Outcome
+plus_meaning look m sign t = value_of_meant m >>= λ v. meaning look t >>= value_of_meant >>= summed sign v
+
+-- a number as an INT
+abbrev pub int_value : {N : Type 0} → Look N → Tree N → Answer Wrong Val
+int_value look t = value_of look t >>= number_to number.Int
+
+-- a function of the language's own that takes one argument as it is
+pub record IsSingle (f : Reference) (g : Function) : Type 0 where
+  pub own : IsOwn g
+  pub wants : function_wants g ≡ None ∷ []
+  pub calls : f ≡ Calls g

@@ -1,0 +1,5 @@
+pub mod FieldLemmas
+pub mod DegreeLemmas
+pub mod SeesLemmas
+pub mod LimitLemmas
+pub mod FaultLemmas

@@ -1,0 +1,8 @@
+pub mod Ends
+pub mod Viewed
+pub mod Looks
+pub mod LookLaws
+pub mod FieldReads
+pub mod Answered
+pub mod Faults
+pub mod Limits

@@ -1,0 +1,19 @@
+// Faults.
+ghost use Rattle.std.specs.Prelude.{◌≡◌};
+ghost use Rattle.gq_eval_context.specs.Faults.{fault_at};
+
+use crate::after::BlockFault;
+use gq_eval_operand::Halt;
+
+/// The fault of a block whose evaluation at a vertex has ended. Where it is stuck, of which nothing is promised, it is `OutOfMemory`.
+pub fn fault_at(vertex: u32, halt: Halt) -> BlockFault
+    ensures { result ≡ fault_at vertex halt }
+{
+    match halt {
+        Halt::Wrong(fault) => BlockFault::Eval {
+            at: u64::from(vertex),
+            fault,
+        },
+        Halt::Stuck | Halt::Outside | Halt::OutOfMemory => BlockFault::OutOfMemory,
+    }
+}

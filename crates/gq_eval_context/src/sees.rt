@@ -1,0 +1,70 @@
+// A view, as what expressions see.
+ghost use Rattle.std.specs.Prelude.{refl};
+ghost use Rattle.gq_eval_context.specs.Looks.{look_of};
+ghost use Rattle.gq_eval_context.specs.LookLaws.{own_calls};
+
+use crate::clock::Clock;
+use crate::degrees::{degree, degree_under};
+use crate::fields::{field_seen, tuple_type};
+use crate::view::View;
+use gq_eval_operand::{Halt, Seen, Sees};
+use gq_frame::{named, read_target};
+use gq_plan_ir::Field;
+use gq_value::BaseType;
+use std::alloc::Global;
+
+#[tactic(auto, using(crate::proofs::SeesLemmas::sees_laws))]
+impl<'a, C: Clock> Sees for View<'a, C> {
+    ghost look = { look_of C.clock };
+
+    fn named(&self, place: u32) -> Result<Seen<'_>, Halt> {
+        named(
+            self.aliases,
+            self.plan.places.as_slice(),
+            self.things,
+            place,
+        )
+    }
+
+    fn global(&self, slot: u32) -> Result<Seen<'_>, Halt> {
+        read_target(self.accums, slot, 0)
+    }
+
+    fn attached(&self, slot: u32, vertex: u32) -> Result<Seen<'_>, Halt> {
+        read_target(self.accums, slot, vertex)
+    }
+
+    fn before(&self, slot: u32, vertex: u32) -> Result<Seen<'_>, Halt> {
+        read_target(self.before, slot, vertex)
+    }
+
+    fn field<'v>(
+        &'v self,
+        alloc: Global,
+        of: Seen<'v>,
+        field: &'v Field,
+    ) -> Result<Seen<'v>, Halt> {
+        field_seen(alloc, self.graph, self.tuples, of, field)
+    }
+
+    fn tuple(&self, number: u32) -> Option<&[BaseType]> {
+        match tuple_type(self.tuples, number) {
+            Some(of) => Some(of.types.as_slice()),
+            None => None,
+        }
+    }
+
+    fn degree(&self, vertex: u32) -> i64 {
+        degree(self.graph, self.plan.edges.as_slice(), vertex)
+    }
+
+    fn degree_under(&self, vertex: u32, edge: &str, _kinds: &[u32]) -> Option<i64> {
+        degree_under(self.graph, self.plan.edges.as_slice(), vertex, edge)
+    }
+
+    ghost calls = { λ v f own. own_calls C.clock v f own };
+
+    ghost does = { λ v m. refl };
+
+    ghost calendar = { λ v. C.is };
+}

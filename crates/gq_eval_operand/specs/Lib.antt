@@ -1,0 +1,11 @@
+pub mod Meant
+pub mod Sound
+pub use Rattle.gq_plan_ir.specs.Reference
+pub use Rattle.gq_plan_ir.specs.References
+pub use Rattle.gq_plan_ir.specs.declared.plan.PlaceType
+pub use Rattle.gq_plan_ir.specs.Answers
+pub use Rattle.gq_plan_ir.specs.Expressions
+pub use Rattle.gq_plan_ir.specs.Meanings
+pub use Rattle.gq_plan_ir.specs.States
+pub use Rattle.gq_plan_ir.specs.Types
+pub use Rattle.gq_plan_ir.specs.Words

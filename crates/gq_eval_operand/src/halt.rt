@@ -1,0 +1,28 @@
+// Why an evaluation ends without a value.
+use gq_base::OutOfMemory;
+use gq_value::Wrong;
+
+/// Why an evaluation ends without a value.
+#[derive(Clone, Copy, Debug, PartialEq, Eq)]
+pub enum Halt {
+    /// An operation has no value.
+    Wrong(Wrong),
+
+    /// What is named isn't there, or has a wrong type; never so of what is well typed.
+    Stuck,
+
+    /// A number or a time is past what the types can hold, of which nothing is said; never so of what is well typed.
+    Outside,
+    OutOfMemory,
+}
+
+impl From<OutOfMemory> for Halt {
+    ghost use Rattle.std.specs.Prelude.{◌≡◌};
+    ghost use Rattle.gq_eval_operand.specs.declared.halt.Halt.TheVariants.{OutOfMemory};
+
+    ghost from_gives = { λ _ e. e ≡ OutOfMemory };
+
+    fn from(_: OutOfMemory) -> Self {
+        Halt::OutOfMemory
+    }
+}

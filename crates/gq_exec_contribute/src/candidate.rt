@@ -1,0 +1,112 @@
+// What comes of a candidate.
+ghost use Rattle.std.specs.Prelude.{◌≡◌, [], IfOk};
+ghost use Rattle.std.specs.Option.{option_map};
+ghost use Rattle.gq_graph.specs.declared.rows.Candidate.{Candidate};
+ghost use Rattle.gq_rules_meaning.specs.Blocks.{match_of, passes};
+ghost use Rattle.gq_plan_ir.specs.BlockView.{view_block};
+ghost use Rattle.gq_plan_ir.specs.ExprView.{view};
+ghost use Rattle.gq_plan_ir.specs.References.{same};
+ghost use Rattle.gq_eval_operand.specs.Meant.{itself, Tells};
+ghost use Rattle.gq_frame.specs.Slots.{slots_are};
+ghost use Rattle.gq_exec_contribute.specs.Gathered.{shown};
+ghost use Rattle.gq_exec_contribute.specs.Passing.{Comes, GainsMatch};
+
+use crate::acts::run_acts;
+use crate::feeding::{Feeding, Room};
+use gq_base::OutOfMemory;
+use gq_core::Batches;
+use gq_eval::run_truth;
+use gq_eval_operand::{Halt, Sees};
+use gq_exec_feed::place;
+use gq_frame::{Accums, Slots};
+use gq_plan_ir::{Block, Expr};
+use gq_value::Wrong;
+use std::alloc::Global;
+use std::mem;
+
+/// What comes of a candidate.
+#[derive(Clone, Copy, Debug, PartialEq, Eq)]
+pub enum Outcome {
+    Passed,
+
+    /// WHERE is false.
+    Filtered,
+
+    /// WHERE or ACCUM faults.
+    Fault(Wrong),
+}
+
+/// Adds what a match contributes to batches; a candidate that WHERE filters, or that faults, adds nothing. The room serves one
+/// candidate after another. After `OutOfMemory` the batches are unspecified. What a block that isn't well typed is stuck at is
+/// `OutOfMemory` too.
+#[tactic(auto, using(crate::proofs::PassLemmas::comes_laws))]
+pub fn contribute<V: Sees>(
+    alloc: Global,
+    block: &Block,
+    sight: &V,
+    accums: &Accums,
+    room: &mut Room,
+    into: &mut Batches,
+) -> Result<Outcome, OutOfMemory>
+    requires { (V.look sight.now).world.words.same ≡ same }
+    ensures { IfOk result (λ o. (c : Candidate) → Comes accums.now.slots c (match_of (view_block block.now) (slots_are accums.now) c (V.look sight.now)) into.old into.new o) }
+{
+    match passes(&block.filter, alloc, sight) {
+        Ok(false) => Ok(Outcome::Filtered),
+        Err(Halt::Wrong(wrong)) => Ok(Outcome::Fault(wrong)),
+        Err(Halt::Stuck) | Err(Halt::Outside) | Err(Halt::OutOfMemory) => Err(OutOfMemory),
+        Ok(true) => {
+            let before = taken(alloc, room);
+            match run_acts(block.accum.as_slice(), alloc, sight, accums, before) {
+                Err(Halt::Wrong(wrong)) => Ok(Outcome::Fault(wrong)),
+                Err(Halt::Stuck) | Err(Halt::Outside) | Err(Halt::OutOfMemory) => Err(OutOfMemory),
+                Ok(gathered) => match put(gathered, &accums.slots, into) {
+                    Ok(emptied) => {
+                        room.gathered = emptied;
+                        Ok(Outcome::Passed)
+                    }
+                    Err(OutOfMemory) => Err(OutOfMemory),
+                },
+            }
+        }
+    }
+}
+
+/// Whether a candidate passes WHERE.
+fn passes<V: Sees>(filter: &Option<Expr>, alloc: Global, sight: &V) -> Result<bool, Halt>
+    ensures { Tells itself (passes (V.look sight.now) (option_map view filter.now)) result }
+{
+    match filter {
+        None => Ok(true),
+        Some(expr) => run_truth(expr, alloc, sight),
+    }
+}
+
+/// The room, with nothing in it.
+fn taken(alloc: Global, room: &mut Room) -> Vec<Feeding>
+    ensures { result.items ≡ [] }
+{
+    let mut gathered = mem::replace(&mut room.gathered, Vec::new(alloc));
+    gathered.clear();
+    gathered
+}
+
+/// Puts all that was gathered into batches, in order, and gives its room back. What can't be taken is no input of a well typed block.
+#[tactic(auto, using(crate::proofs::PassLemmas::put_laws))]
+fn put(
+    gathered: Vec<Feeding>,
+    slots: &Slots,
+    into: &mut Batches,
+) -> Result<Vec<Feeding>, OutOfMemory>
+    ensures { IfOk result (λ _. GainsMatch slots.now into.old into.new (shown gathered.items)) }
+{
+    let mut left = gathered;
+    left.reverse();
+    while let Some(feeding) = left.pop() {
+        match place(slots, feeding.slot, feeding.vertex, &feeding.input) {
+            None => return Err(OutOfMemory),
+            Some(target) => into.add(target, feeding.input)?,
+        }
+    }
+    Ok(left)
+}

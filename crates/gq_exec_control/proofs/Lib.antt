@@ -1,0 +1,11 @@
+pub mod ControlLemmas
+pub mod LoopLemmas
+pub mod RoundLemmas
+pub mod Steps
+pub mod GroundLemmas
+pub mod LimitLemmas
+pub mod ElementLemmas
+pub mod RangeLemmas
+pub mod OverLemmas
+pub mod ValueLemmas
+pub mod LocalLemmas

@@ -1,0 +1,13 @@
+use Rattle.std.proofs.Common.{subst}
+use Rattle.std.specs.Option.{option_map}
+use Rattle.gq_value.specs.AccumViews.{base_of}
+use Rattle.gq_value.specs.Views.{val}
+use Rattle.gq_rules_meaning.specs.Statements.{local_value}
+use Rattle.gq_plan_ir.specs.ExprView.{view}
+use Rattle.gq_eval_operand.specs.Meant.{Tells}
+use Rattle.gq_eval_context.specs.Viewed.{Viewed}
+use Rattle.gq_eval_context.specs.Looks.{look_of}
+use Rattle.gq_exec_control.proofs.value.value_over.Goals as goal
+
+pub returns : goal.returns
+returns g c = subst (λ (v : Viewed). Tells val (local_value (look_of g.C.Clock.clock v) (base_of c.args.base.now) (option_map view c.args.local.now)) c.value_seen.result) c.sight-sight.ensures c.value_seen.ensures

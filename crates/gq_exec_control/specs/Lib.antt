@@ -1,0 +1,9 @@
+pub mod Standing
+pub mod Values
+pub mod Bodies
+pub mod Grounds
+pub mod Faults
+pub mod Places
+pub mod Changes
+pub mod Rounds
+pub mod Locals

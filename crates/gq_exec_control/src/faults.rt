@@ -1,0 +1,38 @@
+// Faults of a run.
+ghost use Rattle.std.specs.Prelude.{◌≡◌};
+ghost use Rattle.gq_exec_control.specs.Faults.{fault_of, fault_of_block, faults_of};
+
+use crate::running::RunFault;
+use gq_eval_context::BlockFault;
+use gq_eval_operand::Halt;
+
+/// An answer with the fault of a run. Where an evaluation is stuck or outside, which no plan of a checked query is, it is `OutOfMemory`.
+pub fn or_fault<T>(told: Result<T, Halt>) -> Result<T, RunFault>
+    ensures { result ≡ faults_of told }
+{
+    match told {
+        Ok(answer) => Ok(answer),
+        Err(halt) => Err(run_fault(halt)),
+    }
+}
+
+/// The fault of a run that an evaluation's end is.
+pub fn run_fault(halt: Halt) -> RunFault
+    ensures { result ≡ fault_of halt }
+{
+    match halt {
+        Halt::Wrong(fault) => RunFault::Eval(fault),
+        Halt::Stuck | Halt::Outside | Halt::OutOfMemory => RunFault::OutOfMemory,
+    }
+}
+
+/// The fault of a block as that of the run; the place within the block goes.
+pub fn block_fault(fault: BlockFault) -> RunFault
+    ensures { result ≡ fault_of_block fault }
+{
+    match fault {
+        BlockFault::Eval { at: _, fault } => RunFault::Eval(fault),
+        BlockFault::SumRange { slot } => RunFault::SumRange(slot),
+        BlockFault::OutOfMemory => RunFault::OutOfMemory,
+    }
+}

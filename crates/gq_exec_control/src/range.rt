@@ -1,0 +1,120 @@
+// Ranges of numbers.
+ghost use Rattle.std.specs.Prelude.{◌≡◌, pos};
+ghost use Rattle.gq_value.specs.AccumViews.{base_of};
+ghost use Rattle.gq_value.specs.Views.{val};
+ghost use Rattle.gq_value.specs.declared.kind.Number.TheVariants as number;
+ghost use Rattle.gq_rules_meaning.specs.Expressions.{value_of};
+ghost use Rattle.gq_rules_meaning.specs.Statements.{between, end_of};
+ghost use Rattle.gq_plan_ir.specs.ExprView.{view};
+ghost use Rattle.gq_eval_operand.specs.Meant.{Tells, is_unsigned, itself, valued};
+ghost use Rattle.gq_exec_control.specs.Rounds.{between_as, both_ends, rounds_in};
+
+use crate::running::Rounds;
+use gq_eval::run_value;
+use gq_eval_operand::{Halt, Operand, Sees, converted_to, number};
+use gq_plan_ir::Expr;
+use gq_value::{BaseType, Number, Value};
+use std::alloc::Global;
+
+/// The numbers from one to another, both of which count. They are UINT where both ends are, else INT.
+#[tactic(auto, using(crate::proofs::RangeLemmas::range_laws))]
+pub(crate) fn range<V: Sees>(
+    first: &Expr,
+    last: &Expr,
+    base: &BaseType,
+    alloc: Global,
+    sight: &V,
+) -> Result<Rounds, Halt>
+    ensures { Tells (rounds_in (base_of base.now)) (both_ends (value_of (V.look sight.now) (view first.now)) (value_of (V.look sight.now) (view last.now))) result }
+{
+    let first = run_value(first, alloc, sight)?;
+    let last = run_value(last, alloc, sight)?;
+    between(base, &first, &last)
+}
+
+#[tactic(auto, using(crate::proofs::RangeLemmas::both_laws))]
+fn between(base: &BaseType, first: &Operand<'_>, last: &Operand<'_>) -> Result<Rounds, Halt>
+    ensures { Tells (rounds_in (base_of base.now)) (between (valued first.now) (valued last.now)) result }
+{
+    if is_unsigned(first) && is_unsigned(last) {
+        uints(base, first, last)
+    } else {
+        ints(base, first, last)
+    }
+}
+
+#[tactic(auto, using(gq_eval_operand::proofs::ConvertLemmas::base_laws, crate::proofs::RangeLemmas::int_laws))]
+fn ints(base: &BaseType, first: &Operand<'_>, last: &Operand<'_>) -> Result<Rounds, Halt>
+    ensures { Tells (rounds_in (base_of base.now)) (between_as number.Int (valued first.now) (valued last.now)) result }
+{
+    match base {
+        BaseType::Int => {
+            let first = int_end(first)?;
+            let last = int_end(last)?;
+            Ok(Rounds::Ints(first, last))
+        }
+        BaseType::UInt | BaseType::Bool | BaseType::Text | BaseType::Time => Err(Halt::Outside),
+        BaseType::AnyVertex | BaseType::VertexOf(_) | BaseType::Tuple(_, _) => Err(Halt::Outside),
+    }
+}
+
+#[tactic(auto, using(gq_eval_operand::proofs::ConvertLemmas::base_laws, crate::proofs::RangeLemmas::uint_laws))]
+fn uints(base: &BaseType, first: &Operand<'_>, last: &Operand<'_>) -> Result<Rounds, Halt>
+    ensures { Tells (rounds_in (base_of base.now)) (between_as number.UInt (valued first.now) (valued last.now)) result }
+{
+    match base {
+        BaseType::UInt => {
+            let first = uint_end(first)?;
+            let last = uint_end(last)?;
+            Ok(Rounds::UInts(first, last))
+        }
+        BaseType::Int | BaseType::Bool | BaseType::Text | BaseType::Time => Err(Halt::Outside),
+        BaseType::AnyVertex | BaseType::VertexOf(_) | BaseType::Tuple(_, _) => Err(Halt::Outside),
+    }
+}
+
+/// An end, converted to INT.
+#[tactic(auto, using(gq_value::specs::ViewLaws::view_laws, crate::proofs::RangeLemmas::int_end_laws))]
+fn int_end(operand: &Operand<'_>) -> Result<i64, Halt>
+    ensures { Tells itself (end_of number.Int (valued operand.now)) result }
+{
+    let end = converted_to(Number::Int, operand)?;
+    match number(&end) {
+        Ok(Value::Int(x)) => Ok(x),
+        Ok(_) | Err(_) => Err(Halt::Outside),
+    }
+}
+
+/// An end, converted to UINT.
+#[tactic(auto, using(gq_value::specs::ViewLaws::view_laws, crate::proofs::RangeLemmas::uint_end_laws))]
+fn uint_end(operand: &Operand<'_>) -> Result<u64, Halt>
+    ensures { Tells pos (end_of number.UInt (valued operand.now)) result }
+{
+    let end = converted_to(Number::UInt, operand)?;
+    match number(&end) {
+        Ok(Value::UInt(n)) => Ok(n),
+        Ok(_) | Err(_) => Err(Halt::Outside),
+    }
+}
+
+/// Whether a value is a UINT.
+fn is_unsigned(operand: &Operand<'_>) -> bool
+    ensures { result ≡ is_unsigned (valued operand.now) }
+{
+    match operand {
+        Operand::Made(value) => is_uint(value),
+        Operand::Lent(value) => is_uint(value),
+        Operand::Text(_) => false,
+    }
+}
+
+#[tactic(auto, using(gq_value::specs::ViewLaws::view_laws))]
+fn is_uint(value: &Value) -> bool
+    ensures { result ≡ is_unsigned (val value.now) }
+{
+    match value {
+        Value::UInt(_) => true,
+        Value::Int(_) | Value::Bool(_) | Value::Text(_) | Value::Vertex(_) => false,
+        Value::Tuple(_) | Value::Fraction(_) => false,
+    }
+}

@@ -1,0 +1,98 @@
+// A run, and why it ends.
+ghost use Rattle.std.specs.Prelude.{◌≡◌, IfOk, pos, slice_get};
+ghost use Rattle.std.specs.Option.{option_map};
+ghost use Rattle.gq_value.specs.Views.{val};
+ghost use Rattle.gq_value.specs.declared.kind.Number.TheVariants as number;
+ghost use Rattle.gq_rules_meaning.specs.Statements.{numbers_between};
+ghost use Rattle.gq_exec_control.specs.Values.{values_of};
+
+use gq_base::{List, OutOfMemory};
+use gq_frame::Live;
+use gq_json::Printed;
+use gq_value::{Row, Value, Wrong};
+use std::alloc::Global;
+
+/// What is live in a run, the turns left, and what was printed, an object for each PRINT.
+#[derive(Drop)]
+pub struct Running {
+    pub live: Live,
+    pub turns: u64,
+    pub printed: List<Printed>,
+}
+
+/// Why a run ends before its last statement.
+#[derive(Clone, Copy, Debug, PartialEq, Eq)]
+pub enum RunFault {
+    /// An expression's fault.
+    Eval(Wrong),
+
+    /// A sum out of range, in the accumulator of a slot.
+    SumRange(u32),
+
+    /// A body that no turn is left for.
+    LoopBound,
+
+    /// A path with too many bindings.
+    PathBound,
+    OutOfMemory,
+}
+
+impl From<OutOfMemory> for RunFault {
+    ghost use Rattle.std.specs.Prelude.{◌≡◌};
+    ghost use Rattle.gq_exec_control.specs.declared.running.RunFault.TheVariants.{OutOfMemory};
+
+    ghost from_gives = { λ _ e. e ≡ OutOfMemory };
+
+    fn from(_: OutOfMemory) -> Self {
+        RunFault::OutOfMemory
+    }
+}
+
+/// What FOREACH goes over: values, or numbers with both ends.
+#[derive(Drop)]
+pub enum Rounds {
+    Elements(Row),
+    Ints(i64, i64),
+    UInts(u64, u64),
+}
+
+impl Rounds {
+    /// The value of a round, by its number from 0, if there is one.
+    pub fn at(&self, alloc: Global, round: u64) -> Result<Option<Value>, OutOfMemory>
+        ensures { IfOk result (λ value. slice_get (values_of self.now) round ≡ option_map val value) }
+    {
+        match self {
+            Rounds::Elements(row) => match row.as_slice().get(round as usize) {
+                Some(value) => Ok(Some(value.duplicate(alloc)?)),
+                None => Ok(None),
+            },
+            Rounds::Ints(first, last) => Ok(int_at(*first, *last, round)),
+            Rounds::UInts(first, last) => Ok(uint_at(*first, *last, round)),
+        }
+    }
+}
+
+/// A number from the first one on, up to the last.
+fn int_at(first: i64, last: i64, round: u64) -> Option<Value>
+    ensures { slice_get (numbers_between number.Int first last) round ≡ option_map val result }
+{
+    let x = i128::from(first) + i128::from(round);
+    if x <= i128::from(last) {
+        Some(Value::Int(x as i64))
+    } else {
+        None
+    }
+}
+
+fn uint_at(first: u64, last: u64, round: u64) -> Option<Value>
+    ensures { slice_get (numbers_between number.UInt (pos first) (pos last)) round ≡ option_map val result }
+{
+    if first > last {
+        return None;
+    }
+    let span = last - first;
+    if round > span {
+        return None;
+    }
+    Some(Value::UInt(first + round))
+}

@@ -1,0 +1,176 @@
+-- FitLemmas: sums judged, content by content and slot by slot.
+use Rattle.std.proofs.Common.{if◌then◌else◌, ◌≡◌, ℕ, zero, suc, ◌+◌, ◌-◌, ◌<◌, ◌≤◌, ◌&&◌, min, Bool, true, false, List, [], ◌∷◌, take, drop, length, map, get_or, Some, None, refl, sym, ap, ◌∙◌, subst, arith, length-drop}
+use Rattle.std.proofs.lemmas.List.Elements.{All-cons}
+use Rattle.std.specs.List.{All, list_all}
+use Rattle.gq_value.specs.declared.kind.Slot.{Slot}
+use Rattle.gq_value.specs.Accums.{Accum}
+use Rattle.gq_value.specs.AccumViews.{accum_of}
+use Rattle.gq_accum_laws.specs.Fits.{fits}
+use Rattle.gq_accum_laws.proofs.FedLaws.{fed_law}
+use Rattle.gq_nest.specs.declared.content.Content.{Content}
+use Rattle.gq_nest.specs.Tells.{Tells}
+use Rattle.gq_frame.specs.declared.accums.Accums.{Accums}
+use Rattle.gq_frame.specs.Targets.{targets_of}
+use Rattle.gq_rules_meaning.specs.Blocks.{first_unfit}
+use Rattle.gq_eval_operand.specs.Sound.{IsSound}
+use Rattle.gq_frame.specs.Slots.{slots_from, slots_are, AreSound}
+use Rattle.gq_exec_feed.specs.Feeding.{IsFed, AreFed}
+use Rattle.gq_exec_feed.specs.Steps.{AllFit}
+use Rattle.gq_exec_feed.proofs.PlaceLemmas.{drop_item, get_some, drop_all}
+use Rattle.gq_exec_feed.proofs.SlotLemmas.{Every, EachSlot, seen_in, slots_of_targets, targets_of_slots}
+
+-- ---- what is fed and fits is sound
+
+fit_sound : (k : Accum) (f : ℕ) (c : Content) → IsFed k f c → fits k (seen_in k c) ≡ true → IsSound k c
+fit_sound k f c h e = record { shows = h.shows; forms = h.forms; fit = e }
+
+both : (a b : Bool) → (a && b) ≡ true → (a ≡ true) × (b ≡ true)
+both true b h = (refl, h)
+both false b h = absurd (cc h)
+
+every_fit : (k : Accum) (f : ℕ) (cs : List Content) → Every (IsFed k f) cs → list_all (fits k) (map (seen_in k) cs) ≡ true → Every (IsSound k) cs
+every_fit k f [] h e = tt
+every_fit k f (c ∷ cs) h e = let b = both (fits k (seen_in k c)) (list_all (fits k) (map (seen_in k) cs)) e in (fit_sound k f c h.0 b.0, every_fit k f cs h.1 b.1)
+
+slots_fit : (vertices f n : ℕ) (ss : List Slot) (cs : List Content) → EachSlot (λ k c. IsFed k f c) vertices ss cs → first_unfit n (slots_from vertices n ss cs) ≡ None → EachSlot IsSound vertices ss cs
+slots_fit vertices f n [] cs h e = tt
+slots_fit vertices f n (s ∷ ss) cs h e = by (list_all (fits (accum_of s.kind)) (map (seen_in (accum_of s.kind)) (take (targets_of vertices s) cs))) refl e (λ r. slots_fit vertices f (suc n) ss (drop (targets_of vertices s) cs) h.1 r)
+  where
+    by : (b : Bool) → list_all (fits (accum_of s.kind)) (map (seen_in (accum_of s.kind)) (take (targets_of vertices s) cs)) ≡ b
+        → (if b then first_unfit (suc n) (slots_from vertices (suc n) ss (drop (targets_of vertices s) cs)) else Some n) ≡ None
+        → (first_unfit (suc n) (slots_from vertices (suc n) ss (drop (targets_of vertices s) cs)) ≡ None → EachSlot IsSound vertices ss (drop (targets_of vertices s) cs)) → EachSlot IsSound vertices (s ∷ ss) cs
+    by true q r more = (every_fit (accum_of s.kind) f (take (targets_of vertices s) cs) h.0 q, more r)
+    by false q r more = absurd (cc r)
+
+-- accumulators that were fed, where each content fits
+pub fed_sound : (f : ℕ) (a : Accums) → AreFed f a → first_unfit 0 (slots_are a) ≡ None → AreSound a
+fed_sound f a h e = record {
+  each = targets_of_slots IsSound a.slots.vertices a.slots.declared a.contents
+      (slots_fit a.slots.vertices f 0 a.slots.declared a.contents (slots_of_targets (λ k c. IsFed k f c) a.slots.vertices a.slots.declared a.contents h.each) e);
+}
+
+-- what is sound is as one input leads to
+pub sound_fed : (a : Accums) → AreSound a → AreFed 1 a
+sound_fed a h = record { each = λ n v s c e l g. let w = h.each n v s c e l g in record { shows = w.shows; forms = w.forms; fed = fed_law.fitting (accum_of s.kind) (seen_in (accum_of s.kind) c) w.shows.proper w.fit } }
+
+-- ---- the loop over the contents of a slot
+
+pub record FitFrom (cs : List Content) (i : ℕ) : Type 0 where
+  pub each : (k : Accum) (f : ℕ) → All (IsFed k f) cs → list_all (fits k) (map (seen_in k) cs) ≡ list_all (fits k) (map (seen_in k) (drop i cs))
+
+pub fit_first : (cs : List Content) → FitFrom cs 0
+fit_first cs = record { each = λ k f h. refl }
+
+tested : (cs : List Content) (i : ℕ) (c : Content) (b : Bool) → i < length cs → c ≡ get_or cs i c → Tells c b fits → (k : Accum) (f : ℕ) → All (IsFed k f) cs
+    → list_all (fits k) (map (seen_in k) (drop i cs)) ≡ (b && list_all (fits k) (map (seen_in k) (drop (i + 1) cs)))
+tested cs i c b l is t k f h =
+    ap (λ d. list_all (fits k) (map (seen_in k) d)) (drop_item cs i c (get_some cs i c l is))
+    ∙ ap (λ d. d && list_all (fits k) (map (seen_in k) (drop (suc i) cs))) (sym (t.each k (seen_in k c) (subst (λ x. IsFed k f x) (sym is) (h i c l)).shows))
+    ∙ (let e : suc i ≡ i + 1 = omega arith in ap (λ (n : ℕ). b && list_all (fits k) (map (seen_in k) (drop n cs))) e)
+
+pub fit_more : (cs : List Content) (i : ℕ) (c : Content) (b : Bool) → i < length cs → c ≡ get_or cs i c → Tells c b fits → b ≡ true → FitFrom cs i → FitFrom cs (i + 1)
+fit_more cs i c b l is t e h = record { each = λ k f p. h.each k f p ∙ tested cs i c b l is t k f p ∙ ap (λ d. d && list_all (fits k) (map (seen_in k) (drop (i + 1) cs))) e }
+
+pub fit_not : (cs : List Content) (i : ℕ) (c : Content) (b : Bool) → i < length cs → c ≡ get_or cs i c → Tells c b fits → b ≡ false → FitFrom cs i → AllFit cs false
+fit_not cs i c b l is t e h = record { each = λ k f p. sym (h.each k f p ∙ tested cs i c b l is t k f p ∙ ap (λ d. d && list_all (fits k) (map (seen_in k) (drop (i + 1) cs))) e) }
+
+pub fit_all : (cs : List Content) (i : ℕ) → length cs ≤ i → FitFrom cs i → AllFit cs true
+fit_all cs i l h = record { each = λ k f p. sym (h.each k f p ∙ ap (λ d. list_all (fits k) (map (seen_in k) d)) (drop_all cs i l)) }
+
+-- ---- the loop over the slots
+
+all_of_every : {A : Type 0} (P : A → Type 0) (xs : List A) → Every P xs → All P xs
+all_of_every P [] h = λ i d l. absurd (omega (arith, l))
+all_of_every P (x ∷ xs) h = All-cons P x xs h.0 (all_of_every P xs h.1)
+
+drop_drop : (xs : List Content) (i j : ℕ) → drop (i + j) xs ≡ drop j (drop i xs)
+drop_drop xs zero j = let e : 0 + j ≡ j = omega arith in ap (λ (n : ℕ). drop n xs) e
+drop_drop [] (suc i) j = let e : suc i + j ≡ suc (i + j) = omega arith in ap (λ (n : ℕ). drop n none) e ∙ nothing j
+  where
+    none : List Content
+    none = []
+
+    nothing : (j : ℕ) → drop (suc (i + j)) none ≡ drop j (drop (suc i) none)
+    nothing zero = refl
+    nothing (suc j) = refl
+drop_drop (x ∷ xs) (suc i) j = let e : suc i + j ≡ suc (i + j) = omega arith in ap (λ (n : ℕ). drop n (x ∷ xs)) e ∙ drop_drop xs i j
+
+take_min : {A : Type 0} (xs : List A) (t m : ℕ) → m ≡ min (length xs) t → take m xs ≡ take t xs
+take_min [] zero zero e = refl
+take_min [] (suc t) zero e = refl
+take_min [] zero (suc m) e = refl
+take_min [] (suc t) (suc m) e = refl
+take_min (x ∷ xs) zero m e = let z : m ≡ 0 = omega (arith, e) in ap (λ (n : ℕ). take n (x ∷ xs)) z
+take_min (x ∷ xs) (suc t) m e = let z : m ≡ suc (min (length xs) t) = omega (arith, e) in ap (λ (n : ℕ). take n (x ∷ xs)) z ∙ ap (λ l. x ∷ l) (take_min xs t (min (length xs) t) refl)
+
+drop_min : {A : Type 0} (xs : List A) (t m : ℕ) → m ≡ min (length xs) t → drop m xs ≡ drop t xs
+drop_min [] zero zero e = refl
+drop_min [] (suc t) zero e = refl
+drop_min [] zero (suc m) e = refl
+drop_min [] (suc t) (suc m) e = refl
+drop_min (x ∷ xs) zero m e = let z : m ≡ 0 = omega (arith, e) in ap (λ (n : ℕ). drop n (x ∷ xs)) z
+drop_min (x ∷ xs) (suc t) m e = let z : m ≡ suc (min (length xs) t) = omega (arith, e) in ap (λ (n : ℕ). drop n (x ∷ xs)) z ∙ drop_min xs t (min (length xs) t) refl
+
+-- the slots from a number on, with what is left of the contents
+abbrev UnfitRest : Accums → ℕ → List Content → ℕ → Type 0
+UnfitRest a n rest f = EachSlot (λ k c. IsFed k f c) a.slots.vertices (drop n a.slots.declared) rest × (first_unfit 0 (slots_are a) ≡ first_unfit n (slots_from a.slots.vertices n (drop n a.slots.declared) rest))
+
+-- from a place of the contents on
+pub record UnfitFrom (a : Accums) (n start : ℕ) : Type 0 where
+  pub within : start ≤ length a.contents
+  pub each : (f : ℕ) → AreFed f a → UnfitRest a n (drop start a.contents) f
+
+pub unfit_first : (a : Accums) → UnfitFrom a 0 0
+unfit_first a = record { within = omega arith; each = λ f h. (slots_of_targets (λ k c. IsFed k f c) a.slots.vertices a.slots.declared a.contents h.each, refl) }
+
+-- one slot
+slot_first : (a : Accums) (n : ℕ) (s : Slot) (rest own : List Content) (b : Bool) → n < length a.slots.declared → s ≡ get_or a.slots.declared n s → own ≡ take (targets_of a.slots.vertices s) rest → AllFit own b → (f : ℕ) → UnfitRest a n rest f
+    → EachSlot (λ k c. IsFed k f c) a.slots.vertices (drop (n + 1) a.slots.declared) (drop (targets_of a.slots.vertices s) rest)
+    × (first_unfit 0 (slots_are a) ≡ (if b then first_unfit (n + 1) (slots_from a.slots.vertices (n + 1) (drop (n + 1) a.slots.declared) (drop (targets_of a.slots.vertices s) rest)) else Some n))
+slot_first a n s rest own b l is e fit f so = let e1 : suc n ≡ n + 1 = omega arith in
+    subst (λ (m : ℕ). EachSlot (λ k c. IsFed k f c) a.slots.vertices (drop m a.slots.declared) (drop (targets_of a.slots.vertices s) rest)
+    × (first_unfit 0 (slots_are a) ≡ (if b then first_unfit m (slots_from a.slots.vertices m (drop m a.slots.declared) (drop (targets_of a.slots.vertices s) rest)) else Some n))) e1 (
+      opened.1,
+      so.1 ∙ ap (λ (d : List Slot). first_unfit n (slots_from a.slots.vertices n d rest)) item
+          ∙ ap (λ c. if c then first_unfit (suc n) (slots_from a.slots.vertices (suc n) (drop (suc n) a.slots.declared) (drop (targets_of a.slots.vertices s) rest)) else Some n) judged,
+    )
+  where
+    item : drop n a.slots.declared ≡ s ∷ drop (suc n) a.slots.declared
+    item = drop_item a.slots.declared n s (get_some a.slots.declared n s l is)
+
+    opened : Every (IsFed (accum_of s.kind) f) (take (targets_of a.slots.vertices s) rest) × EachSlot (λ k c. IsFed k f c) a.slots.vertices (drop (suc n) a.slots.declared) (drop (targets_of a.slots.vertices s) rest)
+    opened = subst (λ (d : List Slot). EachSlot (λ k c. IsFed k f c) a.slots.vertices d rest) item so.0
+
+    judged : list_all (fits (accum_of s.kind)) (map (seen_in (accum_of s.kind)) (take (targets_of a.slots.vertices s) rest)) ≡ b
+    judged = ap (λ (c : List Content). list_all (fits (accum_of s.kind)) (map (seen_in (accum_of s.kind)) c)) (sym e)
+        ∙ sym (fit.each (accum_of s.kind) f (subst (All (IsFed (accum_of s.kind) f)) (sym e) (all_of_every (IsFed (accum_of s.kind) f) (take (targets_of a.slots.vertices s) rest) opened.0)))
+
+-- the contents of a slot, where the code cuts them out
+cut : (cs : List Content) (start end t : ℕ) → start ≤ length cs → end ≡ min (start + t) (length cs) → end - start ≡ min (length (drop start cs)) t
+cut cs start end t low e = let d = length-drop start cs in omega (arith, d, e, low)
+
+pub unfit_more : (a : Accums) (n start end t : ℕ) (s : Slot) (own : List Content) (b : Bool) → n < length a.slots.declared → s ≡ get_or a.slots.declared n s → t ≡ targets_of a.slots.vertices s → end ≡ min (start + t) (length a.contents)
+    → own ≡ take (end - start) (drop start a.contents) → AllFit own b → b ≡ true → UnfitFrom a n start → UnfitFrom a (n + 1) end
+unfit_more a n start end t s own b l is e low o fit yes_fit so = record {
+  within = omega (arith, low);
+  each = λ f h.
+      let r = slot_first a n s (drop start a.contents) own b l is (o ∙ take_min (drop start a.contents) t (end - start) (cut a.contents start end t so.within low) ∙ ap (λ (i : ℕ). take i (drop start a.contents)) e) fit f (so.each f h) in
+      subst (λ (rest : List Content). UnfitRest a (n + 1) rest f) (sym (behind so.within)) (r.0, r.1 ∙ ap (λ c. if c then first_unfit (n + 1) (slots_from a.slots.vertices (n + 1) (drop (n + 1) a.slots.declared) (drop (targets_of a.slots.vertices s) (drop start a.contents))) else Some n) yes_fit);
+}
+  where
+    behind : start ≤ length a.contents → drop end a.contents ≡ drop (targets_of a.slots.vertices s) (drop start a.contents)
+    behind w = (let z : end ≡ start + (end - start) = omega (arith, low, w) in ap (λ (i : ℕ). drop i a.contents) z) ∙ drop_drop a.contents start (end - start)
+        ∙ drop_min (drop start a.contents) t (end - start) (cut a.contents start end t w low) ∙ ap (λ (i : ℕ). drop i (drop start a.contents)) e
+
+pub unfit_here : (a : Accums) (n start end t : ℕ) (s : Slot) (own : List Content) (b : Bool) → n < length a.slots.declared → s ≡ get_or a.slots.declared n s → t ≡ targets_of a.slots.vertices s → end ≡ min (start + t) (length a.contents)
+    → own ≡ take (end - start) (drop start a.contents) → AllFit own b → b ≡ false → UnfitFrom a n start → (f : ℕ) → AreFed f a → Some n ≡ first_unfit 0 (slots_are a)
+unfit_here a n start end t s own b l is e low o fit not_fit so f h =
+    let r = slot_first a n s (drop start a.contents) own b l is (o ∙ take_min (drop start a.contents) t (end - start) (cut a.contents start end t so.within low) ∙ ap (λ (i : ℕ). take i (drop start a.contents)) e) fit f (so.each f h) in
+    sym (r.1 ∙ ap (λ c. if c then first_unfit (n + 1) (slots_from a.slots.vertices (n + 1) (drop (n + 1) a.slots.declared) (drop (targets_of a.slots.vertices s) (drop start a.contents))) else Some n) not_fit)
+
+pub unfit_none : (a : Accums) (n start : ℕ) → length a.slots.declared ≤ n → UnfitFrom a n start → (f : ℕ) → AreFed f a → None ≡ first_unfit 0 (slots_are a)
+unfit_none a n start l so f h = sym ((so.each f h).1 ∙ ap (λ (d : List Slot). first_unfit n (slots_from a.slots.vertices n d (drop start a.contents))) (drop_all a.slots.declared n l))
+
+pub ruleset fit_laws = (fit_first, fit_more, fit_not, fit_all)
+
+pub ruleset unfit_laws = (unfit_first, unfit_more, unfit_here, unfit_none)

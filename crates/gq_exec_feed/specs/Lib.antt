@@ -1,0 +1,4 @@
+pub mod Taking
+pub mod Feeding
+pub mod Steps
+pub mod Ints

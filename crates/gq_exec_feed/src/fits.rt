@@ -1,0 +1,41 @@
+// Sums judged.
+ghost use Rattle.std.specs.Prelude.{◌≡◌, ℕ};
+ghost use Rattle.gq_rules_meaning.specs.Blocks.{first_unfit};
+ghost use Rattle.gq_frame.specs.Slots.{slots_are};
+ghost use Rattle.gq_exec_feed.specs.Feeding.{AreFed};
+ghost use Rattle.gq_exec_feed.specs.Steps.{AllFit};
+
+use crate::targets::targets;
+use gq_frame::Accums;
+use gq_nest::Content;
+
+/// The first accumulator with a content that doesn't fit, by its number. Takes no memory.
+#[tactic(auto, using(crate::proofs::FitLemmas::unfit_laws))]
+pub fn first_unfit(accums: &Accums) -> Option<usize>
+    ensures { (f : ℕ) → AreFed f accums.now → result ≡ first_unfit 0 (slots_are accums.now) }
+{
+    let contents = accums.contents.as_slice();
+    let mut start = 0;
+    for (number, slot) in accums.slots.declared.as_slice().iter().enumerate() {
+        let targets = targets(&accums.slots, slot) as usize;
+        let end = (start + targets).min(contents.len());
+        if !all_fit(&contents[start..end]) {
+            return Some(number);
+        }
+        start = end;
+    }
+    None
+}
+
+/// Whether all contents fit.
+#[tactic(auto, using(crate::proofs::FitLemmas::fit_laws))]
+fn all_fit(contents: &[Content]) -> bool
+    ensures { AllFit contents.now result }
+{
+    for content in contents {
+        if !content.fits() {
+            return false;
+        }
+    }
+    true
+}

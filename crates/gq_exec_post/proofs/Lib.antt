@@ -1,0 +1,14 @@
+pub mod NamingLemmas
+pub mod MadeLemmas
+pub mod ChangeLemmas
+pub mod WriteLaws
+pub mod Steps
+pub mod ActLemmas
+pub mod WriteLemmas
+pub mod WaitLemmas
+pub mod VertexLemmas
+pub mod FeedingLemmas
+pub mod PhaseLemmas
+pub mod RunLemmas
+pub mod PostLemmas
+pub mod NamelessLemmas

@@ -1,0 +1,62 @@
+-- Changing: the accumulators with a change of one of them at a vertex.
+use Rattle.std.specs.Prelude.{◌≡◌, ℕ, ◌<◌, Bool, true, List, slice_get, slice_set, Some}
+use Rattle.gq_value.specs.declared.kind.Slot.{Slot}
+use Rattle.gq_value.specs.Accums.{Accum}
+use Rattle.gq_value.specs.AccumViews.{accum_of, given}
+use Rattle.gq_value.specs.Views.{val}
+use Rattle.gq_value.specs.Typed.{takes, suits}
+use Rattle.gq_accum_laws.specs.Holds.{Holds}
+use Rattle.gq_accum_laws.specs.Fits.{HasRoom, fits}
+use Rattle.gq_nest.specs.declared.content.Content.{Content}
+use Rattle.gq_nest.specs.Shows.{Shows}
+use Rattle.gq_nest.specs.Tells.{CanBeSet, Tells, is_settable}
+use Rattle.gq_frame.specs.declared.slots.Slots.{Slots}
+use Rattle.gq_frame.specs.declared.accums.Accums.{Accums}
+use Rattle.gq_frame.specs.Targets.{targets_of}
+use Rattle.gq_rules_meaning.specs.States as states
+use Rattle.gq_rules_meaning.specs.Writes.{changed_at, fits_at, slot_changed}
+use Rattle.gq_plan_ir.specs.Reference.{Reference}
+use Rattle.gq_frame.specs.Slots.{AreSound, slots_are}
+use Rattle.gq_exec_post.specs.declared.making.Made.{Made}
+use Rattle.gq_exec_post.specs.declared.making.Made.TheVariants as made
+use Rattle.gq_exec_post.specs.Making.{making_of}
+
+-- a kind takes what is made
+abbrev pub MaySuit : Accum → Made → Type 0
+MaySuit k (made.Input x) = suits k (given x) ≡ true
+MaySuit k (made.Value v) = (is_settable k ≡ true) × (takes k (val v) ≡ true)
+
+-- there is such a target, and its kind takes it
+pub record MayChange (slots : Slots) (n v : ℕ) (m : Made) : Type 0 where
+  pub slot : Slot
+  pub declared : slice_get slots.declared n ≡ Some slot
+  pub within : v < targets_of slots.vertices slot
+  pub suited : MaySuit (accum_of slot.kind) m
+
+-- a content can be put to a value: it is one number or truth, and the value is of its type
+abbrev pub CanTake : Made → Content → Type 0
+CanTake (made.Input x) c = Unit {0}
+CanTake (made.Value v) c = CanBeSet c (val v)
+
+-- a content becomes what is made of it
+pub record Becomes (m : Made) (old new : Content) : Type 0 where
+  pub each : (k : Accum) (h : Holds k) → Shows k old h → HasRoom k h → MaySuit k m → Shows k new (making_of m k h)
+
+-- the content at a target becomes so, and the others stay
+pub record ChangesOne (m : Made) (old new : Accums) (target : ℕ) (fit : Bool) : Type 0 where
+  pub was : Content
+  pub now : Content
+  pub stood : slice_get old.contents target ≡ Some was
+  pub becomes : Becomes m was now
+  pub judged : Tells now fit fits
+  pub slots : new.slots ≡ old.slots
+  pub contents : new.contents ≡ slice_set old.contents target now
+
+-- the accumulators are those with the change, and the answer is whether it fits
+pub record Changed (m : Made) (old new : Accums) (n v : ℕ) (fit : Bool) : Type 0 where
+  pub slot : states.Slot Reference
+  pub stands : slice_get (slots_are old) n ≡ Some slot
+  pub slots : new.slots ≡ old.slots
+  pub changed : slots_are new ≡ changed_at (slot_changed (making_of m) v) n (slots_are old)
+  pub judged : fits_at v (slot_changed (making_of m) v slot) ≡ fit
+  pub sound : fit ≡ true → AreSound new

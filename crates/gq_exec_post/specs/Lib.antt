@@ -1,0 +1,7 @@
+pub mod Naming
+pub mod Making
+pub mod Changing
+pub mod Writing
+pub mod Sights
+pub mod Feeding
+pub mod Phases

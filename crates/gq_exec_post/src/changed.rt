@@ -1,0 +1,128 @@
+// Changes put into accumulators.
+ghost use Rattle.std.specs.Prelude.{◌≡◌, IfOk, IfSome, OnOk, Some, slice_get, true, false};
+ghost use Rattle.std.specs.Option.{option_copied};
+ghost use Rattle.gq_value.specs.AccumViews.{accum_of};
+ghost use Rattle.gq_accum_laws.specs.Fits.{fits as all_fit};
+ghost use Rattle.gq_nest.specs.declared.content.Content as content;
+ghost use Rattle.gq_nest.specs.Tells.{Tells, is_settable};
+ghost use Rattle.gq_frame.specs.Targets.{number_of, targets_of};
+ghost use Rattle.gq_frame.specs.Slots.{AreSound};
+ghost use Rattle.gq_exec_post.specs.Changing.{Becomes, CanTake, Changed, ChangesOne, MayChange, MaySuit};
+
+use crate::making::Made;
+use gq_base::{List, OutOfMemory};
+use gq_exec_feed::{suits, takes};
+use gq_frame::{Accums, Slots};
+use gq_nest::Content;
+use gq_value::{Kind, Slot};
+use std::alloc::Global;
+
+/// Why a change isn't made.
+#[derive(Clone, Copy, Debug, PartialEq, Eq)]
+pub enum ChangeFault {
+    /// A sum is out of range.
+    TooBig,
+    OutOfMemory,
+}
+
+/// Changes the accumulator of a slot at a vertex, which is 0 for a global one, and judges its content. After a fault that content is
+/// unspecified. There is no memory for a vertex that has no such accumulator, and for what its kind doesn't take.
+#[tactic(auto, using(crate::proofs::ChangeLemmas::change_laws))]
+pub fn change_at(
+    alloc: Global,
+    accums: &mut Accums,
+    slot: u32,
+    vertex: u32,
+    made: &Made,
+) -> Result<(), ChangeFault>
+    requires { AreSound accums.old }
+    ensures ok { OnOk result (Changed made.now accums.old accums.new slot vertex true) }
+    ensures too_big { result ≡ Err ChangeFault.TooBig → Changed made.now accums.old accums.new slot vertex false }
+{
+    match place(&accums.slots, slot, vertex, made) {
+        None => Err(ChangeFault::OutOfMemory),
+        Some(target) => match put_in(alloc, accums, target, made) {
+            Err(_) => Err(ChangeFault::OutOfMemory),
+            Ok(true) => Ok(()),
+            Ok(false) => Err(ChangeFault::TooBig),
+        },
+    }
+}
+
+/// The number of the target, if there is one and its kind takes what is made.
+fn place(slots: &Slots, slot: u32, vertex: u32, made: &Made) -> Option<u64>
+    ensures { IfSome result (λ target. (target ≡ number_of slots.now slot vertex) × MayChange slots.now slot vertex made.now) }
+{
+    match item(&slots.declared, slot as usize) {
+        None => None,
+        Some(declared) => {
+            if vertex < targets(slots, declared) && may_suit(&declared.kind, made) {
+                Some(slots.target(slot, vertex))
+            } else {
+                None
+            }
+        }
+    }
+}
+
+/// Whether a kind takes what is made.
+fn may_suit(kind: &Kind, made: &Made) -> bool
+    ensures { result ≡ true → MaySuit (accum_of kind.now) made.now }
+{
+    match made {
+        Made::Input(input) => suits(input, kind),
+        Made::Value(value) => is_settable(kind) && takes(value, kind),
+    }
+}
+
+/// Whether `=` puts a value to a kind.
+#[tactic(auto, using(gq_value::proofs::AccumLemmas::accum_laws))]
+fn is_settable(kind: &Kind) -> bool
+    ensures { result ≡ is_settable (accum_of kind.now) }
+{
+    match kind {
+        Kind::Sum(_) | Kind::Min(_) | Kind::Max(_) | Kind::Or | Kind::And => true,
+        Kind::BitOr | Kind::BitAnd => true,
+        Kind::Avg => false,
+        Kind::Set(_) | Kind::Bag(_) | Kind::List(_) => false,
+        Kind::Map(_, _) | Kind::Group(_) | Kind::Heap(_) => false,
+    }
+}
+
+/// The item at a place, if there is one.
+fn item<T>(items: &List<T>, at: usize) -> Option<&T>
+    ensures { slice_get items.now at ≡ option_copied result }
+{
+    items.as_slice().get(at)
+}
+
+/// How many targets a slot has.
+fn targets(slots: &Slots, slot: &Slot) -> u32
+    ensures { result ≡ targets_of slots.now.vertices slot.now }
+{
+    if slot.attached { slots.vertices } else { 1 }
+}
+
+/// Makes the change at a target, and judges what stands there.
+fn put_in(alloc: Global, accums: &mut Accums, target: u64, made: &Made) -> Result<bool, OutOfMemory>
+    requires { (c : content.Content) → slice_get accums.old.contents target ≡ Some c → CanTake made.now c }
+    ensures { IfOk result (ChangesOne made.now accums.old accums.new target) }
+{
+    if target >= accums.contents.len() as u64 {
+        return Err(OutOfMemory);
+    }
+    make(alloc, accums.at_mut(target), made)
+}
+
+/// Makes the change of a content, and judges it.
+fn make(alloc: Global, content: &mut Content, made: &Made) -> Result<bool, OutOfMemory>
+    requires { CanTake made.now content.old }
+    ensures becomes { OnOk result (Becomes made.now content.old content.new) }
+    ensures judged { IfOk result (λ fit. Tells content.new fit all_fit) }
+{
+    match made {
+        Made::Input(input) => content.feed(alloc, input)?,
+        Made::Value(value) => content.set(value),
+    }
+    Ok(content.fits())
+}

@@ -1,0 +1,84 @@
+// The end of a phase.
+ghost use Rattle.std.specs.Prelude.{◌≡◌, IfOk, IfSome};
+ghost use Rattle.gq_rules_meaning.specs.Blocks.{fed_together};
+ghost use Rattle.gq_eval_operand.specs.Meant.{itself};
+ghost use Rattle.gq_frame.specs.Slots.{AreSound, slots_are};
+ghost use Rattle.gq_eval_context.specs.Answered.{Answered};
+ghost use Rattle.gq_exec_post.specs.Feeding.{IsBatch, IsJudged};
+ghost use Rattle.gq_exec_post.specs.Writing.{KeepsTo, waiting_are};
+
+use crate::writing::{Waiting, Writing};
+use gq_base::{List, OutOfMemory};
+use gq_eval_context::BlockFault;
+use gq_exec_feed::{feed_all, first_unfit, place};
+use gq_frame::{Accums, Slots};
+use gq_value::Input;
+use std::alloc::Global;
+
+/// How many inputs may wait.
+const MOST_WAITING: usize = 1 << 60;
+
+/// The accumulators once all that waits is fed, or the first one with a sum out of range.
+pub(crate) fn fed(alloc: Global, writing: Writing) -> Result<Accums, BlockFault>
+    requires { AreSound writing.accums }
+    ensures told { Answered slots_are (fed_together (waiting_are writing.waiting.items) (slots_are writing.accums)) result }
+    ensures sound { IfOk result (KeepsTo writing.accums) }
+{
+    let mut accums = writing.accums;
+    match batch_of(alloc, &accums.slots, writing.waiting) {
+        Err(_) => Err(BlockFault::OutOfMemory),
+        Ok(batch) => match feed_all(alloc, &mut accums, batch.as_slice()) {
+            Err(_) => Err(BlockFault::OutOfMemory),
+            Ok(()) => judged(accums),
+        },
+    }
+}
+
+/// The accumulators, where all contents fit.
+#[tactic(auto, using(crate::proofs::FeedingLemmas::judged_laws))]
+fn judged(accums: Accums) -> Result<Accums, BlockFault>
+    ensures { IsJudged accums result }
+{
+    match first_unfit(&accums) {
+        None => Ok(accums),
+        Some(number) => match slot_number(number) {
+            Some(slot) => Err(BlockFault::SumRange { slot }),
+            None => Err(BlockFault::OutOfMemory),
+        },
+    }
+}
+
+/// The inputs that wait, each with the number of its target. Where there is no such target, of which nothing is promised, it is `OutOfMemory`
+/// , and so are more than 2^60 inputs.
+#[tactic(auto, using(crate::proofs::FeedingLemmas::batch_laws))]
+fn batch_of(
+    alloc: Global,
+    slots: &Slots,
+    waiting: Vec<Waiting>,
+) -> Result<List<(u64, Input)>, OutOfMemory>
+    ensures { IfOk result (IsBatch slots.now waiting.items) }
+{
+    if waiting.len() >= MOST_WAITING {
+        return Err(OutOfMemory);
+    }
+    let mut batch = List::new(alloc);
+    let mut left = waiting;
+    left.reverse();
+    while let Some(one) = left.pop() {
+        match place(slots, one.slot, 0, &one.input) {
+            None => return Err(OutOfMemory),
+            Some(target) => batch.push((target, one.input))?,
+        }
+    }
+    Ok(batch)
+}
+
+/// A number of a slot, in 32 bits.
+fn slot_number(number: usize) -> Option<u32>
+    ensures { IfSome result (λ slot. slot ≡ number) }
+{
+    if number > u32::MAX as usize {
+        return None;
+    }
+    Some(number as u32)
+}

@@ -1,0 +1,6 @@
+pub mod MarkLemmas
+pub mod SetLemmas
+pub mod SortLemmas
+pub mod StepLemmas
+pub mod EndLemmas
+pub mod StartLemmas

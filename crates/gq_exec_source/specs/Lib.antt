@@ -1,0 +1,4 @@
+pub mod Marks
+pub mod Seen
+pub mod Ends
+pub mod Starts

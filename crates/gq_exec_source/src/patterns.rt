@@ -1,0 +1,270 @@
+// Which types a walk goes along, and where it leads.
+ghost use Rattle.std.specs.Prelude.{◌≡◌, ◌==◌, ◌++◌, map, slice_get, IfOk, OnOk};
+ghost use Rattle.std.specs.List.{filter_map, flat_map, list_any};
+ghost use Rattle.std.specs.Option.{option_copied, option_map, option_to_list};
+ghost use Rattle.gq_rules_typing.specs.Sorts.{edge_sort};
+ghost use Rattle.gq_rules_typing.specs.Patterns as spec;
+ghost use Rattle.gq_plan_ir.specs.BlockView.{view_hop, view_path_step, view_types, view_walk};
+ghost use Rattle.gq_plan_ir.specs.Reference as reference;
+ghost use Rattle.gq_exec_source.specs.Seen.{own_of, own_ways, setting_for, sorts_for};
+
+use gq_base::{List, OutOfMemory};
+use gq_check_from::by_number;
+use gq_graph::{EdgeType, Numbers};
+use gq_plan_ir::{Hop, PathStep, Plan, Types, Walk};
+use gq_schema::Catalog;
+use gq_tree::Way;
+use std::alloc::Global;
+
+// ---- one edge type
+
+/// The edge type with a number.
+fn edge_at(catalog: &Catalog, t: u32) -> Option<&EdgeType>
+    ensures { option_map edge_sort (option_copied result) ≡ slice_get (map edge_sort catalog.now.edge_types) t }
+{
+    let types = catalog.edge_types();
+    if (t as usize) < types.len() {
+        Some(&types[t as usize])
+    } else {
+        None
+    }
+}
+
+/// A directed type is walked from FROM to TO, an undirected one from either end.
+#[tactic(auto, using(crate::proofs::SortLemmas::way_laws))]
+fn own_way(catalog: &Catalog, plan: &Plan, t: u32) -> Way
+    ensures { result ≡ spec.own_way (sorts_for catalog.now plan.now) t }
+{
+    let _ = plan;
+    match edge_at(catalog, t) {
+        None => Way::Both,
+        Some(edge) => {
+            if edge.directed {
+                Way::Forward
+            } else {
+                Way::Both
+            }
+        }
+    }
+}
+
+/// Puts last where an edge type leads, walked in a way.
+#[tactic(auto, using(crate::proofs::SortLemmas::way_laws))]
+fn push_ends(
+    catalog: &Catalog,
+    plan: &Plan,
+    way: Way,
+    t: u32,
+    ends: &mut Vec<u32>,
+) -> Result<(), OutOfMemory>
+    ensures { OnOk result (ends.new.items ≡ ends.old.items ++ spec.ends_of (sorts_for catalog.now plan.now) (way, t)) }
+{
+    let _ = plan;
+    match edge_at(catalog, t) {
+        None => Ok(()),
+        Some(edge) => match way {
+            Way::Forward => {
+                ends.push(edge.to)?;
+                Ok(())
+            }
+            Way::Backward => {
+                ends.push(edge.from)?;
+                Ok(())
+            }
+            Way::Both => {
+                ends.push(edge.from)?;
+                ends.push(edge.to)?;
+                Ok(())
+            }
+        },
+    }
+}
+
+// ---- the types that are named
+
+/// Whether a type is among those of the graph.
+pub(crate) fn is_own(own: &[u32], t: u32) -> bool
+    ensures { result ≡ list_any (λ m. m == t) own.now }
+{
+    own.contains(&t)
+}
+
+/// Those types that are among the graph's.
+#[tactic(auto, using(crate::proofs::SortLemmas::own_laws))]
+fn own_only(alloc: Global, own: &[u32], types: &[u32]) -> Result<Vec<u32>, OutOfMemory>
+    ensures { IfOk result (λ v. v.items ≡ filter_map (own_of own.now) types.now) }
+{
+    let mut named = Vec::new(alloc);
+    for t in types {
+        if is_own(own, *t) {
+            named.push(*t)?;
+        }
+    }
+    Ok(named)
+}
+
+/// The vertex types of these that are the graph's, in order.
+#[tactic(auto, using(crate::proofs::StepLemmas::named_laws))]
+fn named_vertices(
+    alloc: Global,
+    catalog: &Catalog,
+    plan: &Plan,
+    types: &[u32],
+) -> Result<Numbers, OutOfMemory>
+    ensures { IfOk result (λ l. l ≡ spec.by_number (filter_map (setting_for catalog.now plan.now).words.vertex_type (map reference.VertexType types.now))) }
+{
+    let _ = catalog;
+    by_number(own_only(alloc, plan.vertices.as_slice(), types)?)
+}
+
+/// Edge types, or all of the graph.
+#[tactic(auto, using(crate::proofs::StepLemmas::named_laws))]
+fn edge_types(
+    alloc: Global,
+    catalog: &Catalog,
+    plan: &Plan,
+    types: &Types,
+) -> Result<Numbers, OutOfMemory>
+    ensures { IfOk result (λ l. l ≡ spec.edge_types (setting_for catalog.now plan.now) (view_types reference.EdgeType types.now)) }
+{
+    match types {
+        Types::Every => List::from_slice(alloc, plan.edges.as_slice()),
+        Types::These(types) => {
+            let named = own_only(alloc, plan.edges.as_slice(), types.as_slice())?;
+            Ok(List::from_vec(named))
+        }
+    }
+}
+
+// ---- far ends
+
+/// Where edge types lead, each walked its own way.
+fn hop_far(
+    alloc: Global,
+    catalog: &Catalog,
+    plan: &Plan,
+    edges: &[u32],
+) -> Result<Vec<u32>, OutOfMemory>
+    ensures { IfOk result (λ v. v.items ≡ flat_map (spec.ends_of (sorts_for catalog.now plan.now)) (own_ways (sorts_for catalog.now plan.now) edges.now)) }
+{
+    let mut far = Vec::new(alloc);
+    for t in edges {
+        push_ends(catalog, plan, own_way(catalog, plan, *t), *t, &mut far)?;
+    }
+    Ok(far)
+}
+
+/// Puts last where an edge type leads, where it is the graph's.
+#[tactic(auto, using(crate::proofs::SortLemmas::named_way_laws))]
+fn push_named(
+    catalog: &Catalog,
+    plan: &Plan,
+    way: Way,
+    t: u32,
+    far: &mut Vec<u32>,
+) -> Result<(), OutOfMemory>
+    ensures { OnOk result (far.new.items ≡ far.old.items ++ flat_map (spec.ends_of (sorts_for catalog.now plan.now)) (option_to_list (spec.way_of (setting_for catalog.now plan.now) (way, reference.EdgeType t)))) }
+{
+    if is_own(plan.edges.as_slice(), t) {
+        push_ends(catalog, plan, way, t, far)
+    } else {
+        Ok(())
+    }
+}
+
+/// Where a step's edge types lead, each in its way.
+fn step_far(
+    alloc: Global,
+    catalog: &Catalog,
+    plan: &Plan,
+    ways: &[(Way, u32)],
+) -> Result<Vec<u32>, OutOfMemory>
+    ensures { IfOk result (λ v. v.items ≡ flat_map (spec.ends_of (sorts_for catalog.now plan.now)) (filter_map (spec.way_of (setting_for catalog.now plan.now)) (map (λ w. (w.0, reference.EdgeType w.1)) ways.now))) }
+{
+    let mut far = Vec::new(alloc);
+    for way in ways {
+        push_named(catalog, plan, way.0, way.1, &mut far)?;
+    }
+    Ok(far)
+}
+
+/// The far ends, or all types of the graph where there is none.
+fn or_all(alloc: Global, plan: &Plan, far: Vec<u32>) -> Result<Numbers, OutOfMemory>
+    ensures { IfOk result (λ l. l ≡ spec.or_all plan.now.vertices far.items) }
+{
+    if far.is_empty() {
+        List::from_slice(alloc, plan.vertices.as_slice())
+    } else {
+        by_number(far)
+    }
+}
+
+/// Where a hop leads.
+#[tactic(auto, using(crate::proofs::StepLemmas::far_laws))]
+fn hop_ends(
+    alloc: Global,
+    catalog: &Catalog,
+    plan: &Plan,
+    hop: &Hop,
+) -> Result<Numbers, OutOfMemory>
+    ensures { IfOk result (λ l. l ≡ (spec.hop_step (setting_for catalog.now plan.now) (view_hop hop.now)).targets) }
+{
+    match &hop.targets {
+        Types::Every => {
+            let edges = edge_types(alloc, catalog, plan, &hop.edges)?;
+            let far = hop_far(alloc, catalog, plan, edges.as_slice())?;
+            or_all(alloc, plan, far)
+        }
+        Types::These(types) => named_vertices(alloc, catalog, plan, types.as_slice()),
+    }
+}
+
+/// Where a step leads.
+#[tactic(auto, using(crate::proofs::StepLemmas::far_laws))]
+fn step_ends(
+    alloc: Global,
+    catalog: &Catalog,
+    plan: &Plan,
+    step: &PathStep,
+) -> Result<Numbers, OutOfMemory>
+    ensures { IfOk result (λ l. l ≡ (spec.path_step (setting_for catalog.now plan.now) (view_path_step step.now)).targets) }
+{
+    match &step.targets {
+        Types::Every => {
+            let far = step_far(alloc, catalog, plan, step.ways.as_slice())?;
+            or_all(alloc, plan, far)
+        }
+        Types::These(types) => named_vertices(alloc, catalog, plan, types.as_slice()),
+    }
+}
+
+/// Where a path leads: the end of its last step.
+fn path_ends(
+    alloc: Global,
+    catalog: &Catalog,
+    plan: &Plan,
+    steps: &[PathStep],
+) -> Result<Numbers, OutOfMemory>
+    ensures { IfOk result (λ l. l ≡ spec.of_last (λ s. (spec.path_step (setting_for catalog.now plan.now) s).targets) (spec.last_step (map view_path_step steps.now))) }
+{
+    match steps.last() {
+        None => Ok(List::new(alloc)),
+        Some(step) => step_ends(alloc, catalog, plan, step),
+    }
+}
+
+/// The types of the target alias: those that a hop or the last step of a path leads to.
+pub(crate) fn end_types(
+    alloc: Global,
+    catalog: &Catalog,
+    plan: &Plan,
+    walk: &Walk,
+) -> Result<Numbers, OutOfMemory>
+    ensures { IfOk result (λ l. l ≡ spec.end_types (setting_for catalog.now plan.now) (view_walk walk.now)) }
+{
+    match walk {
+        Walk::Nowhere => Ok(List::new(alloc)),
+        Walk::Hop(hop) => hop_ends(alloc, catalog, plan, hop),
+        Walk::Path(steps) => path_ends(alloc, catalog, plan, steps.as_slice()),
+    }
+}

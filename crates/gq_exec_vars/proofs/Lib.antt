@@ -1,0 +1,10 @@
+pub mod BitLemmas
+pub mod SeedLemmas
+pub mod GatherLemmas
+pub mod SetLemmas
+pub mod SlotLemmas
+pub mod ContentLemmas
+pub mod ValueLemmas
+pub mod NameLemmas
+pub mod FieldLemmas
+pub mod OpenLemmas

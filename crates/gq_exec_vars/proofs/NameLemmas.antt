@@ -1,0 +1,159 @@
+-- NameLemmas: parameters, from the last one on.
+use Rattle.std.proofs.Common.{◌≡◌, ℕ, zero, suc, ◌≤◌, ◌==◌, true, List, [], ◌∷◌, ◌++◌, drop, map, length, reverse, Option, Some, None, refl, sym, ap, ap₂, subst, ◌∙◌}
+use Rattle.std.specs.List.{slice_get, list_any}
+use Rattle.std.specs.Prelude.{if◌then◌else◌}
+use Rattle.std.proofs.lemmas.List.{drop_all}
+use Rattle.gq_value.specs.declared.kind.BaseType.{BaseType}
+use Rattle.gq_value.specs.declared.value.Value.{Value}
+use Rattle.gq_value.specs.AccumViews.{base_of}
+use Rattle.gq_value.specs.Views.{val}
+use Rattle.gq_index.specs.declared.store.Graph as code
+use Rattle.gq_value.specs.Accums.{VERTEX_OF}
+use Rattle.gq_rules_typing.specs.Statements.{VertexOf}
+use Rattle.gq_rules_typing.specs.Words.{under}
+use Rattle.gq_rules_meaning.specs.Calendars.{Calendar}
+use Rattle.gq_rules_meaning.specs.Answers.{Gives, ◌>>=◌, found}
+use Rattle.gq_rules_meaning.specs.Expressions.{World}
+use Rattle.gq_rules_meaning.specs.Statements.{base_of_tree}
+use Rattle.gq_rules_meaning.specs.States as states
+use Rattle.gq_rules_meaning.specs.States.{State, Variable, with_new}
+use Rattle.gq_rules_meaning.specs.Queries.{bound}
+use Rattle.gq_plan_ir.specs.declared.plan.PlaceType.{PlaceType}
+use Rattle.gq_plan_ir.specs.declared.plan.PlaceType.TheVariants as held
+use Rattle.gq_plan_ir.specs.declared.plan.Parameter.{Parameter}
+use Rattle.gq_plan_ir.specs.declared.plan.Plan.{Plan}
+use Rattle.gq_plan_ir.specs.PlanView.{view_parameter}
+use Rattle.gq_plan_ir.specs.Reference.{Reference, Place, Slot, VertexType, EdgeType, TupleType, TypeName, FieldAt, Calls, Does}
+use Rattle.gq_plan_ir.specs.References.{same}
+use Rattle.gq_eval_attributes.specs.declared.tuple_type.TupleType as fields
+use Rattle.gq_frame.specs.declared.frame.Thing.{Thing}
+use Rattle.gq_frame.specs.declared.frame.Thing.TheVariants as thing
+use Rattle.gq_frame.specs.Names.{held_thing, thing_in, thing_for}
+use Rattle.gq_frame.specs.Slots.{slots_are}
+use Rattle.gq_frame.specs.declared.live.Live.{Live}
+use Rattle.gq_frame.specs.Lives.{Alike, Lives, Unwinds}
+use Rattle.gq_exec_vars.specs.Begun.{Binds, HasNothing, IsBound, IsDeclared, KnowsTypes, no_accums, world_with}
+
+-- ---- types
+
+-- a vertex type that is known, as a run has it
+pub vertex_runs : (own : List ℕ) (t : ℕ) (world : World Reference) → KnowsTypes own world → list_any (λ m. m == t) own ≡ true → base_of_tree world (VertexOf (VertexType t)) ≡ Gives (VERTEX_OF t)
+vertex_runs own t world known e = ap (λ o. found o >>= λ n. Gives (VERTEX_OF n)) (known.each t e)
+
+-- the types of a plan's graph are known
+pub knows_own : (clock : Calendar) (g : code.Graph) (plan : Plan) (tuples : List fields.TupleType) → KnowsTypes plan.vertices (world_with clock g plan tuples)
+knows_own clock g plan tuples = record { each = λ t e. ap (λ b. if b then Some t else None) e }
+
+-- ---- one parameter
+
+pub binds : (plan : Plan) (parameter : Parameter) (argument copy : Value) (base : BaseType) (old new : Live)
+    → slice_get plan.places parameter.place ≡ Some (held.Variable base) → IsDeclared plan.vertices parameter.base base → copy ≡ argument
+    → ((places : List PlaceType) (s : State Reference) (t : states.Thing) → Lives places old s → held_thing (slice_get places parameter.place) (Some (Some (thing.Value copy))) ≡ Some t → Lives places new (with_new (Place parameter.place) t s))
+    → Binds plan parameter argument old new
+binds plan parameter argument copy base old new at declared is lives = record {
+  base = base;
+  declared = declared;
+  lives = λ s l.
+      lives plan.places s (Variable (base_of base) (val argument)) l
+      (ap (λ o. held_thing o (Some (Some (thing.Value copy)))) at ∙ ap (λ v. Some (Variable (base_of base) (val v))) is);
+}
+
+-- ---- none yet
+
+nothing_there : (places : List PlaceType) (things : List (Option Thing)) → HasNothing things → (n : ℕ) → thing_in places things n ≡ None
+nothing_there places things h n = by_entry (slice_get things n) refl
+  where
+    none_held : (o : Option PlaceType) → held_thing o None ≡ None
+    none_held None = refl
+    none_held (Some (held.Variable b)) = refl
+    none_held (Some (held.Set ts)) = refl
+    none_held (Some (held.Alias ts)) = refl
+    none_held (Some (held.EdgeAlias ts)) = refl
+
+    empty_held : (o : Option PlaceType) → held_thing o (Some None) ≡ None
+    empty_held None = refl
+    empty_held (Some (held.Variable b)) = refl
+    empty_held (Some (held.Set ts)) = refl
+    empty_held (Some (held.Alias ts)) = refl
+    empty_held (Some (held.EdgeAlias ts)) = refl
+
+    by_entry : (o : Option (Option Thing)) → slice_get things n ≡ o → held_thing (slice_get places n) o ≡ None
+    by_entry None e = none_held (slice_get places n)
+    by_entry (Some None) e = empty_held (slice_get places n)
+    by_entry (Some (Some t)) e = absurd (h.each n t e)
+
+alike_none : (places : List PlaceType) (things : List (Option Thing)) → HasNothing things → Alike places things []
+alike_none places things h = record { each = each }
+  where
+    each : (x : Reference) → under same x [] ≡ thing_for places things x
+    each (Place n) = sym (nothing_there places things h n)
+    each (Slot n) = refl
+    each (VertexType n) = refl
+    each (EdgeType n) = refl
+    each (TupleType n) = refl
+    each TypeName = refl
+    each (FieldAt c) = refl
+    each (Calls f) = refl
+    each (Does m) = refl
+
+pub nothing_lives : (places : List PlaceType) (live : Live) (count : ℕ) → live.undo.items ≡ [] → HasNothing live.frame.things → live.frame.accums ≡ no_accums count → Lives places live (record { names = []; slots = [] })
+nothing_lives places live count undo things accums = record {
+  names = subst (λ us. Unwinds places live.frame.things (reverse us) []) (sym undo) (alike_none places live.frame.things things);
+  slots = sym (ap slots_are accums);
+}
+
+-- ---- one place more that has nothing
+
+pub nothing_none : HasNothing []
+nothing_none = record { each = λ n t e. absurd (cc e) }
+
+pub nothing_more : (things new : List (Option Thing)) → HasNothing things → new ≡ things ++ None ∷ [] → HasNothing new
+nothing_more things new h e = record { each = λ n t g. at_end things h n t (ap (λ xs. slice_get xs n) (sym e) ∙ g) }
+  where
+    tail_nothing : (x : Option Thing) (xs : List (Option Thing)) → HasNothing (x ∷ xs) → HasNothing xs
+    tail_nothing x xs h = record { each = λ n t g. h.each (suc n) t g }
+
+    at_end : (xs : List (Option Thing)) → HasNothing xs → (n : ℕ) (t : Thing) → slice_get (xs ++ None ∷ []) n ≡ Some (Some t) → ⊥
+    at_end [] h zero t g = cc g
+    at_end [] h (suc n) t g = cc g
+    at_end (x ∷ xs) h zero t g = h.each 0 t g
+    at_end (x ∷ xs) h (suc n) t g = at_end xs (tail_nothing x xs h) n t g
+
+-- ---- all parameters
+
+-- those from a number on are bound
+pub record BoundFrom (plan : Plan) (arguments : List Value) (live : Live) (at : ℕ) : Type 0 where
+  pub each : (world : World Reference) → KnowsTypes plan.vertices world
+      → (names : List (Reference × states.Thing)) × (bound world (map view_parameter (drop at plan.parameters)) (map val (drop at arguments)) ≡ Gives names) × Lives plan.places live (record { names = names; slots = [] })
+
+pub bound_none : (plan : Plan) (arguments : List Value) (live : Live) (at : ℕ) → length plan.parameters ≤ at → length arguments ≤ at → Lives plan.places live (record { names = []; slots = [] }) → BoundFrom plan arguments live at
+bound_none plan arguments live at n m l = record {
+  each = λ world known. ([], ap₂ (λ ps vs. bound world (map view_parameter ps) (map val vs)) (drop_all at plan.parameters n) (drop_all at arguments m), l);
+}
+
+item_first : {A : Type 0} (xs : List A) (i j : ℕ) (x : A) → slice_get xs i ≡ Some x → j ≡ suc i → drop i xs ≡ x ∷ drop j xs
+item_first {A = A} xs i j x e is = go xs i e ∙ ap (λ n. x ∷ drop n xs) (sym is)
+  where
+    go : (xs : List A) (i : ℕ) → slice_get xs i ≡ Some x → drop i xs ≡ x ∷ drop (suc i) xs
+    go [] i e = absurd (cc e)
+    go (y ∷ xs) zero e = ap (λ z. z ∷ xs) (let s : y ≡ x = cc in s)
+    go (y ∷ xs) (suc i) e = go xs i e
+
+pub bound_more : (plan : Plan) (arguments : List Value) (old new : Live) (at next : ℕ) (parameter : Parameter) (argument : Value)
+    → slice_get plan.parameters at ≡ Some parameter → slice_get arguments at ≡ Some argument → next ≡ suc at → Binds plan parameter argument old new
+    → BoundFrom plan arguments old next → BoundFrom plan arguments new at
+bound_more plan arguments old new at next parameter argument p v is b h = record {
+  each = λ world known.
+      let r = h.each world known in (
+        (Place parameter.place, Variable (base_of b.base) (val argument)) ∷ r.0,
+        ap₂ (λ ps vs. bound world (map view_parameter ps) (map val vs)) (item_first plan.parameters at next parameter p is) (item_first arguments at next argument v is)
+            ∙ ap (λ o. o >>= λ base. bound world (map view_parameter (drop next plan.parameters)) (map val (drop next arguments)) >>= λ names. Gives ((Place parameter.place, Variable base (val argument)) ∷ names)) (b.declared.runs world known)
+            ∙ ap (λ o. o >>= λ names. Gives ((Place parameter.place, Variable (base_of b.base) (val argument)) ∷ names)) r.1,
+        b.lives (record { names = r.0; slots = [] }) r.2,
+      );
+}
+
+pub bound_all : (plan : Plan) (arguments : List Value) (live : Live) → BoundFrom plan arguments live 0 → IsBound plan arguments live
+bound_all plan arguments live h = record { each = h.each }
+
+pub ruleset bound_laws = (nothing_lives, bound_none, bound_more, bound_all)

@@ -1,0 +1,183 @@
+-- Begun: when what the code opens is what a run of the definitions begins with.
+use Rattle.std.specs.Prelude.{◌≡◌, ◌==◌, ◌≤◌, ℕ, Bool, true, if◌then◌else◌, List, [], ◌∷◌, ◌++◌, map, length, Option, Some, None, Result, Ok, Err, slice_get}
+use Rattle.std.specs.List.{list_any}
+use Rattle.gq_index.specs.declared.store.Graph as code
+use Rattle.gq_index.specs.Sights.{sight_of}
+use Rattle.gq_index.specs.Walks.{adjacency}
+use Rattle.gq_graph.specs.Catalog.{most_types}
+use Rattle.gq_value.specs.declared.kind.BaseType.{BaseType}
+use Rattle.gq_value.specs.declared.value.Value.{Value}
+use Rattle.gq_value.specs.declared.value.Wrong.{Wrong}
+use Rattle.gq_value.specs.Accums.{Accum}
+use Rattle.gq_value.specs.AccumViews.{base_of}
+use Rattle.gq_value.specs.Val.{Val}
+use Rattle.gq_value.specs.Typed.{takes}
+use Rattle.gq_value.specs.Views.{val}
+use Rattle.gq_accum_laws.specs.Holds.{Holds}
+use Rattle.gq_accum_laws.specs.After.{fresh}
+use Rattle.gq_accum_laws.specs.Reads.{set_to}
+use Rattle.gq_accum_laws.specs.Targets.{target_count}
+use Rattle.gq_nest.specs.declared.content.Content.{Content}
+use Rattle.gq_nest.specs.Shows.{Shows}
+use Rattle.gq_nest.specs.Tells.{is_settable}
+use Rattle.gq_frame.specs.declared.accums.Accums.{Accums}
+use Rattle.gq_frame.specs.Targets.{attached_in}
+use Rattle.gq_tree.specs.Tree.{Tree}
+use Rattle.gq_rules_typing.specs.Statements.{Bytes}
+use Rattle.gq_rules_typing.specs.Kinds.{set_type}
+use Rattle.gq_rules_typing.specs.Scopes.{base_written}
+use Rattle.gq_rules_meaning.specs.Answers.{Answer, Gives, ◌>>=◌, each, found}
+use Rattle.gq_rules_meaning.specs.Calendars.{Calendar}
+use Rattle.gq_rules_meaning.specs.Expressions.{World, Look, setting, value_as}
+use Rattle.gq_rules_meaning.specs.Statements.{base_of_tree}
+use Rattle.gq_rules_meaning.specs.States as states
+use Rattle.gq_rules_meaning.specs.States.{State, Variable, Thing}
+use Rattle.gq_rules_meaning.specs.Queries.{Defining, bound, fields_of, opening, scope_of, start}
+use Rattle.gq_plan_ir.specs.declared.plan.Declared.{Declared}
+use Rattle.gq_plan_ir.specs.declared.plan.PlaceType.{PlaceType}
+use Rattle.gq_plan_ir.specs.declared.plan.Parameter.{Parameter}
+use Rattle.gq_plan_ir.specs.declared.plan.Plan.{Plan}
+use Rattle.gq_plan_ir.specs.Belonging.{world_of}
+use Rattle.gq_plan_ir.specs.PlanView.{accum_names, view_declared, view_parameter, view_plan}
+use Rattle.gq_plan_ir.specs.Reference as reference
+use Rattle.gq_plan_ir.specs.Reference.{Reference, Place, VertexType}
+use Rattle.gq_eval_operand.specs.declared.halt.Halt.{Halt}
+use Rattle.gq_eval_operand.specs.Meant.{Halts, Tells}
+use Rattle.gq_eval_attributes.specs.declared.tuple_type.TupleType.{TupleType}
+use Rattle.gq_eval_attributes.specs.Tuples.{fields_in, tuples_are}
+use Rattle.gq_eval_attributes.specs.Worlds.{HaveAttributes}
+use Rattle.gq_exec_feed.proofs.SlotLemmas.{Every}
+use Rattle.gq_frame.specs.declared.frame.Frame.{Frame}
+use Rattle.gq_frame.specs.declared.frame.Thing as frame
+use Rattle.gq_frame.specs.Slots.{AreSound, slots_are}
+use Rattle.gq_eval_context.specs.Ends.{HaveEnds}
+use Rattle.gq_eval_context.specs.Looks.{graph_for}
+use Rattle.gq_eval_context.specs.Viewed.{Over}
+use Rattle.gq_frame.specs.declared.live.Live.{Live}
+use Rattle.gq_frame.specs.Lives.{Lives}
+use Rattle.gq_exec_vars.specs.declared.opening.Opened.{Opened}
+
+-- ---- what is begun
+
+-- all that a run of a plan sees over a graph, with these tuple types
+abbrev pub world_with : Calendar → code.Graph → Plan → List TupleType → World Reference
+world_with clock g plan tuples = world_of (accum_names plan) (tuples_are tuples) (graph_for g.catalog.now g.store.now.vertices g.store.now.edges plan) clock
+
+-- what an opening is evaluated over
+abbrev pub over_of : code.Graph → Plan → List TupleType → Frame → Over
+over_of g plan tuples frame = record { schema = g.catalog.now; vertices = g.store.now.vertices; edges = g.store.now.edges; plan = plan; tuples = tuples; frame = frame }
+
+-- what a run begins with, of the definitions
+abbrev pub begins : Calendar → code.Graph → Plan → List Val → Answer Wrong (Defining Reference)
+begins clock g plan arguments = start (world_with clock g plan []) (λ w k. Gives k) (view_plan plan) arguments
+
+-- tuple types, names and accumulators are those of the definitions
+pub record Stands (places : List PlaceType) (opened : Opened) (d : Defining Reference) : Type 0 where
+  pub tuples : d.tuples ≡ tuples_are opened.tuples
+  pub lives : Lives places opened.live d.state
+
+-- what is given is opened, or it ends as the definitions do
+abbrev pub Begins : List PlaceType → Answer Wrong (Defining Reference) → Result Opened Halt → Type 0
+Begins places o (Ok opened) = (d : Defining Reference) × (o ≡ Gives d) × Stands places opened d
+Begins places o (Err h) = Halts o h
+
+-- a content for each target, in a store of so many vertices, and none is spoiled
+pub record AreReady (count : ℕ) (a : Accums) : Type 0 where
+  pub vertices : a.slots.vertices ≡ count
+  pub contents : length a.contents ≡ target_count a.slots.vertices (attached_in a.slots.declared)
+  pub sound : AreSound a
+
+-- ---- what is asked of a graph
+
+-- the index is that of catalog and store, rows have their types' attributes and ends, and the plan knows few edge types
+pub record MayOpen (g : code.Graph) (plan : Plan) : Type 0 where
+  pub indexed : g.index.now ≡ adjacency (sight_of g.catalog.now g.store.now.vertices g.store.now.edges)
+  pub attributes : HaveAttributes g.catalog.now g.store.now.vertices
+  pub ends : HaveEnds g.store.now.vertices g.store.now.edges.rows
+  pub few : length plan.edges ≤ most_types
+
+-- ---- step by step
+
+-- what is given stands, or it ends as the definitions do
+abbrev pub Leads : {A : Type 0} → (A → Type 0) → Answer Wrong A → Result (Unit {0}) Halt → Type 0
+Leads {A = A} P o (Ok u) = (a : A) × (o ≡ Gives a) × P a
+Leads P o (Err h) = Halts o h
+
+-- what stood has come to what stands, and the rest is still to do
+pub record Goes {A S : Type 0} (P : S → A → Type 0) (whole rest : A → Answer Wrong A) (old now : S) : Type 0 where
+  pub each : (a : A) → P old a → (b : A) × (whole a ≡ rest b) × P now b
+
+-- ---- types
+
+-- vertex types are known by these numbers
+pub record KnowsTypes (own : List ℕ) (world : World Reference) : Type 0 where
+  pub each : (t : ℕ) → list_any (λ m. m == t) own ≡ true → world.words.vertex_type (VertexType t) ≡ Some t
+
+-- a declared type is this one, as it is written and as a run has it
+pub record IsDeclared (own : List ℕ) (declared : Declared) (base : BaseType) : Type 0 where
+  pub runs : (world : World Reference) → KnowsTypes own world → base_of_tree world (view_declared declared) ≡ Gives (base_of base)
+  pub written : (world : World Reference) → KnowsTypes own world → base_written (scope_of (setting world)) (view_declared declared) ≡ Ok (base_of base)
+
+-- the fields are these, of so many at most, each with a name of its own
+pub record HasFields (own : List ℕ) (fields : List (Declared × Bytes)) (t : TupleType) : Type 0 where
+  pub each : (world : World Reference) → KnowsTypes own world → fields_of world (map (λ f. (view_declared f.0, f.1)) fields) ≡ Gives (fields_in t)
+
+-- one tuple type more, whose number is that of the next one
+pub record AddsTuple (own : List ℕ) (fields : List (Declared × Bytes)) (number : ℕ) (old new : List TupleType) : Type 0 where
+  pub tuple : TupleType
+  pub fields_are : HasFields own fields tuple
+  pub next : length old ≡ number
+  pub added : new ≡ old ++ tuple ∷ []
+
+-- ---- parameters
+
+-- no accumulator is declared
+abbrev pub no_accums : ℕ → Accums
+no_accums count = record { slots = record { declared = []; vertices = count }; contents = [] }
+
+-- no place has anything
+pub record HasNothing (things : List (Option frame.Thing)) : Type 0 where
+  pub each : (n : ℕ) (thing : frame.Thing) → slice_get things n ≡ Some (Some thing) → ⊥
+
+-- names and values are those of the parameters, and there is no accumulator
+pub record IsBound (plan : Plan) (arguments : List Value) (live : Live) : Type 0 where
+  pub each : (world : World Reference) → KnowsTypes plan.vertices world
+      → (names : List (Reference × Thing)) × (bound world (map view_parameter plan.parameters) (map val arguments) ≡ Gives names) × Lives plan.places live (record { names = names; slots = [] })
+
+-- one parameter more comes into view
+pub record Binds (plan : Plan) (parameter : Parameter) (argument : Value) (old new : Live) : Type 0 where
+  pub base : BaseType
+  pub declared : IsDeclared plan.vertices parameter.base base
+  pub lives : (s : State Reference) → Lives plan.places old s → Lives plan.places new (states.with_new (Place parameter.place) (Variable (base_of base) (val argument)) s)
+
+-- ---- accumulators
+
+-- what an accumulator of a kind opens with: the kind's own, or one that is put to a value
+abbrev pub opens_with : (k : Accum) → Option Value → Holds k
+opens_with k None = fresh k
+opens_with k (Some v) = set_to k (val v)
+
+-- the value of an opening, converted to what the kind is put to
+abbrev pub value_opened : {N : Type 0} → Look N → Accum → Tree N → Answer Wrong Val
+value_opened look k tree = found (set_type k) >>= λ b. value_as look b tree
+
+-- the answer is what each of some targets opens with
+pub record TellsFirst {N : Type 0} (look : Look N) (k : Accum) (targets : List ℕ) (tree : Option (Tree N)) (result : Result (Option Value) Halt) : Type 0 where
+  pub tells : Tells (λ (v : Option Value). map (λ (x : ℕ). opens_with k v) targets) (each (λ (x : ℕ). opening look k tree) targets) result
+
+-- a value that an accumulator opens with is one that its kind takes
+abbrev pub CanOpen : Accum → Option Value → Type 0
+CanOpen k None = Unit {0}
+CanOpen k (Some v) = (is_settable k ≡ true) × (takes k (val v) ≡ true)
+
+-- so many contents more, each of which shows this
+pub record AddsContents (k : Accum) (h : Holds k) (count : ℕ) (old new : List Content) : Type 0 where
+  pub more : List Content
+  pub added : new ≡ old ++ more
+  pub many : length more ≡ count
+  pub shows : Every (λ c. Shows k c h) more
+
+-- one accumulator more, with a content for each target
+pub record AddsSlot (k : Accum) (attached : Bool) (h : Holds k) (old new : Accums) : Type 0 where
+  pub each : (targets : List ℕ) → length targets ≡ (if attached then old.slots.vertices else 1)
+      → slots_are new ≡ slots_are old ++ record { name = reference.Slot (length old.slots.declared); attached = attached; kind = k; contents = map (λ v. h) targets } ∷ []

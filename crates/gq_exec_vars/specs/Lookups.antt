@@ -1,0 +1,29 @@
+-- Lookups: what set expressions look at, as a world and a state of the definitions.
+use Rattle.std.specs.Prelude.{◌≡◌, ℕ, List, [], ◌∷◌, Some}
+use Rattle.gq_graph.specs.declared.rows.VertexRow.{VertexRow}
+use Rattle.gq_value.specs.Accums.{Base, VERTEX_OF}
+use Rattle.gq_index.specs.Sights.{vertex_kinds}
+use Rattle.gq_rules_typing.specs.Words.{if_own}
+use Rattle.gq_rules_meaning.specs.Expressions.{World}
+use Rattle.gq_rules_meaning.specs.States.{State}
+use Rattle.gq_plan_ir.specs.Reference.{Reference, VertexType}
+use Rattle.gq_plan_ir.specs.References.{same}
+use Rattle.gq_frame.specs.Shows.{Shows}
+use Rattle.gq_exec_vars.specs.declared.lookup.Lookup.{Lookup}
+
+-- a world over this store, whose graph has these vertex types
+pub record IsOver (vertices : List VertexRow) (own : List ℕ) (world : World Reference) : Type 0 where
+  pub like : world.words.same ≡ same
+  pub vertex_type : (t : ℕ) → world.words.vertex_type (VertexType t) ≡ if_own own (Some t)
+  pub types : world.graph.sorts.own_vertices ≡ own
+  pub kinds : world.graph.sight.kinds ≡ vertex_kinds vertices
+
+-- the world and the state that are looked at
+pub record IsSeen (at : Lookup) (world : World Reference) (s : State Reference) : Type 0 where
+  pub over : IsOver at.vertices.now at.own.now world
+  pub shows : Shows at.places.now at.frame.now s
+
+-- the types that a vertex of a base type may have
+abbrev pub base_types : List ℕ → Base → List ℕ
+base_types own (VERTEX_OF t) = t ∷ []
+base_types own b = own

@@ -1,0 +1,138 @@
+// Accumulators.
+ghost use Rattle.std.specs.Prelude.{◌≡◌, ℕ, IfOk, OnOk, length, map, true};
+ghost use Rattle.gq_value.specs.AccumViews.{accum_of};
+ghost use Rattle.gq_nest.specs.Shows.{Shows};
+ghost use Rattle.gq_rules_meaning.specs.Answers.{through};
+ghost use Rattle.gq_rules_meaning.specs.Queries.{opened};
+ghost use Rattle.gq_rules_meaning.specs.States.{State};
+ghost use Rattle.gq_plan_ir.specs.PlanView.{view_accum};
+ghost use Rattle.gq_plan_ir.specs.Reference.{Reference};
+ghost use Rattle.gq_frame.specs.Lives.{Lives};
+ghost use Rattle.gq_exec_vars.specs.Begun.{AddsContents, AddsSlot, AreReady, CanOpen, Leads, MayOpen, opens_with, world_with};
+
+use crate::values::{first_value, targets};
+use gq_base::{List, OutOfMemory};
+use gq_eval_attributes::TupleType;
+use gq_eval_context::Clock;
+use gq_eval_operand::Halt;
+use gq_frame::{Accums, Live};
+use gq_index::Graph;
+use gq_nest::Content;
+use gq_plan_ir::{Accum, Plan};
+use gq_value::{Kind, Slot, Value};
+use std::alloc::Global;
+
+/// Accumulators of one kind, one after the other.
+pub(crate) fn accums<C: Clock>(
+    alloc: Global,
+    graph: Graph<'_>,
+    plan: &Plan,
+    tuples: &List<TupleType>,
+    kind: &Kind,
+    trees: &List<Accum>,
+    live: &mut Live,
+) -> Result<(), Halt>
+    requires may { MayOpen graph plan.now }
+    requires ready { AreReady (length graph.store.now.vertices) live.old.frame.accums }
+    ensures leads { (s : State Reference) → Lives plan.now.places live.old s
+        → Leads (Lives plan.now.places live.new) (through (opened (world_with C.clock graph.entry plan.now tuples.now) (accum_of kind.now)) s (map view_accum trees.now)) result }
+    ensures ready { OnOk result (AreReady (length graph.entry.store.now.vertices) live.new.frame.accums) }
+{
+    for tree in trees.as_slice() {
+        accum::<C>(alloc, graph, plan, tuples, kind, tree, live)?;
+    }
+    Ok(())
+}
+
+/// One accumulator, whose slot is the next one.
+fn accum<C: Clock>(
+    alloc: Global,
+    graph: Graph<'_>,
+    plan: &Plan,
+    tuples: &List<TupleType>,
+    kind: &Kind,
+    tree: &Accum,
+    live: &mut Live,
+) -> Result<(), Halt>
+    requires may { MayOpen graph plan.now }
+    requires ready { AreReady (length graph.store.now.vertices) live.old.frame.accums }
+    ensures leads { (s : State Reference) → Lives plan.now.places live.old s
+        → Leads (Lives plan.now.places live.new) (opened (world_with C.clock graph.entry plan.now tuples.now) (accum_of kind.now) s (view_accum tree.now)) result }
+    ensures ready { OnOk result (AreReady (length graph.entry.store.now.vertices) live.new.frame.accums) }
+{
+    if !is_next(&live.frame.accums, tree.slot) {
+        return Err(Halt::OutOfMemory);
+    }
+    let opening = &tree.opening;
+    let first = first_value::<C>(
+        alloc,
+        graph,
+        plan,
+        tuples,
+        live,
+        kind,
+        tree.attached,
+        opening,
+    )?;
+    add_slot(alloc, kind, tree.attached, &first, &mut live.frame.accums)?;
+    Ok(())
+}
+
+/// Whether a slot is the next one.
+fn is_next(accums: &Accums, slot: u32) -> bool
+    ensures { result ≡ true → length accums.now.slots.declared ≡ slot }
+{
+    accums.slots.declared.len() == slot as usize
+}
+
+/// One slot more, with a content at each of its targets.
+fn add_slot(
+    alloc: Global,
+    kind: &Kind,
+    attached: bool,
+    first: &Option<Value>,
+    accums: &mut Accums,
+) -> Result<(), OutOfMemory>
+    requires suited { CanOpen (accum_of kind.now) first.now }
+    ensures adds { OnOk result ((count : ℕ) → AreReady count accums.old → AddsSlot (accum_of kind.now) attached (opens_with (accum_of kind.now) first.now) accums.old accums.new) }
+    ensures ready { OnOk result ((count : ℕ) → AreReady count accums.old → AreReady count accums.new) }
+{
+    let count = targets(attached, accums.slots.vertices);
+    fill(alloc, kind, first, count, &mut accums.contents)?;
+    let kind = kind.duplicate(alloc)?;
+    accums.slots.declared.push(Slot { kind, attached })?;
+    Ok(())
+}
+
+/// So many contents more, each of which opens so.
+fn fill(
+    alloc: Global,
+    kind: &Kind,
+    first: &Option<Value>,
+    count: u32,
+    contents: &mut List<Content>,
+) -> Result<(), OutOfMemory>
+    requires { CanOpen (accum_of kind.now) first.now }
+    ensures { OnOk result (AddsContents (accum_of kind.now) (opens_with (accum_of kind.now) first.now) count contents.old contents.new) }
+{
+    for _target in 0..count {
+        contents.push(content(alloc, kind, first)?)?;
+    }
+    Ok(())
+}
+
+/// A content that opens so.
+#[tactic(auto, using(crate::proofs::ContentLemmas::content_laws))]
+fn content(alloc: Global, kind: &Kind, first: &Option<Value>) -> Result<Content, OutOfMemory>
+    requires { CanOpen (accum_of kind.now) first.now }
+    ensures { IfOk result (λ c. Shows (accum_of kind.now) c (opens_with (accum_of kind.now) first.now)) }
+{
+    let mut content = Content::fresh(alloc, kind)?;
+    match first {
+        None => Ok(content),
+        Some(value) => {
+            content.set(value);
+            Ok(content)
+        }
+    }
+}

@@ -1,0 +1,141 @@
+// Declared types, and fields of tuple types.
+ghost use Rattle.std.specs.Prelude.{◌≡◌, ◌==◌, ◌++◌, ◌∷◌, [], true, IfOk, IfSome, Ok};
+ghost use Rattle.std.specs.List.{list_any};
+ghost use Rattle.gq_rules_typing.specs.KindTypes as kinds;
+ghost use Rattle.gq_value.specs.declared.kind.BaseType.TheVariants as bases;
+ghost use Rattle.gq_exec_vars.specs.Begun.{HasFields, IsDeclared};
+
+use gq_base::{List, OutOfMemory};
+use gq_eval_attributes::TupleType;
+use gq_plan_ir::Declared;
+use gq_value::{BaseType, Txt};
+use std::alloc::Global;
+
+/// How many fields a tuple type may have.
+const MOST_FIELDS: usize = 16;
+
+/// A tuple type of these fields; there is no memory for one that isn't well formed.
+#[tactic(auto, using(crate::proofs::FieldLemmas::field_laws))]
+pub(crate) fn tuple_type(
+    alloc: Global,
+    own: &[u32],
+    fields: &[(Declared, Txt)],
+) -> Result<TupleType, OutOfMemory>
+    ensures { IfOk result (HasFields own.now fields.now) }
+{
+    let mut names = List::new(alloc);
+    let mut types = List::new(alloc);
+    for field in fields {
+        match declared_base(field.0, own) {
+            None => return Err(OutOfMemory),
+            Some(base) => {
+                if !is_free(names.as_slice(), field.1.as_str()) {
+                    return Err(OutOfMemory);
+                }
+                names.push(Txt::of(alloc, field.1.as_str())?)?;
+                types.push(base)?;
+            }
+        }
+    }
+    Ok(TupleType { names, types })
+}
+
+/// The type that is declared, where it is one of the graph.
+#[tactic(auto, using(crate::proofs::FieldLemmas::declared_laws))]
+pub(crate) fn declared_base(declared: Declared, own: &[u32]) -> Option<BaseType>
+    ensures { IfSome result (IsDeclared own.now declared) }
+{
+    match declared {
+        Declared::Int => Some(BaseType::Int),
+        Declared::UInt => Some(BaseType::UInt),
+        Declared::Bool => Some(BaseType::Bool),
+        Declared::Text => Some(BaseType::Text),
+        Declared::AnyVertex => Some(BaseType::AnyVertex),
+        Declared::VertexOf(kind) => {
+            if is_own(own, kind) {
+                Some(BaseType::VertexOf(kind))
+            } else {
+                None
+            }
+        }
+    }
+}
+
+/// Whether a type is the one that is declared.
+#[tactic(auto, using(crate::proofs::FieldLemmas::declared_laws))]
+pub(crate) fn is_declared(declared: Declared, base: &BaseType, own: &[u32]) -> bool
+    ensures { result ≡ true → IsDeclared own.now declared base.now }
+{
+    match declared {
+        Declared::Int => match base {
+            BaseType::Int => true,
+            BaseType::UInt | BaseType::Bool | BaseType::Text | BaseType::Time => false,
+            BaseType::AnyVertex | BaseType::VertexOf(_) | BaseType::Tuple(_, _) => false,
+        },
+        Declared::UInt => match base {
+            BaseType::UInt => true,
+            BaseType::Int | BaseType::Bool | BaseType::Text | BaseType::Time => false,
+            BaseType::AnyVertex | BaseType::VertexOf(_) | BaseType::Tuple(_, _) => false,
+        },
+        Declared::Bool => match base {
+            BaseType::Bool => true,
+            BaseType::Int | BaseType::UInt | BaseType::Text | BaseType::Time => false,
+            BaseType::AnyVertex | BaseType::VertexOf(_) | BaseType::Tuple(_, _) => false,
+        },
+        Declared::Text => match base {
+            BaseType::Text => true,
+            BaseType::Int | BaseType::UInt | BaseType::Bool | BaseType::Time => false,
+            BaseType::AnyVertex | BaseType::VertexOf(_) | BaseType::Tuple(_, _) => false,
+        },
+        Declared::AnyVertex => match base {
+            BaseType::AnyVertex => true,
+            BaseType::Int | BaseType::UInt | BaseType::Bool | BaseType::Text => false,
+            BaseType::Time | BaseType::VertexOf(_) | BaseType::Tuple(_, _) => false,
+        },
+        Declared::VertexOf(kind) => is_vertex_of(base, kind) && is_own(own, kind),
+    }
+}
+
+/// Whether a type is that of the vertices of this one.
+fn is_vertex_of(base: &BaseType, kind: u32) -> bool
+    ensures { result ≡ true → base.now ≡ bases.VertexOf kind }
+{
+    match base {
+        BaseType::VertexOf(number) => *number == kind,
+        BaseType::Int | BaseType::UInt | BaseType::Bool | BaseType::Text => false,
+        BaseType::Time | BaseType::AnyVertex | BaseType::Tuple(_, _) => false,
+    }
+}
+
+/// Whether a vertex type is one of these.
+fn is_own(own: &[u32], kind: u32) -> bool
+    ensures { result ≡ list_any (λ m. m == kind) own.now }
+{
+    own.contains(&kind)
+}
+
+/// Whether a field may have a name behind these.
+#[tactic(auto, using(crate::proofs::FieldLemmas::free_name))]
+fn is_free(names: &[Txt], name: &str) -> bool
+    ensures { result ≡ true → kinds.own_name 16 names.now name.now ≡ Ok (names.now ++ name.now ∷ []) }
+{
+    if stands_in(names, name) {
+        return false;
+    }
+    if names.len() >= MOST_FIELDS {
+        return false;
+    }
+    true
+}
+
+/// Whether one of these names is this one.
+fn stands_in(names: &[Txt], name: &str) -> bool
+    ensures { result ≡ kinds.stands_in names.now name.now }
+{
+    for known in names {
+        if name == known.as_str() {
+            return true;
+        }
+    }
+    false
+}

@@ -1,0 +1,110 @@
+// What set expressions look at.
+ghost use Rattle.std.specs.Prelude.{◌≡◌, Some, IfSome, slice_get};
+ghost use Rattle.gq_value.specs.AccumViews.{base_of};
+ghost use Rattle.gq_value.specs.Val.{Vertex};
+ghost use Rattle.gq_value.specs.Views.{val};
+ghost use Rattle.gq_rules_meaning.specs.States.{Variable, SetOf};
+ghost use Rattle.gq_plan_ir.specs.declared.plan.PlaceType.TheVariants as held;
+ghost use Rattle.gq_frame.specs.Names.{thing_in};
+
+use gq_frame::{Frame, Thing};
+use gq_index::VertexList;
+use gq_plan_ir::PlaceType;
+use gq_value::{BaseType, Value};
+use gq_vertex::Vertices;
+
+/// What set expressions look at.
+#[derive(Clone, Copy)]
+pub struct Lookup<'a> {
+    pub vertices: &'a Vertices,
+
+    /// The vertex types of the graph, by their numbers.
+    pub own: &'a [u32],
+
+    /// What stands at each place of the frame.
+    pub places: &'a [PlaceType],
+    pub frame: &'a Frame,
+}
+
+/// The types and the vertices of the set at a place, if one is in view.
+pub fn set_at<'a>(
+    places: &'a [PlaceType],
+    things: &'a [Option<Thing>],
+    place: u32,
+) -> Option<(&'a [u32], &'a VertexList)>
+    ensures { IfSome result (λ set. thing_in places.entry.now things.entry.now place ≡ Some (SetOf set.0.now set.1.now)) }
+{
+    match places.get(place as usize) {
+        Some(PlaceType::Set(types)) => match things.get(place as usize) {
+            Some(Some(Thing::Set(vertices))) => Some((types.as_slice(), vertices)),
+            Some(Some(Thing::Value(_))) | Some(None) | None => None,
+        },
+        Some(PlaceType::Variable(_))
+        | Some(PlaceType::Alias(_))
+        | Some(PlaceType::EdgeAlias(_))
+        | None => None,
+    }
+}
+
+/// The types of the set variable that the plan has at a place.
+pub fn types_at<'a>(places: &'a [PlaceType], place: u32) -> Option<&'a [u32]>
+    ensures { IfSome result (λ types. slice_get places.entry.now place ≡ Some (held.Set types.now)) }
+{
+    match places.get(place as usize) {
+        Some(PlaceType::Set(types)) => Some(types.as_slice()),
+        Some(PlaceType::Variable(_))
+        | Some(PlaceType::Alias(_))
+        | Some(PlaceType::EdgeAlias(_))
+        | None => None,
+    }
+}
+
+/// The vertex of the variable at a place, behind its type, if one is in view.
+#[tactic(auto, using(crate::proofs::SeedLemmas::vertex_held))]
+pub fn vertex_at<'a>(
+    places: &'a [PlaceType],
+    things: &'a [Option<Thing>],
+    place: u32,
+) -> Option<(&'a BaseType, u32)>
+    ensures { IfSome result (λ v. thing_in places.entry.now things.entry.now place ≡ Some (Variable (base_of v.0.now) (Vertex v.1))) }
+{
+    match variable_at(places, things, place) {
+        Some((base, value)) => match vertex_of(value) {
+            Some(vertex) => Some((base, vertex)),
+            None => None,
+        },
+        None => None,
+    }
+}
+
+/// The value of the variable at a place, behind its type, if one is in view.
+fn variable_at<'a>(
+    places: &'a [PlaceType],
+    things: &'a [Option<Thing>],
+    place: u32,
+) -> Option<(&'a BaseType, &'a Value)>
+    ensures { IfSome result (λ v. thing_in places.entry.now things.entry.now place ≡ Some (Variable (base_of v.0.now) (val v.1.now))) }
+{
+    match places.get(place as usize) {
+        Some(PlaceType::Variable(base)) => match things.get(place as usize) {
+            Some(Some(Thing::Value(value))) => Some((base, value)),
+            Some(Some(Thing::Set(_))) | Some(None) | None => None,
+        },
+        Some(PlaceType::Set(_))
+        | Some(PlaceType::Alias(_))
+        | Some(PlaceType::EdgeAlias(_))
+        | None => None,
+    }
+}
+
+/// The vertex, if the value is one.
+#[tactic(auto, using(gq_value::specs::ViewLaws::view_laws))]
+fn vertex_of(value: &Value) -> Option<u32>
+    ensures { IfSome result (λ vertex. val value.now ≡ Vertex vertex) }
+{
+    match value {
+        Value::Vertex(vertex) => Some(*vertex),
+        Value::Int(_) | Value::UInt(_) | Value::Bool(_) | Value::Text(_) => None,
+        Value::Tuple(_) | Value::Fraction(_) => None,
+    }
+}

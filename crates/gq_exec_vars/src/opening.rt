@@ -1,0 +1,132 @@
+// The whole of it, definition by definition.
+ghost use Rattle.std.specs.Prelude.{◌≡◌, ◌≤◌, [], IfOk, OnOk, length, map};
+ghost use Rattle.gq_graph.specs.Catalog.{most_types};
+ghost use Rattle.gq_value.specs.Views.{val};
+ghost use Rattle.gq_index.specs.Sights.{sight_of};
+ghost use Rattle.gq_index.specs.Walks.{adjacency};
+ghost use Rattle.gq_rules_meaning.specs.Answers.{Gives, through};
+ghost use Rattle.gq_rules_meaning.specs.Queries.{Defining, defined};
+ghost use Rattle.gq_plan_ir.specs.PlanView.{view_definition};
+ghost use Rattle.gq_plan_ir.specs.Reference.{Reference};
+ghost use Rattle.gq_eval_attributes.specs.Worlds.{HaveAttributes};
+ghost use Rattle.gq_eval_context.specs.Ends.{HaveEnds};
+ghost use Rattle.gq_exec_vars.specs.Begun.{AddsTuple, AreReady, Begins, Leads, MayOpen, Stands, begins, world_with};
+
+use crate::accums::accums;
+use crate::fields::tuple_type;
+use crate::parameters::bound;
+use gq_base::{List, OutOfMemory};
+use gq_eval_attributes::TupleType;
+use gq_eval_context::Clock;
+use gq_eval_operand::Halt;
+use gq_frame::Live;
+use gq_index::Graph;
+use gq_plan_ir::{Declared, Definition, Plan};
+use gq_value::{Row, Txt};
+use std::alloc::Global;
+
+/// What a query's run begins with: names and accumulators, and the query's tuple types by their numbers.
+#[derive(Drop)]
+pub struct Opened {
+    pub live: Live,
+    pub tuples: List<TupleType>,
+}
+
+/// Opens a query: its parameters with their arguments, then its tuple types and accumulators in order.
+///
+/// There is no memory for a plan that isn't well typed, nor for arguments that aren't those of its parameters.
+#[tactic(auto, using(crate::proofs::OpenLemmas::may_open, crate::proofs::OpenLemmas::ready_none))]
+pub fn open<C: Clock>(
+    alloc: Global,
+    graph: Graph<'_>,
+    plan: &Plan,
+    arguments: &Row,
+) -> Result<Opened, Halt>
+    requires indexed { graph.index.now ≡ adjacency (sight_of graph.catalog.now graph.store.now.vertices graph.store.now.edges) }
+    requires attributes { HaveAttributes graph.catalog.now graph.store.now.vertices }
+    requires ends { HaveEnds graph.store.now.vertices graph.store.now.edges.rows }
+    ensures begins { Begins plan.now.places (begins C.clock graph.entry plan.now (map val arguments.now)) result }
+    ensures ready { IfOk result (λ o. AreReady (length graph.entry.store.now.vertices) o.live.frame.accums) }
+    ensures few { IfOk result (λ o. length plan.now.edges ≤ most_types) }
+{
+    if plan.edges.len() > 256 {
+        return Err(Halt::OutOfMemory);
+    }
+    let mut opened = Opened {
+        live: bound(alloc, graph, plan, arguments)?,
+        tuples: List::new(alloc),
+    };
+    definitions::<C>(alloc, graph, plan, &mut opened)?;
+    Ok(opened)
+}
+
+/// All definitions, one after the other.
+fn definitions<C: Clock>(
+    alloc: Global,
+    graph: Graph<'_>,
+    plan: &Plan,
+    opened: &mut Opened,
+) -> Result<(), Halt>
+    requires may { MayOpen graph plan.now }
+    requires ready { AreReady (length graph.store.now.vertices) opened.old.live.frame.accums }
+    ensures leads { (d : Defining Reference) → Stands plan.now.places opened.old d
+        → Leads (Stands plan.now.places opened.new) (through (defined (world_with C.clock graph.entry plan.now []) (λ w k. Gives k)) d (map view_definition plan.now.definitions)) result }
+    ensures ready { OnOk result (AreReady (length graph.entry.store.now.vertices) opened.new.live.frame.accums) }
+{
+    for definition in plan.definitions.as_slice() {
+        define::<C>(alloc, graph, plan, definition, opened)?;
+    }
+    Ok(())
+}
+
+/// One definition, which sees the tuple types before it.
+fn define<C: Clock>(
+    alloc: Global,
+    graph: Graph<'_>,
+    plan: &Plan,
+    definition: &Definition,
+    opened: &mut Opened,
+) -> Result<(), Halt>
+    requires may { MayOpen graph plan.now }
+    requires ready { AreReady (length graph.store.now.vertices) opened.old.live.frame.accums }
+    ensures leads { (d : Defining Reference) → Stands plan.now.places opened.old d
+        → Leads (Stands plan.now.places opened.new) (defined (world_with C.clock graph.entry plan.now []) (λ w k. Gives k) d (view_definition definition.now)) result }
+    ensures ready { OnOk result (AreReady (length graph.entry.store.now.vertices) opened.new.live.frame.accums) }
+{
+    match definition {
+        Definition::Tuple(fields, number) => {
+            add_tuple(alloc, plan, fields, *number, &mut opened.tuples)?;
+            Ok(())
+        }
+        Definition::Accums(kind, trees) => {
+            accums::<C>(
+                alloc,
+                graph,
+                plan,
+                &opened.tuples,
+                kind,
+                trees,
+                &mut opened.live,
+            )
+        }
+    }
+}
+
+/// A tuple type more, whose number is that of the next one.
+fn add_tuple(
+    alloc: Global,
+    plan: &Plan,
+    fields: &List<(Declared, Txt)>,
+    number: u32,
+    tuples: &mut List<TupleType>,
+) -> Result<(), OutOfMemory>
+    ensures { OnOk result (AddsTuple plan.now.vertices fields.now number tuples.old tuples.new) }
+{
+    if tuples.len() != number as usize {
+        return Err(OutOfMemory);
+    }
+    let own = plan.vertices.as_slice();
+    let lent = fields.as_slice();
+    tuples.push(tuple_type(alloc, own, lent)?)?;
+    Ok(())
+}

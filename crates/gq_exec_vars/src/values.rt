@@ -1,0 +1,164 @@
+// What an accumulator opens with.
+ghost use Rattle.std.specs.Prelude.{◌≡◌, true, if◌then◌else◌, IfOk, Some, is_some, map};
+ghost use Rattle.std.specs.Option.{option_map};
+ghost use Rattle.gq_value.specs.AccumViews.{accum_of, base_of};
+ghost use Rattle.gq_value.specs.Typed.{number_type, takes};
+ghost use Rattle.gq_value.specs.Views.{val};
+ghost use Rattle.gq_nest.specs.Tells.{is_settable};
+ghost use Rattle.gq_rules_typing.specs.Kinds as kinds;
+ghost use Rattle.gq_rules_meaning.specs.Queries.{places};
+ghost use Rattle.gq_rules_meaning.specs.States.{State, seen};
+ghost use Rattle.gq_plan_ir.specs.ExprView.{view};
+ghost use Rattle.gq_plan_ir.specs.Reference.{Reference};
+ghost use Rattle.gq_eval_operand.specs.Meant.{Tells};
+ghost use Rattle.gq_frame.specs.Names.{alias_of};
+ghost use Rattle.gq_frame.specs.Slots.{AreSound};
+ghost use Rattle.gq_eval_context.specs.Looks.{look_of};
+ghost use Rattle.gq_eval_context.specs.Viewed.{viewed};
+ghost use Rattle.gq_frame.specs.Lives.{Lives};
+ghost use Rattle.gq_exec_vars.specs.Begun.{CanOpen, MayOpen, TellsFirst, over_of, value_opened, world_with};
+
+use gq_base::{List, OutOfMemory};
+use gq_eval::run_value;
+use gq_eval_attributes::TupleType;
+use gq_eval_context::{Clock, Setting};
+use gq_eval_operand::{Halt, Sees, converted, own};
+use gq_exec_feed::takes;
+use gq_frame::{Alias, Frame, Live};
+use gq_index::Graph;
+use gq_plan_ir::{Expr, Plan};
+use gq_value::{BaseType, Kind, Number, Value};
+use std::alloc::Global;
+use std::marker::PhantomData;
+
+/// The value that an accumulator opens with, at all of its targets; None where it opens as its kind does, and where it has no target.
+///
+/// An opening sees the same at each target, so it is evaluated once.
+#[tactic(auto, using(crate::proofs::ValueLemmas::told_nowhere))]
+pub(crate) fn first_value<C: Clock>(
+    alloc: Global,
+    graph: Graph<'_>,
+    plan: &Plan,
+    tuples: &List<TupleType>,
+    live: &Live,
+    kind: &Kind,
+    attached: bool,
+    tree: &Option<Expr>,
+) -> Result<Option<Value>, Halt>
+    requires may { MayOpen graph plan.now }
+    requires sound { AreSound live.now.frame.accums }
+    ensures told { (s : State Reference) → Lives plan.now.places live.now s
+        → TellsFirst (seen (world_with C.clock graph.entry plan.now tuples.now) s) (accum_of kind.now) (places (world_with C.clock graph.entry plan.now tuples.now) attached) (option_map view tree.now) result }
+    ensures suited { IfOk result (CanOpen (accum_of kind.now)) }
+{
+    match tree {
+        None => Ok(None),
+        Some(expr) => {
+            if targets(attached, graph.store.vertices.len()) == 0 {
+                return Ok(None);
+            }
+            let over = setting::<C>(graph, plan, tuples, &live.frame);
+            match value_over(expr, alloc, kind, &over, &[]) {
+                Ok(value) => Ok(Some(value)),
+                Err(halt) => Err(halt),
+            }
+        }
+    }
+}
+
+/// How many targets an accumulator has.
+pub(crate) fn targets(attached: bool, vertices: u32) -> u32
+    ensures { result ≡ (if attached then vertices else 1) }
+{
+    if attached { vertices } else { 1 }
+}
+
+/// What an opening is evaluated over.
+fn setting<'a, C: Clock>(
+    graph: Graph<'a>,
+    plan: &'a Plan,
+    tuples: &'a List<TupleType>,
+    frame: &'a Frame,
+) -> Setting<'a, C>
+    requires may { MayOpen graph plan.now }
+    requires sound { AreSound frame.now.accums }
+    ensures { result ≡ over_of graph.entry plan.entry.now tuples.entry.now frame.entry.now }
+{
+    Setting {
+        graph,
+        plan,
+        tuples: tuples.as_slice(),
+        frame,
+        clock: PhantomData,
+    }
+}
+
+/// The value of an opening, over what stands there so far.
+fn value_over<C: Clock>(
+    expr: &Expr,
+    alloc: Global,
+    kind: &Kind,
+    over: &Setting<'_, C>,
+    aliases: &[Alias<'_>],
+) -> Result<Value, Halt>
+    ensures told { Tells val (value_opened (look_of C.clock (viewed over.now (map alias_of aliases.now) over.now.frame.accums over.now.frame.accums)) (accum_of kind.now) (view expr.now)) result }
+    ensures suited { IfOk result (λ v. CanOpen (accum_of kind.now) (Some v)) }
+{
+    let accums = &over.frame.accums;
+    let sight = over.view(aliases, accums, accums);
+    value_seen(expr, alloc, kind, &sight)
+}
+
+/// The value of an opening, converted to what the kind is put to.
+#[tactic(auto, using(crate::proofs::ValueLemmas::open_laws))]
+fn value_seen<V: Sees>(expr: &Expr, alloc: Global, kind: &Kind, sight: &V) -> Result<Value, Halt>
+    ensures told { Tells val (value_opened (V.look sight.now) (accum_of kind.now) (view expr.now)) result }
+    ensures suited { IfOk result (λ v. CanOpen (accum_of kind.now) (Some v)) }
+{
+    match set_base(kind) {
+        None => Err(Halt::Stuck),
+        Some(base) => {
+            let value = run_value(expr, alloc, sight)?;
+            let value = converted(&base, value)?;
+            Ok(suited(own(alloc, value)?, kind)?)
+        }
+    }
+}
+
+/// The value, where a kind takes it.
+fn suited(value: Value, kind: &Kind) -> Result<Value, OutOfMemory>
+    ensures same { IfOk result (λ v. v ≡ value) }
+    ensures suits { IfOk result (λ v. takes (accum_of kind.now) (val v) ≡ true) }
+{
+    if takes(&value, kind) {
+        Ok(value)
+    } else {
+        Err(OutOfMemory)
+    }
+}
+
+/// The type that accumulators of a kind are put to, if they can be.
+#[tactic(auto, using(gq_value::proofs::AccumLemmas::accum_laws, gq_eval_operand::proofs::ConvertLemmas::base_laws))]
+fn set_base(kind: &Kind) -> Option<BaseType>
+    ensures base { option_map base_of result ≡ kinds.set_type (accum_of kind.now) }
+    ensures settable { is_some result ≡ true → is_settable (accum_of kind.now) ≡ true }
+{
+    match kind {
+        Kind::Sum(number) | Kind::Min(number) | Kind::Max(number) => Some(number_base(*number)),
+        Kind::Or | Kind::And => Some(BaseType::Bool),
+        Kind::BitOr | Kind::BitAnd => Some(BaseType::Int),
+        Kind::Avg => None,
+        Kind::Set(_) | Kind::Bag(_) | Kind::List(_) => None,
+        Kind::Map(_, _) | Kind::Group(_) | Kind::Heap(_) => None,
+    }
+}
+
+#[tactic(auto, using(gq_eval_operand::proofs::ConvertLemmas::base_laws))]
+fn number_base(number: Number) -> BaseType
+    ensures { base_of result ≡ number_type number }
+{
+    match number {
+        Number::Int => BaseType::Int,
+        Number::UInt => BaseType::UInt,
+    }
+}

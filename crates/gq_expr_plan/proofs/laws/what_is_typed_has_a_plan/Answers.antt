@@ -1,5 +1,0 @@
-use Rattle.gq_expr_plan.proofs.TypedLaws.{typed_law}
-use Rattle.gq_expr_plan.proofs.laws.what_is_typed_has_a_plan.Goals as goal
-
-pub returns : goal.returns
-returns c = typed_law

@@ -1,4 +1,0 @@
-pub mod Worlds
-pub mod Attributes
-pub mod Tuples
-pub mod Parts

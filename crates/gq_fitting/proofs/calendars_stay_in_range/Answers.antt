@@ -1,5 +1,0 @@
-use Rattle.gq_fitting.proofs.ClockFits.{calendar_law}
-use Rattle.gq_fitting.proofs.calendars_stay_in_range.Goals as goal
-
-pub returns : goal.returns
-returns c = calendar_law

@@ -1,0 +1,41 @@
+-- Assigning: what an assignment leaves, step by step.
+use Rattle.std.specs.Prelude.{◌≡◌, ℕ, Bool, true, false, Option, Some, None, Result, OnOk}
+use Rattle.gq_tree.specs.Tree.{Tree, Name}
+use Rattle.gq_rules_typing.specs.Statements.{SetTypes}
+use Rattle.gq_rules_meaning.specs.Calendars.{Calendar}
+use Rattle.gq_rules_meaning.specs.Sets as sets
+use Rattle.gq_rules_meaning.specs.Sets.{set_assigned}
+use Rattle.gq_rules_meaning.specs.States.{Thing, SetOf, State}
+use Rattle.gq_rules_meaning.specs.Statements.{is_set}
+use Rattle.gq_base.specs.declared.memory.OutOfMemory.{OutOfMemory}
+use Rattle.gq_plan_ir.specs.declared.block.Walk.{Walk}
+use Rattle.gq_plan_ir.specs.declared.block.Walk.TheVariants as walk
+use Rattle.gq_plan_ir.specs.Reference.{Reference, Place}
+use Rattle.gq_frame.specs.Slots.{slots_are}
+use Rattle.gq_frame.specs.declared.live.Live.{Live}
+use Rattle.gq_frame.specs.Lives.{Lives}
+use Rattle.gq_exec_vars.specs.declared.typed.TypedSet.{TypedSet}
+use Rattle.gq_flow.specs.declared.whole.Selected.{Selected}
+use Rattle.gq_exec_control.specs.Grounds.{Basis, world_on}
+
+abbrev pub is_path : Walk → Bool
+is_path (walk.Path steps) = true
+is_path w = false
+
+abbrev pub IsNoName : Tree Reference → Type 0
+IsNoName (Name x) = ⊥
+IsNoName t = Unit {0}
+
+-- the set that is in view, or none is
+abbrev pub IsCopied : Option Thing → Option TypedSet → Type 0
+IsCopied o None = is_set o ≡ false
+IsCopied o (Some set) = o ≡ Some (SetOf set.types set.vertices)
+
+-- a set variable is given a set
+abbrev pub Fixed : Calendar → Basis → ℕ → Option (SetTypes Reference) → sets.TypedSet → Live → Live → Result (Unit {0}) OutOfMemory → Type 0
+Fixed clock b place types set old new result = OnOk result ((s : State Reference) → Lives b.plan.places old s → Lives b.plan.places new (set_assigned (world_on clock b) (Place place) types set s))
+
+-- the same with the accumulators of a SELECT
+abbrev pub Kept : Calendar → Basis → ℕ → Option (SetTypes Reference) → Selected → Live → Live → Result (Unit {0}) OutOfMemory → Type 0
+Kept clock b place types r old new result =
+    OnOk result ((s : State Reference) → Lives b.plan.places old s → Lives b.plan.places new (set_assigned (world_on clock b) (Place place) types (r.types, r.vertices) (record s { slots = slots_are r.accums })))

@@ -1,0 +1,84 @@
+// Expressions assigned.
+ghost use Rattle.std.specs.Prelude.{◌≡◌, IfOk, MatchOption};
+ghost use Rattle.std.specs.Option.{option_map};
+ghost use Rattle.gq_rules_meaning.specs.Statements.{assigned};
+ghost use Rattle.gq_tree.specs.Tree.{Name};
+ghost use Rattle.gq_plan_ir.specs.ExprView.{view};
+ghost use Rattle.gq_plan_ir.specs.PlanView.{view_right, view_set_types};
+ghost use Rattle.gq_plan_ir.specs.declared.step.Right.TheVariants as right;
+ghost use Rattle.gq_plan_ir.specs.Reference.{Place};
+ghost use Rattle.gq_frame.specs.Names.{thing_in};
+ghost use Rattle.gq_frame.specs.Slots.{AreSound};
+ghost use Rattle.gq_exec_control.specs.Changes.{Becomes};
+ghost use Rattle.gq_exec_control.specs.Grounds.{world_on};
+ghost use Rattle.gq_flow.specs.Assigning.{IsNoName, IsCopied};
+
+use crate::sets::give_set;
+use crate::value::assign_variable;
+use gq_base::OutOfMemory;
+use gq_eval_context::Clock;
+use gq_exec_control::{Ground, RunFault, set_at};
+use gq_exec_vars::{SetOperand, TypedSet};
+use gq_frame::{Frame, Live};
+use gq_plan_ir::{Expr, SetTypes};
+use std::alloc::Global;
+
+/// Assigns what an expression is. The name of a set variable alone is its set.
+pub(crate) fn assign_value<C: Clock>(
+    alloc: Global,
+    ground: &Ground<'_, C>,
+    place: u32,
+    types: Option<SetTypes>,
+    expr: &Expr,
+    live: &mut Live,
+) -> Result<(), RunFault>
+    requires { AreSound live.old.frame.accums }
+    ensures names { Becomes ground.now.plan.places (λ s. assigned (world_on C.clock ground.now) s (Place place) (option_map view_set_types types) (view_right (right.Value expr.now))) live.old live.new result }
+    ensures accums { live.new.frame.accums ≡ live.old.frame.accums }
+{
+    match name_of(expr) {
+        None => assign_variable(alloc, ground, place, expr, live),
+        Some(name) => match set_copied(alloc, ground, name, &live.frame) {
+            Err(_) => Err(RunFault::OutOfMemory),
+            Ok(None) => assign_variable(alloc, ground, place, expr, live),
+            Ok(Some(set)) => match give_set(ground, place, types, set, live) {
+                Err(_) => Err(RunFault::OutOfMemory),
+                Ok(()) => Ok(()),
+            },
+        },
+    }
+}
+
+/// The place of the name that an expression is, if it is one.
+#[tactic(auto, using(gq_plan_ir::proofs::ViewLaws::view_laws))]
+fn name_of(expr: &Expr) -> Option<u32>
+    ensures { MatchOption result (IsNoName (view expr.now)) (λ name. view expr.now ≡ Name (Place name)) }
+{
+    match expr {
+        Expr::Name(place) => Some(*place),
+        Expr::Number(_) | Expr::Text(_) | Expr::Truth(_) | Expr::Global(_) => None,
+        Expr::Call(_, _) | Expr::Post(_, _) | Expr::Neg(_, _) | Expr::Not(_, _) => None,
+        Expr::Mul(_, _) | Expr::Sum(_, _) | Expr::Cmp(_, _, _) => None,
+        Expr::And(_, _) | Expr::Or(_, _) => None,
+    }
+}
+
+/// A copy of the set at a place, if one is in view.
+fn set_copied<C>(
+    alloc: Global,
+    ground: &Ground<'_, C>,
+    place: u32,
+    frame: &Frame,
+) -> Result<Option<TypedSet>, OutOfMemory>
+    ensures { IfOk result (IsCopied (thing_in ground.now.plan.places frame.now.things place)) }
+{
+    let count = ground.graph.store.vertices.len();
+    match set_at(
+        ground.plan.places.as_slice(),
+        frame.things.as_slice(),
+        place,
+    ) {
+        None => Ok(None),
+        Some((types, vertices)) => Ok(Some(SetOperand::Lent(types, vertices).own(alloc, count)?)),
+    }
+}

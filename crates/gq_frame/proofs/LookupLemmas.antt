@@ -1,0 +1,314 @@
+-- NameLemmas: names as they come into view, change and leave.
+use Rattle.std.proofs.Common.{◌≡◌, ◌≢◌, ◌⊎◌, inl, inr, ℕ, zero, suc, ◌+◌, ◌-◌, ◌<◌, ◌≤◌, ◌==◌, leb, Bool, true, false, cond, List, [], ◌∷◌, ◌++◌, drop, length, reverse, set, Option, Some, None, Result, Ok, Err, OnOk, refl, sym, ap, subst, ◌∙◌, arith}
+use Rattle.std.specs.Prelude.{is_some, if◌then◌else◌}
+use Rattle.std.specs.List.{slice_get}
+use Rattle.std.proofs.lemmas.List.{reverse-append, length-reverse, drop-drop}
+use Rattle.std.proofs.lemmas.Bool.{eqb-true}
+use Rattle.std.proofs.lemmas.Bool.Decides.{eqb_tells, leb_tells, nat_tests}
+use Rattle.gq_base.specs.declared.memory.OutOfMemory.{OutOfMemory}
+use Rattle.gq_rules_typing.specs.Words.{under}
+use Rattle.gq_rules_meaning.specs.Expressions.{World}
+use Rattle.gq_rules_meaning.specs.States as states
+use Rattle.gq_rules_meaning.specs.States.{State, with_new, with_name, changed}
+use Rattle.gq_plan_ir.specs.declared.plan.PlaceType.{PlaceType}
+use Rattle.gq_plan_ir.specs.declared.plan.PlaceType.TheVariants as held
+use Rattle.gq_plan_ir.specs.Reference.{Reference, Place, Slot, VertexType, EdgeType, TupleType, TypeName, FieldAt, Calls, Does}
+use Rattle.gq_plan_ir.specs.References.{same}
+use Rattle.gq_frame.specs.declared.frame.Thing.{Thing}
+use Rattle.gq_frame.specs.Names.{held_thing, thing_in, thing_for}
+use Rattle.gq_frame.specs.Slots.{slots_are}
+use Rattle.gq_frame.specs.declared.live.Live.{Live}
+use Rattle.gq_frame.specs.declared.live.Undo.{Undo}
+use Rattle.gq_frame.specs.Lives.{Alike, Unwinds, Lives, without}
+
+-- ---- lists
+
+get_set_same : {A : Type 0} (xs : List A) (i : ℕ) (x y : A) → slice_get xs i ≡ Some x → slice_get (set xs i y) i ≡ Some y
+get_set_same [] i x y e = cc
+get_set_same (a ∷ xs) zero x y e = refl
+get_set_same (a ∷ xs) (suc i) x y e = get_set_same xs i x y e
+
+get_set_other : {A : Type 0} (xs : List A) (i j : ℕ) (y : A) → (i == j) ≡ false → slice_get (set xs i y) j ≡ slice_get xs j
+get_set_other [] i j y e = refl
+get_set_other (a ∷ xs) zero zero y e = cc
+get_set_other (a ∷ xs) zero (suc j) y e = refl
+get_set_other (a ∷ xs) (suc i) zero y e = refl
+get_set_other (a ∷ xs) (suc i) (suc j) y e = get_set_other xs i j y (let d : (i == j) ≡ false = grind (arith, nat_tests) in d)
+
+set_set : {A : Type 0} (xs : List A) (i : ℕ) (x y : A) → set (set xs i x) i y ≡ set xs i y
+set_set [] i x y = refl
+set_set (a ∷ xs) zero x y = refl
+set_set (a ∷ xs) (suc i) x y = ap (λ ys. a ∷ ys) (set_set xs i x y)
+
+set_swap : {A : Type 0} (xs : List A) (i j : ℕ) (x y : A) → (i == j) ≡ false → set (set xs i x) j y ≡ set (set xs j y) i x
+set_swap [] i j x y e = refl
+set_swap (a ∷ xs) zero zero x y e = cc
+set_swap (a ∷ xs) zero (suc j) x y e = refl
+set_swap (a ∷ xs) (suc i) zero x y e = refl
+set_swap (a ∷ xs) (suc i) (suc j) x y e = ap (λ ys. a ∷ ys) (set_swap xs i j x y (let d : (i == j) ≡ false = grind (arith, nat_tests) in d))
+
+set_get : {A : Type 0} (xs : List A) (i : ℕ) (x : A) → slice_get xs i ≡ Some x → set xs i x ≡ xs
+set_get [] i x e = refl
+set_get (a ∷ xs) zero x e = ap (λ b. b ∷ xs) (let d : x ≡ a = cc in d)
+set_get (a ∷ xs) (suc i) x e = ap (λ ys. a ∷ ys) (set_get xs i x e)
+
+same_self : (n : ℕ) → (n == n) ≡ true
+same_self n = grind (arith, nat_tests)
+
+-- ---- what a place has once something else stands there
+
+-- the rest of the frame as it was, and a name in the place of p's
+choice : (places : List PlaceType) (things : List (Option Thing)) (p : ℕ) (old : Option Thing) (thing : Thing) (t : states.Thing) (other : Reference → Option states.Thing)
+    → slice_get things p ≡ Some old → held_thing (slice_get places p) (Some (Some thing)) ≡ Some t
+    → ((x : Reference) → other x ≡ thing_for places things x)
+    → (x : Reference) → cond (same (Place p) x) (Some t) (other x) ≡ thing_for places (set things p (Some thing)) x
+choice places things p old thing t other at h o (Place n) = chosen (eqb_tells p n)
+  where
+    chosen : (((p == n) ≡ true) × (p ≡ n)) ⊎ (((p == n) ≡ false) × (p ≢ n)) → cond (p == n) (Some t) (other (Place n)) ≡ thing_for places (set things p (Some thing)) (Place n)
+    chosen (inl e) =
+        ap (λ b. cond b (Some t) (other (Place n))) e.0
+        ∙ sym (subst (λ m. thing_for places (set things p (Some thing)) (Place m) ≡ Some t) e.1 (ap (held_thing (slice_get places p)) (get_set_same things p old (Some thing) at) ∙ h))
+    chosen (inr e) =
+        ap (λ b. cond b (Some t) (other (Place n))) e.0
+        ∙ o (Place n)
+        ∙ ap (held_thing (slice_get places n)) (sym (get_set_other things p n (Some thing) e.0))
+choice places things p old thing t other at h o (Slot n) = o (Slot n)
+choice places things p old thing t other at h o (VertexType n) = o (VertexType n)
+choice places things p old thing t other at h o (EdgeType n) = o (EdgeType n)
+choice places things p old thing t other at h o (TupleType n) = o (TupleType n)
+choice places things p old thing t other at h o TypeName = o TypeName
+choice places things p old thing t other at h o (FieldAt c) = o (FieldAt c)
+choice places things p old thing t other at h o (Calls f) = o (Calls f)
+choice places things p old thing t other at h o (Does m) = o (Does m)
+
+-- ---- names that come into view
+
+pub alike_now : (places : List PlaceType) (things : List (Option Thing)) (us : List Undo) (ns : List (Reference × states.Thing)) → Unwinds places things us ns → Alike places things ns
+alike_now places things [] [] h = h
+alike_now places things (u ∷ us) (n ∷ ns) h = h.0
+alike_now places things [] (n ∷ ns) h = absurd h
+alike_now places things (u ∷ us) [] h = absurd h
+
+as_long : (places : List PlaceType) (things : List (Option Thing)) (us : List Undo) (ns : List (Reference × states.Thing)) → Unwinds places things us ns → length us ≡ length ns
+as_long places things [] [] h = refl
+as_long places things (u ∷ us) (n ∷ ns) h = ap suc (as_long places (set things u.place u.was) us ns h.2)
+as_long places things [] (n ∷ ns) h = absurd h
+as_long places things (u ∷ us) [] h = absurd h
+
+pub as_many : (places : List PlaceType) (live : Live) (s : State Reference) → Lives places live s → length live.undo.items ≡ length s.names
+as_many places live s l = sym (length-reverse live.undo.items) ∙ as_long places live.frame.things (reverse live.undo.items) s.names l.names
+
+new_unwinds : (places : List PlaceType) (things : List (Option Thing)) (us : List Undo) (u : Undo) (thing : Thing) (t : states.Thing) (ns : List (Reference × states.Thing))
+    → slice_get things u.place ≡ Some u.was → held_thing (slice_get places u.place) (Some (Some thing)) ≡ Some t
+    → Unwinds places things us ns → Unwinds places (set things u.place (Some thing)) (u ∷ us) ((Place u.place, t) ∷ ns)
+new_unwinds places things us u thing t ns at h l = (
+  record { each = choice places things u.place u.was thing t (λ x. under same x ns) at h (alike_now places things us ns l).each },
+  refl,
+  subst (λ xs. Unwinds places xs us ns) (sym (set_set things u.place (Some thing) u.was ∙ set_get things u.place u.was at)) l,
+)
+
+pub new_lives : (places : List PlaceType) (old new : Live) (u : Undo) (thing : Thing) (s : State Reference) (t : states.Thing)
+    → new.frame.things ≡ set old.frame.things u.place (Some thing) → new.undo.items ≡ old.undo.items ++ u ∷ [] → new.frame.accums ≡ old.frame.accums
+    → slice_get old.frame.things u.place ≡ Some u.was → held_thing (slice_get places u.place) (Some (Some thing)) ≡ Some t
+    → Lives places old s → Lives places new (with_new (Place u.place) t s)
+new_lives places old new u thing s t things log accums at h l = record {
+  names =
+      subst (λ xs. Unwinds places xs (reverse new.undo.items) ((Place u.place, t) ∷ s.names)) (sym things)
+      (subst (λ us. Unwinds places (set old.frame.things u.place (Some thing)) us ((Place u.place, t) ∷ s.names)) (sym (ap reverse log ∙ reverse-append old.undo.items (u ∷ [])))
+      (new_unwinds places old.frame.things (reverse old.undo.items) u thing t s.names at h l.names));
+  slots = l.slots ∙ ap slots_are (sym accums);
+}
+
+-- ---- names that change
+
+same_place : (x : Reference) (p : ℕ) → same x (Place p) ≡ true → x ≡ Place p
+same_place (Place n) p e = ap Place (eqb-true n p e)
+same_place (Slot n) p e = cc
+same_place (VertexType n) p e = cc
+same_place (EdgeType n) p e = cc
+same_place (TupleType n) p e = cc
+same_place TypeName p e = cc
+same_place (FieldAt c) p e = cc
+same_place (Calls f) p e = cc
+same_place (Does m) p e = cc
+
+is_or_not : (b : Bool) → (b ≡ true) ⊎ (b ≡ false)
+is_or_not true = inl refl
+is_or_not false = inr refl
+
+twice : (b : Bool) (u v w : Option states.Thing) → cond b u v ≡ cond b u (cond b w v)
+twice true u v w = refl
+twice false u v w = refl
+
+exchanged : (a b : Bool) (u v w : Option states.Thing) → (a ≡ true → b ≡ false) → cond a u (cond b v w) ≡ cond b v (cond a u w)
+exchanged true true u v w h = cc (h refl)
+exchanged true false u v w h = refl
+exchanged false true u v w h = refl
+exchanged false false u v w h = refl
+
+turned : (m p : ℕ) → (m == p) ≡ false → (p == m) ≡ false
+turned m p e = grind (arith, nat_tests)
+
+not_both : (p : ℕ) (r x : Reference) → same r (Place p) ≡ false → same r x ≡ true → same (Place p) x ≡ false
+not_both p r (Place m) d y = subst (λ q. same q (Place p) ≡ false → same (Place p) (Place m) ≡ false) (sym (same_place r m y)) (turned m p) d
+not_both p r (Slot m) d y = refl
+not_both p r (VertexType m) d y = refl
+not_both p r (EdgeType m) d y = refl
+not_both p r (TupleType m) d y = refl
+not_both p r TypeName d y = refl
+not_both p r (FieldAt c) d y = refl
+not_both p r (Calls f) d y = refl
+not_both p r (Does m) d y = refl
+
+-- a name that is in view stands for the new thing, and all others for what they did
+under_changed : (p : ℕ) (old t : states.Thing) (ns : List (Reference × states.Thing)) (x : Reference) → under same (Place p) ns ≡ Some old
+    → under same x (changed same (Place p) t ns) ≡ cond (same (Place p) x) (Some t) (under same x ns)
+under_changed p old t [] x e = cc
+under_changed p old t (n ∷ ns) x e = by_name (λ d. under_changed p old t ns x (ap (λ b. cond b (Some n.1) (under same (Place p) ns)) (sym d) ∙ e)) (is_or_not (same n.0 (Place p)))
+  where
+    by_name : (same n.0 (Place p) ≡ false → under same x (changed same (Place p) t ns) ≡ cond (same (Place p) x) (Some t) (under same x ns)) → ((same n.0 (Place p) ≡ true) ⊎ (same n.0 (Place p) ≡ false)) → under same x (changed same (Place p) t (n ∷ ns)) ≡ cond (same (Place p) x) (Some t) (under same x (n ∷ ns))
+    by_name next (inl y) =
+        ap (λ b. under same x (cond b ((Place p, t) ∷ ns) (n ∷ changed same (Place p) t ns))) y
+        ∙ twice (same (Place p) x) (Some t) (under same x ns) (Some n.1)
+        ∙ ap (λ r. cond (same (Place p) x) (Some t) (cond (same r x) (Some n.1) (under same x ns))) (sym (same_place n.0 p y))
+    by_name next (inr d) =
+        ap (λ b. under same x (cond b ((Place p, t) ∷ ns) (n ∷ changed same (Place p) t ns))) d
+        ∙ ap (cond (same n.0 x) (Some n.1)) (next d)
+        ∙ exchanged (same n.0 x) (same (Place p) x) (Some n.1) (Some t) (under same x ns) (not_both p n.0 x d)
+
+-- a place whose name is in view has something
+nothing : (held : Option PlaceType) (old : states.Thing) → held_thing held None ≡ Some old → ⊥
+nothing None old h = cc
+nothing (Some (held.Variable b)) old h = cc
+nothing (Some (held.Set ts)) old h = cc
+nothing (Some (held.Alias ts)) old h = cc
+nothing (Some (held.EdgeAlias ts)) old h = cc
+
+there : (places : List PlaceType) (things : List (Option Thing)) (p : ℕ) (old : states.Thing) → thing_in places things p ≡ Some old → (was : Option Thing) × (slice_get things p ≡ Some was)
+there places things p old h = of_entry (slice_get things p) refl h
+  where
+    of_entry : (o : Option (Option Thing)) → slice_get things p ≡ o → held_thing (slice_get places p) o ≡ Some old → (was : Option Thing) × (slice_get things p ≡ Some was)
+    of_entry (Some was) e h = (was, e)
+    of_entry None e h = absurd (nothing (slice_get places p) old h)
+
+alike_changed : (places : List PlaceType) (things : List (Option Thing)) (p : ℕ) (thing : Thing) (old t : states.Thing) (ns : List (Reference × states.Thing))
+    → Alike places things ns → under same (Place p) ns ≡ Some old → held_thing (slice_get places p) (Some (Some thing)) ≡ Some t
+    → Alike places (set things p (Some thing)) (changed same (Place p) t ns)
+alike_changed places things p thing old t ns a e h =
+    let w = there places things p old (sym (a.each (Place p)) ∙ e) in
+    record { each = λ x. under_changed p old t ns x e ∙ choice places things p w.0 thing t (λ x. under same x ns) w.1 h a.each x }
+
+changed_unwinds : (places : List PlaceType) (things : List (Option Thing)) (us : List Undo) (p : ℕ) (thing : Thing) (old t : states.Thing) (ns : List (Reference × states.Thing))
+    → under same (Place p) ns ≡ Some old → held_thing (slice_get places p) (Some (Some thing)) ≡ Some t
+    → Unwinds places things us ns → Unwinds places (set things p (Some thing)) us (changed same (Place p) t ns)
+changed_unwinds places things [] p thing old t [] e h l = cc
+changed_unwinds places things [] p thing old t (n ∷ ns) e h l = absurd l
+changed_unwinds places things (u ∷ us) p thing old t [] e h l = absurd l
+changed_unwinds places things (u ∷ us) p thing old t (n ∷ ns) e h l = by_place (λ e. changed_unwinds places (set things u.place u.was) us p thing old t ns e h l.2) (eqb_tells u.place p)
+  where
+    alike : Alike places (set things p (Some thing)) (changed same (Place p) t (n ∷ ns))
+    alike = alike_changed places things p thing old t (n ∷ ns) l.0 e h
+
+    tested : same n.0 (Place p) ≡ (u.place == p)
+    tested = ap (λ r. same r (Place p)) l.1
+
+    by_place : (under same (Place p) ns ≡ Some old → Unwinds places (set (set things u.place u.was) p (Some thing)) us (changed same (Place p) t ns)) → (((u.place == p) ≡ true) × (u.place ≡ p)) ⊎ (((u.place == p) ≡ false) × (u.place ≢ p)) → Unwinds places (set things p (Some thing)) (u ∷ us) (changed same (Place p) t (n ∷ ns))
+    by_place next (inl y) =
+        let is : changed same (Place p) t (n ∷ ns) ≡ (Place p, t) ∷ ns = ap (λ b. cond b ((Place p, t) ∷ ns) (n ∷ changed same (Place p) t ns)) (tested ∙ y.0) in
+        subst (Unwinds places (set things p (Some thing)) (u ∷ us)) (sym is) (
+          subst (Alike places (set things p (Some thing))) is alike,
+          ap Place (sym y.1),
+          subst (λ q. Unwinds places (set (set things q (Some thing)) u.place u.was) us ns) y.1 (subst (λ xs. Unwinds places xs us ns) (sym (set_set things u.place (Some thing) u.was)) l.2),
+        )
+    by_place next (inr d) =
+        let is : changed same (Place p) t (n ∷ ns) ≡ n ∷ changed same (Place p) t ns = ap (λ b. cond b ((Place p, t) ∷ ns) (n ∷ changed same (Place p) t ns)) (tested ∙ d.0) in
+        subst (Unwinds places (set things p (Some thing)) (u ∷ us)) (sym is) (
+          subst (Alike places (set things p (Some thing))) is alike,
+          l.1,
+          subst (λ xs. Unwinds places xs us (changed same (Place p) t ns)) (sym (set_swap things p u.place (Some thing) u.was (turned u.place p d.0)))
+              (next (ap (λ b. cond b (Some n.1) (under same (Place p) ns)) (sym (tested ∙ d.0)) ∙ e)),
+        )
+
+-- ---- what the code does
+
+is_some_is : {A : Type 0} (o : Option A) → is_some o ≡ true → (a : A) × (o ≡ Some a)
+is_some_is (Some a) e = (a, refl)
+is_some_is None e = absurd (let f : ⊥ = cc in f)
+
+changed_lives : (places : List PlaceType) (old new : Live) (p : ℕ) (thing : Thing) (s : State Reference) (t was : states.Thing)
+    → new.frame.things ≡ set old.frame.things p (Some thing) → new.undo.items ≡ old.undo.items → new.frame.accums ≡ old.frame.accums
+    → held_thing (slice_get places p) (Some (Some thing)) ≡ Some t → under same (Place p) s.names ≡ Some was
+    → Lives places old s → Lives places new (record s { names = changed same (Place p) t s.names })
+changed_lives places old new p thing s t was things log accums h e l = record {
+  names =
+      subst (λ xs. Unwinds places xs (reverse new.undo.items) (changed same (Place p) t s.names)) (sym things)
+      (subst (λ us. Unwinds places (set old.frame.things p (Some thing)) us (changed same (Place p) t s.names)) (sym (ap reverse log))
+      (changed_unwinds places old.frame.things (reverse old.undo.items) p thing was t s.names e h l.names));
+  slots = l.slots ∙ ap slots_are (sym accums);
+}
+
+-- a name as it is looked up in a world
+abbrev named_by : (Reference → Reference → Bool) → ℕ → states.Thing → State Reference → State Reference
+named_by f p t s = if is_some (under f (Place p) s.names) then (record s { names = changed f (Place p) t s.names }) else with_new (Place p) t s
+
+pub seen_there : (places : List PlaceType) (live : Live) (p : ℕ) (s : State Reference) → Lives places live s → under same (Place p) s.names ≡ thing_in places live.frame.things p
+seen_there places live p s l = (alike_now places live.frame.things (reverse live.undo.items) s.names l.names).each (Place p)
+
+-- a name that is in view
+pub assigned_lives : (places : List PlaceType) (old new : Live) (p : ℕ) (thing : Thing)
+    → is_some (thing_in places old.frame.things p) ≡ true
+    → new.frame.things ≡ set old.frame.things p (Some thing) → new.undo.items ≡ old.undo.items → new.frame.accums ≡ old.frame.accums
+    → (world : World Reference) (s : State Reference) (t : states.Thing) → world.words.same ≡ same → Lives places old s → held_thing (slice_get places p) (Some (Some thing)) ≡ Some t
+    → Lives places new (with_name world (Place p) t s)
+assigned_lives places old new p thing y things log accums world s t w l h =
+    let is = is_some_is (under same (Place p) s.names) (ap is_some (seen_there places old p s l) ∙ y) in
+    subst (λ f. Lives places new (named_by f p t s)) (sym w)
+    (subst (λ b. Lives places new (if b then (record s { names = changed same (Place p) t s.names }) else with_new (Place p) t s)) (sym (ap is_some (seen_there places old p s l) ∙ y))
+    (changed_lives places old new p thing s t is.0 things log accums h is.1 l))
+
+-- another one
+pub declared_lives : (places : List PlaceType) (old new : Live) (p : ℕ) (thing : Thing)
+    → is_some (thing_in places old.frame.things p) ≡ false
+    → ((places : List PlaceType) (s : State Reference) (t : states.Thing) → Lives places old s → held_thing (slice_get places p) (Some (Some thing)) ≡ Some t → Lives places new (with_new (Place p) t s))
+    → (world : World Reference) (s : State Reference) (t : states.Thing) → world.words.same ≡ same → Lives places old s → held_thing (slice_get places p) (Some (Some thing)) ≡ Some t
+    → Lives places new (with_name world (Place p) t s)
+declared_lives places old new p thing d next world s t w l h =
+    subst (λ f. Lives places new (named_by f p t s)) (sym w)
+    (subst (λ b. Lives places new (if b then (record s { names = changed same (Place p) t s.names }) else with_new (Place p) t s)) (sym (ap is_some (seen_there places old p s l) ∙ d))
+    (next places s t l h))
+
+-- ---- names that leave
+
+-- the last name leaves
+pub last_leaves : (places : List PlaceType) (things : List (Option Thing)) (log rest : List Undo) (u : Undo) (ns : List (Reference × states.Thing))
+    → log ≡ rest ++ u ∷ [] → Unwinds places things (reverse log) ns → Unwinds places (set things u.place u.was) (reverse rest) (drop 1 ns)
+last_leaves places things log rest u ns e l = one ns (subst (λ us. Unwinds places things us ns) (ap reverse e ∙ reverse-append rest (u ∷ [])) l)
+  where
+    one : (ns : List (Reference × states.Thing)) → Unwinds places things (u ∷ reverse rest) ns → Unwinds places (set things u.place u.was) (reverse rest) (drop 1 ns)
+    one [] l = absurd l
+    one (n ∷ ns) l = l.2
+
+pub none_leaves : (places : List PlaceType) (things : List (Option Thing)) (ns : List (Reference × states.Thing)) → Unwinds places things [] ns → Unwinds places things [] (drop 1 ns)
+none_leaves places things [] l = l
+none_leaves places things (n ∷ ns) l = absurd l
+
+pub more_leave : (places : List PlaceType) (live : Live) (s : State Reference) (k j : ℕ) → j ≡ k + 1 → Lives places live (without 1 (without k s)) → Lives places live (without j s)
+more_leave places live s k j e l = record {
+  names = subst (Unwinds places live.frame.things (reverse live.undo.items)) (drop-drop 1 k s.names ∙ ap (λ n. drop n s.names) (let d : k + 1 ≡ j = omega arith in d)) l.names;
+  slots = l.slots;
+}
+
+pub declared_on_ok : (result : Result (Unit {0}) OutOfMemory) (places : List PlaceType) (old new : Live) (p : ℕ) (thing : Thing)
+    → is_some (thing_in places old.frame.things p) ≡ false
+    → OnOk result ((places : List PlaceType) (s : State Reference) (t : states.Thing) → Lives places old s → held_thing (slice_get places p) (Some (Some thing)) ≡ Some t → Lives places new (with_new (Place p) t s))
+    → OnOk result ((world : World Reference) (s : State Reference) (t : states.Thing) → world.words.same ≡ same → Lives places old s → held_thing (slice_get places p) (Some (Some thing)) ≡ Some t
+    → Lives places new (with_name world (Place p) t s))
+declared_on_ok (Ok x) places old new p thing d h = declared_lives places old new p thing d h
+declared_on_ok (Err e) places old new p thing d h = h
+
+pub turns_taken : (turn mark last n : ℕ) → last ≡ n → (mark ≤ last → turn ≤ last) → last ≤ turn → (last ≤ mark → turn ≡ mark) → turn - mark ≡ n - mark
+turns_taken turn mark last n e above below none = by_order (leb_tells mark last)
+  where
+    by_order : (((leb mark last) ≡ true) × (mark ≤ last)) ⊎ (((leb mark last) ≡ false) × (last < mark)) → turn - mark ≡ n - mark
+    by_order (inl l) = let t = above l.1 in let b = l.1 in omega (arith, t, b, below, e)
+    by_order (inr l) = let b = l.1 in let t = none (omega (arith, b)) in omega (arith, t, b, e)

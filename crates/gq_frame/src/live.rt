@@ -1,0 +1,134 @@
+// What is live, and how names come and go.
+ghost use Rattle.std.specs.Prelude.{◌≡◌, ◌-◌, ℕ, List, Some, OnOk, length, is_some, slice_get, slice_set};
+ghost use Rattle.gq_rules_meaning.specs.Expressions.{World};
+ghost use Rattle.gq_rules_meaning.specs.States as states;
+ghost use Rattle.gq_rules_meaning.specs.States.{State, with_new, with_name};
+ghost use Rattle.gq_plan_ir.specs.declared.plan.PlaceType.{PlaceType};
+ghost use Rattle.gq_plan_ir.specs.Reference.{Reference, Place};
+ghost use Rattle.gq_plan_ir.specs.References.{same};
+ghost use Rattle.gq_frame.specs.Names.{held_thing, thing_in};
+ghost use Rattle.gq_frame.specs.Lives.{Lives, without};
+
+use crate::frame::{Frame, Thing};
+use gq_base::OutOfMemory;
+use gq_plan_ir::PlaceType;
+use std::mem::replace;
+
+/// What stood at a place before a name came into view there.
+#[derive(Drop)]
+pub struct Undo {
+    pub place: u32,
+    pub was: Option<Thing>,
+}
+
+/// What names and accumulators hold while a query runs, and what the names in view hide, the last one last.
+#[derive(Drop)]
+pub struct Live {
+    pub frame: Frame,
+    pub undo: Vec<Undo>,
+}
+
+impl Live {
+    /// How many names are in view.
+    #[tactic(auto, using(crate::proofs::LookupLemmas::as_many))]
+    pub fn mark(&self) -> usize
+        ensures { (places : List PlaceType) (s : State Reference) → Lives places self.now s → result ≡ length s.names }
+    {
+        self.undo.len()
+    }
+
+    /// Brings a name into view, in front of all others.
+    pub fn declare(&mut self, place: u32, thing: Thing) -> Result<(), OutOfMemory>
+        ensures names { OnOk result ((places : List PlaceType) (s : State Reference) (t : states.Thing) → Lives places self.old s
+            → held_thing (slice_get places place) (Some (Some thing)) ≡ Some t → Lives places self.new (with_new (Place place) t s)) }
+        ensures accums { self.new.frame.accums ≡ self.old.frame.accums }
+    {
+        if place as usize >= self.frame.things.len() {
+            return Err(OutOfMemory);
+        }
+        let was = replace(self.frame.things.at_mut(place as usize), Some(thing));
+        self.undo.push(Undo { place, was })?;
+        Ok(())
+    }
+
+    /// Gives a name what it stands for. One that is in view keeps its place among the names, another comes into view.
+    pub fn assign(
+        &mut self,
+        places: &[PlaceType],
+        place: u32,
+        thing: Thing,
+    ) -> Result<(), OutOfMemory>
+        ensures names { OnOk result ((world : World Reference) (s : State Reference) (t : states.Thing) → world.words.same ≡ same → Lives places.now self.old s
+            → held_thing (slice_get places.now place) (Some (Some thing)) ≡ Some t → Lives places.now self.new (with_name world (Place place) t s)) }
+        ensures accums { self.new.frame.accums ≡ self.old.frame.accums }
+    {
+        if self.has(places, place) {
+            self.frame.things.set(place as usize, Some(thing));
+            Ok(())
+        } else {
+            self.declare(place, thing)
+        }
+    }
+
+    /// Whether a name is in view.
+    pub fn has(&self, places: &[PlaceType], place: u32) -> bool
+        ensures { result ≡ is_some (thing_in places.now self.now.frame.things place) }
+    {
+        match self.frame.things.as_slice().get(place as usize) {
+            Some(Some(thing)) => match places.get(place as usize) {
+                Some(held) => fits(held, thing),
+                None => false,
+            },
+            Some(None) | None => false,
+        }
+    }
+
+    /// Takes names out of view, the last one first, until so many are left; what they hid is in view again.
+    pub fn leave(&mut self, mark: usize)
+        ensures names { (places : List PlaceType) (s : State Reference) → Lives places self.old s → Lives places self.new (without (length s.names - mark) s) }
+        ensures accums { self.new.frame.accums ≡ self.old.frame.accums }
+    {
+        for _turn in mark..self.mark() {
+            self.leave_last();
+        }
+    }
+
+    /// Takes the last name out of view.
+    fn leave_last(&mut self)
+        ensures names { (places : List PlaceType) (s : State Reference) → Lives places self.old s → Lives places self.new (without 1 s) }
+        ensures accums { self.new.frame.accums ≡ self.old.frame.accums }
+    {
+        if let Some(undo) = self.undo.pop() {
+            self.restore(undo);
+        }
+    }
+
+    /// Puts back what stood at a place.
+    fn restore(&mut self, undo: Undo)
+        ensures things { self.new.frame.things ≡ slice_set self.old.frame.things undo.place undo.was }
+        ensures accums { self.new.frame.accums ≡ self.old.frame.accums }
+        ensures undo { self.new.undo.items ≡ self.old.undo.items }
+    {
+        let Undo { place, was } = undo;
+        if (place as usize) < self.frame.things.len() {
+            self.frame.things.set(place as usize, was);
+        }
+    }
+}
+
+/// Whether a thing is what the plan says of its place.
+fn fits(held: &PlaceType, thing: &Thing) -> bool
+    ensures { result ≡ is_some (held_thing (Some held.now) (Some (Some thing.now))) }
+{
+    match held {
+        PlaceType::Variable(_) => match thing {
+            Thing::Value(_) => true,
+            Thing::Set(_) => false,
+        },
+        PlaceType::Set(_) => match thing {
+            Thing::Set(_) => true,
+            Thing::Value(_) => false,
+        },
+        PlaceType::Alias(_) | PlaceType::EdgeAlias(_) => false,
+    }
+}

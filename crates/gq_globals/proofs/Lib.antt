@@ -1,4 +1,0 @@
-pub mod PlaceLemmas
-pub mod ListLemmas
-pub mod TupleLemmas
-pub mod TableLemmas

@@ -1,0 +1,6 @@
+pub mod Candidates
+pub mod Vertices
+pub mod Edges
+pub mod Defaults
+pub mod Catalog
+pub mod SortLaws

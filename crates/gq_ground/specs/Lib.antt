@@ -1,4 +1,0 @@
-pub mod Grounds
-pub mod Faults
-pub mod Places
-pub mod Changes

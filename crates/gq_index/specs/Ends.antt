@@ -1,0 +1,15 @@
+-- Ends: an edge with its two ends, as the upserts that it takes.
+use Rattle.std.specs.Prelude.{List, [], ◌∷◌}
+use Rattle.gq_graph.specs.declared.rows.VertexRow.{VertexRow}
+use Rattle.gq_graph.specs.declared.rows.Naming.{Naming}
+use Rattle.gq_value.specs.declared.value.Value.{Value}
+use Rattle.gq_index.specs.declared.put.EndpointRef.{EndpointRef as PutEnd}
+use Rattle.gq_index.specs.Steps.{Step, End, Edge, name_of}
+
+-- the row of an end that isn't there yet
+abbrev pub row_of : PutEnd → VertexRow
+row_of end = record { kind = end.kind; id = end.id.now; attributes = end.missing.now }
+
+-- first its FROM vertex, then its TO vertex, then the edge
+abbrev pub edge_steps : Naming → VertexRow → VertexRow → List Value → List Step
+edge_steps naming from to attributes = End from ∷ End to ∷ Edge naming (name_of from) (name_of to) attributes ∷ []

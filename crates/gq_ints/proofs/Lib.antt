@@ -1,2 +1,0 @@
-pub mod IntLemmas
-pub mod BatchLemmas

@@ -1,9 +1,0 @@
--- Fitting: when named jobs are those of a catalog.
-use Rattle.std.specs.Prelude.{List, All}
-use Rattle.gq_value.specs.Catalog.{Schema}
-use Rattle.gq_job.specs.Fits.{LineFits}
-use Rattle.gq_jobs.specs.declared.named.NamedJob.{NamedJob}
-
--- each LOAD of each job is one of the catalog
-abbrev pub JobsFit : Schema → List NamedJob → Type 0
-JobsFit schema jobs = All (λ (entry : NamedJob). All (LineFits schema) entry.job.lines) jobs

@@ -1,4 +1,0 @@
-pub mod Jobs
-pub mod Tells
-pub mod Fitting
-pub mod FittingLaws

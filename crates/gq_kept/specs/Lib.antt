@@ -1,4 +1,0 @@
-pub mod Puts
-pub mod PutLaws
-pub mod Keeping
-pub mod KeepingLaws

@@ -1,2 +1,0 @@
-pub mod KindReads
-mod LevelLemmas

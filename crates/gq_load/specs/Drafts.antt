@@ -1,0 +1,43 @@
+-- Drafts: the values of one row, as the code reads them before any row of a record is put. No clause of another crate cites this.
+use Rattle.std.specs.Prelude.{◌≡◌, length, slice_get, ℕ, List, [], ◌∷◌, ◌++◌, string_bytes, if◌then◌else◌, Bool, Option, Some, None}
+use Rattle.gq_graph.specs.Catalog.{Schema}
+use Rattle.gq_load_plan.specs.declared.job.Target.{Target}
+use Rattle.gq_load_plan.specs.declared.job.Target.TheVariants as target
+use Rattle.gq_load_plan.specs.Targets.{edge_type_at, attributes_of}
+use Rattle.gq_index.specs.Steps.{Step, Vertex}
+use Rattle.gq_index.specs.Ends.{edge_steps}
+use Rattle.gq_index.specs.Namings.{naming_in}
+use Rattle.gq_load.specs.declared.route.Route.{Route}
+use Rattle.gq_load.specs.declared.draft.Draft.{Draft}
+use Rattle.gq_load.specs.Rows.{vertex_row}
+
+-- what a draft puts into the store
+abbrev pub drafted_as : Schema → Target → Route → Draft → List Step
+drafted_as schema (target.Vertex n) route draft = Vertex (vertex_row n (string_bytes draft.from) draft.row) ∷ []
+drafted_as schema (target.Edge n) route draft =
+    edge_steps (naming_in (edge_type_at schema) n)
+    (vertex_row (edge_type_at schema n).from (string_bytes draft.from) route.from)
+    (vertex_row (edge_type_at schema n).to (string_bytes draft.to) route.to) draft.row
+
+abbrev pub drafted : Schema → Route → Draft → List Step
+drafted schema route draft = drafted_as schema route.target route draft
+
+-- what the drafts of all routes put
+abbrev pub all_drafted : Schema → List Route → List Draft → List Step
+all_drafted schema [] drafts = []
+all_drafted schema (route ∷ routes) [] = []
+all_drafted schema (route ∷ routes) (draft ∷ drafts) = drafted schema route draft ++ all_drafted schema routes drafts
+
+-- what was read, if it could be
+abbrev pub if_read : Bool → List Step → Option (List Step)
+if_read ok steps = if ok then Some steps else None
+
+-- a draft has a value for each attribute
+abbrev pub IsSized : Schema → Route → Draft → Type 0
+IsSized schema route draft = length draft.row ≡ length (attributes_of schema route.target)
+
+-- and so have all drafts
+abbrev pub AreSized : Schema → List Route → List Draft → Type 0
+AreSized schema routes drafts =
+    (k : ℕ) (route : Route) (draft : Draft) → slice_get routes k ≡ Some route → slice_get drafts k ≡ Some draft
+    → IsSized schema route draft

@@ -1,0 +1,216 @@
+// Rows as they are read, before any row of their record is put.
+ghost use Rattle.std.specs.Prelude.{◌≡◌, ◌≤◌, ◌<◌, ℕ, ℤ, List, Option, Some, None, length, true, IfOk};
+ghost use Rattle.csv.specs.Records.{fields_of};
+ghost use Rattle.gq_load_csv.specs.Fields.{TellsTimes};
+ghost use Rattle.gq_load_plan.specs.Targets.{HasTarget, attributes_of, vertex_type_at, edge_type_at};
+ghost use Rattle.gq_index.specs.Steps.{Puts};
+ghost use Rattle.gq_index.specs.Namings.{AreNamedBy};
+ghost use Rattle.gq_load.specs.declared.route.Route.{Route};
+ghost use Rattle.gq_load.specs.Rows.{steps_along, steps_by};
+ghost use Rattle.gq_load.specs.Drafts.{drafted, drafted_as, if_read, IsSized};
+ghost use Rattle.gq_load.specs.Records.{HasEnds, AllHaveEnds};
+
+use crate::route::Route;
+use crate::value::{read_name, read_values};
+use csv::ByteRecord;
+use gq_base::{List, OutOfMemory};
+use gq_graph::{EdgeType, Naming, StoreFault, VertexType};
+use gq_index::{EndpointRef, Store, put_edge, put_vertex};
+use gq_load_plan::Target;
+use gq_schema::Catalog;
+use gq_value::Row;
+use std::alloc::Global;
+use std::mem;
+
+/// The values of one row: a vertex's id, or both ids of an edge, and the attributes. The memory of the ids is used again.
+#[derive(Drop)]
+pub struct Draft {
+    /// A vertex's id, or that of an edge's FROM vertex.
+    pub from: String,
+    /// The id of an edge's TO vertex.
+    pub to: String,
+    pub row: Row,
+}
+
+/// So many drafts.
+pub fn drafts(alloc: Global, count: usize) -> Result<Vec<Draft>, OutOfMemory>
+    ensures { IfOk result (λ drafts. length drafts.items ≡ count) }
+{
+    let mut drafts = Vec::with_capacity(alloc, count)?;
+    for _ in 0..count {
+        drafts.push(Draft {
+            from: String::new(alloc),
+            to: String::new(alloc),
+            row: List::new(alloc),
+        })?;
+    }
+    Ok(drafts)
+}
+
+/// Reads the row of a route from a record. False is a row with a value that can't be read.
+pub(crate) fn read_draft(
+    alloc: Global,
+    catalog: &Catalog,
+    route: &Route,
+    row: &ByteRecord,
+    draft: &mut Draft,
+) -> Result<bool, OutOfMemory>
+    requires there { HasTarget catalog.now route.now.target }
+    requires ends { AllHaveEnds catalog.now }
+    ensures reads { IfOk result (λ ok. (read : List ℕ → Option ℤ) → TellsTimes read →
+        steps_along read catalog.now route.now (fields_of row.now) ≡ if_read ok (drafted catalog.now route.now draft.new)) }
+    ensures sized { IfOk result (λ ok. ok ≡ true → length draft.new.row ≡ length (attributes_of catalog.now route.now.target)) }
+{
+    match route.target {
+        Target::Vertex(kind) => read_vertex(
+            alloc,
+            catalog,
+            kind,
+            route.fields.as_slice(),
+            row,
+            draft,
+        ),
+        Target::Edge(kind) => read_edge(alloc, catalog, kind, route.fields.as_slice(), row, draft),
+    }
+}
+
+fn read_vertex(
+    alloc: Global,
+    catalog: &Catalog,
+    kind: u32,
+    sources: &[Option<u64>],
+    row: &ByteRecord,
+    draft: &mut Draft,
+) -> Result<bool, OutOfMemory>
+    requires there { HasTarget catalog.now (Target.Vertex kind) }
+    ensures reads { IfOk result (λ ok. (read : List ℕ → Option ℤ) (route : Route) → TellsTimes read →
+        steps_by read catalog.now route (Target.Vertex kind) sources.now (fields_of row.now) ≡
+        if_read ok (drafted_as catalog.now (Target.Vertex kind) route draft.new)) }
+    ensures sized { IfOk result (λ ok. ok ≡ true → length draft.new.row ≡ length (attributes_of catalog.now (Target.Vertex kind))) }
+{
+    let (id, sources) = match sources {
+        [id, sources @ ..] => (*id, sources),
+        [] => return Ok(false),
+    };
+    let shape = vertex_at(catalog, kind);
+    match read_name(&mut draft.from, shape.id.kind, id, row) {
+        Ok(true) => {}
+        Ok(false) => return Ok(false),
+        Err(OutOfMemory) => return Err(OutOfMemory),
+    }
+    match read_values(alloc, 0, shape.attributes.as_slice(), sources, row) {
+        Ok(Some(values)) => {
+            draft.row = values;
+            Ok(true)
+        }
+        Ok(None) => Ok(false),
+        Err(OutOfMemory) => Err(OutOfMemory),
+    }
+}
+
+fn read_edge(
+    alloc: Global,
+    catalog: &Catalog,
+    kind: u32,
+    sources: &[Option<u64>],
+    row: &ByteRecord,
+    draft: &mut Draft,
+) -> Result<bool, OutOfMemory>
+    requires there { HasTarget catalog.now (Target.Edge kind) }
+    requires ends { HasEnds catalog.now kind }
+    ensures reads { IfOk result (λ ok. (read : List ℕ → Option ℤ) (route : Route) → TellsTimes read →
+        steps_by read catalog.now route (Target.Edge kind) sources.now (fields_of row.now) ≡
+        if_read ok (drafted_as catalog.now (Target.Edge kind) route draft.new)) }
+    ensures sized { IfOk result (λ ok. ok ≡ true → length draft.new.row ≡ length (attributes_of catalog.now (Target.Edge kind))) }
+{
+    let (from, to, sources) = match sources {
+        [from, to, sources @ ..] => (*from, *to, sources),
+        [] | [_] => return Ok(false),
+    };
+    let edge = edge_at(catalog, kind);
+    match read_name(
+        &mut draft.from,
+        vertex_at(catalog, edge.from).id.kind,
+        from,
+        row,
+    ) {
+        Ok(true) => {}
+        Ok(false) => return Ok(false),
+        Err(OutOfMemory) => return Err(OutOfMemory),
+    }
+    match read_name(&mut draft.to, vertex_at(catalog, edge.to).id.kind, to, row) {
+        Ok(true) => {}
+        Ok(false) => return Ok(false),
+        Err(OutOfMemory) => return Err(OutOfMemory),
+    }
+    match read_values(
+        alloc,
+        edge.discriminators,
+        edge.attributes.as_slice(),
+        sources,
+        row,
+    ) {
+        Ok(Some(values)) => {
+            draft.row = values;
+            Ok(true)
+        }
+        Ok(None) => Ok(false),
+        Err(OutOfMemory) => Err(OutOfMemory),
+    }
+}
+
+/// A vertex type, by its number.
+fn vertex_at(catalog: &Catalog, kind: u32) -> &VertexType
+    requires { kind < length catalog.now.vertex_types }
+    ensures { result.now ≡ vertex_type_at catalog.now kind }
+{
+    catalog.vertex_at(kind)
+}
+
+/// An edge type, by its number.
+fn edge_at(catalog: &Catalog, kind: u32) -> &EdgeType
+    requires { kind < length catalog.now.edge_types }
+    ensures { result.now ≡ edge_type_at catalog.now kind }
+{
+    catalog.edge_at(kind)
+}
+
+/// Puts the row of a draft into the store. What the edges of each type are named by stays so.
+pub(crate) fn put_draft(
+    alloc: Global,
+    catalog: &Catalog,
+    route: &Route,
+    draft: &mut Draft,
+    store: &mut Store,
+) -> Result<(), StoreFault>
+    requires there { HasTarget catalog.now route.now.target }
+    requires ends { AllHaveEnds catalog.now }
+    requires sized { IsSized catalog.now route.now draft.old }
+    requires named { AreNamedBy (edge_type_at catalog.now) store.old.edges.namings }
+    ensures puts { Puts store.old (drafted catalog.now route.now draft.old) store.new result }
+    ensures named { AreNamedBy (edge_type_at catalog.now) store.new.edges.namings }
+{
+    let values = mem::replace(&mut draft.row, List::new(alloc));
+    match route.target {
+        Target::Vertex(kind) => put_vertex(store, kind, draft.from.as_str(), values),
+        Target::Edge(kind) => {
+            let edge = edge_at(catalog, kind);
+            let naming = Naming {
+                kind,
+                directed: edge.directed,
+                key: edge.discriminators,
+            };
+            let from = EndpointRef {
+                kind: edge.from,
+                id: draft.from.as_str(),
+                missing: route.from.as_slice(),
+            };
+            let to = EndpointRef {
+                kind: edge.to,
+                id: draft.to.as_str(),
+                missing: route.to.as_slice(),
+            };
+            put_edge(alloc, store, naming, from, to, values)
+        }
+    }
+}

@@ -1,0 +1,23 @@
+// What holds of stores while upserts are taken and their catalog grows.
+ghost use Rattle.std.specs.Prelude.{◌≡◌, List, [], Some, None};
+ghost use Rattle.gq_graph.specs.Catalog.{Schema};
+ghost use Rattle.gq_index.specs.declared.store.Store.{Store};
+ghost use Rattle.gq_load_plan.specs.Fits.{HasGrown};
+ghost use Rattle.gq_index.specs.Steps.{Step, Done, Refused, Begun};
+ghost use Rattle.gq_load.specs.Puts.{put_all};
+ghost use Rattle.gq_load.specs.Keeping.{StoreFits, AllOfTypes, no_rows};
+
+/// Upserts that were all taken make the store that the function gives, and where one was refused it gives none.
+pub fn upserts_are_decided()
+    ensures taken { (before later : Store) (steps : List Step) → Done before steps later → put_all before steps ≡ Some later }
+    ensures refused { (before later : Store) (steps : List Step) → Refused before steps later → put_all before steps ≡ None }
+{}
+
+/// A store without rows is one of every catalog; upserts of a catalog's types leave a store one of the catalog; and a store of
+/// a catalog is one of each catalog that has grown out of it.
+pub fn stores_stay_fit()
+    ensures empty { (schema : Schema) → StoreFits schema no_rows }
+    ensures by_upserts { (schema : Schema) (before later : Store) (steps : List Step) → AllOfTypes schema steps → Begun before steps later
+        → StoreFits schema before → StoreFits schema later }
+    ensures by_growth { (before after : Schema) (store : Store) → HasGrown before after → StoreFits before store → StoreFits after store }
+{}

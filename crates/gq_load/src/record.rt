@@ -1,0 +1,142 @@
+// What becomes of a record.
+ghost use Rattle.std.specs.Prelude.{◌≡◌, ◌≤◌, ◌<◌, ℕ, ℤ, List, Option, length, true, All, IfOk};
+ghost use Rattle.csv.specs.Records.{fields_of};
+ghost use Rattle.gq_load_csv.specs.Fields.{TellsTimes};
+ghost use Rattle.gq_load_plan.specs.Targets.{edge_type_at};
+ghost use Rattle.gq_index.specs.Steps.{Puts};
+ghost use Rattle.gq_index.specs.Namings.{AreNamedBy};
+ghost use Rattle.std.specs.List.{list_any};
+ghost use Rattle.gq_load.specs.declared.route.Route.{Route};
+ghost use Rattle.gq_load.specs.Rows as spec;
+ghost use Rattle.gq_load.specs.Drafts.{all_drafted, if_read, AreSized};
+ghost use Rattle.gq_load.specs.Records.{AllHaveEnds, IsThere, judged, steps_from, verdict_of};
+
+use crate::draft::{Draft, put_draft, read_draft};
+use crate::route::Route;
+use csv::ByteRecord;
+use gq_base::OutOfMemory;
+use gq_graph::StoreFault;
+use gq_index::Store;
+use gq_schema::Catalog;
+use std::alloc::Global;
+
+/// What became of a record.
+#[derive(Clone, Copy, Debug, PartialEq, Eq)]
+pub enum Verdict {
+    /// It lacks the field of a value.
+    Short,
+    /// A value can't be read.
+    Unreadable,
+    Loaded,
+}
+
+/// Puts the rows of a record into the store, along all routes in order, and tells what became of it. A record that isn't loaded
+/// changes nothing. After a refusal the upserts before it stay.
+///
+/// There is a draft for each route. What the edges of each type are named by stays so.
+pub fn put_record(
+    alloc: Global,
+    catalog: &Catalog,
+    routes: &[Route],
+    drafts: &mut [Draft],
+    row: &ByteRecord,
+    store: &mut Store,
+) -> Result<Verdict, StoreFault>
+    requires there { All (IsThere catalog.now) routes.now }
+    requires ends { AllHaveEnds catalog.now }
+    requires count { length drafts.old ≡ length routes.now }
+    requires named { AreNamedBy (edge_type_at catalog.now) store.old.edges.namings }
+    ensures puts { (read : List ℕ → Option ℤ) → TellsTimes read →
+        Puts store.old (steps_from (judged read catalog.now routes.now (fields_of row.now))) store.new result }
+    ensures verdict { IfOk result (λ verdict. (read : List ℕ → Option ℤ) → TellsTimes read → verdict ≡
+        verdict_of (judged read catalog.now routes.now (fields_of row.now))) }
+    ensures named { AreNamedBy (edge_type_at catalog.now) store.new.edges.namings }
+{
+    if is_short(routes, row.len()) {
+        return Ok(Verdict::Short);
+    }
+    match read_drafts(alloc, catalog, routes, drafts, row) {
+        Ok(true) => {}
+        Ok(false) => return Ok(Verdict::Unreadable),
+        Err(OutOfMemory) => return Err(StoreFault::OutOfMemory),
+    }
+    match put_drafts(alloc, catalog, routes, drafts, store) {
+        Ok(()) => Ok(Verdict::Loaded),
+        Err(fault) => Err(fault),
+    }
+}
+
+fn is_short(routes: &[Route], count: usize) -> bool
+    ensures { result ≡ list_any (λ (route : Route). spec.lacks_any count route.fields) routes.now }
+{
+    routes
+        .iter()
+        .any(|route| lacks_any(route.fields.as_slice(), count))
+}
+
+fn lacks_any(sources: &[Option<u64>], count: usize) -> bool
+    ensures { result ≡ spec.lacks_any count sources.now }
+{
+    sources.iter().any(|source| lacks(*source, count))
+}
+
+/// Whether a record of so many fields lacks one.
+fn lacks(source: Option<u64>, count: usize) -> bool
+    ensures { result ≡ spec.lacks count source }
+{
+    match source {
+        Some(number) => count as u64 <= number,
+        None => false,
+    }
+}
+
+/// Reads the rows of all routes. False is a record with a value that can't be read.
+fn read_drafts(
+    alloc: Global,
+    catalog: &Catalog,
+    routes: &[Route],
+    drafts: &mut [Draft],
+    row: &ByteRecord,
+) -> Result<bool, OutOfMemory>
+    requires there { All (IsThere catalog.now) routes.now }
+    requires ends { AllHaveEnds catalog.now }
+    requires count { length drafts.old ≡ length routes.now }
+    ensures reads { IfOk result (λ ok. (read : List ℕ → Option ℤ) → TellsTimes read →
+        spec.steps_of read catalog.now routes.now (fields_of row.now) ≡
+        if_read ok (all_drafted catalog.now routes.now drafts.new)) }
+    ensures sized { IfOk result (λ ok. ok ≡ true → AreSized catalog.now routes.now drafts.new) }
+{
+    for place in 0..routes.len() {
+        match read_draft(alloc, catalog, &routes[place], row, &mut drafts[place]) {
+            Ok(true) => {}
+            Ok(false) => return Ok(false),
+            Err(OutOfMemory) => return Err(OutOfMemory),
+        }
+    }
+    Ok(true)
+}
+
+/// Puts the rows of all drafts, in order.
+fn put_drafts(
+    alloc: Global,
+    catalog: &Catalog,
+    routes: &[Route],
+    drafts: &mut [Draft],
+    store: &mut Store,
+) -> Result<(), StoreFault>
+    requires there { All (IsThere catalog.now) routes.now }
+    requires ends { AllHaveEnds catalog.now }
+    requires count { length drafts.old ≡ length routes.now }
+    requires sized { AreSized catalog.now routes.now drafts.old }
+    requires named { AreNamedBy (edge_type_at catalog.now) store.old.edges.namings }
+    ensures puts { Puts store.old (all_drafted catalog.now routes.now drafts.old) store.new result }
+    ensures named { AreNamedBy (edge_type_at catalog.now) store.new.edges.namings }
+{
+    for place in 0..routes.len() {
+        match put_draft(alloc, catalog, &routes[place], &mut drafts[place], store) {
+            Ok(()) => {}
+            Err(fault) => return Err(fault),
+        }
+    }
+    Ok(())
+}

@@ -1,0 +1,121 @@
+// Fields as values of attributes.
+ghost use Rattle.std.specs.Prelude.{◌≡◌, ℕ, ℤ, List, Option, IfOk};
+ghost use Rattle.gq_graph.specs.Defaults.{sort_of};
+ghost use Rattle.gq_load_csv.specs.Fields as spec;
+
+use crate::blanks::trimmed;
+use crate::numbers::{int_in, truth_in, uint_in};
+use gq_base::OutOfMemory;
+use gq_graph::Attribute;
+use gq_time::read_time;
+use gq_value::{BaseType, Txt, Value};
+use std::alloc::Global;
+
+/// The value of an attribute that is no discriminator, from its field. None is a field that can't be read.
+///
+/// A field of blanks and tabs alone gives the attribute's default, but for a text. Takes memory for texts alone.
+pub fn read_value(
+    alloc: Global,
+    attribute: &Attribute,
+    field: &[u8],
+) -> Result<Option<Value>, OutOfMemory>
+    ensures { IfOk result (λ v. (read : List ℕ → Option ℤ) → spec.TellsTimes read → v ≡ spec.field_value read attribute.now field.now) }
+{
+    if may_be_blank(&attribute.kind) && trimmed(field).is_empty() {
+        return Ok(Some(default_value(alloc, attribute)?));
+    }
+    value_in(alloc, &attribute.kind, field)
+}
+
+/// The value of a discriminator, from its field, which can't be empty. None is a field that can't be read.
+pub fn read_key(
+    alloc: Global,
+    attribute: &Attribute,
+    field: &[u8],
+) -> Result<Option<Value>, OutOfMemory>
+    ensures { IfOk result (λ v. (read : List ℕ → Option ℤ) → spec.TellsTimes read → v ≡ spec.key_value read attribute.now field.now) }
+{
+    if field.is_empty() {
+        return Ok(None);
+    }
+    value_in(alloc, &attribute.kind, field)
+}
+
+/// The value that an attribute has where none is given. Takes memory for texts alone.
+pub fn default_value(alloc: Global, attribute: &Attribute) -> Result<Value, OutOfMemory>
+    ensures { IfOk result (λ v. v ≡ spec.default_of attribute.now) }
+{
+    match &attribute.default {
+        Some(value) => value.duplicate(alloc),
+        None => zero_of(alloc, &attribute.kind),
+    }
+}
+
+#[tactic(auto, using(gq_graph::specs::SortLaws::sort_laws))]
+fn zero_of(alloc: Global, kind: &BaseType) -> Result<Value, OutOfMemory>
+    ensures { IfOk result (λ v. v ≡ spec.zero_of (sort_of kind.now)) }
+{
+    match kind {
+        BaseType::Int | BaseType::Time => Ok(Value::Int(0)),
+        BaseType::UInt => Ok(Value::UInt(0)),
+        BaseType::Bool => Ok(Value::Bool(false)),
+        BaseType::Text => Ok(Value::Text(Txt::of(alloc, "")?)),
+        BaseType::AnyVertex | BaseType::VertexOf(_) | BaseType::Tuple(_, _) => Ok(Value::Int(0)),
+    }
+}
+
+#[tactic(auto, using(gq_graph::specs::SortLaws::sort_laws))]
+fn may_be_blank(kind: &BaseType) -> bool
+    ensures { result ≡ spec.may_be_blank (sort_of kind.now) }
+{
+    match kind {
+        BaseType::Int | BaseType::UInt | BaseType::Bool | BaseType::Time => true,
+        BaseType::Text | BaseType::AnyVertex | BaseType::VertexOf(_) | BaseType::Tuple(_, _) =>
+            false,
+    }
+}
+
+/// A field as a value of a type.
+#[tactic(auto, using(gq_graph::specs::SortLaws::sort_laws))]
+fn value_in(alloc: Global, kind: &BaseType, field: &[u8]) -> Result<Option<Value>, OutOfMemory>
+    ensures { IfOk result (λ v. (read : List ℕ → Option ℤ) → spec.TellsTimes read → v ≡ spec.value_in read (sort_of kind.now) field.now) }
+{
+    match kind {
+        BaseType::Int => match int_in(trimmed(field)) {
+            Some(number) => Ok(Some(Value::Int(number))),
+            None => Ok(None),
+        },
+        BaseType::UInt => match uint_in(trimmed(field)) {
+            Some(number) => Ok(Some(Value::UInt(number))),
+            None => Ok(None),
+        },
+        BaseType::Bool => match truth_in(trimmed(field)) {
+            Some(truth) => Ok(Some(Value::Bool(truth))),
+            None => Ok(None),
+        },
+        BaseType::Text => text_in(alloc, field),
+        BaseType::Time => Ok(time_in(field)),
+        BaseType::AnyVertex | BaseType::VertexOf(_) | BaseType::Tuple(_, _) => Ok(None),
+    }
+}
+
+fn text_in(alloc: Global, field: &[u8]) -> Result<Option<Value>, OutOfMemory>
+    ensures { IfOk result (λ v. v ≡ spec.text_value field.now) }
+{
+    match str::from_utf8(field) {
+        Ok(text) => Ok(Some(Value::Text(Txt::of(alloc, text)?))),
+        Err(_) => Ok(None),
+    }
+}
+
+fn time_in(field: &[u8]) -> Option<Value>
+    ensures { (read : List ℕ → Option ℤ) → spec.TellsTimes read → result ≡ spec.time_value read field.now }
+{
+    match str::from_utf8(field) {
+        Ok(text) => match read_time(text) {
+            Some(seconds) => Some(Value::Int(seconds)),
+            None => None,
+        },
+        Err(_) => None,
+    }
+}

@@ -1,0 +1,99 @@
+// RUN LOADING JOB.
+ghost use Rattle.std.specs.Prelude.{◌≡◌, ◌≤◌, ◌∷◌, [], ℕ, All, Some, Err, IfOk, IfErr, IsErrOf};
+ghost use Rattle.gq_io.specs.Counts.{Rose};
+ghost use Rattle.gq_diagnostics.specs.declared.refusal.Refusal.{Refusal};
+ghost use Rattle.gq_diagnostics.specs.Messages.{message_of};
+ghost use Rattle.gq_load_plan.specs.Fits.{LineFits};
+ghost use Rattle.gq_load.specs.Records.{AllHaveEnds};
+ghost use Rattle.gq_diagnostics.specs.Effects.{Becomes, Refused};
+ghost use Rattle.gq_io.specs.Known.{known_of};
+ghost use Rattle.gq_load.specs.Keeping.{StoreFits};
+ghost use Rattle.gq_ddl.specs.Fitting.{JobsFit};
+ghost use Rattle.gq_ddl.specs.Tells.{Tells};
+ghost use Rattle.gq_load_run.specs.JobRuns.{FoundDoes, FoundLeaves, JobDoes, JobLeaves};
+
+use crate::job::run_loads;
+use gq_base::OutOfMemory;
+use gq_ddl::{NamedJob, find_job};
+use gq_diagnostics::{Refusal, StatementFault};
+use gq_index::Store;
+use gq_io::Files;
+use gq_load_plan::{Job, undefined};
+use gq_schema::Catalog;
+use gq_tree::RunJobTree;
+use gq_value::Txt;
+use std::alloc::Global;
+
+/// RUN LOADING JOB, and the line of its reports. The store gains the upserts of its LOADs, one after another.
+///
+/// Refused where no job has the name, else where the run gives a path for a name of which the job has no file, else by the first
+/// LOAD that is. After a refusal the store has the upserts of the LOADs that ended, and of the refused one those before the upsert
+/// that found no room; a missing column loads nothing. `OutOfMemory` leaves some of a LOAD's upserts, from the first one on.
+pub fn run_job<F: Files>(
+    alloc: Global,
+    catalog: &Catalog,
+    jobs: &[NamedJob],
+    store: &mut Store,
+    files: &mut F,
+    tree: &RunJobTree,
+) -> Result<Vec<u8>, StatementFault>
+    requires ends { AllHaveEnds catalog.now }
+    requires jobs { JobsFit catalog.now jobs.now }
+    requires store { StoreFits catalog.now store.old }
+    // A job that runs got bytes for each file that it asked for, so that no count is needed.
+    ensures done { (before now met : ℕ) → IfOk result (λ line.
+        JobDoes (known_of (F.held files.old) before now met) catalog.now jobs.now store.old tree.now (Becomes store.new (line.items ∷ []))) }
+    ensures refused { (refusal : Refusal) → result ≡ Err (StatementFault.Refused refusal) → (before : ℕ) → before ≤ F.absences files.old
+        → JobDoes (known_of (F.held files.old) before (F.absences files.new) (F.length_met files.new)) catalog.now jobs.now store.old tree.now (Refused (message_of refusal)) }
+    ensures left { (before : ℕ) → before ≤ F.absences files.old → IfErr result (λ fault.
+        JobLeaves (known_of (F.held files.old) before (F.absences files.new) (F.length_met files.new)) catalog.now jobs.now store.old tree.now fault store.new) }
+    ensures fits { StoreFits catalog.now store.new }
+    ensures read_fault { IsErrOf result StatementFault.ReadFault → Rose (F.faults files.old) (F.faults files.new) }
+    ensures held { F.held files.new ≡ F.held files.old }
+    ensures faults_stay { F.faults files.old ≤ F.faults files.new }
+    ensures absences_stay { F.absences files.old ≤ F.absences files.new }
+{
+    match find_job(jobs, tree.name.as_str()) {
+        Some(job) => run_found(alloc, catalog, job, store, files, tree),
+        None => Err(unknown_name(alloc, tree.name.as_str())),
+    }
+}
+
+fn run_found<F: Files>(
+    alloc: Global,
+    catalog: &Catalog,
+    job: &Job,
+    store: &mut Store,
+    files: &mut F,
+    tree: &RunJobTree,
+) -> Result<Vec<u8>, StatementFault>
+    requires ends { AllHaveEnds catalog.now }
+    requires lines { All (LineFits catalog.now) job.now.lines }
+    requires store { StoreFits catalog.now store.old }
+    ensures done { (before now met : ℕ) → IfOk result (λ line.
+        FoundDoes (known_of (F.held files.old) before now met) catalog.now store.old tree.now (Some job.now) (Becomes store.new (line.items ∷ []))) }
+    ensures refused { (refusal : Refusal) → result ≡ Err (StatementFault.Refused refusal) → (before : ℕ) → before ≤ F.absences files.old
+        → FoundDoes (known_of (F.held files.old) before (F.absences files.new) (F.length_met files.new)) catalog.now store.old tree.now (Some job.now) (Refused (message_of refusal)) }
+    ensures left { (before : ℕ) → before ≤ F.absences files.old → IfErr result (λ fault.
+        FoundLeaves (known_of (F.held files.old) before (F.absences files.new) (F.length_met files.new)) catalog.now store.old tree.now (Some job.now) fault store.new) }
+    ensures fits { StoreFits catalog.now store.new }
+    ensures read_fault { IsErrOf result StatementFault.ReadFault → Rose (F.faults files.old) (F.faults files.new) }
+    ensures held { F.held files.new ≡ F.held files.old }
+    ensures faults_stay { F.faults files.old ≤ F.faults files.new }
+    ensures absences_stay { F.absences files.old ≤ F.absences files.new }
+{
+    match undefined(job.files.as_slice(), tree.paths.as_slice()) {
+        Some(name) => Err(unknown_name(alloc, name)),
+        None => run_loads(alloc, catalog, job, tree.paths.as_slice(), store, files),
+    }
+}
+
+// Nothing has the name, or memory for it is wanting.
+fn unknown_name(alloc: Global, name: &str) -> StatementFault
+    ensures { Tells (Refusal.UnknownName name.now) result }
+{
+    match Txt::of(alloc, name) {
+        Ok(name) => StatementFault::Refused(Refusal::UnknownName(name)),
+        Err(OutOfMemory) => StatementFault::OutOfMemory,
+    }
+}

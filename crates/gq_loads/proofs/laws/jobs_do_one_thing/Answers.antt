@@ -1,5 +1,0 @@
-use Rattle.gq_loads.specs.JobLaws.{job_determined}
-use Rattle.gq_loads.proofs.laws.jobs_do_one_thing.Goals as goal
-
-pub returns : goal.returns
-returns c = job_determined

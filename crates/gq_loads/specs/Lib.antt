@@ -1,4 +1,0 @@
-pub mod Loadings
-pub mod LoadingLaws
-pub mod JobRuns
-pub mod JobLaws

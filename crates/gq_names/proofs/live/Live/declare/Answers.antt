@@ -1,9 +1,0 @@
-use Rattle.std.proofs.Common.{Some, set, refl, sym, ap, ◌∙◌}
-use Rattle.gq_names.proofs.NameLemmas.{new_lives}
-use Rattle.gq_names.proofs.live.Live.declare.Goals as goal
-
-pub returns-clause-names : goal.returns-clause-names
-returns-clause-names c = λ places s t l h.
-    new_lives places c.args.self.now _ (record { place = c.args.place; was = c.replace-was.result }) c.args.thing s t
-    (ap (set c.args.self.now.frame.things c.args.place) c.replace-was.ensures.after) c.in_ok-push.ensures.items refl
-    (c.at_mut.ensures.value ∙ ap Some (sym c.replace-was.ensures.value)) h l

@@ -1,6 +1,0 @@
-use Rattle.std.proofs.Common.{◌≡◌, drop}
-use Rattle.gq_typing.specs.KindTypes as kinds
-use Rattle.gq_opening.proofs.fields.stands_in.Given as goal
-
-abbrev pub invariant-loop-known : goal.invariant-loop-known
-invariant-loop-known l = kinds.stands_in l.names l.name ≡ kinds.stands_in (drop l.known-index l.names) l.name

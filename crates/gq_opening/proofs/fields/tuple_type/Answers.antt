@@ -1,8 +1,0 @@
-use Rattle.std.proofs.Common.{rules, ◌∙◌}
-use Rattle.gq_opening.proofs.FieldLemmas.{written_next}
-use Rattle.gq_opening.proofs.fields.tuple_type.Goals as goal
-
-pub loop-field-preserved : goal.loop-field-preserved
-loop-field-preserved c =
-    written_next c.args.own.now c.args.fields.now c.loop-field.field-index c.field-item.result c.in-Some.base c.loop-field.names c.as_slice.result.now c.push.new.self c.loop-field.types c.push-in-Some.new.self c.as_str.result.now c.in_ok-of-in-Some.field-0
-    c.loop-field-test.true c.field-item.is c.in-Some.ensures c.as_slice.ensures c.as_str.ensures (c.in_ok-of-in-Some.ensures ∙ c.as_str-in-Some.ensures) (c.is_free.ensures (search rules)) c.in_ok-push-in-Some.ensures.ok c.in_ok-push-in-Some-2.ensures.ok c.loop-field.invariant

@@ -1,6 +1,0 @@
-use Rattle.gq_out.proofs.SlotLemmas.{NamedFrom}
-use Rattle.gq_out.proofs.attributes.accum_name.Given as goal
-
--- the name stands in the lines that are left, behind as many others
-abbrev pub invariant-loop-definition : goal.invariant-loop-definition
-invariant-loop-definition l = NamedFrom l.definitions l.slot l.definition-index l.left

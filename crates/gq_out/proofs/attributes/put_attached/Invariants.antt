@@ -1,9 +1,0 @@
-use Rattle.std.proofs.Common.{◌≡◌, ◌++◌, take}
-use Rattle.gq_frame.specs.Slots.{slots_are}
-use Rattle.gq_view.specs.Looks.{world_over}
-use Rattle.gq_out.specs.Vertices.{attached_shown}
-use Rattle.gq_out.proofs.attributes.put_attached.Given as goal
-
--- what the slots so far add
-abbrev pub invariant-loop-slot : goal.invariant-loop-slot
-invariant-loop-slot g l = l.members ≡ l.fn.members ++ attached_shown (world_over g.C.Clock.clock l.over) l.vertex (take l.slot (slots_are l.over.frame.accums))

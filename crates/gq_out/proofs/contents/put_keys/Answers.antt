@@ -1,9 +1,0 @@
-use Rattle.std.proofs.Common.{◌<◌, length, arith}
-use Rattle.gq_view.specs.Looks.{world_over}
-use Rattle.gq_out.proofs.NamedLemmas.{key_next}
-use Rattle.gq_out.proofs.contents.put_keys.Goals as goal
-
-pub loop-place-preserved : goal.loop-place-preserved
-loop-place-preserved g c =
-    let n : c.loop-place.place < length c.args.keys.now = omega arith in
-    key_next (world_over g.C.Clock.clock c.args.over.now) c.args.keys.now c.args.row.now _ c.loop-place.members _ c.loop-place.place _ c.in-Some.value.now c.loop-place.invariant n c.index-keys-place.is c.in-Some.ensures c.in_ok-put_value-in-Some.ensures

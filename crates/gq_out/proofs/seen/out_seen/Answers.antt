@@ -1,9 +1,0 @@
-use Rattle.std.proofs.Common.{ap}
-use Rattle.gq_frame.specs.Slots.{slots_are}
-use Rattle.gq_seen.specs.Meant.{meant}
-use Rattle.gq_view.specs.Looks.{world_over}
-use Rattle.gq_out.proofs.SeenLemmas.{set_meant}
-use Rattle.gq_out.proofs.seen.out_seen.Goals as goal
-
-pub returns-in-Set : goal.returns-in-Set
-returns-in-Set g c = set_meant (world_over g.C.Clock.clock c.args.over.now) (slots_are c.args.over.now.frame.accums) (meant c.args.seen) _ _ (ap meant c.in-Set.is) c.in_ok-out_set-in-Set.ensures

@@ -1,0 +1,13 @@
+pub mod NamedLemmas
+pub mod ValueLemmas
+pub mod KeyLemmas
+pub mod ContentLemmas
+pub mod EachLemmas
+pub mod SlotLemmas
+pub mod VertexLemmas
+pub mod SeenLemmas
+pub mod EachSteps
+pub mod ItemLemmas
+pub mod ColumnLemmas
+pub mod StateLemmas
+pub mod WholeLemmas

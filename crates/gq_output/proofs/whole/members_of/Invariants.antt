@@ -1,0 +1,6 @@
+use Rattle.gq_output.proofs.WholeLemmas.{ItemsFrom}
+use Rattle.gq_output.proofs.whole.members_of.Given as goal
+
+-- the members that are there, and the items that are left
+abbrev pub invariant-loop-item : goal.invariant-loop-item
+invariant-loop-item g l = ItemsFrom g.C.Clock.clock l.over l.items l.item-index l.members

@@ -1,0 +1,4 @@
+pub mod Printed
+pub mod Vertices
+pub mod Items
+pub mod Prints

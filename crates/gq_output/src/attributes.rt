@@ -1,0 +1,228 @@
+// What stands in a vertex: its attributes, and then its accumulators.
+ghost use Rattle.std.specs.Prelude.{◌≡◌, ◌<◌, ◌≤◌, ◌++◌, [], IfOk, IfSome, OnOk, Some, length, map, slice_get};
+ghost use Rattle.std.specs.List.{flat_map};
+ghost use Rattle.std.specs.Option.{option_copied};
+ghost use Rattle.gq_value.specs.Views.{val};
+ghost use Rattle.gq_graph.specs.Vertices.{vertex_at};
+ghost use Rattle.gq_rules_typing.specs.Sorts.{attribute_fields};
+ghost use Rattle.gq_eval_context.specs.Looks.{world_over};
+ghost use Rattle.gq_frame.specs.Slots.{slots_are};
+ghost use Rattle.gq_rules_meaning.specs.Answers.{Gives};
+ghost use Rattle.gq_plan_ir.specs.PlanView.{accum_names, names_in};
+ghost use Rattle.gq_output.specs.Printed.{named_shown};
+ghost use Rattle.gq_output.specs.Vertices.{IsAttached, attached_shown, read_shown, slot_shown, vertex_named};
+
+use crate::ids::shown_id;
+use crate::seen::out_read;
+use crate::values::{item, put, put_value};
+use gq_base::{List, OutOfMemory};
+use gq_eval_context::{Clock, Setting};
+use gq_frame::read_target;
+use gq_graph::{Attribute, VertexType};
+use gq_json::{Members, Out};
+use gq_plan_ir::Definition;
+use gq_value::{Slot, Txt};
+use gq_vertex::Vertices;
+use std::alloc::Global;
+
+/// The attributes of a vertex of a type, as members: a shown id stands first.
+#[tactic(auto, using(crate::proofs::VertexLemmas::id_first_laws))]
+pub(crate) fn attributes<C: Clock>(
+    alloc: Global,
+    over: &Setting<'_, C>,
+    of: &VertexType,
+    vertices: &Vertices,
+    vertex: u32,
+) -> Result<Members, OutOfMemory>
+    requires there { vertex < length vertices.now }
+    requires within { length of.now.attributes ≤ length (vertex_at vertices.now vertex).attributes }
+    ensures { IfOk result (λ members. members ≡ vertex_named (world_over C.clock over.now) of.now (vertex_at vertices.now vertex)) }
+{
+    let mut members = List::new(alloc);
+    if of.id.shown {
+        let id = shown_id(alloc, of.id.kind, vertices.id(vertex))?;
+        put(alloc, of.id.name.as_str(), id, &mut members)?;
+    }
+    put_attributes(
+        alloc,
+        over,
+        of.attributes.as_slice(),
+        vertices,
+        vertex,
+        &mut members,
+    )?;
+    Ok(members)
+}
+
+/// The declared attributes of a vertex, behind other members.
+#[tactic(auto, using(crate::proofs::VertexLemmas::attribute_laws))]
+fn put_attributes<C: Clock>(
+    alloc: Global,
+    over: &Setting<'_, C>,
+    attributes: &[Attribute],
+    vertices: &Vertices,
+    vertex: u32,
+    members: &mut Members,
+) -> Result<(), OutOfMemory>
+    requires there { vertex < length vertices.now }
+    requires within { length attributes.now ≤ length (vertex_at vertices.now vertex).attributes }
+    ensures { OnOk result (members.new ≡ members.old ++ named_shown (world_over C.clock over.now) (attribute_fields attributes.now) (map val (vertex_at vertices.now vertex).attributes)) }
+{
+    for (place, attribute) in attributes.iter().enumerate() {
+        match u32::try_from(place) {
+            Err(_) => return Err(OutOfMemory),
+            Ok(at) => {
+                let value = vertices.attr(vertex, at);
+                put_value(
+                    alloc,
+                    over,
+                    &attribute.name,
+                    &attribute.kind,
+                    value,
+                    members,
+                )?;
+            }
+        }
+    }
+    Ok(())
+}
+
+/// The attached accumulators of a vertex by their names, in order of declaration, behind other members.
+#[tactic(auto, using(crate::proofs::SlotLemmas::attached_laws))]
+pub(crate) fn put_attached<C: Clock>(
+    alloc: Global,
+    over: &Setting<'_, C>,
+    vertex: u32,
+    members: &mut Members,
+) -> Result<(), OutOfMemory>
+    ensures { OnOk result (members.new ≡ members.old ++ attached_shown (world_over C.clock over.now) vertex (slots_are over.now.frame.accums)) }
+{
+    let count = slot_count(over)?;
+    for slot in 0..count {
+        put_slot(alloc, over, slot, vertex, members)?;
+    }
+    Ok(())
+}
+
+/// How many accumulators there are.
+fn slot_count<C>(over: &Setting<'_, C>) -> Result<u32, OutOfMemory>
+    ensures { IfOk result (λ count. count ≡ length over.now.frame.accums.slots.declared) }
+{
+    match u32::try_from(over.frame.accums.slots.declared.len()) {
+        Ok(count) => Ok(count),
+        Err(_) => Err(OutOfMemory),
+    }
+}
+
+/// What a vertex has of the accumulator in a slot, if it is attached, behind other members.
+#[tactic(auto, using(crate::proofs::SlotLemmas::slot_laws))]
+fn put_slot<C: Clock>(
+    alloc: Global,
+    over: &Setting<'_, C>,
+    slot: u32,
+    vertex: u32,
+    members: &mut Members,
+) -> Result<(), OutOfMemory>
+    ensures { OnOk result (members.new ≡ members.old ++ slot_shown (world_over C.clock over.now) vertex (slice_get (slots_are over.now.frame.accums) slot)) }
+{
+    match declared(over, slot) {
+        None => Err(OutOfMemory),
+        Some(slot_is) => {
+            if slot_is.attached {
+                put_attached_slot(alloc, over, slot, vertex, members)
+            } else {
+                Ok(())
+            }
+        }
+    }
+}
+
+/// What was declared in a slot.
+fn declared<'a, C>(over: &Setting<'a, C>, slot: u32) -> Option<&'a Slot>
+    ensures { slice_get over.now.frame.accums.slots.declared slot ≡ option_copied result }
+{
+    item(&over.frame.accums.slots.declared, slot as usize)
+}
+
+/// What a vertex has of the attached accumulator in a slot, behind other members.
+#[tactic(auto, using(crate::proofs::SlotLemmas::slot_laws))]
+fn put_attached_slot<C: Clock>(
+    alloc: Global,
+    over: &Setting<'_, C>,
+    slot: u32,
+    vertex: u32,
+    members: &mut Members,
+) -> Result<(), OutOfMemory>
+    requires { IsAttached over.now slot }
+    ensures { OnOk result (members.new ≡ members.old ++ slot_shown (world_over C.clock over.now) vertex (slice_get (slots_are over.now.frame.accums) slot)) }
+{
+    match name_of(over, slot) {
+        None => Err(OutOfMemory),
+        Some(name) => {
+            let value = read_slot(alloc, over, slot, vertex)?;
+            put(alloc, name.as_str(), value, members)
+        }
+    }
+}
+
+/// What the accumulator in a slot reads as at a vertex.
+fn read_slot<C: Clock>(
+    alloc: Global,
+    over: &Setting<'_, C>,
+    slot: u32,
+    vertex: u32,
+) -> Result<Out, OutOfMemory>
+    ensures { IfOk result (λ out. read_shown (world_over C.clock over.now) (slots_are over.now.frame.accums) slot vertex ≡ Gives out) }
+{
+    match read_target(&over.frame.accums, slot, vertex) {
+        Ok(seen) => out_read(alloc, over, seen),
+        Err(_) => Err(OutOfMemory),
+    }
+}
+
+/// The name of the accumulator in a slot, if it has one.
+fn name_of<'a, C>(over: &Setting<'a, C>, slot: u32) -> Option<&'a Txt>
+    ensures { IfSome result (λ name. slice_get (accum_names over.now.plan) slot ≡ Some name.now) }
+{
+    accum_name(over.plan.definitions.as_slice(), slot)
+}
+
+/// The name of the accumulator at a place among those of all lines.
+#[tactic(auto, using(crate::proofs::SlotLemmas::name_laws))]
+fn accum_name(definitions: &[Definition], slot: u32) -> Option<&Txt>
+    ensures { IfSome result (λ name. slice_get (flat_map names_in definitions.now) slot ≡ Some name.now) }
+{
+    let mut left = slot as usize;
+    for definition in definitions {
+        match name_in(definition, left) {
+            Some(name) => return Some(name),
+            None => left = left.saturating_sub(name_count(definition)),
+        }
+    }
+    None
+}
+
+/// The name of the accumulator at a place of a line, if there is one.
+#[tactic(auto, using(crate::proofs::SlotLemmas::line_laws))]
+fn name_in(definition: &Definition, place: usize) -> Option<&Txt>
+    ensures { slice_get (names_in definition.now) place ≡ option_copied result }
+{
+    match definition {
+        Definition::Tuple(_, _) => None,
+        Definition::Accums(_, accums) => match item(accums, place) {
+            Some(accum) => Some(&accum.name),
+            None => None,
+        },
+    }
+}
+
+/// How many accumulators a line declares.
+#[tactic(auto, using(crate::proofs::SlotLemmas::line_laws))]
+fn name_count(definition: &Definition) -> usize
+    ensures { result ≡ length (names_in definition.now) }
+{
+    match definition {
+        Definition::Tuple(_, _) => 0,
+        Definition::Accums(_, accums) => accums.len(),
+    }
+}

@@ -1,0 +1,118 @@
+// Sets with columns.
+ghost use Rattle.std.specs.Prelude.{◌≡◌, IfSome, Some, map};
+ghost use Rattle.gq_rules_meaning.specs.Answers.{each};
+ghost use Rattle.gq_rules_meaning.specs.States.{SetOf};
+ghost use Rattle.gq_eval_operand.specs.Meant.{itself, Tells};
+ghost use Rattle.gq_frame.specs.Names.{alias_of, thing_in};
+ghost use Rattle.gq_frame.specs.Slots.{slots_are};
+ghost use Rattle.gq_eval_context.specs.Viewed.{viewed};
+ghost use Rattle.gq_eval_context.specs.Looks.{look_of, world_over};
+ghost use Rattle.gq_output.specs.Items.{columns_shown, member_at, member_shown};
+
+use crate::items::{accums_of, members};
+use crate::vertices::out_vertex;
+use gq_base::List;
+use gq_eval_context::{Clock, Setting};
+use gq_eval_operand::{Halt, Sees};
+use gq_frame::{Alias, Bound, Thing};
+use gq_json::{Out, Outs};
+use gq_plan_ir::{Expr, PlaceType};
+use gq_value::Txt;
+use std::alloc::Global;
+
+/// The vertices of the set at a place, each with these columns in place of its attributes.
+#[tactic(auto, using(crate::proofs::ColumnLemmas::column_laws))]
+pub(crate) fn columns<C: Clock>(
+    columns: &[(Expr, Txt)],
+    alloc: Global,
+    over: &Setting<'_, C>,
+    place: u32,
+) -> Result<Out, Halt>
+    ensures { Tells itself (columns_shown C.clock over.now columns.now place (thing_in over.now.plan.places over.now.frame.things place)) result }
+{
+    match set_at(over, place) {
+        None => Err(Halt::OutOfMemory),
+        Some((types, set)) => match vertices(columns, alloc, over, place, types, set) {
+            Ok(outs) => Ok(Out::List(outs)),
+            Err(halt) => Err(halt),
+        },
+    }
+}
+
+/// The types and the vertices of the set at a place, if there is one.
+fn set_at<'a, C>(over: &Setting<'a, C>, place: u32) -> Option<(&'a [u32], &'a [u32])>
+    ensures { IfSome result (λ set. thing_in over.now.plan.places over.now.frame.things place ≡ Some (SetOf set.0.now set.1.now)) }
+{
+    match over.plan.places.as_slice().get(place as usize) {
+        Some(PlaceType::Set(types)) => match over.frame.things.as_slice().get(place as usize) {
+            Some(Some(Thing::Set(set))) => Some((types.as_slice(), set.as_slice())),
+            Some(Some(Thing::Value(_))) | Some(None) | None => None,
+        },
+        Some(PlaceType::Variable(_)) | Some(PlaceType::Alias(_)) | Some(PlaceType::EdgeAlias(_)) =>
+            None,
+        None => None,
+    }
+}
+
+/// Vertex after vertex, in the set's order.
+#[tactic(auto, using(crate::proofs::ColumnLemmas::vertex_laws))]
+fn vertices<C: Clock>(
+    columns: &[(Expr, Txt)],
+    alloc: Global,
+    over: &Setting<'_, C>,
+    place: u32,
+    types: &[u32],
+    set: &[u32],
+) -> Result<Outs, Halt>
+    ensures { Tells itself (each (member_at C.clock over.now columns.now place types.now set.now) set.now) result }
+{
+    let mut outs = List::new(alloc);
+    for vertex in set {
+        let alias = Alias {
+            place,
+            is: Bound::Member(types, set, *vertex),
+        };
+        match member_under(columns, alloc, over, &[alias], *vertex) {
+            Err(halt) => return Err(halt),
+            Ok(out) => match outs.push(out) {
+                Ok(()) => {}
+                Err(_) => return Err(Halt::OutOfMemory),
+            },
+        }
+    }
+    Ok(outs)
+}
+
+fn member_under<C: Clock>(
+    columns: &[(Expr, Txt)],
+    alloc: Global,
+    over: &Setting<'_, C>,
+    aliases: &[Alias<'_>],
+    vertex: u32,
+) -> Result<Out, Halt>
+    ensures { Tells itself (member_shown (world_over C.clock over.now) (look_of C.clock (viewed over.now (map alias_of aliases.now) over.now.frame.accums over.now.frame.accums)) (slots_are over.now.frame.accums) columns.now vertex) result }
+{
+    let accums = accums_of(over);
+    let sight = over.view(aliases, accums, accums);
+    member_seen(columns, alloc, over, &sight, vertex)
+}
+
+/// A vertex with these columns, of whatever they look at.
+#[tactic(auto, using(crate::proofs::ColumnLemmas::member_laws))]
+fn member_seen<V: Sees, C: Clock>(
+    columns: &[(Expr, Txt)],
+    alloc: Global,
+    over: &Setting<'_, C>,
+    sight: &V,
+    vertex: u32,
+) -> Result<Out, Halt>
+    ensures { Tells itself (member_shown (world_over C.clock over.now) (V.look sight.now) (slots_are over.now.frame.accums) columns.now vertex) result }
+{
+    match members(columns, alloc, over, sight) {
+        Err(halt) => Err(halt),
+        Ok(members) => match out_vertex(alloc, over, vertex, members) {
+            Ok(out) => Ok(out),
+            Err(_) => Err(Halt::OutOfMemory),
+        },
+    }
+}

@@ -1,0 +1,125 @@
+// What expressions are, as it is printed.
+ghost use Rattle.std.specs.Prelude.{◌≡◌, [], IfOk};
+ghost use Rattle.gq_value.specs.AccumViews.{accum_of};
+ghost use Rattle.gq_value.specs.Views.{val};
+ghost use Rattle.gq_accum_laws.specs.After.{fresh};
+ghost use Rattle.gq_rules_meaning.specs.Answers.{Gives, each};
+ghost use Rattle.gq_frame.specs.Slots.{slots_are};
+ghost use Rattle.gq_eval_operand.specs.Meant.{meant, sort_is, valued};
+ghost use Rattle.gq_eval_operand.specs.Sound.{Sound};
+ghost use Rattle.gq_eval_context.specs.Looks.{world_over};
+ghost use Rattle.gq_output.specs.Printed.{fresh_shown, meant_shown, value_shown};
+ghost use Rattle.gq_output.specs.Vertices.{whole_shown};
+
+use crate::contents::out_content;
+use crate::values::out_value;
+use crate::vertices::out_whole_vertex;
+use gq_base::{List, OutOfMemory};
+use gq_eval_context::{Clock, Setting};
+use gq_eval_operand::{Operand, Seen, Sort};
+use gq_json::{Out, Outs};
+use gq_nest::Content;
+use gq_value::{Kind, Txt, Value};
+use std::alloc::Global;
+
+/// What an expression is: a value, an average, a collection or a set.
+#[tactic(auto, using(crate::proofs::SeenLemmas::seen_laws))]
+pub fn out_seen<C: Clock>(
+    alloc: Global,
+    over: &Setting<'_, C>,
+    seen: Seen<'_>,
+) -> Result<Out, OutOfMemory>
+    requires { Sound seen }
+    ensures { IfOk result (λ out. meant_shown (world_over C.clock over.now) (slots_are over.now.frame.accums) (meant seen.entry) ≡ Gives out) }
+{
+    match seen {
+        Seen::Value(sort, operand) => out_operand(alloc, over, sort, operand),
+        Seen::Average(average) => Ok(Out::Fraction(average)),
+        Seen::Whole(kind, content) => out_content(alloc, over, kind, content),
+        Seen::Opening(kind) => out_opening(alloc, over, kind),
+        Seen::Set(vertices) => Ok(Out::List(out_set(alloc, over, vertices)?)),
+        Seen::Row(_, _, _) | Seen::OpeningRow(_) => Err(OutOfMemory),
+        Seen::Edge(_, _) | Seen::Member(_, _, _) => Err(OutOfMemory),
+    }
+}
+
+/// What an accumulator reads as: a value, an average or a collection.
+#[tactic(auto, using(crate::proofs::SeenLemmas::seen_laws))]
+pub(crate) fn out_read<C: Clock>(
+    alloc: Global,
+    over: &Setting<'_, C>,
+    seen: Seen<'_>,
+) -> Result<Out, OutOfMemory>
+    requires { Sound seen }
+    ensures { IfOk result (λ out. meant_shown (world_over C.clock over.now) [] (meant seen.entry) ≡ Gives out) }
+{
+    match seen {
+        Seen::Value(sort, operand) => out_operand(alloc, over, sort, operand),
+        Seen::Average(average) => Ok(Out::Fraction(average)),
+        Seen::Whole(kind, content) => out_content(alloc, over, kind, content),
+        Seen::Opening(_) | Seen::Set(_) => Err(OutOfMemory),
+        Seen::Row(_, _, _) | Seen::OpeningRow(_) => Err(OutOfMemory),
+        Seen::Edge(_, _) | Seen::Member(_, _, _) => Err(OutOfMemory),
+    }
+}
+
+/// A value of a type. A text that was made for this is moved.
+#[tactic(auto, using(gq_value::specs::ViewLaws::view_laws, crate::proofs::ValueLemmas::value_laws))]
+fn out_operand<C: Clock>(
+    alloc: Global,
+    over: &Setting<'_, C>,
+    sort: Sort<'_>,
+    operand: Operand<'_>,
+) -> Result<Out, OutOfMemory>
+    ensures { IfOk result (λ out. out ≡ value_shown (world_over C.clock over.now) (sort_is sort.entry) (valued operand.entry)) }
+{
+    match operand {
+        Operand::Lent(value) => out_value(alloc, over, sort, value),
+        Operand::Made(value) => out_made(alloc, over, sort, value),
+        Operand::Text(text) => Ok(Out::Text(Txt::of(alloc, text)?)),
+    }
+}
+
+#[tactic(auto, using(gq_value::specs::ViewLaws::view_laws, crate::proofs::ValueLemmas::value_laws))]
+fn out_made<C: Clock>(
+    alloc: Global,
+    over: &Setting<'_, C>,
+    sort: Sort<'_>,
+    value: Value,
+) -> Result<Out, OutOfMemory>
+    ensures { IfOk result (λ out. out ≡ value_shown (world_over C.clock over.now) (sort_is sort.entry) (val value)) }
+{
+    match value {
+        Value::Text(text) => Ok(Out::Text(text)),
+        other => out_value(alloc, over, sort, &other),
+    }
+}
+
+/// A collection before any input.
+#[tactic(auto, using(crate::proofs::SeenLemmas::opening_laws))]
+fn out_opening<C: Clock>(
+    alloc: Global,
+    over: &Setting<'_, C>,
+    kind: &Kind,
+) -> Result<Out, OutOfMemory>
+    ensures { IfOk result (λ out. out ≡ fresh_shown (world_over C.clock over.now) (accum_of kind.now)) }
+{
+    let opening = Content::fresh(alloc, kind)?;
+    out_content(alloc, over, kind, &opening)
+}
+
+/// Whole vertices, in order.
+#[tactic(auto, using(crate::proofs::SeenLemmas::set_laws))]
+pub fn out_set<C: Clock>(
+    alloc: Global,
+    over: &Setting<'_, C>,
+    vertices: &[u32],
+) -> Result<Outs, OutOfMemory>
+    ensures { IfOk result (λ outs. each (whole_shown (world_over C.clock over.now) (slots_are over.now.frame.accums)) vertices.now ≡ Gives outs) }
+{
+    let mut outs = List::new(alloc);
+    for vertex in vertices {
+        outs.push(out_whole_vertex(alloc, over, *vertex)?)?;
+    }
+    Ok(outs)
+}

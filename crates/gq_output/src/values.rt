@@ -1,0 +1,195 @@
+// Values.
+ghost use Rattle.std.specs.Prelude.{◌≡◌, ◌++◌, ◌∷◌, [], IfOk, IfSome, OnOk, Some, map, slice_get};
+ghost use Rattle.std.specs.Option.{option_copied};
+ghost use Rattle.gq_json.specs.declared.out.Out.TheVariants as json;
+ghost use Rattle.gq_value.specs.Views.{val, vals};
+ghost use Rattle.gq_value.specs.Val.{Int, Tuple};
+ghost use Rattle.gq_value.specs.AccumViews.{base_of};
+ghost use Rattle.gq_eval_attributes.specs.Tuples.{fields_in};
+ghost use Rattle.gq_eval_operand.specs.Meant.{sort_is};
+ghost use Rattle.gq_eval_context.specs.Looks.{world_over};
+ghost use Rattle.gq_output.specs.Printed.{named_shown, time_shown, value_shown};
+
+use crate::keys::id_of;
+use gq_base::{List, OutOfMemory};
+use gq_eval_attributes::TupleType;
+use gq_eval_context::{Clock, Setting};
+use gq_eval_operand::Sort;
+use gq_json::{Members, Out, Outs};
+use gq_time::{in_range, write_time};
+use gq_value::{BaseType, Txt, Value};
+use std::alloc::Global;
+
+/// A value of a type: a vertex as its id, a DATETIME as its text, a tuple as an object.
+#[cycle(values)]
+#[tactic(auto, using(gq_value::specs::ViewLaws::view_laws, crate::proofs::ValueLemmas::value_laws))]
+pub fn out_value<C: Clock>(
+    alloc: Global,
+    over: &Setting<'_, C>,
+    sort: Sort<'_>,
+    value: &Value,
+) -> Result<Out, OutOfMemory>
+    ensures { IfOk result (λ out. out ≡ value_shown (world_over C.clock over.now) (sort_is sort.entry) (val value.now)) }
+{
+    match value {
+        Value::Int(x) => whole(alloc, over, sort, *x),
+        Value::UInt(n) => Ok(Out::UInt(*n)),
+        Value::Bool(truth) => Ok(Out::Bool(*truth)),
+        Value::Text(text) => Ok(Out::Text(Txt::of(alloc, text.as_str())?)),
+        Value::Vertex(vertex) => Ok(Out::Text(id_of(alloc, over, *vertex)?)),
+        Value::Fraction(average) => Ok(Out::Fraction(*average)),
+        Value::Tuple(row) => Ok(Out::Object(tuple(alloc, over, sort, row.as_slice())?)),
+    }
+}
+
+/// A whole number with a sign, or the DATETIME of so many seconds.
+#[tactic(auto, using(crate::proofs::ValueLemmas::whole_laws))]
+fn whole<C: Clock>(
+    alloc: Global,
+    over: &Setting<'_, C>,
+    sort: Sort<'_>,
+    x: i64,
+) -> Result<Out, OutOfMemory>
+    ensures { IfOk result (λ out. out ≡ value_shown (world_over C.clock over.now) (sort_is sort.entry) (Int x)) }
+{
+    match sort {
+        Sort::Time => time(alloc, over, x),
+        Sort::Int | Sort::UInt | Sort::Bool | Sort::Text => Ok(Out::Int(x)),
+        Sort::AnyVertex | Sort::VertexOf(_) | Sort::Tuple(_, _) => Ok(Out::Int(x)),
+    }
+}
+
+/// The text of a DATETIME.
+#[tactic(auto, using(crate::proofs::ValueLemmas::time_laws))]
+fn time<C: Clock>(alloc: Global, _over: &Setting<'_, C>, seconds: i64) -> Result<Out, OutOfMemory>
+    ensures { IfOk result (λ out. out ≡ time_shown C.clock seconds) }
+{
+    if !in_range(seconds) {
+        return Err(OutOfMemory);
+    }
+    let text = write_time(alloc, seconds)?;
+    Ok(Out::Text(text))
+}
+
+/// The fields of a tuple, as members.
+#[cycle(values)]
+#[tactic(auto, using(crate::proofs::ValueLemmas::tuple_laws))]
+fn tuple<C: Clock>(
+    alloc: Global,
+    over: &Setting<'_, C>,
+    sort: Sort<'_>,
+    row: &[Value],
+) -> Result<Members, OutOfMemory>
+    ensures { IfOk result (λ members. json.Object members ≡ value_shown (world_over C.clock over.now) (sort_is sort.entry) (Tuple (vals row.now))) }
+{
+    match sort {
+        Sort::Tuple(number, _) => match tuple_type(over, number) {
+            Some(of) => fields(alloc, over, of, row),
+            None => Err(OutOfMemory),
+        },
+        Sort::Int | Sort::UInt | Sort::Bool | Sort::Text | Sort::Time => Ok(List::new(alloc)),
+        Sort::AnyVertex | Sort::VertexOf(_) => Ok(List::new(alloc)),
+    }
+}
+
+/// A tuple type by its number, if there is one.
+fn tuple_type<'a, C>(over: &'a Setting<'_, C>, number: u32) -> Option<&'a TupleType>
+    ensures { slice_get over.now.tuples number ≡ option_copied result }
+{
+    over.tuples.get(number as usize)
+}
+
+/// The fields of a tuple of a type, as members.
+#[cycle(values)]
+#[tactic(auto, using(crate::proofs::NamedLemmas::field_laws))]
+fn fields<C: Clock>(
+    alloc: Global,
+    over: &Setting<'_, C>,
+    of: &TupleType,
+    row: &[Value],
+) -> Result<Members, OutOfMemory>
+    ensures { IfOk result (λ members. members ≡ named_shown (world_over C.clock over.now) (fields_in of.now) (map val row.now)) }
+{
+    let mut members = List::new(alloc);
+    for (place, value) in row.iter().enumerate() {
+        match field_at(of, place) {
+            None => return Err(OutOfMemory),
+            Some(field) => put_value(alloc, over, field.0, field.1, value, &mut members)?,
+        }
+    }
+    Ok(members)
+}
+
+/// The name and the type of the field at a place.
+#[tactic(auto, using(crate::proofs::NamedLemmas::field_at))]
+fn field_at(of: &TupleType, place: usize) -> Option<(&Txt, &BaseType)>
+    ensures { IfSome result (λ field. slice_get (fields_in of.now) place ≡ Some (field.0.now, base_of field.1.now)) }
+{
+    match item(&of.names, place) {
+        None => None,
+        Some(name) => match item(&of.types, place) {
+            None => None,
+            Some(base) => Some((name, base)),
+        },
+    }
+}
+
+/// A value of a type under its name, behind other members.
+#[cycle(values)]
+pub(crate) fn put_value<C: Clock>(
+    alloc: Global,
+    over: &Setting<'_, C>,
+    name: &Txt,
+    base: &BaseType,
+    value: &Value,
+    members: &mut Members,
+) -> Result<(), OutOfMemory>
+    ensures { OnOk result (members.new ≡ members.old ++ (name.now, value_shown (world_over C.clock over.now) (base_of base.now) (val value.now)) ∷ []) }
+{
+    let value = out_value(alloc, over, Sort::of(base), value)?;
+    put(alloc, name.as_str(), value, members)
+}
+
+/// A printed value under its name, behind other members.
+pub(crate) fn put(
+    alloc: Global,
+    name: &str,
+    value: Out,
+    members: &mut Members,
+) -> Result<(), OutOfMemory>
+    ensures { OnOk result (members.new ≡ members.old ++ (name.now, value) ∷ []) }
+{
+    let name = Txt::of(alloc, name)?;
+    members.push((name, value))
+}
+
+/// The item at a place, if there is one.
+pub(crate) fn item<T>(items: &List<T>, at: usize) -> Option<&T>
+    ensures { slice_get items.now at ≡ option_copied result }
+{
+    items.as_slice().get(at)
+}
+
+/// The item at a place of a slice, if there is one.
+pub(crate) fn nth<T>(items: &[T], at: usize) -> Option<&T>
+    ensures { slice_get items.now at ≡ option_copied result }
+{
+    items.get(at)
+}
+
+/// Values of one type, in order.
+#[tactic(auto, using(crate::proofs::NamedLemmas::row_laws))]
+pub(crate) fn values<C: Clock>(
+    alloc: Global,
+    over: &Setting<'_, C>,
+    sort: Sort<'_>,
+    row: &[Value],
+) -> Result<Outs, OutOfMemory>
+    ensures { IfOk result (λ outs. outs ≡ map (λ v. value_shown (world_over C.clock over.now) (sort_is sort.entry) (val v)) row.now) }
+{
+    let mut outs = List::new(alloc);
+    for value in row {
+        outs.push(out_value(alloc, over, sort, value)?)?;
+    }
+    Ok(outs)
+}

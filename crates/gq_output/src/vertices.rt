@@ -1,0 +1,102 @@
+// Vertices.
+ghost use Rattle.std.specs.Prelude.{◌≡◌, ◌<◌, ◌≤◌, ◌++◌, ◌∷◌, [], codes, IfOk, IfSome, Some, length, slice_get};
+ghost use Rattle.std.specs.Option.{option_copied};
+ghost use Rattle.gq_json.specs.declared.out.Out.TheVariants as json;
+ghost use Rattle.gq_graph.specs.Vertices.{vertex_at};
+ghost use Rattle.gq_rules_meaning.specs.Answers.{Gives};
+ghost use Rattle.gq_frame.specs.Slots.{slots_are};
+ghost use Rattle.gq_eval_context.specs.Looks.{world_over};
+ghost use Rattle.gq_output.specs.Vertices.{HasType, described, vertex_shown, whole_shown};
+
+use crate::attributes::{attributes, put_attached};
+use crate::keys::id_of;
+use crate::values::put;
+use gq_base::{List, OutOfMemory};
+use gq_eval_context::{Clock, Setting};
+use gq_graph::VertexType;
+use gq_json::{Members, Out};
+use gq_schema::Catalog;
+use gq_value::Txt;
+use gq_vertex::Vertices;
+use std::alloc::Global;
+
+/// A vertex with all its attributes, and then its attached accumulators in order of declaration.
+#[tactic(auto, using(crate::proofs::VertexLemmas::whole_laws))]
+pub fn out_whole_vertex<C: Clock>(
+    alloc: Global,
+    over: &Setting<'_, C>,
+    vertex: u32,
+) -> Result<Out, OutOfMemory>
+    ensures { IfOk result (λ out. whole_shown (world_over C.clock over.now) (slots_are over.now.frame.accums) vertex ≡ Gives out) }
+{
+    match type_of(over, vertex) {
+        None => Err(OutOfMemory),
+        Some(of) => {
+            let mut members = attributes(alloc, over, of, vertices_of(over), vertex)?;
+            put_attached(alloc, over, vertex, &mut members)?;
+            out_vertex(alloc, over, vertex, members)
+        }
+    }
+}
+
+/// A vertex with these members as its attributes.
+#[tactic(auto, using(crate::proofs::VertexLemmas::vertex_laws))]
+pub fn out_vertex<C: Clock>(
+    alloc: Global,
+    over: &Setting<'_, C>,
+    vertex: u32,
+    attributes: Members,
+) -> Result<Out, OutOfMemory>
+    ensures { IfOk result (λ out. vertex_shown (world_over C.clock over.now) vertex attributes ≡ Gives out) }
+{
+    match type_of(over, vertex) {
+        None => Err(OutOfMemory),
+        Some(of) => {
+            let id = id_of(alloc, over, vertex)?;
+            let kind = Txt::of(alloc, of.name.as_str())?;
+            described(alloc, id, kind, attributes)
+        }
+    }
+}
+
+/// An object with an id, a type and attributes.
+#[tactic(auto, using(crate::proofs::VertexLemmas::three_put))]
+fn described(alloc: Global, id: Txt, kind: Txt, attributes: Members) -> Result<Out, OutOfMemory>
+    ensures { IfOk result (λ out. out ≡ described id kind attributes) }
+{
+    let mut members = List::new(alloc);
+    put(alloc, "v_id", Out::Text(id), &mut members)?;
+    put(alloc, "v_type", Out::Text(kind), &mut members)?;
+    put(alloc, "attributes", Out::Object(attributes), &mut members)?;
+    Ok(Out::Object(members))
+}
+
+fn vertices_of<'a, C>(over: &Setting<'a, C>) -> &'a Vertices
+    ensures { result.now ≡ over.now.vertices }
+{
+    &over.graph.store.vertices
+}
+
+/// The type of a vertex, if there is one.
+fn type_of<'a, C>(over: &Setting<'a, C>, vertex: u32) -> Option<&'a VertexType>
+    ensures { IfSome result (λ of. HasType over.now vertex of.now) }
+{
+    let vertices = &over.graph.store.vertices;
+    if vertex >= vertices.len() {
+        return None;
+    }
+    vertex_type(over.graph.catalog, vertices.kind(vertex))
+}
+
+/// A vertex type by its number, if there is one.
+#[tactic(auto, using(gq_eval_attributes::proofs::VertexLemmas::type_laws))]
+fn vertex_type(catalog: &Catalog, kind: u32) -> Option<&VertexType>
+    ensures { slice_get catalog.now.vertex_types kind ≡ option_copied result }
+{
+    let count = catalog.type_count() - catalog.edge_types().len() as u32;
+    if kind < count {
+        Some(catalog.vertex_at(kind))
+    } else {
+        None
+    }
+}

@@ -1,0 +1,6 @@
+pub mod Steps
+pub mod LiteralReads
+pub mod ExactReads
+mod ListLemmas
+pub mod KindReads
+mod LevelLemmas

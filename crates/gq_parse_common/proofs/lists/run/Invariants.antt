@@ -1,0 +1,11 @@
+use Rattle.std.proofs.Common.{◌≤◌, ◌-◌, length}
+use Rattle.gq_grammar.specs.Parsers.{Parser}
+use Rattle.gq_grammar.proofs.LoopLemmas.{Turns}
+use Rattle.gq_parse_common.specs.Readers.{Finds}
+use Rattle.gq_parse_common.proofs.lists.run.Given as goal
+
+-- whatever an item is, what is read from here on is what is left of the whole
+abbrev pub invariant-loop-turn : goal.invariant-loop-turn
+invariant-loop-turn g l =
+    (l.at ≤ length l.source)
+    × ((p : Parser g.row.T.Denot) → Finds p (goal.F-post g l.item) → Turns p l.source l.from (l._turn-end - l._turn) l.found.items l.at)

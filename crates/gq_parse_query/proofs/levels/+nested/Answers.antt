@@ -1,0 +1,9 @@
+use Rattle.std.proofs.Common.{arith}
+use Rattle.gq_parse_query.proofs.LevelLemmas.{no_levels, level}
+use Rattle.gq_parse_query.proofs.levels.+nested.Goals as goal
+
+pub returns-then-levels-eq0 : goal.returns-then-levels-eq0
+returns-then-levels-eq0 t c = no_levels c.args.levels _ c.if-levels-eq0.true
+
+pub returns : goal.returns
+returns t c = level c.args.levels c.args.source.now c.args.at c.statement_in.result (omega arith) c.statement_in.ensures

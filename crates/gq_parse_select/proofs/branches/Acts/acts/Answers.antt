@@ -1,0 +1,12 @@
+use Rattle.std.proofs.Common.{subst}
+use Rattle.gq_grammar.specs.Lexemes.{sign}
+use Rattle.gq_grammar.specs.Parsers.{Found, many, after}
+use Rattle.gq_grammar.specs.Series.{chain}
+use Rattle.gq_parse_select.specs.Acts.{nested_act_parser}
+use Rattle.gq_parse_select.proofs.branches.Acts.acts.Goals as goal
+
+pub returns-in-Some : goal.returns-in-Some
+unfolding chain
+returns-in-Some g c =
+    c.chained.ensures (nested_act_parser c.args.self.now.levels) (many (after (sign ",") (nested_act_parser c.args.self.now.levels))) c.args.self.now.source.now c.args.at c.in-Some.at
+    (subst (Found (nested_act_parser c.args.self.now.levels) c.args.self.now.source.now c.args.at) c.in-Some.is c.in_ok-inner.ensures) c.more_acts.ensures

@@ -1,0 +1,10 @@
+use Rattle.std.proofs.Common.{subst}
+use Rattle.gq_grammar.specs.Lexemes.{sign}
+use Rattle.gq_grammar.specs.Parsers.{Found, both, maybe, after}
+use Rattle.gq_parse_select.specs.Selects.{step_edges_parser, types_parser, alias_parser}
+use Rattle.gq_parse_select.proofs.paths.step_parts.Goals as goal
+
+pub returns-in-Some : goal.returns-in-Some
+returns-in-Some c =
+    c.beside.ensures (both step_edges_parser (after (sign "-") types_parser)) (maybe alias_parser) c.args.source.now c.args.at c.in-Some.at
+    (subst (Found (both step_edges_parser (after (sign "-") types_parser)) c.args.source.now c.args.at) c.in-Some.is c.in_ok-step_targets.ensures) c.some_alias.ensures

@@ -1,0 +1,4 @@
+pub mod Acts
+pub mod Nests
+pub mod Selects
+pub mod Bodies

@@ -1,4 +1,0 @@
-pub mod Steps
-pub mod LiteralReads
-pub mod ExactReads
-mod ListLemmas

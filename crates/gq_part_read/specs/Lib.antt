@@ -1,4 +1,0 @@
-pub mod Expression
-pub mod Literals
-pub mod Readers
-pub mod Exact

@@ -1,3 +1,0 @@
-pub mod NewestLemmas
-pub mod KeptLemmas
-pub mod TurnLemmas

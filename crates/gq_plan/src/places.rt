@@ -1,0 +1,102 @@
+// Whole queries.
+ghost use Rattle.std.specs.Prelude.{◌≡◌, ◌<◌, IfOk, OnOk, length, true};
+ghost use Rattle.std.specs.Option.{ForSome};
+ghost use Rattle.gq_rules_typing.specs.Scopes as typing;
+ghost use Rattle.gq_scope.specs.Held.{scope_in};
+ghost use Rattle.gq_check_from.specs.Faults.{Grows};
+ghost use Rattle.gq_check_decls.specs.Counts.{accum_count};
+
+use crate::notes::note;
+use crate::statements::statements;
+use gq_base::{List, OutOfMemory};
+use gq_check_decls::{definitions, parameters};
+use gq_plan_ir::PlaceType;
+use gq_schema::Catalog;
+use gq_scope::Scope;
+use gq_tree::{Mode, ParameterTree, QueryTree};
+use std::alloc::Global;
+
+/// What stands at each place of the frame of a query's plan, made for a graph of the catalog: first its parameters, from the last one on,
+/// then each name in the order in which it comes into view, at a place of its own.
+///
+/// There is no memory for a query that isn't well typed, and for a graph that isn't there.
+pub fn places_of<'q>(
+    alloc: Global,
+    catalog: &'q Catalog,
+    graph: Option<u32>,
+    query: &'q QueryTree,
+) -> Result<List<PlaceType>, OutOfMemory> {
+    if !is_there(catalog, graph) {
+        return Err(OutOfMemory);
+    }
+    let mut scope = Scope::new(alloc, catalog, graph);
+    scope.allow_paths(allows_paths(query.modes.as_slice()));
+    let mut held = List::new(alloc);
+    heads(alloc, &mut scope, query, &mut held)?;
+    statements(
+        query.body.statements.as_slice(),
+        alloc,
+        &mut scope,
+        &mut held,
+    )?;
+    Ok(held)
+}
+
+/// Whether a query is for no graph, or for one of the catalog.
+fn is_there(catalog: &Catalog, graph: Option<u32>) -> bool
+    ensures { result ≡ true → ForSome graph (λ g. g < length catalog.now.graphs) }
+{
+    match graph {
+        None => true,
+        Some(graph) => (graph as usize) < catalog.graph_count(),
+    }
+}
+
+/// Parameters, of which the last one has the first place, and definitions, which have none.
+fn heads(
+    alloc: Global,
+    scope: &mut Scope<'_>,
+    query: &QueryTree,
+    held: &mut List<PlaceType>,
+) -> Result<(), OutOfMemory>
+    requires place { scope.old.place ≡ typing.InStatement }
+    requires none { accum_count (scope_in scope.old) ≡ 0 }
+    ensures { OnOk result (Grows scope.old scope.new) }
+{
+    let trees = query.parameters.as_slice();
+    passed!(parameters(alloc, scope, trees));
+    note_all(alloc, scope, trees, held)?;
+    passed!(definitions(alloc, scope, query.body.definitions.as_slice()));
+    Ok(())
+}
+
+/// Notes parameters from the last one on.
+fn note_all(
+    alloc: Global,
+    scope: &Scope<'_>,
+    trees: &[ParameterTree],
+    held: &mut List<PlaceType>,
+) -> Result<(), OutOfMemory> {
+    for turn in 0..trees.len() {
+        let at = trees.len() - turn - 1;
+        note(alloc, scope, trees[at].name.as_str(), held)?;
+    }
+    Ok(())
+}
+
+/// Whether the query is in SYNTAX v2.
+fn allows_paths(modes: &[Mode]) -> bool {
+    for mode in modes {
+        if is_second(mode) {
+            return true;
+        }
+    }
+    false
+}
+
+fn is_second(mode: &Mode) -> bool {
+    match mode {
+        Mode::Api(_) => false,
+        Mode::Syntax(name) => name.as_str().eq_ignore_ascii_case("v2"),
+    }
+}

@@ -1,0 +1,361 @@
+// Expressions, a function for each variant that holds expressions.
+ghost use Rattle.std.specs.Prelude.{◌≡◌, Some};
+ghost use Rattle.std.specs.Option.{option_copied};
+ghost use Rattle.gq_tree.specs.Tree as plain;
+ghost use Rattle.gq_tree.specs.View.{view, views, view_part, view_parts, view_factors, view_terms};
+ghost use Rattle.gq_plan_expr.specs.Resolved.{Answers, text_in, degree, posted, multiplied, added, compared, all_of, any_of};
+ghost use Rattle.gq_plan_expr.specs.Resolved as spec;
+ghost use Rattle.gq_plan_expr.specs.Resolved.{resolved, resolved_all, resolved_part, resolved_parts, resolved_factors, resolved_terms};
+
+use crate::fault::PlanFault;
+use crate::methods::{Called, method_named};
+use crate::resolves::Resolves;
+use gq_base::{Boxed, List};
+use gq_plan_ir::{Behind, Expr, Method};
+use gq_tree::{AddSign, CmpSign, MulSign, Node, Part};
+use gq_value::Txt;
+use std::alloc::Global;
+
+/// The expression of a plan for the tree of an expression, where `names` says what each name stands for. It takes some frames of the
+/// stack for each level of the tree, and none for the length of a chain.
+///
+/// Unknown where something stands for nothing, which no well typed query has. OutOfMemory may come at any time.
+pub fn plan_expr<R: Resolves>(alloc: Global, names: &R, node: &Node) -> Result<Expr, PlanFault>
+    ensures { Answers (resolved (R.known names.now) (view node.now)) result }
+{
+    expr(node, alloc, names)
+}
+
+#[cycle(plans)]
+#[tactic(auto, using(gq_tree::proofs::ViewLemmas::view_laws))]
+fn expr<R: Resolves>(node: &Node, alloc: Global, names: &R) -> Result<Expr, PlanFault>
+    ensures { Answers (resolved (R.known names.now) (view node.now)) result }
+{
+    match node {
+        Node::Number(number) => Ok(Expr::Number(*number)),
+        Node::Text(said) => Ok(Expr::Text(copied(alloc, said)?)),
+        Node::Truth(truth) => Ok(Expr::Truth(*truth)),
+        Node::Global(name) => global(names, name.as_str()),
+        Node::Name(name) => variable(names, name.as_str()),
+        Node::Call(name, arguments) => call(arguments.as_slice(), alloc, names, name.as_str()),
+        Node::Post(first, parts) => {
+            let first = boxed(first.get(), alloc, names)?;
+            post(parts.as_slice(), alloc, names, first)
+        }
+        Node::Neg(signs, operand) => {
+            let operand = boxed(operand.get(), alloc, names)?;
+            Ok(Expr::Neg(*signs, operand))
+        }
+        Node::Mul(first, others) => {
+            let first = boxed(first.get(), alloc, names)?;
+            mul(others.as_slice(), alloc, names, first)
+        }
+        Node::Sum(first, others) => {
+            let first = boxed(first.get(), alloc, names)?;
+            sum(others.as_slice(), alloc, names, first)
+        }
+        Node::Cmp(left, sign, right) => {
+            let left = boxed(left.get(), alloc, names)?;
+            cmp(right.get(), alloc, names, left, *sign)
+        }
+        Node::Not(words, operand) => {
+            let operand = boxed(operand.get(), alloc, names)?;
+            Ok(Expr::Not(*words, operand))
+        }
+        Node::And(first, others) => {
+            let first = boxed(first.get(), alloc, names)?;
+            and(others.as_slice(), alloc, names, first)
+        }
+        Node::Or(first, others) => {
+            let first = boxed(first.get(), alloc, names)?;
+            or(others.as_slice(), alloc, names, first)
+        }
+    }
+}
+
+fn copied(alloc: Global, text: &Txt) -> Result<Txt, PlanFault>
+    ensures { Answers (Some text.now) result }
+{
+    Ok(Txt::of(alloc, text.as_str())?)
+}
+
+fn global<R: Resolves>(names: &R, name: &str) -> Result<Expr, PlanFault>
+    ensures { Answers (resolved (R.known names.now) (plain.Global name.now)) result }
+{
+    match names.slot(name) {
+        None => Err(PlanFault::Unknown),
+        Some(slot) => Ok(Expr::Global(slot)),
+    }
+}
+
+fn variable<R: Resolves>(names: &R, name: &str) -> Result<Expr, PlanFault>
+    ensures { Answers (resolved (R.known names.now) (plain.Name name.now)) result }
+{
+    match names.place(name) {
+        None => Err(PlanFault::Unknown),
+        Some(place) => Ok(Expr::Name(place)),
+    }
+}
+
+#[cycle(plans)]
+fn boxed<R: Resolves>(node: &Node, alloc: Global, names: &R) -> Result<Boxed<Expr>, PlanFault>
+    ensures { Answers (resolved (R.known names.now) (view node.now)) result }
+{
+    let planned = expr(node, alloc, names)?;
+    Ok(Boxed::new(alloc, planned)?)
+}
+
+#[cycle(plans)]
+fn call<R: Resolves>(
+    arguments: &[Node],
+    alloc: Global,
+    names: &R,
+    name: &str,
+) -> Result<Expr, PlanFault>
+    ensures { Answers (resolved (R.known names.now) (plain.Call name.now (views arguments.now))) result }
+{
+    match names.function(alloc, name)? {
+        None => Err(PlanFault::Unknown),
+        Some(function) => {
+            let planned = exprs(arguments, alloc, names)?;
+            Ok(Expr::Call(function, planned))
+        }
+    }
+}
+
+#[cycle(plans)]
+fn post<R: Resolves>(
+    parts: &[Part],
+    alloc: Global,
+    names: &R,
+    first: Boxed<Expr>,
+) -> Result<Expr, PlanFault>
+    ensures { Answers (posted first (resolved_parts (R.known names.now) (view_parts parts.now))) result }
+{
+    let planned = behinds(parts, alloc, names)?;
+    Ok(Expr::Post(first, planned))
+}
+
+#[cycle(plans)]
+fn mul<R: Resolves>(
+    others: &[(MulSign, Node)],
+    alloc: Global,
+    names: &R,
+    first: Boxed<Expr>,
+) -> Result<Expr, PlanFault>
+    ensures { Answers (multiplied first (resolved_factors (R.known names.now) (view_factors others.now))) result }
+{
+    let planned = factors(others, alloc, names)?;
+    Ok(Expr::Mul(first, planned))
+}
+
+#[cycle(plans)]
+fn sum<R: Resolves>(
+    others: &[(AddSign, Node)],
+    alloc: Global,
+    names: &R,
+    first: Boxed<Expr>,
+) -> Result<Expr, PlanFault>
+    ensures { Answers (added first (resolved_terms (R.known names.now) (view_terms others.now))) result }
+{
+    let planned = terms(others, alloc, names)?;
+    Ok(Expr::Sum(first, planned))
+}
+
+#[cycle(plans)]
+fn cmp<R: Resolves>(
+    right: &Node,
+    alloc: Global,
+    names: &R,
+    left: Boxed<Expr>,
+    sign: CmpSign,
+) -> Result<Expr, PlanFault>
+    ensures { Answers (compared left sign (resolved (R.known names.now) (view right.now))) result }
+{
+    let planned = boxed(right, alloc, names)?;
+    Ok(Expr::Cmp(left, sign, planned))
+}
+
+#[cycle(plans)]
+fn and<R: Resolves>(
+    others: &[Node],
+    alloc: Global,
+    names: &R,
+    first: Boxed<Expr>,
+) -> Result<Expr, PlanFault>
+    ensures { Answers (all_of first (resolved_all (R.known names.now) (views others.now))) result }
+{
+    let planned = exprs(others, alloc, names)?;
+    Ok(Expr::And(first, planned))
+}
+
+#[cycle(plans)]
+fn or<R: Resolves>(
+    others: &[Node],
+    alloc: Global,
+    names: &R,
+    first: Boxed<Expr>,
+) -> Result<Expr, PlanFault>
+    ensures { Answers (any_of first (resolved_all (R.known names.now) (views others.now))) result }
+{
+    let planned = exprs(others, alloc, names)?;
+    Ok(Expr::Or(first, planned))
+}
+
+#[cycle(plans)]
+#[tactic(auto, using(gq_tree::proofs::ViewLemmas::view_laws))]
+fn behind<R: Resolves>(part: &Part, alloc: Global, names: &R) -> Result<Behind, PlanFault>
+    ensures { Answers (resolved_part (R.known names.now) (view_part part.now)) result }
+{
+    match part {
+        Part::Field(name) => Ok(Behind::Field(names.field(alloc, name.as_str())?)),
+        Part::Method(name, arguments) => {
+            method(arguments.as_slice(), alloc, names, name.as_str())
+        }
+        Part::Attached(name) => match names.slot(name.as_str()) {
+            None => Err(PlanFault::Unknown),
+            Some(slot) => Ok(Behind::Attached(slot)),
+        },
+        Part::Before(name) => match names.slot(name.as_str()) {
+            None => Err(PlanFault::Unknown),
+            Some(slot) => Ok(Behind::Before(slot)),
+        },
+    }
+}
+
+#[cycle(plans)]
+#[tactic(auto, using(crate::proofs::MethodLemmas::method_laws))]
+fn method<R: Resolves>(
+    arguments: &[Node],
+    alloc: Global,
+    names: &R,
+    name: &str,
+) -> Result<Behind, PlanFault>
+    ensures { Answers (resolved_part (R.known names.now) (plain.Method name.now (views arguments.now))) result }
+{
+    match method_named(name) {
+        None => Err(PlanFault::Unknown),
+        Some(Called::Method(method)) => {
+            let planned = exprs(arguments, alloc, names)?;
+            Ok(Behind::Method(method, planned))
+        }
+        Some(Called::Outdegree) => outdegree(alloc, names, arguments),
+    }
+}
+
+/// `outdegree()`, or of an edge type that is named by a text.
+fn outdegree<R: Resolves>(alloc: Global, names: &R, arguments: &[Node]) -> Result<Behind, PlanFault>
+    ensures { Answers (degree (R.known names.now) (views arguments.now)) result }
+{
+    if arguments.is_empty() {
+        return degree_of_all(alloc, names);
+    }
+    if arguments.len() > 1 {
+        return Err(PlanFault::Unknown);
+    }
+    degree_of(alloc, names, text_of(&arguments[0]))
+}
+
+/// What a text in quotes says.
+#[tactic(auto, using(gq_tree::proofs::ViewLemmas::view_laws))]
+fn text_of(node: &Node) -> Option<&str>
+    ensures { option_copied result ≡ text_in (view node.now) }
+{
+    match node {
+        Node::Text(said) => Some(said.as_str()),
+        Node::Number(_) | Node::Truth(_) | Node::Global(_) | Node::Name(_) => None,
+        Node::Call(_, _) | Node::Post(_, _) | Node::Neg(_, _) | Node::Mul(_, _) => None,
+        Node::Sum(_, _) | Node::Cmp(_, _, _) | Node::Not(_, _) => None,
+        Node::And(_, _) | Node::Or(_, _) => None,
+    }
+}
+
+fn degree_of_all<R: Resolves>(alloc: Global, names: &R) -> Result<Behind, PlanFault>
+    ensures { Answers (spec.degree_of_all (R.known names.now)) result }
+{
+    match names.counted(alloc, None)? {
+        None => Err(PlanFault::Unknown),
+        Some(types) => Ok(Behind::Degree(None, types)),
+    }
+}
+
+fn degree_of<R: Resolves>(alloc: Global, names: &R, edge: Option<&str>) -> Result<Behind, PlanFault>
+    ensures { Answers (spec.degree_of (R.known names.now) (option_copied edge.entry)) result }
+{
+    match edge {
+        None => Err(PlanFault::Unknown),
+        Some(edge) => degree_under(alloc, names, edge),
+    }
+}
+
+fn degree_under<R: Resolves>(alloc: Global, names: &R, edge: &str) -> Result<Behind, PlanFault>
+    ensures { Answers (spec.degree_of (R.known names.now) (Some edge.now)) result }
+{
+    match names.counted(alloc, Some(edge))? {
+        None => Err(PlanFault::Unknown),
+        Some(types) => {
+            let name = Txt::of(alloc, edge)?;
+            Ok(Behind::Degree(Some(name), types))
+        }
+    }
+}
+
+#[cycle(plans)]
+#[tactic(auto, using(crate::proofs::ListLemmas::list_laws))]
+fn exprs<R: Resolves>(nodes: &[Node], alloc: Global, names: &R) -> Result<List<Expr>, PlanFault>
+    ensures { Answers (resolved_all (R.known names.now) (views nodes.now)) result }
+{
+    let mut planned = List::new(alloc);
+    for node in nodes {
+        let one = expr(node, alloc, names)?;
+        planned.push(one)?;
+    }
+    Ok(planned)
+}
+
+#[cycle(plans)]
+#[tactic(auto, using(crate::proofs::ListLemmas::list_laws))]
+fn behinds<R: Resolves>(parts: &[Part], alloc: Global, names: &R) -> Result<List<Behind>, PlanFault>
+    ensures { Answers (resolved_parts (R.known names.now) (view_parts parts.now)) result }
+{
+    let mut planned = List::new(alloc);
+    for part in parts {
+        let one = behind(part, alloc, names)?;
+        planned.push(one)?;
+    }
+    Ok(planned)
+}
+
+#[cycle(plans)]
+#[tactic(auto, using(crate::proofs::ListLemmas::list_laws))]
+fn factors<R: Resolves>(
+    factors: &[(MulSign, Node)],
+    alloc: Global,
+    names: &R,
+) -> Result<List<(MulSign, Expr)>, PlanFault>
+    ensures { Answers (resolved_factors (R.known names.now) (view_factors factors.now)) result }
+{
+    let mut planned = List::new(alloc);
+    for factor in factors {
+        let one = expr(&factor.1, alloc, names)?;
+        planned.push((factor.0, one))?;
+    }
+    Ok(planned)
+}
+
+#[cycle(plans)]
+#[tactic(auto, using(crate::proofs::ListLemmas::list_laws))]
+fn terms<R: Resolves>(
+    terms: &[(AddSign, Node)],
+    alloc: Global,
+    names: &R,
+) -> Result<List<(AddSign, Expr)>, PlanFault>
+    ensures { Answers (resolved_terms (R.known names.now) (view_terms terms.now)) result }
+{
+    let mut planned = List::new(alloc);
+    for term in terms {
+        let one = expr(&term.1, alloc, names)?;
+        planned.push((term.0, one))?;
+    }
+    Ok(planned)
+}

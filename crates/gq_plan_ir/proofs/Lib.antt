@@ -1,0 +1,4 @@
+pub mod ViewLaws
+pub mod CrossingLemmas
+pub mod RenamedLaws
+mod WorkedPlans

@@ -1,0 +1,27 @@
+pub mod Reference
+pub mod References
+pub mod ExprView
+pub mod BlockView
+pub mod PlanView
+pub mod Renamed
+pub mod Settled
+pub mod PlanKinds
+pub mod Belonging
+pub mod Naming
+pub mod RenamedBlocks
+pub mod RenamedStatements
+pub mod StandsFor
+pub mod Alike
+pub mod Plans
+pub use Rattle.gq_rules_meaning.specs.Answers
+pub use Rattle.gq_rules_meaning.specs.Calendars
+pub use Rattle.gq_rules_meaning.specs.Calls
+pub use Rattle.gq_rules_meaning.specs.Expressions
+pub use Rattle.gq_rules_meaning.specs.Meanings
+pub use Rattle.gq_rules_meaning.specs.States
+pub use Rattle.gq_rules_meaning.specs.TypingStatements as Statements
+pub use Rattle.gq_rules_meaning.specs.Types
+pub use Rattle.gq_rules_meaning.specs.Words
+pub use Rattle.gq_rules_meaning.specs.AddSign
+pub use Rattle.gq_rules_meaning.specs.CmpSign
+pub use Rattle.gq_rules_meaning.specs.MulSign

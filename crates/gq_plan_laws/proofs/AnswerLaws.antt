@@ -1,0 +1,95 @@
+-- AnswerLaws: answers that go on alike.
+use Rattle.std.proofs.Common.{◌≡◌, List, [], ◌∷◌, map, refl, sym, ap, ◌∙◌, subst}
+use Rattle.gq_rules_meaning.specs.Answers.{Answer, Gives, Faults, Stuck, ◌>>=◌, blaming, each, through}
+use Rattle.gq_plan_ir.specs.Alike.{AnswersAlike}
+
+pub alike_then : {F A B C D : Type 0} (R : A → B → Type 0) (S : C → D → Type 0) (o : Answer F A) (p : Answer F B) (f : A → Answer F C) (g : B → Answer F D)
+    → AnswersAlike R o p → ((a : A) (b : B) → R a b → AnswersAlike S (f a) (g b)) → AnswersAlike S (o >>= f) (p >>= g)
+alike_then R S (Gives a) (Gives b) f g h k = k a b h
+alike_then R S (Faults e) (Faults d) f g h k = h
+alike_then R S Stuck Stuck f g h k = tt
+alike_then R S (Gives a) (Faults d) f g h k = absurd h
+alike_then R S (Gives a) Stuck f g h k = absurd h
+alike_then R S (Faults e) (Gives b) f g h k = absurd h
+alike_then R S (Faults e) Stuck f g h k = absurd h
+alike_then R S Stuck (Gives b) f g h k = absurd h
+alike_then R S Stuck (Faults d) f g h k = absurd h
+
+-- what is given is the same on both sides
+pub alike_same : {F A C D : Type 0} (S : C → D → Type 0) (o p : Answer F A) (f : A → Answer F C) (g : A → Answer F D)
+    → p ≡ o → ((a : A) → AnswersAlike S (f a) (g a)) → AnswersAlike S (o >>= f) (p >>= g)
+alike_same S o p f g e k = subst (λ p. AnswersAlike S (o >>= f) (p >>= g)) (sym e) (go o)
+  where
+    go : (o : Answer _ _) → AnswersAlike S (o >>= f) (o >>= g)
+    go (Gives a) = k a
+    go (Faults d) = refl
+    go Stuck = tt
+
+pub alike_blaming : {E F A B : Type 0} (R : A → B → Type 0) (f : E → F) (o : Answer E A) (p : Answer E B) → AnswersAlike R o p → AnswersAlike R (blaming f o) (blaming f p)
+alike_blaming R f (Gives a) (Gives b) h = h
+alike_blaming R f (Faults e) (Faults d) h = ap f h
+alike_blaming R f Stuck Stuck h = tt
+alike_blaming R f (Gives a) (Faults d) h = absurd h
+alike_blaming R f (Gives a) Stuck h = absurd h
+alike_blaming R f (Faults e) (Gives b) h = absurd h
+alike_blaming R f (Faults e) Stuck h = absurd h
+alike_blaming R f Stuck (Gives b) h = absurd h
+alike_blaming R f Stuck (Faults d) h = absurd h
+
+pub alike_with : {F A B : Type 0} (R S : A → B → Type 0) (o : Answer F A) (p : Answer F B) → AnswersAlike R o p → ((a : A) (b : B) → R a b → S a b) → AnswersAlike S o p
+alike_with R S (Gives a) (Gives b) h k = k a b h
+alike_with R S (Faults e) (Faults d) h k = h
+alike_with R S Stuck Stuck h k = tt
+alike_with R S (Gives a) (Faults d) h k = absurd h
+alike_with R S (Gives a) Stuck h k = absurd h
+alike_with R S (Faults e) (Gives b) h k = absurd h
+alike_with R S (Faults e) Stuck h k = absurd h
+alike_with R S Stuck (Gives b) h k = absurd h
+alike_with R S Stuck (Faults d) h k = absurd h
+
+-- equal answers, where what is given is one thing
+pub alike_is : {F A : Type 0} (o p : Answer F A) → AnswersAlike (λ (a b : A). b ≡ a) o p → p ≡ o
+alike_is (Gives a) (Gives b) h = ap Gives h
+alike_is (Faults e) (Faults d) h = ap Faults (sym h)
+alike_is Stuck Stuck h = refl
+alike_is (Gives a) (Faults d) h = absurd h
+alike_is (Gives a) Stuck h = absurd h
+alike_is (Faults e) (Gives b) h = absurd h
+alike_is (Faults e) Stuck h = absurd h
+alike_is Stuck (Gives b) h = absurd h
+alike_is Stuck (Faults d) h = absurd h
+
+-- ---- lists
+
+-- each item under its new name gives the same
+pub each_alike : {F A B C : Type 0} (h : A → B) (f : A → Answer F C) (g : B → Answer F C) → ((a : A) → g (h a) ≡ f a) → (as' : List A) → each g (map h as') ≡ each f as'
+each_alike h f g k [] = refl
+each_alike {C = C} h f g k (a ∷ as') = ap (λ o. o >>= λ b. each g (map h as') >>= λ bs. Gives (b ∷ bs)) (k a) ∙ go (f a) (each_alike h f g k as')
+  where
+    go : (o : Answer _ C) → each g (map h as') ≡ each f as' → (o >>= λ b. each g (map h as') >>= λ bs. Gives (b ∷ bs)) ≡ (o >>= λ b. each f as' >>= λ bs. Gives (b ∷ bs))
+    go o e = ap (λ q. o >>= λ b. q >>= λ bs. Gives (b ∷ bs)) e
+
+pub each_same : {F A C : Type 0} (f g : A → Answer F C) → ((a : A) → g a ≡ f a) → (as' : List A) → each g as' ≡ each f as'
+each_same f g k [] = refl
+each_same f g k (a ∷ as') = ap (λ o. o >>= λ b. each g as' >>= λ bs. Gives (b ∷ bs)) (k a) ∙ ap (λ q. f a >>= λ b. q >>= λ bs. Gives (b ∷ bs)) (each_same f g k as')
+
+-- through items, with what is related
+pub through_alike : {F A B S T : Type 0} (R : S → T → Type 0) (h : A → B) (f : S → A → Answer F S) (g : T → B → Answer F T)
+    → ((s : S) (t : T) (a : A) → R s t → AnswersAlike R (f s a) (g t (h a))) → (as' : List A) (s : S) (t : T) → R s t → AnswersAlike R (through f s as') (through g t (map h as'))
+through_alike R h f g k [] s t r = r
+through_alike R h f g k (a ∷ as') s t r = alike_then R R (f s a) (g t (h a)) _ _ (k s t a r) (λ p q e. through_alike R h f g k as' p q e)
+
+pub through_each : {F A S T : Type 0} (R : S → T → Type 0) (f : S → A → Answer F S) (g : T → A → Answer F T)
+    → ((s : S) (t : T) (a : A) → R s t → AnswersAlike R (f s a) (g t a)) → (as' : List A) (s : S) (t : T) → R s t → AnswersAlike R (through f s as') (through g t as')
+through_each R f g k [] s t r = r
+through_each R f g k (a ∷ as') s t r = alike_then R R (f s a) (g t a) _ _ (k s t a r) (λ p q e. through_each R f g k as' p q e)
+
+-- through items that are named anew, with what is one thing
+pub through_same : {F A B S : Type 0} (h : A → B) (f : S → A → Answer F S) (g : S → B → Answer F S) → ((s : S) (a : A) → g s (h a) ≡ f s a) → (as' : List A) (s : S) → through g s (map h as') ≡ through f s as'
+through_same h f g k [] s = refl
+through_same {S = S} h f g k (a ∷ as') s = ap (λ o. o >>= λ t. through g t (map h as')) (k s a) ∙ go (f s a) (through_same h f g k as')
+  where
+    go : (o : Answer _ S) → ((t : S) → through g t (map h as') ≡ through f t as') → (o >>= λ t. through g t (map h as')) ≡ (o >>= λ t. through f t as')
+    go (Gives t) e = e t
+    go (Faults d) e = refl
+    go Stuck e = refl

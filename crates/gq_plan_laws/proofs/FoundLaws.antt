@@ -1,0 +1,263 @@
+-- FoundLaws: references stand for what names do, where they are what is found for names.
+use Rattle.std.proofs.Common.{◌≡◌, ◌≢◌, ℕ, zero, suc, ◌≤◌, Bool, true, false, List, [], ◌∷◌, map, arith, eq-eqb, ne_eqb, Option, Some, None, refl, sym, ap, ◌∙◌, subst}
+use Rattle.std.proofs.lemmas.Slice.Eq.{bytes_eq-Decides}
+use Rattle.std.specs.Prelude.{◌==◌, ◌&&◌, if◌then◌else◌, bytes_eq, codes, slice_get}
+use Rattle.std.specs.List.{list_any, list_all}
+use Rattle.gq_value.specs.declared.kind.BaseType.{BaseType}
+use Rattle.gq_scope.specs.Named.{Named}
+use Rattle.gq_rules_typing.specs.Statements.{Bytes}
+use Rattle.gq_rules_typing.specs.Sorts.{Fields, Sorts, names_of, bases_of}
+use Rattle.gq_rules_typing.specs.Words as words
+use Rattle.gq_rules_typing.specs.Words.{Words, Setting, OfVertexType, OfEdgeType, OfTupleType, place_of, by_name, if_own, under, methods, functions, function_from, function_named, names_of_parts}
+use Rattle.gq_rules_meaning.specs.Calendars.{Calendar}
+use Rattle.gq_rules_meaning.specs.Graphs.{Graph}
+use Rattle.gq_plan_ir.specs.declared.expr.Field.TheVariants as field
+use Rattle.gq_plan_ir.specs.declared.expr.Function.{Function}
+use Rattle.gq_plan_ir.specs.declared.expr.Function.TheVariants as function
+use Rattle.gq_plan_ir.specs.Reference.{Reference, Place, Slot, VertexType, EdgeType, TupleType, TypeName, FieldAt, Calls, Does}
+use Rattle.gq_plan_ir.specs.References as references
+use Rattle.gq_plan_ir.specs.References.{same, in_table, by_reference}
+use Rattle.gq_plan_ir.specs.ExprView.{field_of, function_of}
+use Rattle.gq_plan_ir.specs.Alike.{WordsAlike}
+use Rattle.gq_plan_expr.specs.Known.{or_nothing, method_at}
+use Rattle.gq_plan_laws.specs.Found.{TupleTypes, plain_fields, plain_tuples, in_vertex, in_edge, in_tuple, places_of, field_at, field_types, tuple_from, own_function, own_if, language, or_language, function_at, part_of_time, numbered, sides_of}
+use Rattle.gq_plan_laws.specs.FoundLaws.{FoundLaw}
+
+some_inj : {A : Type 0} {a b : A} → ◌≡◌ {A = Option A} (Some a) (Some b) → a ≡ b
+some_inj h = cc
+
+-- ---- references that nothing is looked for under
+
+nothing_same : (r : Reference) → same r TypeName ≡ false
+nothing_same (Place n) = refl
+nothing_same (Slot n) = refl
+nothing_same (VertexType t) = refl
+nothing_same (EdgeType t) = refl
+nothing_same (TupleType n) = refl
+nothing_same TypeName = refl
+nothing_same (FieldAt c) = refl
+nothing_same (Calls f) = refl
+nothing_same (Does m) = refl
+
+type_same : (r : Reference) (t : ℕ) → same r (VertexType t) ≡ false
+type_same (Place n) t = refl
+type_same (Slot n) t = refl
+type_same (VertexType u) t = refl
+type_same (EdgeType u) t = refl
+type_same (TupleType n) t = refl
+type_same TypeName t = refl
+type_same (FieldAt c) t = refl
+type_same (Calls f) t = refl
+type_same (Does m) t = refl
+
+no_variable : (r : Reference) (o : Option ℕ) → same r (or_nothing VertexType o) ≡ false
+no_variable r None = nothing_same r
+no_variable r (Some t) = type_same r t
+
+-- ---- types of the graph
+
+own_twice : (ns : List ℕ) (o : Option ℕ) (n : ℕ) → if_own ns o ≡ Some n → if_own ns (Some n) ≡ Some n
+own_twice ns None n h = cc
+own_twice ns (Some m) n h = go (list_any (λ k. k == m) ns) refl h
+  where
+    go : (q : Bool) → list_any (λ k. k == m) ns ≡ q → (if q then Some m else None) ≡ Some n → if_own ns (Some n) ≡ Some n
+    go true e h = subst (λ z. if_own ns (Some z) ≡ Some z) (some_inj h) (ap (λ q. if q then Some m else None) e)
+    go false e h = cc
+
+vertex_type_is : (sorts : Sorts) (o : Option ℕ) → references.vertex_type sorts (or_nothing VertexType (if_own sorts.own_vertices o)) ≡ if_own sorts.own_vertices o
+vertex_type_is sorts o = go (if_own sorts.own_vertices o) refl
+  where
+    go : (p : Option ℕ) → if_own sorts.own_vertices o ≡ p → references.vertex_type sorts (or_nothing VertexType p) ≡ p
+    go None e = refl
+    go (Some n) e = own_twice sorts.own_vertices o n e
+
+edge_type_is : (sorts : Sorts) (o : Option ℕ) → references.edge_type sorts (or_nothing EdgeType (if_own sorts.own_edges o)) ≡ if_own sorts.own_edges o
+edge_type_is sorts o = go (if_own sorts.own_edges o) refl
+  where
+    go : (p : Option ℕ) → if_own sorts.own_edges o ≡ p → references.edge_type sorts (or_nothing EdgeType p) ≡ p
+    go None e = refl
+    go (Some n) e = own_twice sorts.own_edges o n e
+
+method_is : (m : Bytes) → references.method (or_nothing Does (method_at m)) ≡ under bytes_eq m methods
+unfolding method_at
+method_is m = go (under bytes_eq m methods)
+  where
+    go : (o : Option words.Method) → references.method (or_nothing Does o) ≡ o
+    go None = refl
+    go (Some w) = refl
+
+-- ---- tables of fields
+
+table_at : {A : Type 0} (f : A → Option ℕ) (xs : List A) (t : ℕ) (names : List Bytes) (name : Bytes) (a : A) → slice_get xs t ≡ Some a → in_table (map f xs) t names name ≡ f a
+table_at f [] t names name a h = cc
+table_at f (x ∷ xs) zero names name a h = ap f (some_inj h)
+table_at f (x ∷ xs) (suc t) names name a h = table_at f xs t names name a h
+
+abbrev fields_at : {N : Type 0} → Option (N × Fields) → Fields
+fields_at None = []
+fields_at (Some t) = t.1
+
+-- past the end of the table the name says it
+tuple_table : (ts : TupleTypes) (n : ℕ) (f : Bytes)
+    → in_table (map (in_tuple f) ts) n (names_of (fields_at (slice_get (plain_tuples ts) n))) f ≡ place_of (names_of (fields_at (slice_get (plain_tuples ts) n))) f
+tuple_table [] n f = refl
+tuple_table (t ∷ ts) zero f = refl
+tuple_table (t ∷ ts) (suc n) f = tuple_table ts n f
+
+-- ---- tuple types
+
+numbered_fields : (i : ℕ) (ts : TupleTypes) (n : ℕ) → fields_at (slice_get (numbered i ts) n) ≡ fields_at (slice_get (plain_tuples ts) n)
+numbered_fields i [] n = refl
+numbered_fields i (t ∷ ts) zero = refl
+numbered_fields i (t ∷ ts) (suc n) = numbered_fields (suc i) ts n
+
+-- ---- functions of the language
+
+part_is : (p : words.PartOfTime) → function_of (part_of_time p) ≡ Calls (words.PartOf p)
+part_is words.Year = refl
+part_is words.Month = refl
+part_is words.Day = refl
+part_is words.Hour = refl
+part_is words.Minute = refl
+part_is words.Second = refl
+
+-- no function of the language makes a tuple
+abbrev is_own : words.Function → Bool
+is_own (words.Makes n fields) = false
+is_own f = true
+
+under_all : {A : Type 0} (p : A → Bool) (f : Bytes) (pairs : List (Bytes × A)) (a : A) → list_all (λ (x : Bytes × A). p x.1) pairs ≡ true → under bytes_eq f pairs ≡ Some a → p a ≡ true
+under_all p f [] a h e = cc
+under_all {A = A} p f (x ∷ pairs) a h e = go (bytes_eq x.0 f) (p x.1) refl e h (under_all p f pairs a)
+  where
+    go : (q b : Bool) → p x.1 ≡ b → (if q then Some x.1 else under bytes_eq f pairs) ≡ Some a → (b && list_all (λ (x : Bytes × A). p x.1) pairs) ≡ true
+        → (list_all (λ (x : Bytes × A). p x.1) pairs ≡ true → under bytes_eq f pairs ≡ Some a → p a ≡ true) → p a ≡ true
+    go true true d e h r = subst (λ z. p z ≡ true) (some_inj e) d
+    go true false d e h r = cc
+    go false true d e h r = r h e
+    go false false d e h r = cc
+
+-- ---- all together
+
+module _ (g : Graph) (clock : Calendar) (ts : TupleTypes) (accums : List Bytes) (slots : Named) where
+  is_type_is : (f : Bytes) → references.is_type (field_of (field_at g.sorts ts f)) ≡ bytes_eq (codes "type") f
+  is_type_is f = go (bytes_eq (codes "type") f)
+    where
+      go : (q : Bool) → references.is_type (field_of (if q then field.Type else field.Named (places_of g.sorts ts f))) ≡ q
+      go true = refl
+      go false = refl
+
+  -- a field of an owner with these names, where the tables say what the name says
+  field_is : (owner : words.Owner) (names : List Bytes) (f : Bytes) → references.place_in (places_of g.sorts ts f) owner names ≡ place_of names f → references.field owner names (field_of (field_at g.sorts ts f)) ≡ place_of names f
+  field_is owner names f table = go (bytes_eq (codes "type") f) refl
+    where
+      go : (q : Bool) → bytes_eq (codes "type") f ≡ q → references.field owner names (field_of (if q then field.Type else field.Named (places_of g.sorts ts f))) ≡ place_of names f
+      go true e = ap (place_of names) ((bytes_eq-Decides (codes "type") f).0 e)
+      go false e = table
+
+  -- ---- functions
+
+  abbrev plan_words : Words Reference
+  plan_words = by_reference g.sorts accums
+
+  abbrev old_words : Words Bytes
+  old_words = by_name g.sorts
+
+  -- what is no tuple type is a function of the language
+  no_tuple : (r : Reference) → ((n : ℕ) → same (TupleType n) r ≡ false) → (i : ℕ) (us : TupleTypes) → function_from plan_words r i (numbered i us) ≡ references.function r
+  no_tuple r h i [] = refl
+  no_tuple r h i (t ∷ us) = ap (λ q. if q then Some (words.Makes i (bases_of (plain_fields t.1))) else function_from plan_words r (suc i) (numbered (suc i) us)) (h i) ∙ no_tuple r h (suc i) us
+
+  own_is : (h : words.Function) → is_own h ≡ true → (us : TupleTypes) → function_from plan_words (or_nothing function_of (own_function h)) 0 (numbered 0 us) ≡ Some h
+  own_is (words.Makes n fields) e us = cc
+  own_is words.Abs e us = no_tuple (Calls words.Abs) (λ n. refl) 0 us
+  own_is words.ToString e us = no_tuple (Calls words.ToString) (λ n. refl) 0 us
+  own_is words.ToDatetime e us = no_tuple (Calls words.ToDatetime) (λ n. refl) 0 us
+  own_is words.EpochToDatetime e us = no_tuple (Calls words.EpochToDatetime) (λ n. refl) 0 us
+  own_is words.DatetimeToEpoch e us = no_tuple (Calls words.DatetimeToEpoch) (λ n. refl) 0 us
+  own_is words.DatetimeDiff e us = no_tuple (Calls words.DatetimeDiff) (λ n. refl) 0 us
+  own_is words.DatetimeAdd e us = no_tuple (Calls words.DatetimeAdd) (λ n. refl) 0 us
+  own_is (words.PartOf p) e us = ap (λ r. function_from plan_words r 0 (numbered 0 us)) (part_is p) ∙ no_tuple (Calls (words.PartOf p)) (λ n. refl) 0 us
+
+  language_is : (f : Bytes) (us : TupleTypes) → function_from plan_words (or_nothing function_of (language f)) 0 (numbered 0 us) ≡ under bytes_eq f functions
+  language_is f us = go (under bytes_eq f functions) refl
+    where
+      go : (o : Option words.Function) → under bytes_eq f functions ≡ o → function_from plan_words (or_nothing function_of (own_if o)) 0 (numbered 0 us) ≡ o
+      go None e = no_tuple TypeName (λ n. refl) 0 us
+      go (Some h) e = own_is h (under_all is_own f functions h refl e) us
+
+  -- the number of a tuple type that is found isn't below that of the first, and its number finds it
+  record TupleIs (f : Bytes) (i : ℕ) (us : TupleTypes) (n : ℕ) : Type 0 where
+    pub above : i ≤ n
+    pub found : function_from plan_words (TupleType n) i (numbered i us) ≡ function_from old_words f i (plain_tuples us)
+
+  tuple_there : (f : Bytes) (i : ℕ) (us : TupleTypes) (n : ℕ) (types : List BaseType) → tuple_from f i us ≡ Some (function.Tuple n types) → TupleIs f i us n
+  tuple_there f i [] n types e = cc
+  tuple_there f i (t ∷ us) n types e = let r = go (bytes_eq t.0 f) e (tuple_there f (suc i) us n types) in record { above = r.0; found = r.1 }
+    where
+      number : Option Function → ℕ
+      number (Some (function.Tuple m ts)) = m
+      number o = 0
+
+      go : (q : Bool) → (if q then Some (function.Tuple i (field_types t.1)) else tuple_from f (suc i) us) ≡ Some (function.Tuple n types) → (tuple_from f (suc i) us ≡ Some (function.Tuple n types) → TupleIs f (suc i) us n)
+          → (i ≤ n) × (function_from plan_words (TupleType n) i (numbered i (t ∷ us)) ≡ (if q then Some (words.Makes i (bases_of (plain_fields t.1))) else function_from old_words f (suc i) (plain_tuples us)))
+      go true d r =
+          let m : i ≡ n = ap number d in
+          (omega (arith, m), ap (λ q. if q then Some (words.Makes i (bases_of (plain_fields t.1))) else function_from plan_words (TupleType n) (suc i) (numbered (suc i) us)) (eq-eqb i n m))
+      go false d r =
+          let u = r d in
+          let other : i ≢ n = omega (arith, u.above) in
+          (omega (arith, u.above), ap (λ q. if q then Some (words.Makes i (bases_of (plain_fields t.1))) else function_from plan_words (TupleType n) (suc i) (numbered (suc i) us)) (ne_eqb i n other) ∙ u.found)
+
+  -- where no tuple type has the name
+  tuple_none : (f : Bytes) (i : ℕ) (us : TupleTypes) → tuple_from f i us ≡ None → function_from old_words f i (plain_tuples us) ≡ under bytes_eq f functions
+  tuple_none f i [] e = refl
+  tuple_none f i (t ∷ us) e = go (bytes_eq t.0 f) e (tuple_none f (suc i) us)
+    where
+      go : (q : Bool) → (if q then Some (function.Tuple i (field_types t.1)) else tuple_from f (suc i) us) ≡ None → (tuple_from f (suc i) us ≡ None → function_from old_words f (suc i) (plain_tuples us) ≡ under bytes_eq f functions)
+          → (if q then Some (words.Makes i (bases_of (plain_fields t.1))) else function_from old_words f (suc i) (plain_tuples us)) ≡ under bytes_eq f functions
+      go true d r = cc
+      go false d r = r d
+
+  -- what is found among tuple types is one
+  record IsTuple (h : Function) : Type 0 where
+    pub number : ℕ
+    pub types : List BaseType
+    pub is : h ≡ function.Tuple number types
+
+  tuple_is : (f : Bytes) (i : ℕ) (us : TupleTypes) (h : Function) → tuple_from f i us ≡ Some h → IsTuple h
+  tuple_is f i [] h e = cc
+  tuple_is f i (t ∷ us) h e = go (bytes_eq t.0 f) e (tuple_is f (suc i) us h)
+    where
+      go : (q : Bool) → (if q then Some (function.Tuple i (field_types t.1)) else tuple_from f (suc i) us) ≡ Some h → (tuple_from f (suc i) us ≡ Some h → IsTuple h) → IsTuple h
+      go true d r = record { number = i; types = field_types t.1; is = sym (some_inj d) }
+      go false d r = r d
+
+  function_is : (f : Bytes) → function_from plan_words (or_nothing function_of (function_at ts f)) 0 (numbered 0 ts) ≡ function_from old_words f 0 (plain_tuples ts)
+  function_is f = go (tuple_from f 0 ts) refl
+    where
+      go : (o : Option Function) → tuple_from f 0 ts ≡ o → function_from plan_words (or_nothing function_of (or_language o f)) 0 (numbered 0 ts) ≡ function_from old_words f 0 (plain_tuples ts)
+      go None e = language_is f ts ∙ sym (tuple_none f 0 ts e)
+      go (Some h) e =
+          let t = tuple_is f 0 ts h e in
+          ap (λ z. function_from plan_words (function_of z) 0 (numbered 0 ts)) t.is ∙ (tuple_there f 0 ts t.number t.types (e ∙ ap Some t.is)).found
+
+  words_alike : WordsAlike (sides_of g clock ts accums slots)
+  words_alike = record {
+    same = λ x y e. (bytes_eq-Decides x y).0 e;
+    nothing = nothing_same;
+    no_variable = λ r t. no_variable r (old_words.vertex_type t);
+    is_type = is_type_is;
+    of_vertex = λ t sort e f. field_is (OfVertexType t) (names_of sort.fields) f (table_at (in_vertex f) g.sorts.vertices t (names_of sort.fields) f sort e);
+    of_edge = λ t sort e f. field_is (OfEdgeType t) (names_of sort.fields) f (table_at (in_edge f) g.sorts.edges t (names_of sort.fields) f sort e);
+    of_tuple = λ n f. field_is (OfTupleType n) (names_of (fields_at (slice_get (plain_tuples ts) n))) f (tuple_table ts n f);
+    of_parts = λ ps f. field_is words.OfParts (names_of_parts ps) f refl;
+    method = method_is;
+    function = function_is;
+    vertex_type = λ t. vertex_type_is g.sorts _;
+    edge_type = λ t. edge_type_is g.sorts _;
+    tuples = λ n. numbered_fields 0 ts n;
+  }
+
+pub found_law : FoundLaw
+found_law g clock ts accums slots = words_alike g clock ts accums slots

@@ -1,0 +1,136 @@
+-- SightLaws: what an expression sees by references is what it sees by names.
+use Rattle.std.proofs.Common.{◌≡◌, ℕ, zero, suc, Bool, List, [], ◌∷◌, map, length, Option, Some, None, refl, ap, ◌∙◌}
+use Rattle.std.specs.Prelude.{if◌then◌else◌, slice_get}
+use Rattle.std.specs.Option.{option_map}
+use Rattle.std.specs.List.{position_or_len}
+use Rattle.gq_value.specs.Val.{Val, Int, UInt, Truth, Text, Vertex, Tuple, Fraction, list_of}
+use Rattle.gq_value.specs.Accums.{INT, UINT, BOOL, STRING, DATETIME, VERTEX, VERTEX_OF, TUPLE, Parts}
+use Rattle.gq_accum_laws.specs.Holds.{HoldsEach}
+use Rattle.gq_rules_typing.specs.Sorts.{names_of, bases_of}
+use Rattle.gq_rules_typing.specs.Words.{OfTupleType, OfParts, names_of_parts}
+use Rattle.gq_rules_typing.specs.FieldTypes.{tuple_fields}
+use Rattle.gq_rules_meaning.specs.Answers.{Answer, Gives, ◌>>=◌, found}
+use Rattle.gq_rules_meaning.specs.Meanings.{Meant, Is, IsAverage, IsContent, IsRow, IsEdge, IsSet, IsMember, Outcome, read}
+use Rattle.gq_rules_meaning.specs.Expressions.{setting}
+use Rattle.gq_rules_meaning.specs.States.{Thing, Slot, meant, slot_number, slot_named, read_slot, value_at, part_at, vertex_field, edge_field, field_of, sight}
+use Rattle.gq_rules_meaning.specs.StateFits.{AllOf}
+use Rattle.gq_plan_ir.specs.Renamed.{SeesAlike}
+use Rattle.gq_plan_ir.specs.Naming.{named_by}
+use Rattle.gq_plan_ir.specs.Alike.{Sides, old_world, new_world, WordsAlike, new_slot, new_slots, AccumIs}
+use Rattle.gq_plan_laws.proofs.NameLaws.{LooksAlike}
+
+pub map_length : {A B : Type 0} (f : A → B) (xs : List A) → length (map f xs) ≡ length xs
+map_length f [] = refl
+map_length f (x ∷ xs) = ap suc (map_length f xs)
+
+pub map_at : {A B : Type 0} (f : A → B) (xs : List A) (n : ℕ) → slice_get (map f xs) n ≡ option_map f (slice_get xs n)
+map_at f [] n = refl
+map_at f (x ∷ xs) zero = refl
+map_at f (x ∷ xs) (suc n) = map_at f xs n
+
+module _ {M N : Type 0} (s : Sides M N) (w : WordsAlike s) where
+  -- ---- accumulators
+
+  place_alike : (a : M) (slots : List (Slot M)) → AllOf (AccumIs s) slots
+      → position_or_len (λ (t : Slot N). s.fixed.references.same t.name (s.fixed.accum a)) (new_slots s slots) ≡ position_or_len (λ (t : Slot M). s.fixed.names.same t.name a) slots
+  place_alike a [] h = refl
+  place_alike a (t ∷ slots) h = let r = place_alike a slots h.1 in let q = h.0.same a in cc
+
+  pub number_alike : (a : M) (slots : List (Slot M)) → AllOf (AccumIs s) slots → slot_number (new_world s) (new_slots s slots) (s.fixed.accum a) ≡ slot_number (old_world s) slots a
+  number_alike a slots h = let n = map_length (new_slot s) slots in let m = place_alike a slots h in cc
+
+  pub slot_alike : (a : M) (slots : List (Slot M)) → AllOf (AccumIs s) slots → slot_named (new_world s) (new_slots s slots) (s.fixed.accum a) ≡ option_map (new_slot s) (slot_named (old_world s) slots a)
+  slot_alike a slots h = go (slot_number (old_world s) slots a) (slot_number (new_world s) (new_slots s slots) (s.fixed.accum a)) (number_alike a slots h)
+    where
+      at_old : Option ℕ → Option (Slot M)
+      at_old None = None
+      at_old (Some n) = slice_get slots n
+
+      at_new : Option ℕ → Option (Slot N)
+      at_new None = None
+      at_new (Some n) = slice_get (new_slots s slots) n
+
+      same_place : (o : Option ℕ) → at_new o ≡ option_map (new_slot s) (at_old o)
+      same_place None = refl
+      same_place (Some n) = map_at (new_slot s) slots n
+
+      go : (o p : Option ℕ) → p ≡ o → at_new p ≡ option_map (new_slot s) (at_old o)
+      go o p e = ap at_new e ∙ same_place o
+
+  -- what an accumulator reads as, where it is there
+  abbrev read_in : {N : Type 0} → ℕ → Option (Slot N) → Outcome
+  read_in v o = found o >>= λ t. found (slice_get t.contents v) >>= λ c. Gives (read t.kind c)
+
+  pub read_alike : (a : M) (v : ℕ) (slots : List (Slot M)) → AllOf (AccumIs s) slots → read_slot (new_world s) (new_slots s slots) (s.fixed.accum a) v ≡ read_slot (old_world s) slots a v
+  read_alike a v slots h = ap (read_in v) (slot_alike a slots h) ∙ go (slot_named (old_world s) slots a)
+    where
+      go : (o : Option (Slot M)) → read_in v (option_map (new_slot s) o) ≡ read_in v o
+      go None = refl
+      go (Some t) = refl
+
+  -- ---- fields
+
+  -- what is found goes on alike, where that is known of it
+  pub found_same : {F A B : Type 0} (o : Option A) (f g : A → Answer F B) → ((a : A) → o ≡ Some a → f a ≡ g a) → (found o >>= f) ≡ (found o >>= g)
+  found_same None f g h = refl
+  found_same (Some a) f g h = h a refl
+
+  pub choice_same : {A : Type 0} (p q : Bool) (a b c : A) → p ≡ q → b ≡ c → (if p then a else b) ≡ (if q then a else c)
+  choice_same p q a b c e g = ap (λ z. if z then a else b) e ∙ ap (λ z. if q then a else z) g
+
+  vertex_alike : (f : M) (v : ℕ) → vertex_field (new_world s) (s.fixed.field f) v ≡ vertex_field (old_world s) f v
+  vertex_alike f v = found_same (slice_get s.graph.sight.kinds v) _ _ (λ t e. found_same (slice_get s.graph.sorts.vertices t) _ _ (λ sort g.
+      choice_same _ _ _ _ _ (w.is_type f) (found_same (slice_get s.graph.vertex_values v) _ _ (λ vs h. ap (value_at (bases_of sort.fields) vs) (w.of_vertex t sort g f)))))
+
+  edge_alike : (f : M) (r t : ℕ) → edge_field (new_world s) (s.fixed.field f) r t ≡ edge_field (old_world s) f r t
+  edge_alike f r t = found_same (slice_get s.graph.sorts.edges t) _ _ (λ sort g.
+      choice_same _ _ _ _ _ (w.is_type f) (found_same (slice_get s.graph.edge_values r) _ _ (λ vs h. ap (value_at (bases_of sort.fields) vs) (w.of_edge t sort g f))))
+
+  tuple_alike : (f : M) (n : ℕ) (row : List Val)
+      → value_at (bases_of (tuple_fields (setting (new_world s)) n)) row (s.fixed.references.field (OfTupleType n) (names_of (tuple_fields (setting (new_world s)) n)) (s.fixed.field f))
+      ≡ value_at (bases_of (tuple_fields (setting (old_world s)) n)) row (s.fixed.names.field (OfTupleType n) (names_of (tuple_fields (setting (old_world s)) n)) f)
+  tuple_alike f n row =
+      ap (λ fs. value_at (bases_of fs) row (s.fixed.references.field (OfTupleType n) (names_of fs) (s.fixed.field f))) (w.tuples n)
+      ∙ ap (value_at (bases_of (tuple_fields (setting (old_world s)) n)) row) (w.of_tuple n f)
+
+  parts_alike : (f : M) (ps : Parts) (cs : HoldsEach ps)
+      → (found (s.fixed.references.field OfParts (names_of_parts ps) (s.fixed.field f)) >>= part_at ps cs) ≡ (found (s.fixed.names.field OfParts (names_of_parts ps) f) >>= part_at ps cs)
+  parts_alike f ps cs = ap (λ o. found o >>= part_at ps cs) (w.of_parts ps f)
+
+  pub field_alike : (m : Meant) (f : M) → field_of (new_world s) m (s.fixed.field f) ≡ field_of (old_world s) m f
+  field_alike (Is b (Vertex v)) f = vertex_alike f v
+  field_alike (Is (TUPLE n bs) (Tuple row)) f = tuple_alike f n (list_of row)
+  field_alike (IsMember set b v) f = vertex_alike f v
+  field_alike (IsEdge r t) f = edge_alike f r t
+  field_alike (IsRow ps cs) f = parts_alike f ps cs
+  field_alike (IsAverage v) f = refl
+  field_alike (IsContent k c) f = refl
+  field_alike (IsSet vs) f = refl
+  field_alike (Is b (Int x)) f = refl
+  field_alike (Is b (UInt x)) f = refl
+  field_alike (Is b (Truth x)) f = refl
+  field_alike (Is b (Text x)) f = refl
+  field_alike (Is b (Fraction x y)) f = refl
+  field_alike (Is INT (Tuple row)) f = refl
+  field_alike (Is UINT (Tuple row)) f = refl
+  field_alike (Is BOOL (Tuple row)) f = refl
+  field_alike (Is STRING (Tuple row)) f = refl
+  field_alike (Is DATETIME (Tuple row)) f = refl
+  field_alike (Is VERTEX (Tuple row)) f = refl
+  field_alike (Is (VERTEX_OF t) (Tuple row)) f = refl
+
+  -- ---- all together
+
+  pub sees_alike : (f : M → N) (as' : List (M × Thing)) (bs : List (N × Thing)) (slots before : List (Slot M)) → LooksAlike s w f as' bs → AllOf (AccumIs s) slots → AllOf (AccumIs s) before
+      → SeesAlike (named_by s.fixed f) (sight (old_world s) as' slots before) (sight (new_world s) bs (new_slots s slots) (new_slots s before))
+  sees_alike f as' bs slots before h k b = record {
+    named = λ x. ap (λ o. found o >>= λ thing. Gives (meant thing)) (h x);
+    global = λ a. read_alike a 0 slots k;
+    attached = λ a v. read_alike a v slots k;
+    before = λ a v. read_alike a v before b;
+    field = field_alike;
+    function = w.function;
+    method = w.method;
+    graph = refl;
+    calendar = refl;
+  }

@@ -1,0 +1,449 @@
+-- StepHas: statements that are planned where typing lets them pass.
+use Rattle.std.proofs.Common.{◌≡◌, ℕ, Bool, true, false, List, [], ◌∷◌, Option, Some, None, Ok, Err, refl, sym, ap, subst, ◌∙◌}
+use Rattle.std.specs.Prelude.{if◌then◌else◌, is_some}
+use Rattle.gq_tree.specs.Tree.{Tree, Name}
+use Rattle.gq_tree.specs.declared.body.SetOp.{SetOp}
+use Rattle.gq_value.specs.Accums.{Base, Accum}
+use Rattle.gq_scope.specs.Named.{Named, seen_at, place_at, is_marked, with_name}
+use Rattle.gq_rules_typing.specs.Statements.{Bytes, BaseTree, Ints, UInts, Bools, Strings, AnyVertex, VertexOf, Seed, AllOf, AllVertices, OneVertex, ContentOf, SetTerm, SetNamed, Seeds, SetTypes, AnyType, TypeOf, Right, Selects, Sets, Expression, Item, Printed, Whole, Selection, Over, Elements, Range, Stmt, Local, Assign, ChangeGlobal, If, While, Foreach, Print, Stmts, no_stmt, stmt_and, Branches, else_, if_}
+use Rattle.gq_rules_typing.specs.Selecting.{Change, Adds, Puts}
+use Rattle.gq_rules_typing.specs.Judging.{Typed, TypingFault, SetOf, Mismatch, NotAllowedHere, Judged, ◌>>=◌, ◌>>◌, unless, each_judged, through_judged}
+use Rattle.gq_rules_typing.specs.Types.{as_base, alone, printable}
+use Rattle.gq_rules_typing.specs.ExpressionTypes.{typing, base_type, condition, number, converting}
+use Rattle.gq_rules_typing.specs.Scopes.{Entry, Variable, SetVariable, Alias, EdgeAlias, Accumulator, TupleName, InStatement, InSelection, Scope, entry, with_entry, new_name, declared_kind, names_at, base_written, vertex_type}
+use Rattle.gq_rules_typing.specs.ActTypes.{settable}
+use Rattle.gq_rules_typing.specs.SelectTypes.{optional}
+use Rattle.gq_rules_typing.specs.SetTypes.{here, types_of, content_types, seed_types, set_types, term_types, joined_types, sets_types, is_set, right_types, right_value, kept_within, typing_assign, fixed_types, typing_fixed, typing_assignment}
+use Rattle.gq_rules_typing.specs.StatementTypes.{may_lack_value, typing_local, typing_change, element_of, variable_type, new_key, typing_whole, typing_item, typing_printed, typing_stmt, typing_stmts, typing_branches}
+use Rattle.gq_rules_meaning.proofs.AnswerLaws.{then_ok, after_ok, ok_inj}
+use Rattle.gq_plan_ir.specs.declared.expr.Expr.{Expr}
+use Rattle.gq_plan_ir.specs.declared.block.Change.TheVariants as change
+use Rattle.gq_plan_ir.specs.declared.plan.Declared.TheVariants as declared
+use Rattle.gq_plan_ir.specs.declared.step.Seed.TheVariants as seed
+use Rattle.gq_plan_ir.specs.declared.step.SetTerm.TheVariants as term
+use Rattle.gq_plan_ir.specs.declared.step.SetTypes.TheVariants as set_type
+use Rattle.gq_plan_ir.specs.declared.step.Over.TheVariants as over
+use Rattle.gq_plan_ir.specs.declared.step.PrintItem.TheVariants as item
+use Rattle.gq_plan_ir.specs.declared.step.Right as code
+use Rattle.gq_plan_ir.specs.declared.step.Right.TheVariants as right
+use Rattle.gq_plan_ir.specs.declared.step.Step.{Step}
+use Rattle.gq_plan_ir.specs.declared.step.Step.TheVariants as step
+use Rattle.gq_plan_expr.specs.Known.{Known}
+use Rattle.gq_plan_expr.specs.Resolved as plans
+use Rattle.gq_plan_expr.specs.Resolved.{resolved}
+use Rattle.gq_plan_select.specs.Resolved.{if_there, each_resolved, resolved_input, resolved_change}
+use Rattle.gq_plan_stmt.specs.Globals.{Globals, known_in}
+use Rattle.gq_plan_stmt.specs.Parts.{resolved_base, resolved_seed, resolved_term, resolved_operand, resolved_sets, resolved_set_types, is_set_right, resolved_over, resolved_keyed, resolved_item}
+use Rattle.gq_plan_stmt.specs.Steps as steps
+use Rattle.gq_plan_stmt.specs.Steps.{Behind, ended, resolved_right, if_same, same_mark, target_seen, resolved_target, resolved_assign, local_and, resolved_locals, Parts, if_of, else_of, branch_and, body_of, step_and, resolved_stmt, resolved_stmts, resolved_branches}
+use Rattle.gq_plan_laws.specs.Shown.{InView, IsShown, Shows}
+use Rattle.gq_plan_laws.specs.Laws.{Planned, StatementsLaw}
+use Rattle.gq_plan_laws.proofs.HasLemmas.{Has, has_one, has_then, each_has, through_has, tree_has, condition_has, number_has, converting_has, input_has, optional_has}
+use Rattle.gq_plan_laws.proofs.ShownLemmas.{in_view, set_is_marked, slot_has, place_has, knows, set_place, vertex_type_has, new_seen, new_is, shown_new, shows_same}
+use Rattle.gq_plan_laws.proofs.SelectHas.{select_has}
+
+-- ---- parts in which no name comes into view
+
+module _ (g : Globals) (s : Scope Bytes) (n : Named) (shows : Shows g s n) where
+  abbrev k : Known
+  k = known_in g n
+
+  base_type_has : (b : BaseTree Bytes) (c : Base) → base_written s b ≡ Ok c → Has (resolved_base g b)
+  base_type_has Ints c h = (declared.Int, refl)
+  base_type_has UInts c h = (declared.UInt, refl)
+  base_type_has Bools c h = (declared.Bool, refl)
+  base_type_has Strings c h = (declared.Text, refl)
+  base_type_has AnyVertex c h = (declared.AnyVertex, refl)
+  base_type_has (VertexOf t) c h = let u = then_ok (vertex_type s t) _ c h in has_one (g.vertex_type t) declared.VertexOf (vertex_type_has g s n shows t u.0 u.1)
+
+  -- a name alone that has a base type
+  name_has : (x : Bytes) (b : Base) → base_type (here s) (Name x) ≡ Ok b → Has (place_at n x)
+  name_has x b h =
+      let u = then_ok (typing (here s) (Name x)) as_base b h in
+      let v = then_ok ((here s).named x) alone u.0 u.1 in
+      place_has g s n shows InStatement x v.0 v.1
+
+  seed_has : (z : Seed Bytes) (types : List ℕ) → seed_types s z ≡ Ok types → Has (resolved_seed g n z)
+  seed_has (AllOf t) types h = let u = then_ok (vertex_type s t) _ types h in has_one (g.vertex_type t) seed.Type (vertex_type_has g s n shows t u.0 u.1)
+  seed_has AllVertices types h = (seed.Every, refl)
+  seed_has (OneVertex x) types h = let u = then_ok (base_type (here s) (Name x)) (types_of s) types h in has_one (place_at n x) seed.Name (name_has x u.0 u.1)
+  seed_has (ContentOf a) types h = let u = then_ok (declared_kind s false a) (content_types s) types h in has_one (g.slot a) seed.Global (slot_has g s n shows false a u.0 u.1)
+
+  term_has : (t : SetTerm Bytes) (types : List ℕ) → term_types s t ≡ Ok types → Has (resolved_term g n t)
+  term_has (SetNamed x) types h = has_one (place_at n x) term.Name (set_place g s n shows x types h)
+  term_has (Seeds seeds) types h = let u = then_ok (each_judged (seed_types s) seeds) _ types h in has_one (each_resolved (resolved_seed g n) seeds) term.Seeds (each_has (resolved_seed g n) (seed_types s) seed_has seeds u.0 u.1)
+
+  operand_has : (b : List ℕ) (t : SetOp × SetTerm Bytes) (types : List ℕ) → (term_types s t.1 >>= λ c. Ok (joined_types t.0 b c)) ≡ Ok types → Has (resolved_operand g n t)
+  operand_has b t types h = let u = then_ok (term_types s t.1) _ types h in has_one (resolved_term g n t.1) (λ x. (t.0, x)) (term_has t.1 u.0 u.1)
+
+  chain_has : (t : SetTerm Bytes) (rest : List (SetOp × SetTerm Bytes)) (types : List ℕ) → (term_types s t >>= λ a. through_judged (λ b next. term_types s next.1 >>= λ c. Ok (joined_types next.0 b c)) a rest) ≡ Ok types → Has (resolved_sets g n t rest)
+  chain_has t rest types h =
+      let u = then_ok (term_types s t) _ types h in
+      has_then (resolved_term g n t) _ (term_has t u.0 u.1) (λ x e. has_one (each_resolved (resolved_operand g n) rest) (λ others. record { first = x; others = others })
+      (through_has (resolved_operand g n) (λ b next. term_types s next.1 >>= λ c. Ok (joined_types next.0 b c)) operand_has rest u.0 types u.2))
+
+  sets_have : (t : SetTerm Bytes) (rest : List (SetOp × SetTerm Bytes)) (types : List ℕ) → sets_types s t rest ≡ Ok types → Has (resolved_sets g n t rest)
+  sets_have (Seeds []) [] types h = (record { first = term.Seeds []; others = [] }, refl)
+  sets_have (Seeds []) (r ∷ rest) types h = chain_has (Seeds []) (r ∷ rest) types h
+  sets_have (Seeds (z ∷ seeds)) rest types h = chain_has (Seeds (z ∷ seeds)) rest types h
+  sets_have (SetNamed x) rest types h = chain_has (SetNamed x) rest types h
+
+  -- ---- changes of global accumulators
+
+  change_has : (kind : Accum) (c : Change Bytes) (q : Bool) → typing_change s kind c ≡ Ok q → Has (resolved_change k c)
+  change_has kind (Adds x) q h = has_one (resolved_input k x) change.Feed (input_has (here s) k (knows g s n shows InStatement) (Some kind) x q h)
+  change_has kind (Puts t) q h = let u = then_ok (settable kind) _ q h in has_one (resolved k t) change.Set (converting_has (here s) k (knows g s n shows InStatement) u.0 t q u.2)
+
+  -- ---- what FOREACH goes over, and what is printed
+
+  over_has : (o : Over Bytes) (b : Base) → variable_type (here s) o ≡ Ok b → Has (resolved_over k o)
+  over_has (Elements t) b h = let u = then_ok (typing (here s) t) element_of b h in has_one (resolved k t) over.Elements (tree_has (here s) k (knows g s n shows InStatement) t u.0 u.1)
+  over_has (Range a t) b h =
+      let u = then_ok (number (here s) a) _ b h in
+      let v = then_ok (number (here s) t) _ b u.2 in
+      has_then (resolved k a) _ (number_has (here s) k (knows g s n shows InStatement) a u.0 u.1) (λ x e. has_one (resolved k t) (over.Range x) (number_has (here s) k (knows g s n shows InStatement) t v.0 v.1))
+
+  -- the name of a set, or an expression
+  whole_name : (x : Bytes) (ty : Typed) → typing_whole s (Name x) ≡ Ok ty → Has (place_at n x)
+  whole_name x ty e = go (entry s x) (shows.names x) refl e
+    where
+      named : typing (here s) (Name x) ≡ Ok ty → Has (place_at n x)
+      named h = let v = then_ok ((here s).named x) alone ty h in place_has g s n shows InStatement x v.0 v.1
+
+      go : (o : Option Entry) → IsShown (g.slot x) (seen_at n x) o → entry s x ≡ o → (if is_set o then Ok (SetOf []) else typing (here s) (Name x)) ≡ Ok ty → Has (place_at n x)
+      go (Some (SetVariable ts)) d i h = in_view (seen_at n x) true d
+      go (Some (Variable b)) d i h = named h
+      go (Some (Alias ts)) d i h = named h
+      go (Some (EdgeAlias ts)) d i h = named h
+      go (Some (Accumulator j attached)) d i h = named h
+      go (Some TupleName) d i h = named h
+      go None d i h = named h
+
+  whole_has : (t : Tree Bytes) (ty : Typed) → typing_whole s t ≡ Ok ty → Has (resolved k t)
+  whole_has (Name x) ty h = has_one (place_at n x) _ (whole_name x ty h)
+  whole_has t ty h = let u = then_ok (typing (here s) t) printable ty h in tree_has (here s) k (knows g s n shows InStatement) t u.0 u.1
+
+  keyed_has : (x : Bytes) (keys : List Bytes) (i : Item Bytes) (more : List Bytes) → typing_item (names_at s (InSelection x)) keys i ≡ Ok more → Has (resolved_keyed k i)
+  keyed_has x keys i more h =
+      let u = after_ok (typing (names_at s (InSelection x)) i.tree >>= printable) (new_key keys i.key) more h in
+      let v = then_ok (typing (names_at s (InSelection x)) i.tree) printable u.0.0 u.0.1 in
+      has_one (resolved k i.tree) (λ e. (e, i.key)) (tree_has (names_at s (InSelection x)) k (knows g s n shows (InSelection x)) i.tree v.0 v.1)
+
+  printed_has : (keys : List Bytes) (p : Printed Bytes) (more : List Bytes) → typing_printed s keys p ≡ Ok more → Has (resolved_item k p)
+  printed_has keys (Whole i) more h = let u = after_ok (typing_whole s i.tree) (new_key keys i.key) more h in has_one (resolved k i.tree) (λ e. item.Value e i.key) (whole_has i.tree u.0.0 u.0.1)
+  printed_has keys (Selection x items key) more h =
+      let u = after_ok (set_types s x >> through_judged (typing_item (names_at s (InSelection x))) [] items) (new_key keys key) more h in
+      let v = after_ok (set_types s x) (through_judged (typing_item (names_at s (InSelection x))) [] items) u.0.0 u.0.1 in
+      has_then (place_at n x) _ (set_place g s n shows x v.0.0 v.0.1) (λ p e. has_one (each_resolved (resolved_keyed k) items) (λ columns. item.Columns p columns key)
+      (through_has (resolved_keyed k) (typing_item (names_at s (InSelection x))) (keyed_has x) items [] u.0.0 v.1))
+
+  -- ---- what is assigned
+
+  -- as much is in view behind it
+  pub record RightHas (r : Right Bytes) : Type 0 where
+    pub behind : Named
+    pub planned : code.Right
+    pub is : resolved_right g n r ≡ Some (behind, planned)
+    pub same : behind.visible ≡ n.visible
+
+  value_has : (t : Tree Bytes) → Has (resolved k t) → RightHas (Expression t)
+  value_has t h = record { behind = n; planned = right.Value h.0; is = ap (λ (o : Option Expr). plans.◌>>=◌ o (λ e. Some (n, right.Value e))) h.1; same = refl }
+
+  -- whether it is a set, as typing has it
+  abbrev RightFits : Right Bytes → Option (Judged (List ℕ)) → Type 0
+  RightFits r (Some set) = (is_set_right n r ≡ true) × ((types : List ℕ) → set ≡ Ok types → RightHas r)
+  RightFits r None = is_set_right n r ≡ false
+
+  right_fits : (r : Right Bytes) → RightFits r (right_types s r)
+  right_fits (Selects q) = (
+    refl,
+    λ types h. let b = select_has g s n shows q types h in record {
+      behind = ended n b.inside;
+      planned = right.Select b.block;
+      is = ap (λ (o : Option (Behind _)). plans.◌>>=◌ o (λ b. Some (b.0, right.Select b.1))) b.is;
+      same = refl;
+    },
+  )
+  right_fits (Sets t rest) = (refl, λ types h. let b = sets_have t rest types h in record { behind = n; planned = right.Sets b.0; is = ap (λ o. plans.◌>>=◌ o (λ s. Some (n, right.Sets s))) b.1; same = refl })
+  right_fits (Expression (Name y)) = go (is_set (entry s y)) (set_is_marked (g.slot y) (seen_at n y) (entry s y) (shows.names y))
+    where
+      go : (b : Bool) → is_marked n y ≡ b → RightFits (Expression (Name y)) (if b then Some (set_types s y) else None)
+      go true e = (e, λ types h. value_has (Name y) (has_one (place_at n y) _ (set_place g s n shows y types h)))
+      go false e = e
+  right_fits (Expression t) = refl
+
+-- ---- assignments
+
+refused : {A : Type 0} {e : TypingFault} {t : A} → ◌≡◌ {A = Judged A} (Err e) (Ok t) → ⊥
+refused h = cc
+
+-- where statements go on
+record GoesOn (g : Globals) (t : Scope Bytes) (o : Option (Behind Step)) : Type 0 where
+  behind : Named
+  step : Step
+  is : o ≡ Some (behind, step)
+  shows : Shows g t behind
+
+-- the place of what is assigned
+record TargetHas (g : Globals) (t : Scope Bytes) (m : Named) (x : Bytes) (set : Bool) : Type 0 where
+  behind : Named
+  place : ℕ
+  is : resolved_target m x set ≡ Some (behind, place)
+  shows : Shows g t behind
+
+module _ (g : Globals) (s : Scope Bytes) (n : Named) (shows : Shows g s n) where
+  -- a name that is in view stays what it is
+  old_target : (m : Named) → Shows g s m → (x : Bytes) (set : Bool) → InView (seen_at m x) set → TargetHas g s m x set
+  old_target m here x set v = record {
+    behind = m;
+    place = v.0;
+    is = ap (λ o. target_seen o m x set) v.1 ∙ kept set;
+    shows = here;
+  }
+    where
+      kept : (b : Bool) → if_same (same_mark b b) (m, v.0) ≡ Some (m, v.0)
+      kept true = refl
+      kept false = refl
+
+  new_target : (m : Named) → Shows g s m → (x : Bytes) (types : List ℕ) → seen_at m x ≡ None → TargetHas g (with_entry x (SetVariable types) s) m x true
+  new_target m here x types e = record { behind = with_name m x true; place = m.next; is = ap (λ o. target_seen o m x true) e; shows = shown_new g s m here x (SetVariable types) true refl }
+
+  assigned : (t : Scope Bytes) (x : Bytes) (types : Option (SetTypes Bytes)) (r : Right Bytes) (set : Bool) → Has (if_there (resolved_set_types g) types) → is_set_right n r ≡ set → (h : RightHas g s n shows r) → TargetHas g t h.behind x set → GoesOn g t (resolved_assign g n x types r)
+  assigned t x types r set a e h w = record {
+    behind = w.behind;
+    step = step.Assign w.place a.0 h.planned;
+    is =
+        ap (λ o. plans.◌>>=◌ o (λ ts. plans.◌>>=◌ (resolved_right g n r) (λ b. plans.◌>>=◌ (resolved_target b.0 x (is_set_right n r)) (λ t. Some (t.0, step.Assign t.1 ts b.1))))) a.1
+        ∙ (ap (λ (o : Option (Behind code.Right)). plans.◌>>=◌ o (λ b. plans.◌>>=◌ (resolved_target b.0 x (is_set_right n r)) (λ t. Some (t.0, step.Assign t.1 a.0 b.1)))) h.is
+        ∙ (ap (λ q. plans.◌>>=◌ (resolved_target h.behind x q) (λ t. Some (t.0, step.Assign t.1 a.0 h.planned))) e
+        ∙ ap (λ (o : Option (Behind ℕ)). plans.◌>>=◌ o (λ t. Some (t.0, step.Assign t.1 a.0 h.planned))) w.is));
+    shows = w.shows;
+  }
+
+  -- behind the right side as much is in view
+  behind_right : (r : Right Bytes) (h : RightHas g s n shows r) → Shows g s h.behind
+  behind_right r h = shows_same g s n shows h.behind h.same
+
+  seen_behind : (r : Right Bytes) (h : RightHas g s n shows r) (x : Bytes) (e : Option Entry) → IsShown (g.slot x) (seen_at n x) e → IsShown (g.slot x) (seen_at h.behind x) e
+  seen_behind r h x e d = subst (λ v. IsShown (g.slot x) (seen_at (record { visible = v; next = h.behind.next }) x) e) (sym h.same) d
+
+  -- without types behind the name
+  assign_has : (x : Bytes) (r : Right Bytes) (t : Scope Bytes) (e : Option Entry) (o : Option (Judged (List ℕ))) → IsShown (g.slot x) (seen_at n x) e → RightFits g s n shows r o → typing_assign s x r e o ≡ Ok t → GoesOn g t (resolved_assign g n x None r)
+  assign_has x r t (Some (SetVariable fixed)) (Some set) d f h =
+      let u = after_ok (set >>= kept_within s x fixed) (Ok s) t h in
+      let v = then_ok set (kept_within s x fixed) u.0.0 u.0.1 in
+      let w = f.1 v.0 v.1 in
+      subst (λ t. GoesOn g t (resolved_assign g n x None r)) (ok_inj u.1) (assigned s x None r true (None, refl) f.0 w (old_target w.behind (behind_right r w) x true (seen_behind r w x (Some (SetVariable fixed)) d)))
+  assign_has x (Expression e) t (Some (Variable b)) None d f h =
+      let u = after_ok (converting (here s) b e) (Ok s) t h in
+      let w = value_has g s n shows e (converting_has (here s) (known_in g n) (knows g s n shows InStatement) b e u.0.0 u.0.1) in
+      subst (λ t. GoesOn g t (resolved_assign g n x None (Expression e))) (ok_inj u.1) (assigned s x None (Expression e) false (None, refl) f w (old_target w.behind (behind_right (Expression e) w) x false (seen_behind (Expression e) w x (Some (Variable b)) d)))
+  assign_has x (Selects q) t (Some (Variable b)) None d f h = absurd (refused h)
+  assign_has x (Sets z rest) t (Some (Variable b)) None d f h = absurd (refused h)
+  assign_has x r t None (Some set) d f h =
+      let v = then_ok set _ t h in
+      let w = f.1 v.0 v.1 in
+      subst (λ t. GoesOn g t (resolved_assign g n x None r)) (ok_inj v.2) (assigned (with_entry x (SetVariable v.0) s) x None r true (None, refl) f.0 w (new_target w.behind (behind_right r w) x v.0 (seen_behind r w x None d)))
+  assign_has x r t None None d f h = absurd (refused h)
+  assign_has x r t (Some TupleName) o d f h = absurd (refused h)
+  assign_has x (Selects q) t (Some (Variable b)) (Some set) d f h = absurd (refused h)
+  assign_has x (Sets z rest) t (Some (Variable b)) (Some set) d f h = absurd (refused h)
+  assign_has x (Expression e) t (Some (Variable b)) (Some set) d f h = absurd (refused h)
+  assign_has x r t (Some (SetVariable fixed)) None d f h = absurd (refused h)
+  assign_has x r t (Some (Alias ts)) o d f h = absurd (refused h)
+  assign_has x r t (Some (EdgeAlias ts)) o d f h = absurd (refused h)
+  assign_has x r t (Some (Accumulator j attached)) o d f h = absurd (refused h)
+
+  set_types_have : (ts : SetTypes Bytes) (types : List ℕ) → fixed_types s ts ≡ Ok types → Has (if_there (resolved_set_types g) (Some ts))
+  set_types_have AnyType types h = (Some set_type.Every, refl)
+  set_types_have (TypeOf x) types h =
+      let u = then_ok (vertex_type s x) _ types h in
+      has_one (resolved_set_types g (TypeOf x)) Some (has_one (g.vertex_type x) set_type.Of (vertex_type_has g s n shows x u.0 u.1))
+
+  fixed_has : (x : Bytes) (ts : SetTypes Bytes) (fixed : List ℕ) (r : Right Bytes) (t : Scope Bytes) (o : Option (Judged (List ℕ))) → Has (if_there (resolved_set_types g) (Some ts)) → seen_at n x ≡ None → RightFits g s n shows r o → typing_fixed s x fixed r o ≡ Ok t
+      → GoesOn g t (resolved_assign g n x (Some ts) r)
+  fixed_has x ts fixed r t (Some set) a e f h =
+      let u = after_ok (set >>= kept_within s x fixed) (Ok (with_entry x (SetVariable fixed) s)) t h in
+      let v = then_ok set (kept_within s x fixed) u.0.0 u.0.1 in
+      let w = f.1 v.0 v.1 in
+      subst (λ t. GoesOn g t (resolved_assign g n x (Some ts) r)) (ok_inj u.1) (assigned (with_entry x (SetVariable fixed) s) x (Some ts) r true a f.0 w (new_target w.behind (behind_right r w) x fixed (seen_behind r w x None e)))
+  fixed_has x ts fixed r t None a e f h = let u = after_ok (right_value r >>= typing (here s)) (Err Mismatch) t h in absurd (refused u.1)
+
+  assignment_has : (x : Bytes) (types : Option (SetTypes Bytes)) (r : Right Bytes) (t : Scope Bytes) → typing_assignment s x types r ≡ Ok t → GoesOn g t (resolved_assign g n x types r)
+  assignment_has x None r t h = assign_has x r t (entry s x) (right_types s r) (shows.names x) (right_fits g s n shows r) h
+  assignment_has x (Some ts) r t h =
+      let u = then_ok (fixed_types s ts) _ t h in
+      let v = after_ok (new_name s x) (typing_fixed s x u.0 r (right_types s r)) t u.2 in
+      fixed_has x ts u.0 r t (right_types s r) (set_types_have ts u.0 u.1) (new_seen g s n shows x v.0.0 v.0.1) (right_fits g s n shows r) v.1
+
+-- ---- locals
+
+record LocalsHave (g : Globals) (t : Scope Bytes) (n : Named) (xs : List (Bytes × Option (Tree Bytes))) : Type 0 where
+  behind : Named
+  planned : List (ℕ × Option Expr)
+  is : resolved_locals g n xs ≡ Some (behind, planned)
+  shows : Shows g t behind
+
+locals_have : (g : Globals) (b : Base) (xs : List (Bytes × Option (Tree Bytes))) (s t : Scope Bytes) (n : Named) → Shows g s n → through_judged (typing_local b) s xs ≡ Ok t → LocalsHave g t n xs
+locals_have g b [] s t n shows h = record { behind = n; planned = []; is = refl; shows = subst (λ t. Shows g t n) (ok_inj h) shows }
+locals_have g b (x ∷ xs) s t n shows h =
+    let u = then_ok (typing_local b s x) _ t h in
+    let a = after_ok (unless NotAllowedHere (may_lack_value b (is_some x.1)) >> new_name s x.0 >> optional (converting (here s) b) x.1) (Ok (with_entry x.0 (Variable b) s)) u.0 u.1 in
+    let c = after_ok (unless NotAllowedHere (may_lack_value b (is_some x.1)) >> new_name s x.0) (optional (converting (here s) b) x.1) a.0.0 a.0.1 in
+    let d = after_ok (unless NotAllowedHere (may_lack_value b (is_some x.1))) (new_name s x.0) c.0.0 c.0.1 in
+    let e = optional_has (known_in g n) (converting (here s) b) (λ t q i. converting_has (here s) (known_in g n) (knows g s n shows InStatement) b t q i) x.1 a.0.0 c.1 in
+    let m = with_name n x.0 false in
+    let new = new_is g s n shows x.0 c.0.0 d.1 in
+    let r = locals_have g b xs u.0 t m (subst (λ z. Shows g z m) (ok_inj a.1) (shown_new g s n shows x.0 (Variable b) false refl)) u.2 in
+    record {
+      behind = r.behind;
+      planned = (n.next, e.0) ∷ r.planned;
+      is =
+          ap (λ o. plans.◌>>=◌ o (λ e. plans.◌>>=◌ (steps.new_name n x.0) (λ m. plans.◌>>=◌ (resolved_locals g m.0 xs) (λ b. Some (local_and m.1 e b))))) e.1
+          ∙ (ap (λ (o : Option (Behind ℕ)). plans.◌>>=◌ o (λ m. plans.◌>>=◌ (resolved_locals g m.0 xs) (λ b. Some (local_and m.1 e.0 b)))) new
+          ∙ ap (λ (o : Option (Behind (List (ℕ × Option Expr)))). plans.◌>>=◌ o (λ b. Some (local_and n.next e.0 b))) r.is);
+      shows = r.shows;
+    }
+
+-- ---- statements
+
+-- what stands behind ELSE
+record BodyHas (n : Named) (o : Option (Behind (List Step))) : Type 0 where
+  behind : Named
+  planned : List Step
+  is : body_of n o ≡ Some (behind, planned)
+  same : behind.visible ≡ n.visible
+
+body_has : (g : Globals) (n m : Named) (body : Stmts Bytes) (t : Scope Bytes) → Planned g m body t → BodyHas n (resolved_stmts g m body)
+body_has g n m body t p = record { behind = ended n p.behind; planned = p.steps; is = ap (body_of n) p.is; same = refl }
+
+record ElseHas (n : Named) (body : Stmts Bytes) (o : Option (Behind (List Step))) : Type 0 where
+  behind : Named
+  planned : Option (List Step)
+  is : else_of n body o ≡ Some (behind, planned)
+  same : behind.visible ≡ n.visible
+
+else_has : (n : Named) (body : Stmts Bytes) (o : Option (Behind (List Step))) → BodyHas n o → ElseHas n body (body_of n o)
+else_has n no_stmt o h = record { behind = n; planned = None; is = refl; same = refl }
+else_has n (stmt_and s rest) o h = record { behind = h.behind; planned = Some h.planned; is = ap (λ (o : Option (Behind (List Step))). plans.◌>>=◌ o (λ b. Some (b.0, Some b.1))) h.is; same = h.same }
+
+record BranchesHave (g : Globals) (n : Named) (branches : Branches Bytes) : Type 0 where
+  behind : Named
+  planned : Parts
+  is : resolved_branches g n branches ≡ Some (behind, planned)
+  same : behind.visible ≡ n.visible
+
+module _ (g : Globals) where
+  mutual
+    stmt_has : (st : Stmt Bytes) (s t : Scope Bytes) (n : Named) → Shows g s n → typing_stmt s st ≡ Ok t → GoesOn g t (resolved_stmt g n st)
+    stmt_has (Local base xs) s t n shows h =
+        let u = then_ok (base_written s base) _ t h in
+        let d = base_type_has g s n shows base u.0 u.1 in
+        let r = locals_have g u.0 xs s t n shows u.2 in
+        record {
+          behind = r.behind;
+          step = step.Local d.0 r.planned;
+          is =
+              ap (λ o. plans.◌>>=◌ o (λ d. plans.◌>>=◌ (resolved_locals g n xs) (λ r. Some (r.0, step.Local d r.1)))) d.1
+              ∙ ap (λ (o : Option (Behind (List (ℕ × Option Expr)))). plans.◌>>=◌ o (λ r. Some (r.0, step.Local d.0 r.1))) r.is;
+          shows = r.shows;
+        }
+    stmt_has (Assign x types r) s t n shows h = assignment_has g s n shows x types r t h
+    stmt_has (ChangeGlobal a c) s t n shows h =
+        let u = then_ok (declared_kind s false a) _ t h in
+        let v = after_ok (typing_change s u.0 c) (Ok s) t u.2 in
+        let m = slot_has g s n shows false a u.0 u.1 in
+        let d = change_has g s n shows u.0 c v.0.0 v.0.1 in
+        record {
+          behind = n;
+          step = step.Global m.0 d.0;
+          is =
+              ap (λ o. plans.◌>>=◌ o (λ m. plans.◌>>=◌ (resolved_change (known_in g n) c) (λ d. Some (n, step.Global m d)))) m.1
+              ∙ ap (λ o. plans.◌>>=◌ o (λ d. Some (n, step.Global m.0 d))) d.1;
+          shows = subst (λ t. Shows g t n) (ok_inj v.1) shows;
+        }
+    stmt_has (If branches) s t n shows h =
+        let u = after_ok (typing_branches s branches) (Ok s) t h in
+        let b = branches_have branches s n shows u.0.0 u.0.1 in
+        record {
+          behind = b.behind;
+          step = if_of b.planned;
+          is = ap (λ (o : Option (Behind Parts)). plans.◌>>=◌ o (λ b. Some (b.0, if_of b.1))) b.is;
+          shows = subst (λ t. Shows g t b.behind) (ok_inj u.1) (shows_same g s n shows b.behind b.same);
+        }
+    stmt_has (While c limit body) s t n shows h =
+        let u = after_ok (condition (here s) c >> optional (number (here s)) limit >> typing_stmts s body) (Ok s) t h in
+        let v = after_ok (condition (here s) c >> optional (number (here s)) limit) (typing_stmts s body) u.0.0 u.0.1 in
+        let w = after_ok (condition (here s) c) (optional (number (here s)) limit) v.0.0 v.0.1 in
+        let e = condition_has (here s) (known_in g n) (knows g s n shows InStatement) c w.0.0 w.0.1 in
+        let l = optional_has (known_in g n) (number (here s)) (number_has (here s) (known_in g n) (knows g s n shows InStatement)) limit v.0.0 w.1 in
+        let b = body_has g n n body u.0.0 (stmts_have body s u.0.0 n shows v.1) in
+        record {
+          behind = b.behind;
+          step = step.While e.0 l.0 b.planned;
+          is =
+              ap (λ o. plans.◌>>=◌ o (λ e. plans.◌>>=◌ (if_there (resolved (known_in g n)) limit) (λ l. plans.◌>>=◌ (body_of n (resolved_stmts g n body)) (λ b. Some (b.0, step.While e l b.1))))) e.1
+              ∙ (ap (λ o. plans.◌>>=◌ o (λ l. plans.◌>>=◌ (body_of n (resolved_stmts g n body)) (λ b. Some (b.0, step.While e.0 l b.1)))) l.1
+              ∙ ap (λ (o : Option (Behind (List Step))). plans.◌>>=◌ o (λ b. Some (b.0, step.While e.0 l.0 b.1))) b.is);
+          shows = subst (λ t. Shows g t b.behind) (ok_inj u.1) (shows_same g s n shows b.behind b.same);
+        }
+    stmt_has (Foreach x o body) s t n shows h =
+        let u = then_ok (new_name s x >> variable_type (here s) o) _ t h in
+        let v = after_ok (new_name s x) (variable_type (here s) o) u.0 u.1 in
+        let w = after_ok (typing_stmts (with_entry x (Variable u.0) s) body) (Ok s) t u.2 in
+        let p = over_has g s n shows o u.0 v.1 in
+        let new = new_is g s n shows x v.0.0 v.0.1 in
+        let m = with_name n x false in
+        let b = body_has g n m body w.0.0 (stmts_have body (with_entry x (Variable u.0) s) w.0.0 m (shown_new g s n shows x (Variable u.0) false refl) w.0.1) in
+        record {
+          behind = b.behind;
+          step = step.Foreach n.next p.0 b.planned;
+          is =
+              ap (λ q. plans.◌>>=◌ q (λ p. plans.◌>>=◌ (steps.new_name n x) (λ m. plans.◌>>=◌ (body_of n (resolved_stmts g m.0 body)) (λ b. Some (b.0, step.Foreach m.1 p b.1))))) p.1
+              ∙ (ap (λ (q : Option (Behind ℕ)). plans.◌>>=◌ q (λ m. plans.◌>>=◌ (body_of n (resolved_stmts g m.0 body)) (λ b. Some (b.0, step.Foreach m.1 p.0 b.1)))) new
+              ∙ ap (λ (q : Option (Behind (List Step))). plans.◌>>=◌ q (λ b. Some (b.0, step.Foreach n.next p.0 b.1))) b.is);
+          shows = subst (λ t. Shows g t b.behind) (ok_inj w.1) (shows_same g s n shows b.behind b.same);
+        }
+    stmt_has (Print ps) s t n shows h =
+        let u = after_ok (through_judged (typing_printed s) [] ps) (Ok s) t h in
+        let is = through_has (resolved_item (known_in g n)) (typing_printed s) (printed_has g s n shows) ps [] u.0.0 u.0.1 in
+        record { behind = n; step = step.Print is.0; is = ap (λ o. plans.◌>>=◌ o (λ is. Some (n, step.Print is))) is.1; shows = subst (λ t. Shows g t n) (ok_inj u.1) shows }
+
+    stmts_have : (body : Stmts Bytes) (s t : Scope Bytes) (n : Named) → Shows g s n → typing_stmts s body ≡ Ok t → Planned g n body t
+    stmts_have no_stmt s t n shows h = record { behind = n; steps = []; is = refl; shows = subst (λ t. Shows g t n) (ok_inj h) shows }
+    stmts_have (stmt_and st rest) s t n shows h =
+        let u = then_ok (typing_stmt s st) _ t h in
+        let a = stmt_has st s u.0 n shows u.1 in
+        let r = stmts_have rest u.0 t a.behind a.shows u.2 in
+        record {
+          behind = r.behind;
+          steps = a.step ∷ r.steps;
+          is =
+              ap (λ (o : Option (Behind Step)). plans.◌>>=◌ o (λ b. plans.◌>>=◌ (resolved_stmts g b.0 rest) (λ c. Some (step_and b.1 c)))) a.is
+              ∙ ap (λ (o : Option (Behind (List Step))). plans.◌>>=◌ o (λ c. Some (step_and a.step c))) r.is;
+          shows = r.shows;
+        }
+
+    branches_have : (branches : Branches Bytes) (s : Scope Bytes) (n : Named) → Shows g s n → (q : Bool) → typing_branches s branches ≡ Ok q → BranchesHave g n branches
+    branches_have (else_ body) s n shows q h =
+        let u = after_ok (typing_stmts s body) (Ok true) q h in
+        let e = else_has n body (resolved_stmts g n body) (body_has g n n body u.0.0 (stmts_have body s u.0.0 n shows u.0.1)) in
+        record { behind = e.behind; planned = ([], e.planned); is = ap (λ (o : Option (Behind (Option (List Step)))). plans.◌>>=◌ o (λ b. Some (b.0, ([], b.1)))) e.is; same = e.same }
+    branches_have (if_ c body rest) s n shows q h =
+        let u = after_ok (condition (here s) c >> typing_stmts s body) (typing_branches s rest) q h in
+        let v = after_ok (condition (here s) c) (typing_stmts s body) u.0.0 u.0.1 in
+        let e = condition_has (here s) (known_in g n) (knows g s n shows InStatement) c v.0.0 v.0.1 in
+        let b = body_has g n n body u.0.0 (stmts_have body s u.0.0 n shows v.1) in
+        let r = branches_have rest s b.behind (shows_same g s n shows b.behind b.same) q u.1 in
+        record {
+          behind = r.behind;
+          planned = ((e.0, b.planned) ∷ r.planned.0, r.planned.1);
+          is =
+              ap (λ o. plans.◌>>=◌ o (λ e. plans.◌>>=◌ (body_of n (resolved_stmts g n body)) (λ b. plans.◌>>=◌ (resolved_branches g b.0 rest) (λ c. Some (branch_and e b.1 c))))) e.1
+              ∙ (ap (λ (o : Option (Behind (List Step))). plans.◌>>=◌ o (λ b. plans.◌>>=◌ (resolved_branches g b.0 rest) (λ c. Some (branch_and e.0 b.1 c)))) b.is
+              ∙ ap (λ (o : Option (Behind Parts)). plans.◌>>=◌ o (λ c. Some (branch_and e.0 b.planned c))) r.is);
+          same = r.same ∙ b.same;
+        }
+
+pub statements_law : StatementsLaw
+statements_law g s n shows body t h = stmts_have g body s t n shows h

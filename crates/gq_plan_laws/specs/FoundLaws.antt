@@ -1,0 +1,12 @@
+-- Laws: what is found for names is what they are.
+use Rattle.std.specs.Prelude.{List}
+use Rattle.gq_scope.specs.Named.{Named}
+use Rattle.gq_rules_typing.specs.Statements.{Bytes}
+use Rattle.gq_rules_meaning.specs.Calendars.{Calendar}
+use Rattle.gq_rules_meaning.specs.Graphs.{Graph}
+use Rattle.gq_plan_ir.specs.Alike.{WordsAlike}
+use Rattle.gq_plan_laws.specs.Found.{TupleTypes, sides_of}
+
+-- references stand for what names do
+abbrev pub FoundLaw : Type 0
+FoundLaw = (g : Graph) (clock : Calendar) (ts : TupleTypes) (accums : List Bytes) (slots : Named) → WordsAlike (sides_of g clock ts accums slots)

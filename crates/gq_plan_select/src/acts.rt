@@ -1,0 +1,129 @@
+// The acts of ACCUM and POST-ACCUM.
+ghost use Rattle.gq_tree.specs.View.{view};
+ghost use Rattle.gq_rules_typing.specs.Selecting as plain;
+ghost use Rattle.gq_rules_typing.specs.SelectViews.{view_change, view_act, view_acts, view_acts_if};
+ghost use Rattle.gq_plan_expr.specs.Resolved.{Answers};
+ghost use Rattle.gq_plan_select.specs.Resolved.{resolved_act, resolved_acts, else_of};
+
+use crate::inputs::plan_change;
+use crate::walks::plan_place;
+use gq_base::List;
+use gq_plan_expr::{PlanFault, Resolves, plan_expr};
+use gq_plan_ir::Act;
+use gq_tree::ChangeTree;
+use std::alloc::Global;
+
+/// The acts of a clause, where there is one.
+pub(crate) fn acts_if<R: Resolves>(
+    alloc: Global,
+    names: &R,
+    list: &Option<List<gq_tree::ActTree>>,
+) -> Result<List<Act>, PlanFault>
+    ensures { Answers (resolved_acts (R.known names.now) (view_acts_if list.now)) result }
+{
+    match list {
+        None => Ok(List::new(alloc)),
+        Some(list) => acts(list.as_slice(), alloc, names),
+    }
+}
+
+/// A change of the accumulator of a name, at the alias of a name.
+fn at_alias<R: Resolves>(
+    alloc: Global,
+    names: &R,
+    alias: &str,
+    name: &str,
+    change: &ChangeTree,
+) -> Result<Act, PlanFault>
+    ensures { Answers (resolved_act (R.known names.now) (plain.AtAlias alias.now name.now (view_change change.now))) result }
+{
+    let place = plan_place(names, alias)?;
+    let slot = plan_slot(names, name)?;
+    let planned = plan_change(alloc, names, change)?;
+    Ok(Act::Attached(place, slot, planned))
+}
+
+/// A change of the global accumulator of a name.
+fn at_global<R: Resolves>(
+    alloc: Global,
+    names: &R,
+    name: &str,
+    change: &ChangeTree,
+) -> Result<Act, PlanFault>
+    ensures { Answers (resolved_act (R.known names.now) (plain.AtGlobal name.now (view_change change.now))) result }
+{
+    let slot = plan_slot(names, name)?;
+    let planned = plan_change(alloc, names, change)?;
+    Ok(Act::Global(slot, planned))
+}
+
+/// The slot of an accumulator.
+pub(crate) fn plan_slot<R: Resolves>(names: &R, name: &str) -> Result<u32, PlanFault>
+    ensures { Answers ((R.known names.now).slot name.now) result }
+{
+    match names.slot(name) {
+        None => Err(PlanFault::Unknown),
+        Some(slot) => Ok(slot),
+    }
+}
+
+#[cycle(acts)]
+#[tactic(auto, using(gq_plan_expr::proofs::ListLemmas::list_laws))]
+fn acts<R: Resolves>(
+    list: &[gq_tree::ActTree],
+    alloc: Global,
+    names: &R,
+) -> Result<List<Act>, PlanFault>
+    ensures { Answers (resolved_acts (R.known names.now) (view_acts list.now)) result }
+{
+    let mut planned = List::new(alloc);
+    for item in list {
+        let one = act(item, alloc, names)?;
+        planned.push(one)?;
+    }
+    Ok(planned)
+}
+
+#[cycle(acts)]
+#[tactic(auto, using(gq_rules_typing::proofs::ViewLaws::statement_laws, crate::proofs::ActLemmas::act_laws))]
+fn act<R: Resolves>(item: &gq_tree::ActTree, alloc: Global, names: &R) -> Result<Act, PlanFault>
+    ensures { Answers (resolved_act (R.known names.now) (view_act item.now)) result }
+{
+    match item {
+        gq_tree::ActTree::Attached(alias, name, change) => {
+            at_alias(alloc, names, alias.as_str(), name.as_str(), change)
+        }
+        gq_tree::ActTree::Global(name, change) => at_global(alloc, names, name.as_str(), change),
+        gq_tree::ActTree::If(branches, others) => {
+            let mut planned = List::new(alloc);
+            for branch in branches.as_slice() {
+                let test = plan_expr(alloc, names, &branch.0)?;
+                let body = acts(branch.1.as_slice(), alloc, names)?;
+                planned.push((test, body))?;
+            }
+            match others {
+                None => Ok(Act::If(planned, None)),
+                Some(list) => {
+                    let body = else_acts(list.as_slice(), alloc, names)?;
+                    Ok(Act::If(planned, body))
+                }
+            }
+        }
+    }
+}
+
+/// The acts behind ELSE; none is as no ELSE.
+#[cycle(acts)]
+fn else_acts<R: Resolves>(
+    list: &[gq_tree::ActTree],
+    alloc: Global,
+    names: &R,
+) -> Result<Option<List<Act>>, PlanFault>
+    ensures { Answers (else_of (view_acts list.now) (resolved_acts (R.known names.now) (view_acts list.now))) result }
+{
+    if list.len() > 0 {
+        let body = acts(list, alloc, names)?;
+        return Ok(Some(body));
+    }
+    Ok(None)
+}

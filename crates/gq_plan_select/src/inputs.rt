@@ -1,0 +1,68 @@
+// What accumulators are fed, and changes of them.
+ghost use Rattle.gq_rules_typing.specs.SelectViews.{inputs_of, view_input, view_change};
+ghost use Rattle.gq_plan_expr.specs.Resolved.{Answers};
+ghost use Rattle.gq_plan_select.specs.Resolved.{resolved_input, resolved_inputs, resolved_change, view_inputs};
+
+use crate::exprs::exprs;
+use gq_base::List;
+use gq_plan_expr::{PlanFault, Resolves, plan_expr};
+use gq_plan_ir::{Change, Feed};
+use gq_tree::InputTree;
+use std::alloc::Global;
+
+/// The change of an accumulator in a plan. It takes some frames of the stack for each level of the tree.
+///
+/// Unknown where something stands for nothing, which no well typed query has. OutOfMemory may come at any time.
+pub fn plan_change<R: Resolves>(
+    alloc: Global,
+    names: &R,
+    change: &gq_tree::ChangeTree,
+) -> Result<Change, PlanFault>
+    ensures { Answers (resolved_change (R.known names.now) (view_change change.now)) result }
+{
+    match change {
+        gq_tree::ChangeTree::Feed(tree) => {
+            let planned = input(tree, alloc, names)?;
+            Ok(Change::Feed(planned))
+        }
+        gq_tree::ChangeTree::Set(node) => {
+            let planned = plan_expr(alloc, names, node)?;
+            Ok(Change::Set(planned))
+        }
+    }
+}
+
+#[cycle(inputs)]
+#[tactic(auto, using(gq_rules_typing::proofs::ViewLaws::statement_laws))]
+fn input<R: Resolves>(tree: &InputTree, alloc: Global, names: &R) -> Result<Feed, PlanFault>
+    ensures { Answers (resolved_input (R.known names.now) (view_input tree.now)) result }
+{
+    match tree {
+        InputTree::One(node) => {
+            let planned = plan_expr(alloc, names, node)?;
+            Ok(Feed::One(planned))
+        }
+        InputTree::Keyed(keys, parts) => {
+            let keys = exprs(alloc, names, keys.as_slice())?;
+            let parts = inputs(parts.as_slice(), alloc, names)?;
+            Ok(Feed::Keyed(keys, parts))
+        }
+    }
+}
+
+#[cycle(inputs)]
+#[tactic(auto, using(gq_plan_expr::proofs::ListLemmas::list_laws))]
+fn inputs<R: Resolves>(
+    trees: &[InputTree],
+    alloc: Global,
+    names: &R,
+) -> Result<List<Feed>, PlanFault>
+    ensures { Answers (resolved_inputs (R.known names.now) (view_inputs trees.now)) result }
+{
+    let mut planned = List::new(alloc);
+    for tree in trees {
+        let one = input(tree, alloc, names)?;
+        planned.push(one)?;
+    }
+    Ok(planned)
+}

@@ -1,0 +1,14 @@
+// What is true of blocks of plans.
+ghost use Rattle.gq_plan_select.specs.Laws.{ChangeLaw, BlockLaw};
+
+/// Does nothing. Its contract is a law: what is planned of a change is the query's with references for names.
+#[tactic(auto, using(crate::proofs::BlockLaws::change_law))]
+pub fn what_is_changed_is_the_query()
+    ensures { ChangeLaw }
+{}
+
+/// Does nothing. Its contract is a law: what is planned of a SELECT is the query's with references for names.
+#[tactic(auto, using(crate::proofs::BlockLaws::block_law))]
+pub fn what_is_selected_is_the_query()
+    ensures { BlockLaw }
+{}

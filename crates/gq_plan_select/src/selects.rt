@@ -1,0 +1,132 @@
+// SELECT.
+ghost use Rattle.gq_rules_typing.specs.SelectViews.{view_select};
+ghost use Rattle.gq_plan_expr.specs.Resolved.{Answers};
+ghost use Rattle.gq_plan_select.specs.Resolved.{resolved_source, resolved_from, resolved_clauses, resolved_tail, resolved_select};
+
+use crate::acts::acts_if;
+use crate::exprs::{order, plan_if};
+use crate::sees::SeesTypes;
+use crate::walks::{alias, plan_place, vertex_type, walk};
+use gq_base::List;
+use gq_plan_expr::{PlanFault, Resolves};
+use gq_plan_ir::{Act, Block, Expr, SelectSource, Walk};
+use gq_tree::SelectTree;
+use std::alloc::Global;
+
+/// Where a SELECT begins and goes, with its aliases.
+#[derive(Drop)]
+pub(crate) struct Walked {
+    pub(crate) selected: u32,
+    pub(crate) source: SelectSource,
+    pub(crate) alias: Option<u32>,
+    pub(crate) walk: Walk,
+}
+
+/// WHERE, ACCUM and POST-ACCUM.
+#[derive(Drop)]
+pub(crate) struct Clauses {
+    pub(crate) filter: Option<Expr>,
+    pub(crate) accum: List<Act>,
+    pub(crate) post: List<Act>,
+}
+
+/// HAVING, ORDER BY and LIMIT.
+#[derive(Drop)]
+pub(crate) struct Tail {
+    pub(crate) having: Option<Expr>,
+    pub(crate) order: List<(Expr, bool)>,
+    pub(crate) limit: Option<Expr>,
+}
+
+/// The block of a plan for the tree of a SELECT, where `names` says what each name stands for, with the SELECT's aliases in view. It
+/// takes some frames of the stack for each level of the tree, and none for the length of a list.
+///
+/// Unknown where something stands for nothing, which no well typed query has. OutOfMemory may come at any time.
+pub fn plan_block<R: Resolves + SeesTypes>(
+    alloc: Global,
+    names: &R,
+    tree: &SelectTree,
+) -> Result<Block, PlanFault>
+    ensures { Answers (resolved_select (R.known names.now) (R.sees names.now) (view_select tree.now)) result }
+{
+    let walked = plan_from(alloc, names, tree)?;
+    let clauses = plan_clauses(alloc, names, tree)?;
+    let tail = plan_tail(alloc, names, tree)?;
+    Ok(Block {
+        selected: walked.selected,
+        source: walked.source,
+        alias: walked.alias,
+        walk: walked.walk,
+        filter: clauses.filter,
+        accum: clauses.accum,
+        post: clauses.post,
+        having: tail.having,
+        order: tail.order,
+        limit: tail.limit,
+    })
+}
+
+/// The set variable or the vertex type that a SELECT begins from.
+fn source<R: Resolves + SeesTypes>(names: &R, name: &str) -> Result<SelectSource, PlanFault>
+    ensures { Answers (resolved_source (R.known names.now) (R.sees names.now) name.now) result }
+{
+    match names.is_set(name) {
+        true => {
+            let place = plan_place(names, name)?;
+            Ok(SelectSource::Set(place))
+        }
+        false => {
+            let number = vertex_type(names, name)?;
+            Ok(SelectSource::Type(number))
+        }
+    }
+}
+
+fn plan_from<R: Resolves + SeesTypes>(
+    alloc: Global,
+    names: &R,
+    tree: &SelectTree,
+) -> Result<Walked, PlanFault>
+    ensures { Answers (resolved_from (R.known names.now) (R.sees names.now) (view_select tree.now)) result }
+{
+    let selected = plan_place(names, tree.selected.as_str())?;
+    let source = source(names, tree.source.as_str())?;
+    let alias = alias(names, &tree.alias)?;
+    let walk = walk(alloc, names, &tree.walk)?;
+    Ok(Walked {
+        selected,
+        source,
+        alias,
+        walk,
+    })
+}
+
+fn plan_clauses<R: Resolves>(
+    alloc: Global,
+    names: &R,
+    tree: &SelectTree,
+) -> Result<Clauses, PlanFault>
+    ensures { Answers (resolved_clauses (R.known names.now) (view_select tree.now)) result }
+{
+    let filter = plan_if(alloc, names, tree.filter.as_ref())?;
+    let accum = acts_if(alloc, names, &tree.accum)?;
+    let post = acts_if(alloc, names, &tree.post)?;
+    Ok(Clauses {
+        filter,
+        accum,
+        post,
+    })
+}
+
+fn plan_tail<R: Resolves>(alloc: Global, names: &R, tree: &SelectTree) -> Result<Tail, PlanFault>
+    ensures { Answers (resolved_tail (R.known names.now) (view_select tree.now)) result }
+{
+    let having = plan_if(alloc, names, tree.having.as_ref())?;
+    let order = order(alloc, names, &tree.order)?;
+    let limit = plan_if(alloc, names, tree.limit.as_ref())?;
+    Ok(Tail {
+        having,
+        order,
+        limit,
+    })
+}

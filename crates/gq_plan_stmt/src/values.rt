@@ -1,0 +1,78 @@
+// Expressions where some names are in view.
+ghost use Rattle.std.specs.Option.{option_map, option_copied};
+ghost use Rattle.gq_tree.specs.View.{view};
+ghost use Rattle.gq_rules_typing.specs.SelectViews.{view_change};
+ghost use Rattle.gq_rules_typing.specs.StatementViews.{view_over};
+ghost use Rattle.gq_plan_expr.specs.Resolved.{Answers, resolved};
+ghost use Rattle.gq_plan_select.specs.Resolved.{if_there, resolved_change};
+ghost use Rattle.gq_plan_stmt.specs.Globals.{known_in};
+ghost use Rattle.gq_plan_stmt.specs.Parts.{resolved_over};
+
+use crate::globals::{KnowsGlobals, NameResolver};
+use gq_plan_expr::{PlanFault, plan_expr};
+use gq_plan_ir::{Change, Expr, Over};
+use gq_plan_select::{plan_change, plan_if};
+use gq_scope::Places;
+use gq_tree::Node;
+use std::alloc::Global;
+
+/// An expression.
+pub(crate) fn value<G: KnowsGlobals>(
+    alloc: Global,
+    globals: &G,
+    places: &Places,
+    node: &Node,
+) -> Result<Expr, PlanFault>
+    ensures { Answers (resolved (known_in (G.globals globals.now) places.now) (view node.now)) result }
+{
+    let names = NameResolver { globals, places };
+    plan_expr(alloc, &names, node)
+}
+
+/// An expression that may be left out, as what a local or an accumulator opens with.
+pub fn plan_opening<G: KnowsGlobals>(
+    alloc: Global,
+    globals: &G,
+    places: &Places,
+    node: Option<&Node>,
+) -> Result<Option<Expr>, PlanFault>
+    ensures { Answers (if_there (resolved (known_in (G.globals globals.now) places.now)) (option_map view (option_copied node.entry))) result }
+{
+    let names = NameResolver { globals, places };
+    plan_if(alloc, &names, node)
+}
+
+/// The change of a global accumulator.
+pub(crate) fn change<G: KnowsGlobals>(
+    alloc: Global,
+    globals: &G,
+    places: &Places,
+    tree: &gq_tree::ChangeTree,
+) -> Result<Change, PlanFault>
+    ensures { Answers (resolved_change (known_in (G.globals globals.now) places.now) (view_change tree.now)) result }
+{
+    let names = NameResolver { globals, places };
+    plan_change(alloc, &names, tree)
+}
+
+/// What FOREACH goes over.
+pub(crate) fn over<G: KnowsGlobals>(
+    alloc: Global,
+    globals: &G,
+    places: &Places,
+    tree: &gq_tree::OverTree,
+) -> Result<Over, PlanFault>
+    ensures { Answers (resolved_over (known_in (G.globals globals.now) places.now) (view_over tree.now)) result }
+{
+    match tree {
+        gq_tree::OverTree::Elements(node) => {
+            let planned = value(alloc, globals, places, node)?;
+            Ok(Over::Elements(planned))
+        }
+        gq_tree::OverTree::Range(first, last) => {
+            let first = value(alloc, globals, places, first)?;
+            let last = value(alloc, globals, places, last)?;
+            Ok(Over::Range(first, last))
+        }
+    }
+}

@@ -1,6 +1,0 @@
-use Rattle.gq_post.specs.Phases.{to_target}
-use Rattle.gq_post.proofs.PhaseLemmas.{RunTo}
-use Rattle.gq_post.proofs.phases.run_of.Given as goal
-
-abbrev pub invariant-loop-place : goal.invariant-loop-place
-invariant-loop-place l = RunTo (to_target l.ends l.selects) l.target l.acts l.place

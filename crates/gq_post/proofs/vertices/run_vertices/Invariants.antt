@@ -1,6 +1,0 @@
-use Rattle.gq_resolved.specs.BlockView.{view_acts}
-use Rattle.gq_post.proofs.VertexLemmas.{VerticesTo}
-use Rattle.gq_post.proofs.vertices.run_vertices.Given as goal
-
-abbrev pub invariant-loop-vertex : goal.invariant-loop-vertex
-invariant-loop-vertex g l = VerticesTo g.C.Clock.clock l.over l.end (view_acts l.acts) l.vertices l.fn.before l.vertex-index l.writing

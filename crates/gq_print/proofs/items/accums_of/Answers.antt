@@ -1,4 +1,0 @@
-use Rattle.gq_print.proofs.items.accums_of.Goals as goal
-
-pub returns-clause-sound : goal.returns-clause-sound
-returns-clause-sound g c = c.over.invariant.accums

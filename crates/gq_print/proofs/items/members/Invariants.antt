@@ -1,8 +1,0 @@
-use Rattle.gq_frame.specs.Slots.{slots_are}
-use Rattle.gq_view.specs.Looks.{world_over}
-use Rattle.gq_print.proofs.ItemLemmas.{MembersFrom}
-use Rattle.gq_print.proofs.items.members.Given as goal
-
--- the members that are there, and the expressions that are left
-abbrev pub invariant-loop-keyed : goal.invariant-loop-keyed
-invariant-loop-keyed g l = MembersFrom (world_over g.C.Clock.clock l.over) (g.V.Sees.look l.sight) (slots_are l.over.frame.accums) l.items l.keyed-index l.members

@@ -1,6 +1,0 @@
-use Rattle.gq_print.proofs.WholeLemmas.{ItemsFrom}
-use Rattle.gq_print.proofs.whole.members_of.Given as goal
-
--- the members that are there, and the items that are left
-abbrev pub invariant-loop-item : goal.invariant-loop-item
-invariant-loop-item g l = ItemsFrom g.C.Clock.clock l.over l.items l.item-index l.members

@@ -1,8 +1,0 @@
-use Rattle.std.proofs.Common.{◌≡◌, true}
-use Rattle.gq_queries.specs.Kept.{Kept}
-use Rattle.gq_queries.proofs.InstallLemmas.{changed}
-use Rattle.gq_queries.proofs.install.install_all.Given as goal
-
--- those that were gone over are installed
-abbrev pub invariant-loop-query : goal.invariant-loop-query
-invariant-loop-query l = l.query-items ≡ changed (λ (query : Kept). record query { installed = true }) l.query-index l.fn.queries

@@ -1,3 +1,0 @@
-pub mod Kept
-pub mod Judging
-pub mod Queries

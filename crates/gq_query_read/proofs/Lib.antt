@@ -1,3 +1,0 @@
-pub mod QueryReads
-pub mod BodyReads
-mod SeriesLemmas

@@ -1,0 +1,5 @@
+pub mod InstallLemmas
+pub mod SlotLemmas
+pub mod AnswerLemmas
+pub mod RunLemmas
+pub mod InterpretLemmas

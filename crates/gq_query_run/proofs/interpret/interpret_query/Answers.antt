@@ -1,0 +1,33 @@
+use Rattle.std.proofs.Common.{ℕ, List, [], map, Option, subst}
+use Rattle.gq_value.specs.declared.value.Value.{Value}
+use Rattle.gq_value.specs.Views.{val}
+use Rattle.gq_rules_calendar.specs.Gregorian.{gregorian}
+use Rattle.gq_rules_typing.specs.StatementViews.{view_query}
+use Rattle.gq_rules_meaning.specs.Sessions.{interpreted}
+use Rattle.gq_query_run.specs.Judging.{interpret_refusal}
+use Rattle.gq_query_run.specs.Queries.{graph_fixed}
+use Rattle.gq_query_run.specs.Answers.{Tells}
+use Rattle.gq_query_run.specs.Runs.{answer_over}
+use Rattle.gq_query_run.specs.Sessions.{graph_read, session_of}
+use Rattle.gq_query_run.proofs.AnswerLemmas.{says, says_judged}
+use Rattle.gq_query_run.proofs.InterpretLemmas.{interpreted_due, interpreted_runs}
+use Rattle.gq_query_run.proofs.interpret.interpret_query.Goals as goal
+
+pub returns-in-Ok : goal.returns-in-Ok
+returns-in-Ok g c queries =
+    let s = session_of c.args.catalog.now c.args.in_use queries c.args.store.now in
+    let tree = c.args.tree.now in
+    let graph = graph_fixed c.args.catalog.now c.args.in_use tree in
+    let clock = gregorian in
+    let For : Option ℕ → Type 0 = λ n. Tells (answer_over (graph_read c.args.catalog.now n c.args.store.now) clock c.args.runner.now.turns (view_query tree) (map val c.new-none.result)) c.line_over.result in
+    let Over : List Value → Type 0 = λ vs. Tells (answer_over (graph_read c.args.catalog.now graph c.args.store.now) clock c.args.runner.now.turns (view_query tree) (map val vs)) c.line_over.result in
+    says s (interpreted s clock c.args.runner.now.turns tree.graph tree.modes (view_query tree)) (answer_over (graph_read c.args.catalog.now graph c.args.store.now) clock c.args.runner.now.turns (view_query tree) []) c.line_over.result
+    (interpreted_runs c.args.catalog.now c.args.in_use queries c.args.store.now clock c.args.runner.now.turns tree c.in-Ok.ensures)
+    (subst Over c.new-none.ensures (subst For c.graph_of-graph.ensures c.line_over.ensures))
+
+pub returns-in-Err : goal.returns-in-Err
+returns-in-Err g c queries =
+    let s = session_of c.args.catalog.now c.args.in_use queries c.args.store.now in
+    let tree = c.args.tree.now in
+    says_judged s (interpreted s gregorian c.args.runner.now.turns tree.graph tree.modes (view_query tree)) (interpret_refusal c.args.catalog.now c.args.in_use tree) c.in-Err.fault
+    (λ r is. interpreted_due c.args.catalog.now c.args.in_use queries c.args.store.now gregorian c.args.runner.now.turns tree r is) c.in-Err.ensures

@@ -1,0 +1,24 @@
+use Rattle.std.proofs.Common.{sym, subst, ◌∙◌}
+use Rattle.gq_arguments.specs.Holds.{held}
+use Rattle.gq_diagnostics.specs.declared.refusal.Refusal.TheVariants as refusal
+use Rattle.gq_rules_calendar.specs.Gregorian.{gregorian}
+use Rattle.gq_rules_typing.specs.Statements.{Bytes}
+use Rattle.gq_arguments.specs.Rows as rows
+use Rattle.gq_query_run.specs.Runs.{answer_found}
+use Rattle.gq_query_run.proofs.AnswerLemmas.{told}
+use Rattle.gq_query_run.proofs.RunLemmas.{installed_tells, not_installed}
+use Rattle.gq_query_run.proofs.run.run_found.Goals as goal
+
+pub returns-then-is_installed : goal.returns-then-is_installed
+returns-then-is_installed g c =
+    installed_tells c.args.catalog.now c.args.store.now gregorian c.args.runner.now.turns c.args.query.now c.args.tree.now (held c.args.file.now)
+    c.graph.result c.tree.result.now c.arguments_of-arguments.result c.run_with.result c.graph.ensures c.tree.ensures (sym c.is_installed.ensures ∙ c.if-is_installed.true)
+    c.arguments_of-arguments.ensures c.run_with.ensures
+
+pub returns-else-is_installed : goal.returns-else-is_installed
+returns-else-is_installed g c =
+    let P : Bytes → Type 0 = λ n. rows.Tells (refusal.NotInstalled n) c.not_installed.result in
+    told (answer_found c.args.catalog.now c.args.store.now gregorian c.args.runner.now.turns c.args.query.now c.args.tree.now (held c.args.file.now))
+    (refusal.NotInstalled c.args.tree.now.name) c.not_installed.result
+    (not_installed c.args.catalog.now c.args.store.now gregorian c.args.runner.now.turns c.args.query.now c.args.tree.now (held c.args.file.now) (sym c.is_installed.ensures ∙ c.if-is_installed.false))
+    (subst P c.as_str.ensures c.not_installed.ensures)

@@ -1,0 +1,6 @@
+pub mod Kept
+pub mod Judging
+pub mod Queries
+pub mod Sessions
+pub mod Answers
+pub mod Runs

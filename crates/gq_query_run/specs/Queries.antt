@@ -1,0 +1,79 @@
+-- Queries: the queries of a session by their names, and what CREATE QUERY and INSTALL QUERY make of them, or why they are refused.
+use Rattle.std.specs.Prelude.{ℕ, Bool, true, false, not, ◌&&◌, ◌||◌, if◌then◌else◌, List, [], ◌∷◌, ◌++◌, map, find, position, slice_set, Option, Some, None, Result, Ok, Err, bytes_eq}
+use Rattle.std.specs.List.{list_any}
+use Rattle.gq_graph.specs.Catalog.{Schema}
+use Rattle.gq_tree.specs.declared.query.QueryTree.{QueryTree}
+use Rattle.gq_tree.specs.declared.query.Installed.{Installed}
+use Rattle.gq_tree.specs.declared.query.Installed.TheVariants as which
+use Rattle.gq_diagnostics.specs.declared.refusal.Refusal.{Refusal}
+use Rattle.gq_diagnostics.specs.declared.refusal.Refusal.TheVariants as refusal
+use Rattle.gq_rules_meaning.specs.Sessions.{good_modes}
+use Rattle.gq_query_run.specs.Kept.{Kept}
+use Rattle.gq_query_run.specs.Judging.{graph_for, graph_refusal}
+
+-- ---- names
+
+abbrev pub is_named : List ℕ → Kept → Bool
+is_named name query = bytes_eq query.name name
+
+-- whether a query of the name is there
+abbrev pub has_query : List Kept → List ℕ → Bool
+has_query queries name = list_any (is_named name) queries
+
+-- ---- CREATE QUERY
+
+-- the graph of a query that isn't refused
+abbrev pub graph_found : Result (Option ℕ) Refusal → Option ℕ
+graph_found (Ok graph) = graph
+graph_found (Err due) = None
+
+abbrev pub graph_fixed : Schema → Option ℕ → QueryTree → Option ℕ
+graph_fixed schema in_use tree = graph_found (graph_for schema in_use tree.graph)
+
+-- a query that isn't installed
+abbrev pub created : List ℕ → QueryTree → Option ℕ → Kept
+created name tree graph = record { name = name; tree = tree; graph = graph; installed = false }
+
+abbrev pub put_at : List Kept → Kept → Option ℕ → List Kept
+put_at queries query (Some n) = slice_set queries n query
+put_at queries query None = queries ++ query ∷ []
+
+-- in the place of the one of its name, or behind all
+abbrev pub with_query : List Kept → Kept → List Kept
+with_query queries query = put_at queries query (position (is_named query.name) queries)
+
+-- its modes are good, its name is new unless it may replace another, its graph is there, and no rule fails
+abbrev pub create_refusal : Schema → Option ℕ → List Kept → Bool → List ℕ → QueryTree → Option Refusal
+create_refusal schema in_use queries replace name tree =
+    if not (good_modes tree.modes) then Some refusal.BadOption
+    else (if not replace && has_query queries name then Some (refusal.NameTaken name)
+    else graph_refusal schema in_use tree)
+
+abbrev pub unless_refused : Option Refusal → List Kept → Result (List Kept) Refusal
+unless_refused None queries = Ok queries
+unless_refused (Some due) queries = Err due
+
+abbrev pub query_created : Schema → Option ℕ → List Kept → Bool → List ℕ → QueryTree → Result (List Kept) Refusal
+query_created schema in_use queries replace name tree =
+    unless_refused (create_refusal schema in_use queries replace name tree) (with_query queries (created name tree (graph_fixed schema in_use tree)))
+
+-- ---- INSTALL QUERY
+
+abbrev pub installed_if : Bool → Kept → Kept
+installed_if is query = record query { installed = query.installed || is }
+
+-- the queries of these names are installed
+abbrev pub with_installed : List (List ℕ) → List Kept → List Kept
+with_installed names queries = map (λ (query : Kept). installed_if (list_any (bytes_eq query.name) names) query) queries
+
+abbrev pub or_installed : Option (List ℕ) → List Kept → Result (List Kept) Refusal
+or_installed None queries = Ok queries
+or_installed (Some name) queries = Err (refusal.UnknownName name)
+
+abbrev pub all_installed : List Kept → List Kept
+all_installed queries = map (λ (query : Kept). record query { installed = true }) queries
+
+-- all of them, or those of these names, where each is there
+abbrev pub query_installed : List Kept → Installed → Result (List Kept) Refusal
+query_installed queries which.All = Ok (all_installed queries)
+query_installed queries (which.Named names) = or_installed (find (λ name. not (has_query queries name)) names) (with_installed names queries)

@@ -1,0 +1,97 @@
+// CREATE QUERY.
+ghost use Rattle.std.specs.Prelude.{◌≡◌, ◌<◌, MatchResult, length};
+ghost use Rattle.std.specs.Option.{ForSome};
+ghost use Rattle.gq_diagnostics.specs.Answers.{Answers};
+ghost use Rattle.gq_query_run.specs.Judging.{Judges};
+ghost use Rattle.gq_query_run.specs.Queries.{create_refusal, created, query_created, with_query};
+
+use crate::fault::taken;
+use crate::judge::{graph_of, judge_graph};
+use crate::modes::are_good;
+use crate::stored::{Stored, has_query, place_of};
+use gq_base::{List, OutOfMemory};
+use gq_diagnostics::{Refusal, StatementFault};
+use gq_schema::Catalog;
+use gq_tree::QueryTree;
+use std::alloc::Global;
+
+/// CREATE QUERY, with the graph that is in use, by its number. The queries gain the one of the name, which isn't installed, or are
+/// as they were. With `replace` a query of the name is replaced.
+///
+/// Refused for its modes, else where a query of the name is there, else for a graph that isn't there, else by the first rule on
+/// queries that fails.
+pub fn create_query<'s>(
+    alloc: Global,
+    catalog: &Catalog,
+    in_use: Option<u32>,
+    queries: &mut List<Stored<'s>>,
+    replace: bool,
+    name: &'s str,
+    tree: &'s QueryTree,
+) -> Result<(), StatementFault>
+    requires { ForSome in_use (λ g. g < length catalog.now.graphs) }
+    ensures { Answers (query_created catalog.now in_use queries.old replace name.now tree.now) queries.old queries.new result }
+{
+    match judge(
+        alloc,
+        catalog,
+        in_use,
+        queries.as_slice(),
+        replace,
+        name,
+        tree,
+    ) {
+        Ok(()) => {}
+        Err(fault) => return Err(fault),
+    }
+    let graph = graph_of(catalog, in_use, tree);
+    match put(queries, name, tree, graph) {
+        Ok(()) => Ok(()),
+        Err(OutOfMemory) => Err(StatementFault::OutOfMemory),
+    }
+}
+
+fn judge(
+    alloc: Global,
+    catalog: &Catalog,
+    in_use: Option<u32>,
+    queries: &[Stored<'_>],
+    replace: bool,
+    name: &str,
+    tree: &QueryTree,
+) -> Result<(), StatementFault>
+    requires { ForSome in_use (λ g. g < length catalog.now.graphs) }
+    ensures { Judges (create_refusal catalog.now in_use queries.now replace name.now tree.now) result }
+{
+    if !are_good(tree.modes.as_slice()) {
+        return Err(StatementFault::Refused(Refusal::BadOption));
+    }
+    if !replace && has_query(queries, name) {
+        return Err(taken(alloc, name));
+    }
+    judge_graph(alloc, catalog, in_use, tree)
+}
+
+// Puts a query that isn't installed in the place of the one of its name, or behind all.
+fn put<'s>(
+    queries: &mut List<Stored<'s>>,
+    name: &'s str,
+    tree: &'s QueryTree,
+    graph: Option<u32>,
+) -> Result<(), OutOfMemory>
+    ensures { MatchResult result (λ _. queries.new ≡ with_query queries.old (created name.now tree.now graph)) (λ _. queries.new ≡ queries.old) }
+{
+    let query = Stored {
+        name,
+        tree,
+        graph,
+        installed: false,
+    };
+    match place_of(queries.as_slice(), name) {
+        Some(place) => {
+            queries.set(place, query);
+            Ok(())
+        }
+        None => queries.push(query),
+    }
+}

@@ -1,0 +1,71 @@
+// What runs queries.
+ghost use Rattle.std.specs.Prelude.{map};
+ghost use Rattle.std.specs.Thread.{IsSync};
+ghost use Rattle.gq_value.specs.Views.{val};
+ghost use Rattle.gq_rules_typing.specs.StatementViews.{view_query};
+ghost use Rattle.gq_rules_meaning.specs.Queries as meaning;
+ghost use Rattle.gq_rules_calendar.specs.Gregorian.{gregorian};
+ghost use Rattle.gq_query_run.specs.Runs.{Runs};
+ghost use Rattle.gq_query_run.specs.Sessions.{graph_read};
+
+use gq_base::List;
+use gq_index::Store;
+use gq_io::Shape;
+use gq_json::Printed;
+use gq_schema::Catalog;
+use gq_tree::QueryTree;
+use gq_value::{Row, Wrong};
+use std::alloc::Global;
+use std::thread::Threads;
+use thiserror::Error;
+
+/// Why a query doesn't run to its end.
+#[derive(Clone, Copy, Debug, PartialEq, Eq, Error)]
+pub enum QueryFault {
+    #[error("{0}")]
+    Wrong(Wrong),
+
+    /// The sum of the accumulator of this number, in order of declaration, doesn't fit its type.
+    #[error("sum out of range")]
+    SumRange(u32),
+
+    /// A loop's body would be entered with no turn left.
+    #[error("loop bound reached")]
+    LoopBound,
+    #[error("too many paths")]
+    PathBound,
+    #[error("out of memory")]
+    OutOfMemory,
+}
+
+/// What runs the queries of a session, and how.
+#[derive(Drop)]
+pub struct Runner<'r, M> {
+    pub machine: &'r M,
+
+    /// How the work of a block is cut. It changes no answer.
+    pub shape: Shape,
+
+    /// How many rounds of loops a query may take.
+    pub turns: u64,
+}
+
+/// Something that runs queries which were checked.
+pub trait RunsQueries {
+    /// Runs a query for the graph of this number, over a value of each parameter and with so many turns. The runtime's threads, and the
+    /// shape, by which the work of its blocks is cut, change no answer.
+    fn run<R: Threads + Sync>(
+        &self,
+        rt: &R,
+        alloc: Global,
+        catalog: &Catalog,
+        graph: Option<u32>,
+        store: &Store,
+        query: &QueryTree,
+        arguments: &Row,
+        shape: &Shape,
+        turns: u64,
+    ) -> Result<List<Printed>, QueryFault>
+        requires { IsSync R.row }
+        ensures { Runs (meaning.run_query (graph_read catalog.now graph store.now) gregorian (view_query query.now) (map val arguments.now) turns) result };
+}

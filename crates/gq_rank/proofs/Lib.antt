@@ -1,2 +1,0 @@
-pub mod OrderSteps
-pub mod SortSteps

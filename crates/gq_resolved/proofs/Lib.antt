@@ -1,3 +1,0 @@
-pub mod ViewLaws
-pub mod RenamedLaws
-mod WorkedPlans

@@ -1,4 +1,0 @@
-pub mod LimitLemmas
-pub mod ElementLemmas
-pub mod RangeLemmas
-pub mod OverLemmas

@@ -1,5 +1,0 @@
-pub mod ColumnLemmas
-pub mod DraftLemmas
-pub mod ListLemmas
-pub mod PlaceLemmas
-pub mod RowLemmas

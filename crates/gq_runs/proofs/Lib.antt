@@ -1,4 +1,0 @@
-pub mod SlotLemmas
-pub mod AnswerLemmas
-pub mod RunLemmas
-pub mod InterpretLemmas

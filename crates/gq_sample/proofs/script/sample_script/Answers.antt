@@ -1,7 +1,0 @@
-use Rattle.gq_sample.specs.Script.{script_text}
-use Rattle.gq_sample.proofs.FileLemmas.{three_parts}
-use Rattle.gq_sample.proofs.script.sample_script.Goals as goal
-
-pub returns : goal.returns
-unfolding script_text
-returns c = three_parts _ _ _ _ _ _ c.in_ok-script.ensures.items c.in_ok-extend_from_slice.ensures.items c.in_ok-extend_from_slice-2.ensures.items

@@ -1,0 +1,37 @@
+-- Named: the names that are visible, each with its place, and the next place.
+use Rattle.std.specs.Prelude.{ℕ, suc, ◌-◌, Bool, false, if◌then◌else◌, List, [], ◌∷◌, length, drop, Option, Some, None}
+use Rattle.std.specs.Option.{option_map}
+use Rattle.std.specs.Str.{bytes_eq}
+use Rattle.gq_scope.specs.declared.place_table.NameBinding.{NameBinding}
+
+-- the last one that came into view comes first
+pub record Named : Type 0 where
+  pub visible : List (List ℕ × NameBinding)
+  pub next : ℕ
+
+abbrev pub found_in : List (List ℕ × NameBinding) → List ℕ → Option NameBinding
+found_in [] x = None
+found_in (e ∷ es) x = if bytes_eq e.0 x then Some e.1 else found_in es x
+
+abbrev pub seen_at : Named → List ℕ → Option NameBinding
+seen_at n x = found_in n.visible x
+
+abbrev pub place_at : Named → List ℕ → Option ℕ
+place_at n x = option_map (λ (s : NameBinding). s.place) (seen_at n x)
+
+abbrev pub marked_in : Option NameBinding → Bool
+marked_in None = false
+marked_in (Some s) = s.marked
+
+abbrev pub is_marked : Named → List ℕ → Bool
+is_marked n x = marked_in (seen_at n x)
+
+-- ---- names that come and go
+
+-- a name takes the next place
+abbrev pub with_name : Named → List ℕ → Bool → Named
+with_name n x marked = record { visible = (x, record { place = n.next; marked = marked }) ∷ n.visible; next = suc n.next }
+
+-- the first so many; no place is taken again
+abbrev pub kept : ℕ → Named → Named
+kept k n = record { visible = drop (length n.visible - k) n.visible; next = n.next }

@@ -1,0 +1,66 @@
+// Faults.
+ghost use Rattle.std.specs.Prelude.{◌≡◌, ◌≢◌, ⊤};
+ghost use Rattle.gq_rules_typing.specs.Judging as judging;
+ghost use Rattle.gq_scope.specs.Views.{fault_is};
+
+use gq_base::OutOfMemory;
+use gq_value::Txt;
+use std::alloc::{AllocFailed, Global};
+use thiserror::Error;
+
+/// Why an expression has no type: the first rule that fails in order of text.
+#[derive(Debug, Drop, Error)]
+pub enum TypeFault {
+    #[error("type mismatch")]
+    Mismatch,
+    #[error("unknown name")]
+    UnknownName(Txt),
+    #[error("no attribute")]
+    NoAttribute(Txt),
+    #[error("not allowed here")]
+    NotAllowedHere,
+    #[error("out of memory")]
+    OutOfMemory,
+}
+
+impl From<OutOfMemory> for TypeFault {
+    ghost use Rattle.std.specs.Prelude.{◌≡◌};
+    ghost use Rattle.gq_scope.specs.declared.fault.TypeFault.TheVariants.{OutOfMemory};
+
+    ghost from_gives = { λ _ e. e ≡ OutOfMemory };
+
+    fn from(_: OutOfMemory) -> Self {
+        TypeFault::OutOfMemory
+    }
+}
+
+impl<T: Drop> From<AllocFailed<T>> for TypeFault {
+    ghost use Rattle.std.specs.Prelude.{◌≡◌};
+    ghost use Rattle.gq_scope.specs.declared.fault.TypeFault.TheVariants.{OutOfMemory};
+
+    ghost from_gives = { λ _ e. e ≡ OutOfMemory };
+
+    fn from(_: AllocFailed<T>) -> Self {
+        TypeFault::OutOfMemory
+    }
+}
+
+/// UnknownName, or OutOfMemory where the name can't be kept.
+pub fn unknown(alloc: Global, name: &str) -> TypeFault
+    ensures { result ≢ TypeFault.OutOfMemory → fault_is result ≡ judging.UnknownName name.now }
+{
+    match Txt::of(alloc, name) {
+        Ok(name) => TypeFault::UnknownName(name),
+        Err(OutOfMemory) => TypeFault::OutOfMemory,
+    }
+}
+
+/// NoAttribute, or OutOfMemory where the name can't be kept.
+pub fn no_attribute(alloc: Global, name: &str) -> TypeFault
+    ensures { result ≢ TypeFault.OutOfMemory → fault_is result ≡ judging.NoAttribute name.now }
+{
+    match Txt::of(alloc, name) {
+        Ok(name) => TypeFault::NoAttribute(name),
+        Err(OutOfMemory) => TypeFault::OutOfMemory,
+    }
+}

@@ -1,0 +1,97 @@
+// Visible names, of which each has a place of its own.
+ghost use Rattle.std.specs.Prelude.{◌≡◌, ◌≤◌, [], length, MatchResult};
+ghost use Rattle.std.specs.Option.{is_some};
+ghost use Rattle.gq_scope.specs.Named.{seen_at, place_at, is_marked, with_name, kept};
+
+use crate::place_table::{NameBinding, PlaceTable};
+use gq_base::OutOfMemory;
+use std::alloc::Global;
+use std::marker::Model;
+
+/// The visible names with their places, and the next place. Contracts see the names with the last one first.
+#[derive(Drop)]
+pub struct Places {
+    table: PlaceTable,
+    next: u32,
+}
+
+impl Model for Places {
+    ghost use Rattle.std.specs.Prelude.{reverse};
+    ghost use Rattle.gq_scope.specs.Named.{Named};
+
+    ghost Value = { Named };
+
+    ghost view = { λ p. record { visible = reverse p.table; next = p.next } };
+}
+
+impl Places {
+    /// No names.
+    pub fn new(alloc: Global) -> Places
+        ensures { result ≡ record { visible = []; next = 0 } }
+    {
+        Places {
+            table: PlaceTable::new(alloc),
+            next: 0,
+        }
+    }
+
+    /// How many names are visible.
+    #[tactic(auto, using(crate::proofs::TurnLemmas::turn_laws))]
+    pub fn len(&self) -> u32
+        ensures { result ≡ length self.now.visible }
+    {
+        self.table.len()
+    }
+
+    /// Where a name stands: the last one that was added under it.
+    pub fn find(&self, name: &str) -> Option<NameBinding>
+        ensures { result ≡ seen_at self.now name.now }
+    {
+        self.table.find(name)
+    }
+
+    /// The place of a name.
+    pub fn place(&self, name: &str) -> Option<u32>
+        ensures { result ≡ place_at self.now name.now }
+    {
+        match self.table.find(name) {
+            None => None,
+            Some(seen) => Some(seen.place),
+        }
+    }
+
+    /// Whether a name is visible and marked.
+    pub fn is_marked(&self, name: &str) -> bool
+        ensures { result ≡ is_marked self.now name.now }
+    {
+        match self.table.find(name) {
+            None => false,
+            Some(seen) => seen.marked,
+        }
+    }
+
+    /// Adds a name, marked or not, at the next place, which it gives. Unchanged after OutOfMemory, which comes too where there are some
+    /// four thousand million places.
+    #[tactic(auto, using(crate::proofs::TurnLemmas::turn_laws))]
+    pub fn add(&mut self, name: &str, marked: bool) -> Result<u32, OutOfMemory>
+        ensures given { MatchResult result (λ place. place ≡ self.old.next) (λ _. self.new ≡ self.old) }
+        ensures added { MatchResult result (λ _. self.new ≡ with_name self.old name.now marked) (λ _. self.new ≡ self.old) }
+    {
+        if self.next == u32::MAX {
+            return Err(OutOfMemory);
+        }
+        let place = self.next;
+        self.table.push(name, NameBinding { place, marked })?;
+        self.next = place + 1;
+        Ok(place)
+    }
+
+    /// Drops all names but the first `len`; their places aren't taken again.
+    #[tactic(auto, using(crate::proofs::TurnLemmas::turn_laws))]
+    pub fn cut(&mut self, len: u32)
+        requires { len ≤ length self.old.visible }
+        ensures { self.new ≡ kept len self.old }
+    {
+        self.table.cut(len);
+    }
+}

@@ -1,9 +1,0 @@
-use Rattle.std.proofs.Common.{◌≡◌, ◌-◌}
-use Rattle.gq_value.specs.Arithmetic.{IsWhole}
-use Rattle.gq_value.specs.Views.{val}
-use Rattle.gq_resolved.specs.Expressions.{minus}
-use Rattle.gq_seen.specs.Meant.{valued}
-use Rattle.gq_seen.proofs.operators.minus.Given as goal
-
-abbrev pub invariant-loop-turn : goal.invariant-loop-turn
-invariant-loop-turn l = (minus (l.count - l._turn) (val l.x) ≡ minus l.count (valued l.fn.operand)) × IsWhole (val l.x)

@@ -1,4 +1,0 @@
-pub mod BitLemmas
-pub mod SeedLemmas
-pub mod GatherLemmas
-pub mod SetLemmas

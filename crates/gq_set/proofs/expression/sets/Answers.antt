@@ -1,7 +1,0 @@
-use Rattle.gq_resolved.specs.PlanView.{view_term}
-use Rattle.gq_set.proofs.SetLemmas.{sets_chained}
-use Rattle.gq_set.proofs.expression.sets.Goals as goal
-
-pub returns : goal.returns
-returns c = λ world s seen.
-    sets_chained world s (view_term c.args.sets.now.first) c.args.sets.now.others c.as_slice.result.now c.is_bare.result c.chain.result c.is_bare.ensures c.if-is_bare.false c.as_slice.ensures (c.chain.ensures world s seen)

@@ -1,7 +1,0 @@
-use Rattle.std.proofs.Common.{◌≡◌}
-use Rattle.gq_index.specs.Places.{passing}
-use Rattle.gq_start.proofs.StartLemmas.{of_type}
-use Rattle.gq_start.proofs.sources.all_of.Given as goal
-
-abbrev pub invariant-loop-vertex : goal.invariant-loop-vertex
-invariant-loop-vertex l = l.list ≡ passing (of_type l.vertices l.kind) l.vertex

@@ -1,7 +1,0 @@
-use Rattle.std.proofs.Common.{◌≡◌, take}
-use Rattle.std.specs.Prelude.{filter}
-use Rattle.gq_value.specs.Candidates.{among}
-use Rattle.gq_start.proofs.types.named_of.Given as goal
-
-abbrev pub invariant-loop-kind : goal.invariant-loop-kind
-invariant-loop-kind l = l.kept ≡ filter (among l.own) (take l.kind-index l.kinds)

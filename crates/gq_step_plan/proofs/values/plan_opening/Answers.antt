@@ -1,4 +1,0 @@
-use Rattle.gq_step_plan.proofs.values.plan_opening.Goals as goal
-
-pub returns : goal.returns
-returns g c = c.plan_if.ensures

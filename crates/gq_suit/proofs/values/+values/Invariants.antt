@@ -1,6 +1,0 @@
-use Rattle.std.proofs.Common.{◌≡◌}
-use Rattle.gq_suit.proofs.SuitLemmas.{AreRest, AreWhole}
-use Rattle.gq_suit.proofs.values.+values.Given as goal
-
-abbrev pub invariant-are_of-loop-place : goal.invariant-are_of-loop-place
-invariant-are_of-loop-place l = AreRest l.types l.values l.place ≡ AreWhole l.types l.values

@@ -1,5 +1,0 @@
-pub mod EachSteps
-pub mod PassLemmas
-pub mod KeyLemmas
-pub mod LimitLemmas
-pub mod TailLemmas

@@ -1,5 +1,0 @@
-use Rattle.gq_view.proofs.DegreeLemmas.{Counted}
-use Rattle.gq_view.proofs.degrees.degree.Given as goal
-
-abbrev pub invariant-loop-kind : goal.invariant-loop-kind
-invariant-loop-kind l = Counted l.graph l.own l.vertex l.kind-index l.total

@@ -1,5 +1,0 @@
-pub mod Ends
-pub mod Viewed
-pub mod Looks
-pub mod LookLaws
-pub mod FieldReads

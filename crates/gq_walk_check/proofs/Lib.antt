@@ -1,4 +1,0 @@
-pub mod NumberLemmas
-pub mod SortLemmas
-pub mod ScopeLemmas
-pub mod StepLemmas

@@ -1,8 +1,0 @@
-use Rattle.std.proofs.Common.{◌≡◌, ◌++◌, drop}
-use Rattle.std.specs.List.{filter_map}
-use Rattle.gq_scope.specs.Held.{setting_in}
-use Rattle.gq_walk_check.proofs.patterns.named_vertices.Given as goal
-
-abbrev pub invariant-loop-name : goal.invariant-loop-name
-invariant-loop-name l =
-    filter_map (setting_in l.scope).words.vertex_type l.names ≡ l.types.items ++ filter_map (setting_in l.scope).words.vertex_type (drop l.name-index l.names)

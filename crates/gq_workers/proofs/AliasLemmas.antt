@@ -1,0 +1,81 @@
+-- AliasLemmas: the aliases of a candidate, and the names that they bring into view.
+use Rattle.std.proofs.Common.{◌≡◌, ℕ, zero, suc, ◌+◌, ◌-◌, ◌<◌, ◌≤◌, List, [], ◌∷◌, ◌++◌, map, take, set, length, get_or, Option, Some, None, refl, sym, ap, ap₂, ◌∙◌, arith, append-nil, append_assoc}
+use Rattle.std.specs.Option.{option_map, option_to_list}
+use Rattle.std.proofs.lemmas.List.{map-append}
+use Rattle.gq_graph.specs.declared.rows.Candidate.{Candidate}
+use Rattle.gq_rules_typing.specs.Patterns.{edge_alias}
+use Rattle.gq_rules_typing.specs.Selecting as plain
+use Rattle.gq_rules_meaning.specs.States.{Thing, a_vertex}
+use Rattle.gq_rules_meaning.specs.Sources.{From, named_as, edge_thing, target_thing, with_candidate}
+use Rattle.gq_plan_ir.specs.declared.block.PathStep.{PathStep}
+use Rattle.gq_plan_ir.specs.BlockView.{view_path_step}
+use Rattle.gq_plan_ir.specs.Reference.{Reference, Place}
+use Rattle.gq_frame.specs.declared.frame.Alias.{Alias}
+use Rattle.gq_frame.specs.Names.{Placed, AVertex, alias_of, alias_named, aliases_named}
+use Rattle.gq_exec_source.specs.declared.ends.Ends.{Ends}
+use Rattle.gq_exec_source.specs.Ends.{AreEnds, end_things}
+use Rattle.gq_workers.specs.Aliases.{target_bound, edge_bound, bound_to}
+
+-- ---- a row that is filled from its start
+
+pub put_more : (row : List Alias) (n : ℕ) (a : Alias) → n < length row → map alias_of (take (n + 1) (set row n a)) ≡ map alias_of (take n row) ++ (alias_of a ∷ [])
+put_more [] n a h = absurd (omega (arith, h))
+put_more (x ∷ row) zero a h = refl
+put_more (x ∷ row) (suc n) a h = (let e : suc n + 1 ≡ suc (n + 1) = omega arith in ap (λ (m : ℕ). map alias_of (take m (set (x ∷ row) (suc n) a))) e) ∙ ap (λ l. alias_of x ∷ l) (put_more row n a (omega (arith, h)))
+
+pub put_none : (row : List Alias) (n : ℕ) → map alias_of (take n row) ≡ map alias_of (take n row) ++ []
+put_none row n = sym (append-nil (map alias_of (take n row)))
+
+pub bind_all : (x0 x1 x2 x3 : List (ℕ × Placed)) (t e s t' e' s' : Option (ℕ × Placed)) → x0 ≡ [] → x1 ≡ x0 ++ option_to_list t → x2 ≡ x1 ++ option_to_list e → x3 ≡ x2 ++ option_to_list s → t ≡ t' → e ≡ e' → s ≡ s'
+    → x3 ≡ option_to_list t' ++ (option_to_list e' ++ option_to_list s')
+bind_all x0 x1 x2 x3 t e s t' e' s' p0 p1 p2 p3 pt pe ps =
+    p3 ∙ ap (λ l. l ++ option_to_list s) (p2 ∙ ap (λ l. l ++ option_to_list e) (p1 ∙ ap (λ l. l ++ option_to_list t) p0))
+    ∙ append_assoc (option_to_list t) (option_to_list e) (option_to_list s)
+    ∙ ap₂ (λ u v. option_to_list u ++ v) pt (ap₂ (λ u v. option_to_list u ++ option_to_list v) pe ps)
+
+-- ---- the last step of a path
+
+last_is : (s : PathStep) (steps : List PathStep) (x : PathStep) → x ≡ get_or (s ∷ steps) (length steps) x → option_map Place x.edge_alias ≡ edge_alias (plain.Path (map view_path_step (s ∷ steps)))
+last_is s [] x h = ap (λ (y : PathStep). option_map Place y.edge_alias) h
+last_is s (t ∷ steps) x h = last_is t steps x h
+
+pub last_step_is : (steps : List PathStep) (x : PathStep) → 1 ≤ length steps → x ≡ get_or steps (length steps - 1) x → option_map Place x.edge_alias ≡ edge_alias (plain.Path (map view_path_step steps))
+last_step_is [] x l h = absurd (omega (arith, l))
+last_step_is (s ∷ steps) x l h = let e : suc (length steps) - 1 ≡ length steps = omega arith in last_is s steps x (h ∙ ap (λ (n : ℕ). get_or (s ∷ steps) n x) e)
+
+-- ---- the names in view
+
+named_vertex : (a : Option ℕ) (types : List ℕ) (v : ℕ) (names : List (Reference × Thing)) → aliases_named (option_to_list (option_map (λ place. (place, AVertex types v)) a)) ++ names ≡ named_as (option_map Place a) (Some (a_vertex types v)) names
+named_vertex None types v names = refl
+named_vertex (Some place) types v names = refl
+
+named_target : (a : Option ℕ) (types : List ℕ) (v : Option ℕ) (names : List (Reference × Thing)) → aliases_named (option_to_list (target_bound (record { alias = a; types = types }) v)) ++ names ≡ named_as (option_map Place a) (target_thing types v) names
+named_target None types None names = refl
+named_target (Some place) types None names = refl
+named_target a types (Some v) names = named_vertex a types v names
+
+named_edge : (place r t : Option ℕ) (names : List (Reference × Thing)) → aliases_named (option_to_list (edge_bound place r t)) ++ names ≡ named_as (option_map Place place) (edge_thing r t) names
+named_edge None r t names = refl
+named_edge (Some place) None t names = refl
+named_edge (Some place) (Some r) None names = refl
+named_edge (Some place) (Some r) (Some t) names = refl
+
+appended : (xs ys : List (ℕ × Placed)) (names : List (Reference × Thing)) → aliases_named (xs ++ ys) ++ names ≡ aliases_named xs ++ (aliases_named ys ++ names)
+appended xs ys names = ap (λ l. l ++ names) (map-append alias_named xs ys) ∙ append_assoc (aliases_named xs) (aliases_named ys) names
+
+pub named_all : (ends : Ends) (edge : Option ℕ) (f : From Reference) (c : Candidate) (names : List (Reference × Thing)) → AreEnds ends f → option_map Place edge ≡ f.edge → aliases_named (bound_to ends edge c) ++ names ≡ with_candidate f c names
+named_all ends edge f c names are e =
+    let target = option_to_list (target_bound ends.target c.target) in let middle = option_to_list (edge_bound edge c.edge c.kind) in let source = option_to_list (end_things ends.source c.source) in
+    appended target (middle ++ source) names ∙ ap (λ l. aliases_named target ++ l) (appended middle source names)
+    ∙ named_target ends.target.alias ends.target.types c.target (aliases_named middle ++ (aliases_named source ++ names))
+    ∙ ap (named_as (option_map Place ends.target.alias) (target_thing ends.target.types c.target)) (named_edge edge c.edge c.kind (aliases_named source ++ names)
+    ∙ ap (named_as (option_map Place edge) (edge_thing c.edge c.kind)) (named_vertex ends.source.alias ends.source.types c.source names))
+    ∙ ap₂ (λ a ts. named_as a (target_thing ts c.target) (named_as (option_map Place edge) (edge_thing c.edge c.kind) (named_as (option_map Place ends.source.alias) (Some (a_vertex ends.source.types c.source)) names))) are.target are.target_types
+    ∙ ap (λ a. named_as f.target (target_thing f.target_types c.target) (named_as a (edge_thing c.edge c.kind) (named_as (option_map Place ends.source.alias) (Some (a_vertex ends.source.types c.source)) names))) e
+    ∙ ap₂ (λ a ts. named_as f.target (target_thing f.target_types c.target) (named_as f.edge (edge_thing c.edge c.kind) (named_as a (Some (a_vertex ts c.source)) names))) are.source are.source_types
+
+pub ruleset put_laws = (put_more, put_none)
+
+pub ruleset bind_laws = (bind_all)
+
+pub ruleset last_laws = (last_step_is)

@@ -1,0 +1,132 @@
+-- CrossingLemmas: what workers share, and what they leave, may cross threads. An enum or a struct that stands as a field of another has
+-- a lemma for that (`the_field`).
+use denote.Param.Send.{IsSend, IsSync, sendable}
+use denote.Ref.{NamedLft}
+use Rattle.std.proofs.Crossing.{crosses, sync}
+use Rattle.std.proofs.MapsCrossing as maps
+use Rattle.gq_base.proofs.list.List.TheSendSync as list_crosses
+use Rattle.gq_base.proofs.boxed.Boxed.TheSendSync as boxed_crosses
+use Rattle.gq_value.specs.contracts.value.Value as value
+use Rattle.gq_value.specs.contracts.kind.BaseType as base
+use Rattle.gq_value.specs.contracts.kind.Kind as kind
+use Rattle.gq_graph.specs.contracts.types.IdShape as id
+use Rattle.gq_graph.specs.contracts.types.Attribute as attribute
+use Rattle.gq_graph.specs.contracts.types.VertexType as vertex_type
+use Rattle.gq_graph.specs.contracts.types.EdgeType as edge_type
+use Rattle.gq_value.proofs.value.Value.TheLaws.TheKnot as value_knot
+use Rattle.gq_value.proofs.kind.BaseType.TheLaws.TheKnot as base_knot
+use Rattle.gq_value.proofs.kind.Kind.TheLaws.TheKnot as kind_knot
+pub use Rattle.gq_value.proofs.CrossingLemmas.{txt_sync}
+use Rattle.gq_value.proofs.CrossingLemmas.{value_sync, base_sync, input_send}
+use Rattle.gq_nest.specs.contracts.content.Content as content
+use Rattle.gq_nest.proofs.content.Content.TheLaws.TheKnot as content_knot
+use Rattle.gq_frame.specs.contracts.slots.Slots as slots
+use Rattle.gq_frame.specs.contracts.accums.Accums as accums
+use Rattle.gq_core.specs.contracts.batches.Batches as batches
+use Rattle.gq_eval_attributes.specs.contracts.tuple_type.TupleType as tuple_type
+use Rattle.gq_frame.specs.contracts.frame.Thing as thing
+use Rattle.gq_frame.specs.contracts.frame.Frame as frame
+use Rattle.gq_exec_source.specs.contracts.ends.End as end
+use Rattle.gq_exec_source.specs.contracts.ends.Ends as ends
+use Rattle.gq_workers.specs.contracts.direct.Name as name
+use Rattle.gq_workers.specs.contracts.direct.AliasRole as name_part
+use Rattle.gq_index.specs.contracts.store.Store as store
+use Rattle.gq_index.specs.contracts.index.Index as index
+use Rattle.gq_plan_ir.specs.contracts.expr.Field as field
+use Rattle.gq_index.specs.contracts.store.Graph as graph
+use Rattle.gq_workers.specs.contracts.work.Work as work
+use Rattle.gq_workers.specs.contracts.work.Round as round
+use Rattle.gq_workers.specs.contracts.work.ChunkOutput as left
+use Rattle.gq_workers.specs.contracts.work.WorkerOutput as part
+pub use Rattle.gq_plan_ir.proofs.CrossingLemmas.{block_sync, plan_sync}
+
+-- ---- what workers leave
+
+batches_send : IsSend batches.the_row
+batches_send = search (sendable, input_send, crosses) depth 20
+
+left_send : IsSend left.the_row
+left_send = search (sendable, batches_send, list_crosses.the_send, crosses) depth 30 fits 50000
+
+pub part_send : IsSend part.the_row
+part_send = search (sendable, left_send, list_crosses.the_send, crosses) depth 30 fits 50000
+
+-- ---- what they share
+
+pub tuple_sync : IsSync tuple_type.the_row
+tuple_sync = search (txt_sync, base_sync, list_crosses.the_sync, crosses, sendable) depth 30 fits 50000
+
+base_field : IsSync (base.the_field).row
+base_field = search (list_crosses.the_sync, crosses, base_knot.crosses, sendable) depth 30 fits 50000
+
+kind_field : IsSync (kind.the_field).row
+kind_field = search (base_field, base_sync, txt_sync, list_crosses.the_sync, boxed_crosses.the_sync, crosses, kind_knot.crosses, sendable) depth 30 fits 50000
+
+slots_sync : IsSync slots.the_row
+slots_sync = search (kind_field, list_crosses.the_sync, crosses, sendable) depth 30 fits 50000
+
+content_sync : IsSync content.the_row
+content_sync = search (value_sync, list_crosses.the_sync, boxed_crosses.the_sync, maps.crosses, crosses, content_knot.crosses, sendable) depth 30 fits 50000
+
+slots_field : IsSync (slots.the_field).row
+slots_field = search (kind_field, list_crosses.the_sync, crosses, sendable) depth 30 fits 50000
+
+accums_sync : IsSync accums.the_row
+accums_sync = search (slots_field, content_sync, list_crosses.the_sync, crosses, sendable) depth 30 fits 50000
+
+accums_field : IsSync (accums.the_field).row
+accums_field = search (slots_field, content_sync, list_crosses.the_sync, crosses, sendable) depth 30 fits 50000
+
+value_field : IsSync (value.the_field).row
+value_field = search (txt_sync, list_crosses.the_sync, crosses, value_knot.crosses, sendable) depth 30 fits 50000
+
+thing_sync : IsSync thing.the_row
+thing_sync = search (value_field, value_sync, list_crosses.the_sync, crosses, sendable) depth 30 fits 50000
+
+pub frame_sync : IsSync frame.the_row
+frame_sync = search (thing_sync, accums_field, list_crosses.the_sync, crosses, sendable) depth 30 fits 50000
+
+end_field : IsSync (end.the_field).row
+end_field = search (list_crosses.the_sync, crosses, sendable) depth 30 fits 50000
+
+pub ends_sync : IsSync ends.the_row
+ends_sync = search (end_field, list_crosses.the_sync, crosses, sendable) depth 30 fits 50000
+
+part_field : IsSync (name_part.the_field).row
+part_field = search (sendable) depth 30 fits 50000
+
+pub name_field : IsSync (name.the_field).row
+name_field = search (part_field, sendable) depth 30 fits 50000
+
+pub name_sync : IsSync name.the_row
+name_sync = search (part_field, sendable) depth 30 fits 50000
+
+pub field_sync : IsSync field.the_row
+field_sync = search (txt_sync, list_crosses.the_sync, crosses, sendable) depth 30 fits 50000
+
+pub store_sync : IsSync store.the_row
+store_sync = search (value_sync, txt_sync, list_crosses.the_sync, maps.crosses, crosses, sendable) depth 30 fits 50000
+
+pub index_sync : IsSync index.the_row
+index_sync = search (list_crosses.the_sync, maps.crosses, crosses, sendable) depth 30 fits 50000
+
+id_field : IsSync (id.the_field).row
+id_field = search (txt_sync, sendable) depth 30 fits 50000
+
+attribute_sync : IsSync attribute.the_row
+attribute_sync = search (base_field, value_sync, txt_sync, list_crosses.the_sync, crosses, sendable) depth 30 fits 50000
+
+pub vertex_type_sync : IsSync vertex_type.the_row
+vertex_type_sync = search (id_field, attribute_sync, txt_sync, list_crosses.the_sync, crosses, sendable) depth 30 fits 50000
+
+pub edge_type_sync : IsSync edge_type.the_row
+edge_type_sync = search (attribute_sync, txt_sync, list_crosses.the_sync, crosses, sendable) depth 30 fits 50000
+
+graph_field : (l : NamedLft) → IsSync (graph.the_field l).row
+graph_field l = search (store_sync, index_sync, vertex_type_sync, edge_type_sync, txt_sync, list_crosses.the_sync, crosses, sendable) depth 30 fits 50000
+
+pub work_sync : (l : NamedLft) → IsSync (work.the_row l)
+work_sync l = search (block_sync, ends_sync, name_field, name_sync, field_sync, list_crosses.the_sync, crosses, sendable) depth 30 fits 50000
+
+pub round_sync : (l : NamedLft) → IsSync (round.the_row l)
+round_sync l = search (graph_field, plan_sync, tuple_sync, frame_sync, work_sync, sync, crosses, sendable) depth 30 fits 50000

@@ -1,0 +1,13 @@
+pub mod AliasLemmas
+pub mod CopyLemmas
+pub mod FoundLemmas
+pub mod FeedLemmas
+pub mod MarkLemmas
+pub mod ListLemmas
+pub mod EndLemmas
+pub mod RunLemmas
+pub mod RoundLemmas
+pub mod DirectLemmas
+pub mod GatherLemmas
+pub mod ComesLemmas
+pub mod CrossingLemmas

@@ -1,0 +1,5 @@
+use Rattle.gq_workers.proofs.RoundLemmas.{PartTo}
+use Rattle.gq_workers.proofs.workers.work_part.Given as goal
+
+abbrev pub invariant-loop : goal.invariant-loop
+invariant-loop g l = PartTo g.C.Clock.clock l.over l.work l.first l.last l.lefts l.found

@@ -1,0 +1,231 @@
+-- Running: what comes of candidates one after another, what of it waits, what is fed, and which vertices are marked by then.
+use Rattle.std.specs.Prelude.{◌≡◌, ◌==◌, ◌||◌, ℕ, ℤ, suc, ◌*◌, ◌<◌, ◌≤◌, Bool, true, false, List, [], ◌∷◌, ◌++◌, length, map, filter_map, take, slice_get, Option, Some, None}
+use Rattle.std.specs.Option.{option_map}
+use Rattle.std.specs.List.{All, flat_map}
+use Rattle.gq_value.specs.declared.kind.Input.{Input}
+use Rattle.gq_graph.specs.declared.rows.Candidate.{Candidate}
+use Rattle.gq_value.specs.declared.value.Wrong.{Wrong}
+use Rattle.gq_graph.specs.Candidates.{among}
+use Rattle.gq_frame.specs.declared.accums.Accums.{Accums}
+use Rattle.gq_frame.specs.declared.slots.Slots.{Slots}
+use Rattle.gq_exec_source.specs.Marks.{is_marked}
+use Rattle.gq_rules_meaning.specs.Answers.{Answer, Gives, Faults, ◌>>=◌, blaming}
+use Rattle.gq_rules_meaning.specs.Blocks.{BlockFault, AtPlace, Contribution, Match, match_of}
+use Rattle.gq_rules_meaning.specs.Calendars.{Calendar}
+use Rattle.gq_plan_ir.specs.declared.block.Block.{Block}
+use Rattle.gq_plan_ir.specs.BlockView.{view_block, view_walk}
+use Rattle.gq_plan_ir.specs.Reference.{Place}
+use Rattle.gq_frame.specs.Names.{Placed}
+use Rattle.gq_frame.specs.Slots.{slots_are}
+use Rattle.gq_rules_typing.specs.Patterns.{edge_alias}
+use Rattle.gq_eval_context.specs.Viewed.{Over, viewed}
+use Rattle.gq_eval_context.specs.Looks.{look_of}
+use Rattle.gq_exec_source.specs.declared.ends.Ends.{Ends}
+use Rattle.gq_exec_source.specs.Ends.{HasEnds}
+use Rattle.gq_exec_source.specs.Starts.{IsWithin, AreCandidates}
+use Rattle.gq_exec_feed.specs.Taking.{MayTake, AreBatched}
+use Rattle.gq_exec_feed.specs.Feeding.{AreAfter}
+use Rattle.gq_exec_contribute.specs.Passing.{Comes}
+use Rattle.gq_exec_contribute.specs.declared.candidate.Outcome.{Outcome}
+use Rattle.gq_workers.specs.declared.found.MatchBuffer.{MatchBuffer}
+use Rattle.gq_workers.specs.declared.work.Work.{Work}
+use Rattle.gq_workers.specs.declared.run.BlockProgress.{BlockProgress}
+use Rattle.gq_exec_feed.specs.Ints.{as_inputs}
+use Rattle.gq_workers.specs.declared.direct.Simple.{Simple}
+use Rattle.gq_workers.specs.Aliases.{bound_to}
+use Rattle.gq_workers.specs.Direct.{IsDirect}
+
+-- ---- candidates
+
+-- what comes of a candidate under aliases: it sees these, and the accumulators from before the block
+abbrev pub comes_under : Calendar → Over → Block → List (ℕ × Placed) → Candidate → Answer Wrong (List Match)
+comes_under clock o block aliases c = match_of (view_block block) (slots_are o.frame.accums) c (look_of clock (viewed o aliases o.frame.accums o.frame.accums))
+
+-- under its own
+abbrev pub comes : Calendar → Over → Block → Ends → Option ℕ → Candidate → Answer Wrong (List Match)
+comes clock o block ends edge c = comes_under clock o block (bound_to ends edge c) c
+
+-- whichever candidate has these aliases
+abbrev pub ComesUnder : Calendar → Over → Block → List (ℕ × Placed) → List (List (ℕ × Input)) → List (List (ℕ × Input)) → Outcome → Type 0
+ComesUnder clock o block aliases old new outcome = (c : Candidate) → Comes o.frame.accums.slots c (comes_under clock o block aliases c) old new outcome
+
+-- the matches among candidates that are numbered from n on, where this comes of each; the first fault counts
+abbrev pub matches_by : (Candidate → Answer Wrong (List Match)) → ℕ → List Candidate → Answer BlockFault (List Match)
+matches_by go n [] = Gives []
+matches_by go n (c ∷ cs) = blaming (AtPlace n) (go c) >>= λ m. matches_by go (suc n) cs >>= λ ms. Gives (m ++ ms)
+
+-- the first candidates are gone through without a fault, and these are their matches
+abbrev pub MatchesTo : (Candidate → Answer Wrong (List Match)) → List Candidate → ℕ → List Match → Type 0
+MatchesTo go cs end ms = matches_by go 0 (take end cs) ≡ Gives ms
+
+-- once the candidates before `start` are gone through, those up to `end` give these matches more
+abbrev pub GoOn : (Candidate → Answer Wrong (List Match)) → List Candidate → ℕ → ℕ → List Match → Type 0
+GoOn go cs start end ms = (before : List Match) → MatchesTo go cs start before → MatchesTo go cs end (before ++ ms)
+
+-- once they are gone through, this is the first fault
+abbrev pub FaultAt : (Candidate → Answer Wrong (List Match)) → List Candidate → ℕ → ℕ → Wrong → Type 0
+FaultAt go cs start place w = (before : List Match) → MatchesTo go cs start before → matches_by go 0 cs ≡ Faults (AtPlace place w)
+
+-- ---- what waits, and what is fed
+
+abbrev pub gives_of : List Match → List Contribution
+gives_of ms = flat_map (λ (m : Match). m.gives) ms
+
+abbrev pub sources_of : List Match → List ℕ
+sources_of ms = map (λ (m : Match). m.candidate.source) ms
+
+abbrev pub targets_of : List Match → List ℕ
+targets_of ms = filter_map (λ (m : Match). m.candidate.target) ms
+
+-- what these matches contribute waits in the one batch, and behind it as INTs at hand
+pub record Wait (o : Over) (ms : List Match) (batches : List (List (ℕ × Input))) (ints : List (ℕ × ℤ)) : Type 0 where
+  pub may : All (MayTake o.frame.accums.slots) (gives_of ms)
+  pub batch : List (ℕ × Input)
+  pub waiting : batches ≡ batch ∷ []
+  pub batched : AreBatched o.frame.accums.slots (gives_of ms) (batch ++ as_inputs ints)
+  pub within : All (λ (m : Match). IsWithin (length o.vertices) m.candidate) ms
+
+-- what these matches contribute is fed, and nothing else
+pub record AreFedTo (o : Over) (ms : List Match) (accums : Accums) (fed : ℕ) : Type 0 where
+  pub after : AreAfter 1 o.frame.accums accums (gives_of ms)
+  pub counted : fed ≡ length (gives_of ms)
+  pub within : All (λ (m : Match). IsWithin (length o.vertices) m.candidate) ms
+
+-- whatever was fed before, what waits is fed behind it
+pub record FedFrom (old new : Accums) (fed : ℕ) (batches : List (List (ℕ × Input))) (ints : List (ℕ × ℤ)) (now : ℕ) : Type 0 where
+  pub each : (o : Over) (ms more : List Match) → AreFedTo o ms old fed → Wait o more batches ints → AreFedTo o (ms ++ more) new now
+
+-- ---- which vertices are marked
+
+-- the candidate at a place is a match with this vertex at an end
+pub record IsAtEnd (ends_of : List Match → List ℕ) (go : Candidate → Answer Wrong (List Match)) (cs : List Candidate) (place vertex : ℕ) : Type 0 where
+  pub candidate : Candidate
+  pub matched : List Match
+  pub stands : slice_get cs place ≡ Some candidate
+  pub comes : go candidate ≡ Gives matched
+  pub ends : among (ends_of matched) vertex ≡ true
+
+-- of the candidates from `start` up to `end` all matches have their marks
+abbrev pub Cover : (List Match → List ℕ) → (Candidate → Answer Wrong (List Match)) → List Candidate → ℕ → ℕ → List ℕ → Type 0
+Cover ends_of go cs start end words = (place vertex : ℕ) → start ≤ place → place < end → IsAtEnd ends_of go cs place vertex → is_marked words vertex ≡ true
+
+-- marks stay, and what is marked anew is at an end of one of these matches
+pub record Mark (ends_of : List Match → List ℕ) (go : Candidate → Answer Wrong (List Match)) (cs : List Candidate) (start end : ℕ) (old new : List ℕ) : Type 0 where
+  pub kept : (vertex : ℕ) → is_marked old vertex ≡ true → is_marked new vertex ≡ true
+  pub only : (vertex : ℕ) → is_marked new vertex ≡ true → is_marked old vertex ≡ false → (place : ℕ) × (start ≤ place) × (place < end) × IsAtEnd ends_of go cs place vertex
+
+-- the marks are those of the matches among the first candidates
+pub record AreMarked (ends_of : List Match → List ℕ) (go : Candidate → Answer Wrong (List Match)) (cs : List Candidate) (end : ℕ) (words : List ℕ) : Type 0 where
+  pub cover : Cover ends_of go cs 0 end words
+  pub only : (vertex : ℕ) → is_marked words vertex ≡ true → (place : ℕ) × (place < end) × IsAtEnd ends_of go cs place vertex
+
+-- one match more is marked, or none
+abbrev pub MarkThose : (List Match → List ℕ) → List Match → List ℕ → List ℕ → Type 0
+MarkThose ends_of ms old new = (vertex : ℕ) → is_marked new vertex ≡ (among (ends_of ms) vertex || is_marked old vertex)
+
+-- as few words of marks as any store needs
+pub record IsShort (found : MatchBuffer) : Type 0 where
+  pub sources : length found.sources ≤ 67108863
+  pub targets : length found.targets ≤ 67108863
+
+-- one batch, and a mark for each vertex
+pub record IsShaped (vertices : ℕ) (found : MatchBuffer) : Type 0 where
+  pub one : length found.batches ≡ 1
+  pub sources : vertices ≤ length found.sources * 64
+  pub targets : vertices ≤ length found.targets * 64
+  pub short : IsShort found
+
+-- nothing waits
+pub record IsEmpty (found : MatchBuffer) : Type 0 where
+  pub batches : found.batches ≡ [] ∷ []
+  pub ints : found.ints ≡ []
+
+-- nothing was found yet
+pub record IsOpened (vertices : ℕ) (found : MatchBuffer) : Type 0 where
+  pub shaped : vertices ≤ 4194304 → IsShaped vertices found
+  pub empty : IsEmpty found
+  pub sources : (v : ℕ) → is_marked found.sources v ≡ false
+  pub targets : (v : ℕ) → is_marked found.targets v ≡ false
+
+-- these INTs are added to the one batch, as inputs
+pub record AddsInts (ints : List (ℕ × ℤ)) (old new : List (List (ℕ × Input))) : Type 0 where
+  pub each : (batch : List (ℕ × Input)) → old ≡ batch ∷ [] → new ≡ (batch ++ as_inputs ints) ∷ []
+
+-- what waits goes on waiting, and the marks are the same
+pub record Settles (old new : MatchBuffer) : Type 0 where
+  pub shaped : (vertices : ℕ) → IsShaped vertices old → IsShaped vertices new
+  pub wait : (o : Over) (ms : List Match) → Wait o ms old.batches old.ints → Wait o ms new.batches new.ints
+  pub sources : new.sources ≡ old.sources
+  pub targets : new.targets ≡ old.targets
+
+-- ---- one candidate
+
+-- what comes of a candidate waits behind what waited, and its ends are marked; one that faults marks nothing
+abbrev pub Tried : Over → Answer Wrong (List Match) → MatchBuffer → MatchBuffer → Option Wrong → Type 0
+Tried o go old new None = (m : List Match) × (go ≡ Gives m) × ((ms : List Match) → Wait o ms old.batches old.ints → Wait o (ms ++ m) new.batches new.ints) × MarkThose sources_of m old.sources new.sources × MarkThose targets_of m old.targets new.targets
+Tried o go old new (Some w) = (go ≡ Faults w) × (new.sources ≡ old.sources) × (new.targets ≡ old.targets)
+
+-- a candidate whose acts feed INTs that are at hand is done; else nothing has changed
+abbrev pub Done : Calendar → Over → Candidate → Option (List Simple) → MatchBuffer → MatchBuffer → Bool → Type 0
+Done clock o c None old new true = ⊥
+Done clock o c (Some ss) old new true = ((block : Block) (ends : Ends) (edge : Option ℕ) → IsDirect ends edge o.frame.accums.slots block ss → Tried o (comes clock o block ends edge c) old new None) × IsShaped (length o.vertices) new
+Done clock o c ss old new false = new ≡ old
+
+-- whether a vertex is that at an end
+abbrev pub marks_end : Option ℕ → ℕ → Bool
+marks_end None v = false
+marks_end (Some w) v = v == w
+
+-- ---- some candidates one after another
+
+-- acts that stand for those of the block, if there are any
+abbrev pub AreDirect : Ends → Option ℕ → Slots → Block → Option (List Simple) → Type 0
+AreDirect ends edge slots block None = Unit {0}
+AreDirect ends edge slots block (Some ss) = IsDirect ends edge slots block ss
+
+-- what a run goes through
+pub record IsWork (o : Over) (w : Work) : Type 0 where
+  pub ends : HasEnds o.schema o.plan o.frame.things w.block.now w.ends.now
+  pub edge : option_map Place w.edge ≡ edge_alias (view_walk w.block.now.walk)
+  pub candidates : AreCandidates o w.block.now w.candidates
+  pub direct : AreDirect w.ends.now w.edge o.frame.accums.slots w.block.now w.direct
+  pub some : 1 ≤ w.size
+
+abbrev pub come : Calendar → Over → Work → Candidate → Answer Wrong (List Match)
+come clock o w = comes clock o w.block.now w.ends.now w.edge
+
+-- what the candidates from one place to another leave: what their matches contribute waits, or there is a first fault
+abbrev pub Came : (Candidate → Answer Wrong (List Match)) → List Candidate → Over → ℕ → ℕ → List (List (ℕ × Input)) → List (ℕ × ℤ) → Option (ℕ × Wrong) → Type 0
+Came go cs o start end batches ints None = (ms : List Match) × GoOn go cs start end ms × Wait o ms batches ints
+Came go cs o start end batches ints (Some fault) = FaultAt go cs start fault.0 fault.1
+
+-- where there was no fault the matches have their marks
+abbrev pub CoverWhole : (List Match → List ℕ) → (Candidate → Answer Wrong (List Match)) → List Candidate → ℕ → ℕ → List ℕ → Option (ℕ × Wrong) → Type 0
+CoverWhole ends_of go cs start end words None = Cover ends_of go cs start end words
+CoverWhole ends_of go cs start end words (Some fault) = Unit {0}
+
+-- all of them are tried, or all up to the first fault
+pub record GoneThrough (go : Candidate → Answer Wrong (List Match)) (cs : List Candidate) (o : Over) (start end : ℕ) (old new : MatchBuffer) (fault : Option (ℕ × Wrong)) : Type 0 where
+  pub came : Came go cs o start end new.batches new.ints fault
+  pub shaped : IsShaped (length o.vertices) new
+  pub sources : Mark sources_of go cs start end old.sources new.sources
+  pub targets : Mark targets_of go cs start end old.targets new.targets
+  pub cover_sources : CoverWhole sources_of go cs start end new.sources fault
+  pub cover_targets : CoverWhole targets_of go cs start end new.targets fault
+
+-- ---- a run
+
+-- the candidates before a place are gone through, and what they gave is fed
+pub record HasRun (clock : Calendar) (o : Over) (w : Work) (r : BlockProgress) : Type 0 where
+  pub matched : List Match
+  pub ran : MatchesTo (come clock o w) w.candidates r.at matched
+  pub fed : AreFedTo o matched r.accums r.fed
+  pub empty : IsEmpty r.found
+  pub shaped : IsShaped (length o.vertices) r.found
+  pub sources : AreMarked sources_of (come clock o w) w.candidates r.at r.found.sources
+  pub targets : AreMarked targets_of (come clock o w) w.candidates r.at r.found.targets
+
+-- it comes further, or to the first fault
+abbrev pub Steps : Calendar → Over → Work → BlockProgress → BlockProgress → Option (ℕ × Wrong) → Type 0
+Steps clock o w old new None = HasRun clock o w new × (old.at < new.at)
+Steps clock o w old new (Some fault) = matches_by (come clock o w) 0 w.candidates ≡ Faults (AtPlace fault.0 fault.1)

@@ -1,0 +1,176 @@
+// The run of a block.
+ghost use Rattle.std.specs.Prelude.{◌<◌, length, IfOk};
+ghost use Rattle.gq_exec_source.specs.Ends.{HasEnds};
+ghost use Rattle.gq_workers.specs.Results.{Answers, IsWorkOf, Leaves, RanTo};
+ghost use Rattle.gq_workers.specs.Running.{IsWork, HasRun, Steps};
+
+use crate::aliases::edge_place;
+use crate::chunk::try_chunk;
+use crate::direct::direct_of;
+use crate::run::{BlockProgress, feed, judged};
+use crate::work::Work;
+use crate::workers::next_round;
+use gq_base::OutOfMemory;
+use gq_eval_context::{After, BlockFault, Clock, Setting};
+use gq_exec_source::{Ends, candidates_of};
+use gq_io::{Gate, Shape};
+use gq_plan_ir::Block;
+use gq_value::Wrong;
+use std::alloc::Global;
+use std::thread::Threads;
+
+/// How far a run came: all candidates are gone through, or one of them faults.
+#[derive(Drop)]
+pub(crate) enum Ran {
+    Done(BlockProgress),
+
+    /// The place of the first one, and its fault.
+    Fault(u64, Wrong),
+}
+
+/// WHERE and ACCUM of a block with these ends: the accumulators after all contributions, and the distinct matched vertices, by number.
+///
+/// Up to `shape.workers` workers, at most 64, draw chunks of `shape.chunk` candidates; a chunk of 0 counts as 1. A worker that can't be
+/// started is run by the caller. What they find is fed in the order of the candidates, so the answer is the same for each shape. The
+/// fault is that of the first candidate in order that has one; sums are judged once all inputs are fed. Each worker passes the gate
+/// after it has drawn a chunk. Along a path it answers OutOfMemory. More than 2^60 inputs are `OutOfMemory` too. The frame is lent, and stays
+/// as it is.
+#[tactic(auto, using(crate::proofs::RunLemmas::end_laws))]
+pub fn run_block<R: Threads + Sync, C: Clock + Sync, G: Gate>(
+    rt: &R,
+    alloc: Global,
+    block: &Block,
+    over: &Setting<'_, C>,
+    ends: &Ends,
+    shape: &Shape,
+    gate: &G,
+) -> Result<After, BlockFault>
+    requires { HasEnds over.now.schema over.now.plan over.now.frame.things block.now ends.now }
+    ensures answered { Answers C.clock over.now block.now result }
+    ensures left { IfOk result (Leaves over.now) }
+{
+    match run_all(rt, alloc, block, over, ends, shape, gate) {
+        Err(OutOfMemory) => Err(BlockFault::OutOfMemory),
+        Ok(Ran::Fault(at, fault)) => Err(BlockFault::Eval { at, fault }),
+        Ok(Ran::Done(run)) => judged(alloc, run),
+    }
+}
+
+/// Finds the candidates, and goes through them.
+fn run_all<R: Threads + Sync, C: Clock + Sync, G: Gate>(
+    rt: &R,
+    alloc: Global,
+    block: &Block,
+    over: &Setting<'_, C>,
+    ends: &Ends,
+    shape: &Shape,
+    gate: &G,
+) -> Result<Ran, OutOfMemory>
+    requires { HasEnds over.now.schema over.now.plan over.now.frame.things block.now ends.now }
+    ensures { IfOk result (RanTo C.clock over.now block.now) }
+{
+    let work = work_of(alloc, block, over, ends, shape)?;
+    through(rt, alloc, &work, over, shape.workers, gate)
+}
+
+/// The candidates of a block, and what they are tried by.
+fn work_of<'b, C: Clock>(
+    alloc: Global,
+    block: &'b Block,
+    over: &Setting<'_, C>,
+    ends: &'b Ends,
+    shape: &Shape,
+) -> Result<Work<'b>, OutOfMemory>
+    requires { HasEnds over.now.schema over.now.plan over.now.frame.things block.now ends.now }
+    ensures { IfOk result (IsWorkOf over.now block.entry.now) }
+{
+    let candidates = candidates_of(alloc, block, over, ends)?;
+    let edge = edge_place(&block.walk);
+    let direct = direct_of(alloc, block, ends, edge, &over.frame.accums.slots)?;
+    Ok(Work {
+        block,
+        ends,
+        edge,
+        direct,
+        candidates,
+        size: shape.chunk.max(1),
+    })
+}
+
+/// Goes through the candidates, chunk by chunk on this thread or round by round with several workers, up to the first that faults.
+fn through<R: Threads + Sync, C: Clock + Sync, G: Gate>(
+    rt: &R,
+    alloc: Global,
+    work: &Work<'_>,
+    over: &Setting<'_, C>,
+    workers: u32,
+    gate: &G,
+) -> Result<Ran, OutOfMemory>
+    requires { IsWork over.now work.now }
+    ensures { IfOk result (RanTo C.clock over.now work.now.block.now) }
+{
+    let mut run = BlockProgress::open(alloc, over)?;
+    while run.at < work.candidates.count() {
+        match go_on(rt, alloc, work, over, workers, gate, &mut run)? {
+            Some((at, fault)) => return Ok(Ran::Fault(at, fault)),
+            None => {}
+        }
+    }
+    Ok(Ran::Done(run))
+}
+
+/// The next chunk on this thread, or the next round of several workers: all chunks of it are gone through and fed, or a candidate of it
+/// is the first that faults.
+fn go_on<R: Threads + Sync, C: Clock + Sync, G: Gate>(
+    rt: &R,
+    alloc: Global,
+    work: &Work<'_>,
+    over: &Setting<'_, C>,
+    workers: u32,
+    gate: &G,
+    run: &mut BlockProgress,
+) -> Result<Option<(u64, Wrong)>, OutOfMemory>
+    requires work { IsWork over.now work.now }
+    requires run { HasRun C.clock over.now work.now run.old }
+    requires more { run.old.at < length work.now.candidates }
+    ensures { IfOk result (Steps C.clock over.now work.now run.old run.new) }
+{
+    if workers <= 1 || work.size >= work.candidates.count() {
+        return next_chunk(alloc, work, over, gate, run);
+    }
+    next_round(rt, alloc, work, over, workers.min(64), gate, run)
+}
+
+/// Goes through the next chunk on this thread, and feeds what it contributes. The gate is passed as worker 0.
+fn next_chunk<C: Clock, G: Gate>(
+    alloc: Global,
+    work: &Work<'_>,
+    over: &Setting<'_, C>,
+    gate: &G,
+    run: &mut BlockProgress,
+) -> Result<Option<(u64, Wrong)>, OutOfMemory>
+    requires work { IsWork over.now work.now }
+    requires run { HasRun C.clock over.now work.now run.old }
+    requires more { run.old.at < length work.now.candidates }
+    ensures { IfOk result (Steps C.clock over.now work.now run.old run.new) }
+{
+    let start = run.at;
+    let end = start.saturating_add(work.size).min(work.candidates.count());
+    gate.pass(0, start / work.size);
+    match try_chunk(alloc, work, over, start, end, &mut run.found)? {
+        Some(fault) => return Ok(Some(fault)),
+        None => {}
+    }
+    let found = &mut run.found;
+    run.fed = feed(
+        alloc,
+        &mut run.accums,
+        run.fed,
+        &found.batches,
+        found.ints.as_slice(),
+    )?;
+    found.batches.clear();
+    found.ints.truncate(0);
+    run.at = end;
+    Ok(None)
+}

@@ -1,0 +1,176 @@
+// What a candidate leaves.
+ghost use Rattle.std.specs.Prelude.{◌≡◌, ◌||◌, ◌*◌, ℕ, [], Some, length, map, IfOk};
+ghost use Rattle.gq_exec_contribute.specs.Passing.{Comes};
+ghost use Rattle.gq_exec_source.specs.Marks.{is_marked};
+ghost use Rattle.gq_exec_source.specs.Starts.{IsBelow, IsWithin};
+ghost use Rattle.gq_frame.specs.Names.{alias_of};
+ghost use Rattle.gq_workers.specs.Running.{AreDirect, ComesUnder, Done, IsShaped, Tried, come, comes, marks_end};
+
+use crate::aliases::{bind, no_alias};
+use crate::direct::Simple;
+use crate::found::MatchBuffer;
+use crate::gather::gather;
+use crate::work::Work;
+use gq_base::{List, OutOfMemory};
+use gq_core::Batches;
+use gq_eval_context::{Clock, Setting};
+use gq_exec_contribute::{Outcome, Room, contribute};
+use gq_exec_source::{Ends, mark};
+use gq_frame::Alias;
+use gq_graph::Candidate;
+use gq_plan_ir::Block;
+use gq_value::Wrong;
+use std::alloc::Global;
+
+/// Tries a candidate: what a match contributes waits, and its ends are marked; the fault of one that faults is told. Where acts stand for
+/// the block's, what they read is all that it contributes; they are asked where INTs are at hand.
+pub(crate) fn try_one<C: Clock>(
+    alloc: Global,
+    work: &Work<'_>,
+    over: &Setting<'_, C>,
+    at_hand: bool,
+    candidate: Candidate,
+    found: &mut MatchBuffer,
+) -> Result<Option<Wrong>, OutOfMemory>
+    requires within { IsWithin (length over.now.vertices) candidate }
+    requires shaped { IsShaped (length over.now.vertices) found.old }
+    requires direct { AreDirect work.now.ends.now work.now.edge over.now.frame.accums.slots work.now.block.now work.now.direct }
+    ensures tried { IfOk result (Tried over.now (come C.clock over.now work.now candidate) found.old found.new) }
+    ensures shaped { IfOk result (λ _. IsShaped (length over.now.vertices) found.new) }
+{
+    if is_done(&work.direct, at_hand, over, candidate, found)? {
+        return Ok(None);
+    }
+    found.settle()?;
+    try_candidate(
+        alloc, work.block, over, work.ends, work.edge, candidate, found,
+    )
+}
+
+/// Whether acts feed INTs that are at hand: then the candidate is done, and else nothing has changed.
+fn is_done<C: Clock>(
+    direct: &Option<List<Simple<'_>>>,
+    at_hand: bool,
+    over: &Setting<'_, C>,
+    candidate: Candidate,
+    found: &mut MatchBuffer,
+) -> Result<bool, OutOfMemory>
+    requires within { IsWithin (length over.now.vertices) candidate }
+    requires shaped { IsShaped (length over.now.vertices) found.old }
+    ensures { IfOk result (Done C.clock over.now candidate direct.now found.old found.new) }
+{
+    match direct {
+        Some(simple) => {
+            if !at_hand {
+                return Ok(false);
+            }
+            by_ints(simple.as_slice(), over, candidate, found)
+        }
+        None => Ok(false),
+    }
+}
+
+/// Gathers the INTs that acts feed, and marks the ends; or changes nothing, where one of them feeds something else.
+fn by_ints<C: Clock>(
+    simple: &[Simple<'_>],
+    over: &Setting<'_, C>,
+    candidate: Candidate,
+    found: &mut MatchBuffer,
+) -> Result<bool, OutOfMemory>
+    requires within { IsWithin (length over.now.vertices) candidate }
+    requires shaped { IsShaped (length over.now.vertices) found.old }
+    ensures { IfOk result (Done C.clock over.now candidate (Some simple.now) found.old found.new) }
+{
+    if !gather(simple, over.graph, candidate, &mut found.ints)? {
+        return Ok(false);
+    }
+    mark(&mut found.sources, candidate.source);
+    mark_end(&mut found.targets, candidate.target);
+    Ok(true)
+}
+
+/// Tries a candidate by evaluating its acts. What a match contributes waits in the batch, and its ends are marked; the fault of one that
+/// faults is told.
+#[tactic(auto, using(crate::proofs::FoundLemmas::tried_laws))]
+fn try_candidate<C: Clock>(
+    alloc: Global,
+    block: &Block,
+    over: &Setting<'_, C>,
+    ends: &Ends,
+    edge: Option<u32>,
+    candidate: Candidate,
+    found: &mut MatchBuffer,
+) -> Result<Option<Wrong>, OutOfMemory>
+    requires settled { found.old.ints ≡ [] }
+    requires within { IsWithin (length over.now.vertices) candidate }
+    requires shaped { IsShaped (length over.now.vertices) found.old }
+    ensures tried { IfOk result (Tried over.now (comes C.clock over.now block.now ends.now edge candidate) found.old found.new) }
+    ensures shaped { IfOk result (λ _. IsShaped (length over.now.vertices) found.new) }
+{
+    let room = &mut found.room;
+    match outcome_of(
+        alloc,
+        block,
+        over,
+        ends,
+        edge,
+        candidate,
+        room,
+        &mut found.batches,
+    ) {
+        Err(OutOfMemory) => Err(OutOfMemory),
+        Ok(Outcome::Fault(fault)) => Ok(Some(fault)),
+        Ok(Outcome::Filtered) => Ok(None),
+        Ok(Outcome::Passed) => {
+            mark(&mut found.sources, candidate.source);
+            mark_end(&mut found.targets, candidate.target);
+            Ok(None)
+        }
+    }
+}
+
+/// What comes of a candidate: it sees its aliases, and the accumulators of the frame.
+fn outcome_of<C: Clock>(
+    alloc: Global,
+    block: &Block,
+    over: &Setting<'_, C>,
+    ends: &Ends,
+    edge: Option<u32>,
+    candidate: Candidate,
+    room: &mut Room,
+    into: &mut Batches,
+) -> Result<Outcome, OutOfMemory>
+    ensures { IfOk result (Comes over.now.frame.accums.slots candidate (comes C.clock over.now block.now ends.now edge candidate) into.old into.new) }
+{
+    let mut row = [no_alias(); 3];
+    let count = bind(&mut row, ends, edge, candidate);
+    outcome_under(alloc, block, over, &row[..count], room, into)
+}
+
+/// What comes of a candidate with these aliases.
+fn outcome_under<C: Clock>(
+    alloc: Global,
+    block: &Block,
+    over: &Setting<'_, C>,
+    aliases: &[Alias<'_>],
+    room: &mut Room,
+    into: &mut Batches,
+) -> Result<Outcome, OutOfMemory>
+    ensures { IfOk result (ComesUnder C.clock over.now block.now (map alias_of aliases.now) into.old into.new) }
+{
+    let accums = &over.frame.accums;
+    let view = over.view(aliases, accums, accums);
+    contribute(alloc, block, &view, accums, room, into)
+}
+
+/// Marks the vertex at an end, if there is one.
+fn mark_end(words: &mut List<u64>, vertex: Option<u32>)
+    requires { IsBelow (length words.old * 64) vertex }
+    ensures len { length words.new ≡ length words.old }
+    ensures marks { (v : ℕ) → is_marked words.new v ≡ (marks_end vertex v || is_marked words.old v) }
+{
+    match vertex {
+        Some(vertex) => mark(words, vertex),
+        None => {}
+    }
+}

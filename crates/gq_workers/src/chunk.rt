@@ -1,0 +1,151 @@
+// Chunks of candidates, and the rows of their edges read ahead.
+ghost use Rattle.std.specs.Prelude.{◌≤◌, length, IfOk};
+ghost use Rattle.gq_workers.specs.Running.{GoneThrough, IsEmpty, IsShaped, IsWork, come};
+
+use crate::candidate::try_one;
+use crate::direct::{AliasRole, Leaf, Simple};
+use crate::found::MatchBuffer;
+use crate::work::Work;
+use gq_base::{List, OutOfMemory};
+use gq_eval_context::{Clock, Setting};
+use gq_graph::EdgeRow;
+use gq_index::{Candidates, Cursor, Graph};
+use gq_plan_ir::Field;
+use gq_value::{Value, Wrong};
+use std::alloc::Global;
+
+/// Tries the candidates from `start` up to `end` in order, or up to the first that faults, whose place and fault are told. What they
+/// contribute waits.
+pub(crate) fn try_chunk<C: Clock>(
+    alloc: Global,
+    work: &Work<'_>,
+    over: &Setting<'_, C>,
+    start: u64,
+    end: u64,
+    found: &mut MatchBuffer,
+) -> Result<Option<(u64, Wrong)>, OutOfMemory>
+    requires forward { start ≤ end }
+    requires within { end ≤ length work.now.candidates }
+    requires work { IsWork over.now work.now }
+    requires empty { IsEmpty found.old }
+    requires shaped { IsShaped (length over.now.vertices) found.old }
+    ensures { IfOk result (GoneThrough (come C.clock over.now work.now) work.now.candidates over.now start end found.old found.new) }
+{
+    let at_hand = has_ints_at_hand(work, over.graph, start, end, &mut found.edges)?;
+    let mut cursor = Cursor::new();
+    for place in start..end {
+        let candidate = work.candidates.near(place, &mut cursor);
+        match try_one(alloc, work, over, at_hand, candidate, found)? {
+            Some(fault) => return Ok(Some((place, fault))),
+            None => {}
+        }
+    }
+    Ok(None)
+}
+
+/// Whether INTs that acts feed are at hand for these candidates. Where acts feed an attribute of the edge, the rows of the edges are
+/// read ahead.
+fn has_ints_at_hand(
+    work: &Work<'_>,
+    graph: Graph<'_>,
+    start: u64,
+    end: u64,
+    edges: &mut List<u32>,
+) -> Result<bool, OutOfMemory> {
+    match &work.direct {
+        None => Ok(false),
+        Some(simple) => match edge_attribute(simple.as_slice()) {
+            None => Ok(true),
+            Some(field) => {
+                list_edges(&work.candidates, start, end, edges)?;
+                Ok(has_ints(graph.store.edges.rows(), edges.as_slice(), field))
+            }
+        },
+    }
+}
+
+/// Lists the edges of these candidates.
+fn list_edges(
+    candidates: &Candidates,
+    start: u64,
+    end: u64,
+    edges: &mut List<u32>,
+) -> Result<(), OutOfMemory> {
+    edges.truncate(0);
+    let mut cursor = Cursor::new();
+    for place in start..end.min(candidates.count()) {
+        match candidates.near(place, &mut cursor).edge {
+            Some(edge) => edges.push(edge)?,
+            None => {}
+        }
+    }
+    Ok(())
+}
+
+/// The first attribute of an edge that acts feed.
+fn edge_attribute<'b>(simple: &[Simple<'b>]) -> Option<&'b Field> {
+    for act in simple {
+        match attribute_fed(act) {
+            Some(field) => return Some(field),
+            None => {}
+        }
+    }
+    None
+}
+
+fn attribute_fed<'b>(act: &Simple<'b>) -> Option<&'b Field> {
+    match act.feed.from {
+        Leaf::Number(_) => None,
+        Leaf::Attribute(name, field) => match name.part {
+            AliasRole::Edge => Some(field),
+            AliasRole::Source | AliasRole::Target => None,
+        },
+    }
+}
+
+/// Whether one of these edges has an INT where the attribute stands among those of its first edge's type.
+///
+/// It goes through all of them twice, their rows first and then their values, and does nothing else meanwhile: so the processor waits for
+/// many rows at once, which stand in no order, and finds them near when the candidates are tried.
+fn has_ints(rows: &[EdgeRow], edges: &[u32], field: &Field) -> bool {
+    match place_in(rows, edges, field) {
+        None => false,
+        Some(place) => attributes(rows, edges) > 0 && ints(rows, edges, place) > 0,
+    }
+}
+
+/// The place of an attribute, by the type of the first edge.
+fn place_in(rows: &[EdgeRow], edges: &[u32], field: &Field) -> Option<u32> {
+    let first = rows.get(*edges.first()? as usize)?;
+    match field {
+        Field::Type => None,
+        Field::Named(places) => *places.edges.as_slice().get(first.kind as usize)?,
+    }
+}
+
+/// How many attributes these edges have.
+fn attributes(rows: &[EdgeRow], edges: &[u32]) -> usize {
+    let mut count = 0usize;
+    for edge in edges {
+        match rows.get(*edge as usize) {
+            Some(row) => count = count.wrapping_add(row.attributes.len()),
+            None => {}
+        }
+    }
+    count
+}
+
+/// How many of these edges have an INT at a place.
+fn ints(rows: &[EdgeRow], edges: &[u32], place: u32) -> usize {
+    let mut count = 0usize;
+    for edge in edges {
+        match rows.get(*edge as usize) {
+            Some(row) => match row.attributes.as_slice().get(place as usize) {
+                Some(Value::Int(_)) => count = count.wrapping_add(1),
+                Some(_) | None => {}
+            },
+            None => {}
+        }
+    }
+    count
+}

@@ -1,0 +1,101 @@
+// What workers leave, brought together.
+ghost use Rattle.std.specs.Prelude.{IfOk, OnOk};
+ghost use Rattle.gq_workers.specs.Rounds.{FeedsLeft, FeedsParts, Joins, MarksPart, MarksParts};
+
+use crate::found::MatchBuffer;
+use crate::order::{Spot, left_at};
+use crate::run::{BlockProgress, feed};
+use crate::work::{ChunkOutput, WorkerOutput};
+use gq_base::{List, OutOfMemory};
+use gq_value::Wrong;
+use std::alloc::Global;
+
+/// Marks what any of the workers has marked.
+#[tactic(auto, using(crate::proofs::RoundLemmas::marks_laws))]
+pub(crate) fn mark_parts(
+    parts: &[Result<WorkerOutput, OutOfMemory>],
+    found: &mut MatchBuffer,
+) -> Result<(), OutOfMemory>
+    ensures { OnOk result (MarksParts parts.now found.old found.new) }
+{
+    for part in parts {
+        match part {
+            Err(OutOfMemory) => return Err(OutOfMemory),
+            Ok(part) => mark_part(part, found)?,
+        }
+    }
+    Ok(())
+}
+
+/// Marks what one worker has marked.
+fn mark_part(part: &WorkerOutput, found: &mut MatchBuffer) -> Result<(), OutOfMemory>
+    ensures { OnOk result (MarksPart part.now found.old found.new) }
+{
+    join(&mut found.sources, part.sources.as_slice())?;
+    join(&mut found.targets, part.targets.as_slice())?;
+    Ok(())
+}
+
+/// Marks what is marked in other words, of which there are no more.
+#[tactic(auto, using(crate::proofs::RoundLemmas::join_laws))]
+fn join(words: &mut List<u64>, other: &[u64]) -> Result<(), OutOfMemory>
+    ensures { OnOk result (Joins words.old other.now words.new) }
+{
+    if other.len() > words.len() {
+        return Err(OutOfMemory);
+    }
+    for (place, word) in other.iter().enumerate() {
+        let both = words.as_slice()[place] | *word;
+        words.set(place, both);
+    }
+    Ok(())
+}
+
+/// Feeds what all chunks leave, in order, up to the first that has a fault.
+#[tactic(auto, using(crate::proofs::RoundLemmas::feeds_laws))]
+pub(crate) fn feed_parts(
+    alloc: Global,
+    parts: &[Result<WorkerOutput, OutOfMemory>],
+    order: &[Option<Spot>],
+    run: &mut BlockProgress,
+) -> Result<Option<(u64, Wrong)>, OutOfMemory>
+    ensures { IfOk result (FeedsParts parts.now run.old run.new) }
+{
+    for spot in order {
+        match left_at(parts, spot) {
+            None => return Err(OutOfMemory),
+            Some(left) => match feed_left(alloc, left, run)? {
+                Some(fault) => return Ok(Some(fault)),
+                None => {}
+            },
+        }
+    }
+    Ok(None)
+}
+
+/// Feeds what a chunk leaves, where it is the next one; or tells its fault.
+#[tactic(auto, using(crate::proofs::RoundLemmas::left_laws))]
+fn feed_left(
+    alloc: Global,
+    left: &ChunkOutput,
+    run: &mut BlockProgress,
+) -> Result<Option<(u64, Wrong)>, OutOfMemory>
+    ensures { IfOk result (FeedsLeft left.now run.old run.new) }
+{
+    if left.start != run.at {
+        return Err(OutOfMemory);
+    }
+    match left.fault {
+        Some(fault) => return Ok(Some(fault)),
+        None => {}
+    }
+    run.fed = feed(
+        alloc,
+        &mut run.accums,
+        run.fed,
+        &left.batches,
+        left.ints.as_slice(),
+    )?;
+    run.at = left.end;
+    Ok(None)
+}

@@ -1,0 +1,116 @@
+// A run as far as it has come.
+ghost use Rattle.std.specs.Prelude.{◌≡◌, IfOk, IfSome};
+ghost use Rattle.gq_workers.specs.Running.{FedFrom, IsShort};
+ghost use Rattle.gq_workers.specs.Results.{AreListed, IsJudged, IsBegun};
+
+use crate::found::MatchBuffer;
+use gq_base::OutOfMemory;
+use gq_core::Batches;
+use gq_eval_context::{After, BlockFault, Setting};
+use gq_exec_feed::{feed_all, feed_ints, first_unfit};
+use gq_exec_source::listed;
+use gq_frame::Accums;
+use gq_index::VertexList;
+use std::alloc::Global;
+
+/// A run as far as it has come: the candidates before a place are gone through, and what they contribute is fed.
+#[derive(Drop)]
+pub(crate) struct BlockProgress {
+    pub at: u64,
+    pub accums: Accums,
+
+    /// How many inputs are fed.
+    pub fed: u64,
+
+    /// Marks of the matched vertices, and room for a chunk's inputs.
+    pub found: MatchBuffer,
+}
+
+impl BlockProgress {
+    /// Before the first candidate, over a copy of the frame's accumulators.
+    pub fn open<C>(alloc: Global, over: &Setting<'_, C>) -> Result<BlockProgress, OutOfMemory>
+        ensures { IfOk result (IsBegun over.now) }
+    {
+        Ok(BlockProgress {
+            at: 0,
+            accums: over.frame.accums.duplicate(alloc)?,
+            fed: 0,
+            found: MatchBuffer::open(alloc, over.graph.store.vertices.len())?,
+        })
+    }
+}
+
+/// How many inputs a block may feed.
+const MOST_INPUTS: u64 = 1 << 60;
+
+/// Feeds what waits in the one batch and behind it, in order, and tells how many inputs are fed then. More than 2^60 inputs are `OutOfMemory`
+///  too.
+#[tactic(auto, using(crate::proofs::FeedLemmas::feed_laws))]
+pub(crate) fn feed(
+    alloc: Global,
+    accums: &mut Accums,
+    fed: u64,
+    batches: &Batches,
+    ints: &[(u64, i64)],
+) -> Result<u64, OutOfMemory>
+    ensures { IfOk result (FedFrom accums.old accums.new fed batches.now ints.now) }
+{
+    if batches.stripes() > 1 {
+        return Err(OutOfMemory);
+    }
+    let batch = batches.at(0);
+    if batch.len() as u64 >= MOST_INPUTS || fed >= MOST_INPUTS {
+        return Err(OutOfMemory);
+    }
+    if ints.len() as u64 >= MOST_INPUTS {
+        return Err(OutOfMemory);
+    }
+    feed_all(alloc, accums, batch)?;
+    feed_ints(accums, ints)?;
+    Ok(fed + batch.len() as u64 + ints.len() as u64)
+}
+
+/// What the block leaves once all is fed, or the first accumulator with a sum out of range.
+#[tactic(auto, using(crate::proofs::EndLemmas::judge_laws))]
+pub(crate) fn judged(alloc: Global, run: BlockProgress) -> Result<After, BlockFault>
+    requires { IsShort run.found }
+    ensures { IsJudged run result }
+{
+    match first_unfit(&run.accums) {
+        Some(number) => match slot_number(number) {
+            Some(slot) => Err(BlockFault::SumRange { slot }),
+            None => Err(BlockFault::OutOfMemory),
+        },
+        None => match lists(alloc, &run.found) {
+            Ok((sources, targets)) => {
+                let accums = run.accums;
+                Ok(After {
+                    accums,
+                    sources,
+                    targets,
+                })
+            }
+            Err(OutOfMemory) => Err(BlockFault::OutOfMemory),
+        },
+    }
+}
+
+/// The matched sources and targets, by number.
+fn lists(alloc: Global, found: &MatchBuffer) -> Result<(VertexList, VertexList), OutOfMemory>
+    requires { IsShort found.now }
+    ensures { IfOk result (AreListed found.now) }
+{
+    let sources = listed(alloc, found.sources.as_slice())?;
+    let targets = listed(alloc, found.targets.as_slice())?;
+    Ok((sources, targets))
+}
+
+/// A number of a slot, in 32 bits.
+fn slot_number(number: usize) -> Option<u32>
+    ensures { IfSome result (λ slot. slot ≡ number) }
+{
+    if number > u32::MAX as usize {
+        return None;
+    }
+    Some(number as u32)
+}

@@ -1,0 +1,59 @@
+// What a run goes through, and what workers leave.
+use crate::direct::Simple;
+use gq_base::List;
+use gq_core::Batches;
+use gq_eval_attributes::TupleType;
+use gq_exec_source::Ends;
+use gq_frame::Frame;
+use gq_index::{Candidates, Graph};
+use gq_plan_ir::{Block, Plan};
+use gq_value::Wrong;
+
+/// What a run goes through.
+#[derive(Drop)]
+pub(crate) struct Work<'b> {
+    pub block: &'b Block,
+    pub ends: &'b Ends,
+
+    /// The place of the edge's alias.
+    pub edge: Option<u32>,
+
+    /// What stands for the acts, where each of them feeds an INT that is at hand.
+    pub direct: Option<List<Simple<'b>>>,
+    pub candidates: Candidates,
+
+    /// How many candidates a chunk has, at least 1.
+    pub size: u64,
+}
+
+/// What the workers of a round share: the candidates from `first` up to `last`, and what a setting is made of.
+#[derive(Drop)]
+pub(crate) struct Round<'a> {
+    pub graph: Graph<'a>,
+    pub plan: &'a Plan,
+    pub tuples: &'a [TupleType],
+    pub frame: &'a Frame,
+    pub work: &'a Work<'a>,
+    pub first: u64,
+    pub last: u64,
+}
+
+/// What a worker leaves of the candidates from one place to another: inputs that wait to be fed, or the first fault and its place.
+#[derive(Drop)]
+pub(crate) struct ChunkOutput {
+    pub start: u64,
+    pub end: u64,
+    pub batches: Batches,
+
+    /// They come behind what is in the batch.
+    pub ints: List<(u64, i64)>,
+    pub fault: Option<(u64, Wrong)>,
+}
+
+/// What a worker leaves of all its chunks, with marks of the matched vertices.
+#[derive(Drop)]
+pub(crate) struct WorkerOutput {
+    pub lefts: List<ChunkOutput>,
+    pub sources: List<u64>,
+    pub targets: List<u64>,
+}
