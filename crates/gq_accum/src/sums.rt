@@ -11,7 +11,11 @@ ghost use Rattle.gq_accum.specs.Scalars.{IsFar};
 use crate::scalar::Mean;
 use gq_value::Fraction;
 
-/// The sum of two that have room, in 128 bits: every sum of numbers of 64 bits is added here.
+/// The sum of two in 128 bits: every sum of numbers of 64 bits is added here.
+///
+/// It is exact where both have room: fewer than 2^62 inputs of 64 bits lead to each, so the sum is far from the ends of 128 bits. For the
+/// rest nothing is said, and it wraps, since a check would cost the fast way of blocks a branch an input.
+#[inline]
 #[tactic(auto, using(crate::proofs::SumSteps::total_is))]
 pub fn total(a: i128, b: i128) -> i128
     ensures { IsFar a → IsFar b → result ≡ a +ℤ b }
@@ -19,7 +23,8 @@ pub fn total(a: i128, b: i128) -> i128
     a.wrapping_add(b)
 }
 
-/// The count of two that have room.
+/// The count of two; exact where it is below 2^128, as with fewer inputs than that.
+#[inline]
 pub fn count(m: u128, n: u128) -> u128
     ensures { m + n < 2 ^ 128 → result ≡ m + n }
 {

@@ -38,15 +38,6 @@ fn sum_under(alloc: Global, map: &Content, key: &str) -> Result<Option<i128>, Ou
     }
 }
 
-// A content of whole numbers, after inputs.
-fn after(alloc: Global, kind: &Kind, inputs: &[i64]) -> Result<Content, OutOfMemory> {
-    let mut content = Content::fresh(alloc, kind)?;
-    for n in inputs {
-        content.feed(alloc, &Input::One(Value::Int(*n)))?;
-    }
-    Ok(content)
-}
-
 // A score with a name.
 fn score(alloc: Global, n: i64, name: &str) -> Result<Value, OutOfMemory> {
     let mut row = List::new(alloc);
@@ -159,35 +150,64 @@ fn is_shared<T: Send + Sync>(_: &T) -> bool {
     true
 }
 
+// Groups of ages, one of which comes from elsewhere.
+fn merged_groups(alloc: Global, ages: &[i64; 3]) -> Result<Content, OutOfMemory> {
+    let mut groups = groups_by_parity(alloc, &ages[..1])?;
+    let rest = groups_by_parity(alloc, &ages[1..])?;
+    groups.merge(alloc, &rest)?;
+    Ok(groups)
+}
+
+// How many key rows a group has.
+fn row_count(alloc: Global, groups: &Content) -> Result<usize, OutOfMemory> {
+    let rows = groups.keys(alloc)?;
+    Ok(rows.len())
+}
+
 #[test]
 fn groups_have_each_part_of_their_own_inputs(rt: HostRuntime) -> Result<(), Fail> {
     let alloc = rt.alloc();
     for ages in [[1, 2, 3], [3, 2, 1], [2, 1, 3]] {
-        let mut groups = groups_by_parity(alloc, &ages[..1])?;
-        let rest = groups_by_parity(alloc, &ages[1..])?;
-        groups.merge(alloc, &rest)?;
-        assert_eq!(rt; groups.size(), 2);
-        for (parity, at, due) in [(0, 0, 2), (0, 1, 2), (1, 0, 4), (1, 1, 3)] {
-            assert_eq!(rt; part_under(alloc, &groups, parity, at)?, Some(due));
+        let groups = merged_groups(alloc, &ages)?;
+        for (parity, at, due) in [
+            (0, 0, Some(2)),
+            (0, 1, Some(2)),
+            (1, 0, Some(4)),
+            (1, 1, Some(3)),
+            (2, 0, None),
+        ] {
+            assert_eq!(rt; part_under(alloc, &groups, parity, at)?, due);
         }
-        assert_eq!(rt; part_under(alloc, &groups, 2, 0)?, None);
-        let rows = groups.keys(alloc)?;
-        assert_eq!(rt; rows.len(), 2);
+        assert_eq!(rt; (groups.size(), row_count(alloc, &groups)?), (2, 2));
     }
     Ok(())
+}
+
+// Two contents of eight levels, merged.
+fn merged_levels(alloc: Global) -> Result<Content, OutOfMemory> {
+    let mut all = nested(alloc, &[(1, 10), (2, 20)])?;
+    let part = nested(alloc, &[(1, 30)])?;
+    all.merge(alloc, &part)?;
+    Ok(all)
 }
 
 #[test]
 fn contents_nest_to_eight_levels(rt: HostRuntime) -> Result<(), Fail> {
     let alloc = rt.alloc();
-    let mut all = nested(alloc, &[(1, 10), (2, 20)])?;
-    let part = nested(alloc, &[(1, 30)])?;
-    all.merge(alloc, &part)?;
+    let all = merged_levels(alloc)?;
     for (key, due) in [(1, Some(40)), (2, Some(20)), (3, None)] {
         assert_eq!(rt; lowest(alloc, &all, key)?, due);
     }
     assert!(rt; is_shared(&all));
     Ok(())
+}
+
+// A map of inputs, one of which comes from elsewhere.
+fn merged_map(alloc: Global, inputs: &[(&str, i64); 3]) -> Result<Content, OutOfMemory> {
+    let mut map = sums_by_text(alloc, &inputs[..1])?;
+    let rest = sums_by_text(alloc, &inputs[1..])?;
+    map.merge(alloc, &rest)?;
+    Ok(map)
 }
 
 #[test]
@@ -198,59 +218,43 @@ fn a_map_is_the_same_for_every_order_and_cutting(rt: HostRuntime) -> Result<(), 
         [("b", 3), ("b", 1), ("a", 2)],
         [("a", 2), ("b", 3), ("b", 1)],
     ] {
-        let mut map = sums_by_text(alloc, &inputs[..1])?;
-        let rest = sums_by_text(alloc, &inputs[1..])?;
-        map.merge(alloc, &rest)?;
-        assert_eq!(rt; map.size(), 2);
-        assert_eq!(rt; sum_under(alloc, &map, "a")?, Some(2));
-        assert_eq!(rt; sum_under(alloc, &map, "b")?, Some(4));
-        assert_eq!(rt; sum_under(alloc, &map, "z")?, None);
-        let keys = map.keys(alloc)?;
-        assert_eq!(rt; keys.len(), 2);
+        let map = merged_map(alloc, &inputs)?;
+        for (key, due) in [("a", Some(2)), ("b", Some(4)), ("z", None)] {
+            assert_eq!(rt; sum_under(alloc, &map, key)?, due);
+        }
+        assert_eq!(rt; (map.size(), row_count(alloc, &map)?), (2, 2));
     }
     Ok(())
+}
+
+// A heap of two, merged from two heaps.
+fn merged_heap(alloc: Global) -> Result<Content, OutOfMemory> {
+    let mut heap = best_two(alloc, &[(5, "b"), (4, "a"), (5, "a"), (5, "a"), (6, "z")])?;
+    let other = best_two(alloc, &[(5, "a")])?;
+    heap.merge(alloc, &other)?;
+    Ok(heap)
+}
+
+// Whether the elements of a content are these scores.
+fn has_scores(
+    alloc: Global,
+    heap: &Content,
+    first: &Value,
+    second: &Value,
+) -> Result<bool, OutOfMemory> {
+    let elements = heap.elements(alloc)?;
+    match elements.as_slice() {
+        [one, other] => Ok(one == first && other == second),
+        _ => Ok(false),
+    }
 }
 
 #[test]
 fn a_heap_keeps_equal_tuples_and_turns_a_field_round(rt: HostRuntime) -> Result<(), Fail> {
     let alloc = rt.alloc();
-    let mut heap = best_two(alloc, &[(5, "b"), (4, "a"), (5, "a"), (5, "a"), (6, "z")])?;
-    let other = best_two(alloc, &[(5, "a")])?;
-    heap.merge(alloc, &other)?;
-    let first = heap.elements(alloc)?;
-    let due = [score(alloc, 6, "z")?, score(alloc, 5, "a")?];
-    assert!(rt; first.as_slice() == due.as_slice());
-    Ok(())
-}
-
-#[test]
-fn a_list_keeps_its_values_as_they_come(rt: HostRuntime) -> Result<(), Fail> {
-    let alloc = rt.alloc();
-    let mut list = Content::fresh(alloc, &Kind::List(BaseType::Int))?;
-    list.push(Value::Int(2))?;
-    list.push(Value::Int(1))?;
-    let copy = list.duplicate(alloc)?;
-    let all = copy.elements(alloc)?;
-    assert!(rt; matches!(all.as_slice(), [Value::Int(2), Value::Int(1)]));
-    assert!(rt; copy.contains(&Value::Int(1)));
-    assert!(rt; !copy.contains(&Value::Int(3)));
-    Ok(())
-}
-
-#[test]
-fn a_set_has_each_value_once_and_a_bag_all(rt: HostRuntime) -> Result<(), Fail> {
-    let alloc = rt.alloc();
-    let set = after(alloc, &Kind::Set(BaseType::Int), &[2, 1, 2])?;
-    let bag = after(alloc, &Kind::Bag(BaseType::Int), &[2, 1, 2])?;
-    let each = set.elements(alloc)?;
-    let all = bag.elements(alloc)?;
-    assert!(rt; matches!(each.as_slice(), [Value::Int(1), Value::Int(2)]));
-    assert!(rt;
-        matches!(
-            all.as_slice(),
-            [Value::Int(1), Value::Int(2), Value::Int(2)]
-        )
-    );
+    let heap = merged_heap(alloc)?;
+    let (first, second) = (score(alloc, 6, "z")?, score(alloc, 5, "a")?);
+    assert!(rt; has_scores(alloc, &heap, &first, &second)?);
     Ok(())
 }
 
@@ -264,24 +268,38 @@ fn a_sum_is_judged_when_it_is_final(rt: HostRuntime) -> Result<(), Fail> {
     Ok(())
 }
 
+// Feeds an input where it finds memory; where it doesn't, the content has to say so from then on.
+fn feeds_or_is_spoiled(alloc: Global, content: &mut Content, input: &Input) -> bool {
+    let fed = content.feed(alloc, input).is_ok();
+    if fed {
+        return !content.spoiled();
+    }
+    content.spoiled() && content.feed(alloc, input).is_err() && content.duplicate(alloc).is_err()
+}
+
+// The same of a content that is merged in.
+fn merges_or_is_spoiled(alloc: Global, content: &mut Content, other: &Content) -> bool {
+    let merged = content.merge(alloc, other).is_ok();
+    if merged {
+        return !content.spoiled();
+    }
+    content.spoiled() && content.merge(alloc, other).is_err() && content.duplicate(alloc).is_err()
+}
+
 #[test]
-fn a_content_that_found_no_memory_says_so_from_then_on(rt: HostRuntime) -> Result<(), Fail> {
+fn a_map_that_found_no_memory_says_so_from_then_on(rt: HostRuntime) -> Result<(), Fail> {
     let alloc = rt.alloc();
     let input = keyed(alloc, "a", 1)?;
     let mut map = sums_by_text(alloc, &[])?;
-    let fed = map.feed(alloc, &input);
-    assert_eq!(rt; fed.is_err(), map.spoiled());
-    if map.spoiled() {
-        assert!(rt; map.feed(alloc, &input).is_err());
-        assert!(rt; map.duplicate(alloc).is_err());
-    }
+    assert!(rt; feeds_or_is_spoiled(alloc, &mut map, &input));
+    Ok(())
+}
+
+#[test]
+fn groups_that_found_no_memory_say_so_from_then_on(rt: HostRuntime) -> Result<(), Fail> {
+    let alloc = rt.alloc();
     let more = groups_by_parity(alloc, &[1, 2])?;
     let mut groups = groups_by_parity(alloc, &[])?;
-    let merged = groups.merge(alloc, &more);
-    assert_eq!(rt; merged.is_err(), groups.spoiled());
-    if groups.spoiled() {
-        assert!(rt; groups.merge(alloc, &more).is_err());
-        assert!(rt; groups.duplicate(alloc).is_err());
-    }
+    assert!(rt; merges_or_is_spoiled(alloc, &mut groups, &more));
     Ok(())
 }

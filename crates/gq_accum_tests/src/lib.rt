@@ -1,4 +1,4 @@
-//! Tests of accumulator contents of every kind.
+//! Tests of contents that hold others: maps, groups and heaps.
 //!
 //! They are a separate crate, so that the libraries aren't proved a second time with their tests.
 //!

@@ -3,6 +3,7 @@ ghost use Rattle.std.specs.Prelude.{◌≡◌, ◌++◌, [], ◌∷◌, IfOk, ma
 ghost use Rattle.std.specs.Option.{option_map};
 ghost use Rattle.gq_rules_meaning.specs.Blocks.{passes};
 ghost use Rattle.gq_rules_meaning.specs.Tails.{passing};
+ghost use Rattle.gq_rules_calendar.specs.Gregorian.{gregorian};
 ghost use Rattle.gq_plan_ir.specs.ExprView.{view};
 ghost use Rattle.gq_eval_operand.specs.Meant.{itself, Tells};
 ghost use Rattle.gq_frame.specs.Names.{alias_of};
@@ -14,7 +15,7 @@ ghost use Rattle.gq_after.specs.Sights.{vertex_look};
 
 use gq_base::List;
 use gq_eval::run_truth;
-use gq_eval_context::{BlockFault, Clock, Setting, fault_at};
+use gq_eval_context::{BlockContext, BlockFault, fault_at};
 use gq_eval_operand::{Halt, Sees};
 use gq_exec_source::End;
 use gq_frame::{Accums, Alias};
@@ -23,16 +24,16 @@ use std::alloc::Global;
 
 /// The vertices that pass HAVING, in order; all are judged.
 #[tactic(auto, using(crate::proofs::PassLemmas::pass_laws))]
-pub(crate) fn passing<C: Clock>(
+pub(crate) fn passing(
     having: &Option<Expr>,
     alloc: Global,
-    over: &Setting<'_, C>,
+    over: &BlockContext<'_>,
     accums: &Accums,
     end: &End,
     vertices: &[u32],
 ) -> Result<List<u32>, BlockFault>
     requires { AreSound accums.now }
-    ensures { Answered itself (passing (vertex_look C.clock over.now accums.now end.now) (option_map view having.now) vertices.now) result }
+    ensures { Answered itself (passing (vertex_look gregorian over.now accums.now end.now) (option_map view having.now) vertices.now) result }
 {
     let mut kept = List::new(alloc);
     for vertex in vertices {
@@ -49,16 +50,16 @@ pub(crate) fn passing<C: Clock>(
 }
 
 /// Whether a vertex passes, under the alias of its end.
-fn passes_at<C: Clock>(
+fn passes_at(
     having: &Option<Expr>,
     alloc: Global,
-    over: &Setting<'_, C>,
+    over: &BlockContext<'_>,
     accums: &Accums,
     end: &End,
     vertex: u32,
 ) -> Result<bool, Halt>
     requires { AreSound accums.now }
-    ensures { Tells itself (passes (vertex_look C.clock over.now accums.now end.now vertex) (option_map view having.now)) result }
+    ensures { Tells itself (passes (vertex_look gregorian over.now accums.now end.now vertex) (option_map view having.now)) result }
 {
     match end.alias(vertex) {
         Some(alias) => passes_under(having, alloc, over, accums, &[alias]),
@@ -66,17 +67,17 @@ fn passes_at<C: Clock>(
     }
 }
 
-fn passes_under<C: Clock>(
+fn passes_under(
     having: &Option<Expr>,
     alloc: Global,
-    over: &Setting<'_, C>,
+    over: &BlockContext<'_>,
     accums: &Accums,
     aliases: &[Alias<'_>],
 ) -> Result<bool, Halt>
     requires { AreSound accums.now }
-    ensures { Tells itself (passes (look_of C.clock (viewed over.now (map alias_of aliases.now) accums.now accums.now)) (option_map view having.now)) result }
+    ensures { Tells itself (passes (look_of gregorian (viewed over.now (map alias_of aliases.now) accums.now accums.now)) (option_map view having.now)) result }
 {
-    let sight = over.view(aliases, accums, accums);
+    let sight = over.eval_context(aliases, accums, accums);
     has_passed(having, alloc, &sight)
 }
 

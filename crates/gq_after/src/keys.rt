@@ -4,6 +4,7 @@ ghost use Rattle.gq_value.specs.Views.{val};
 ghost use Rattle.gq_rules_meaning.specs.Answers.{each};
 ghost use Rattle.gq_rules_meaning.specs.Expressions.{value_of};
 ghost use Rattle.gq_rules_meaning.specs.Tails as plain;
+ghost use Rattle.gq_rules_calendar.specs.Gregorian.{gregorian};
 ghost use Rattle.gq_plan_ir.specs.ExprView.{view};
 ghost use Rattle.gq_eval_operand.specs.Meant.{Tells};
 ghost use Rattle.gq_frame.specs.Names.{alias_of};
@@ -17,7 +18,7 @@ ghost use Rattle.gq_after.specs.Sights.{vertex_look};
 use crate::rows::Ranked;
 use gq_base::List;
 use gq_eval::run_value;
-use gq_eval_context::{BlockFault, Clock, Setting, fault_at};
+use gq_eval_context::{BlockContext, BlockFault, fault_at};
 use gq_eval_operand::{Halt, Sees, own};
 use gq_exec_source::End;
 use gq_frame::{Accums, Alias};
@@ -27,16 +28,16 @@ use std::alloc::Global;
 
 /// Vertices with all their keys, in the same order.
 #[tactic(auto, using(crate::proofs::KeyLemmas::row_laws))]
-pub(crate) fn with_keys<C: Clock>(
+pub(crate) fn with_keys(
     order: &[(Expr, bool)],
     alloc: Global,
-    over: &Setting<'_, C>,
+    over: &BlockContext<'_>,
     accums: &Accums,
     end: &End,
     vertices: &[u32],
 ) -> Result<List<Ranked>, BlockFault>
     requires { AreSound accums.now }
-    ensures { Answered (map ranked) (each (plain.ranked (vertex_look C.clock over.now accums.now end.now) (order_of order.now)) vertices.now) result }
+    ensures { Answered (map ranked) (each (plain.ranked (vertex_look gregorian over.now accums.now end.now) (order_of order.now)) vertices.now) result }
 {
     let mut rows = List::new(alloc);
     for vertex in vertices {
@@ -55,16 +56,16 @@ pub(crate) fn with_keys<C: Clock>(
 }
 
 /// The keys of a vertex, under the alias of its end.
-fn keys_at<C: Clock>(
+fn keys_at(
     order: &[(Expr, bool)],
     alloc: Global,
-    over: &Setting<'_, C>,
+    over: &BlockContext<'_>,
     accums: &Accums,
     end: &End,
     vertex: u32,
 ) -> Result<Row, Halt>
     requires { AreSound accums.now }
-    ensures { Tells (map val) (each (λ key. value_of (vertex_look C.clock over.now accums.now end.now vertex) (view key.0)) order.now) result }
+    ensures { Tells (map val) (each (λ key. value_of (vertex_look gregorian over.now accums.now end.now vertex) (view key.0)) order.now) result }
 {
     match end.alias(vertex) {
         Some(alias) => keys_under(order, alloc, over, accums, &[alias]),
@@ -72,17 +73,17 @@ fn keys_at<C: Clock>(
     }
 }
 
-fn keys_under<C: Clock>(
+fn keys_under(
     order: &[(Expr, bool)],
     alloc: Global,
-    over: &Setting<'_, C>,
+    over: &BlockContext<'_>,
     accums: &Accums,
     aliases: &[Alias<'_>],
 ) -> Result<Row, Halt>
     requires { AreSound accums.now }
-    ensures { Tells (map val) (each (λ key. value_of (look_of C.clock (viewed over.now (map alias_of aliases.now) accums.now accums.now)) (view key.0)) order.now) result }
+    ensures { Tells (map val) (each (λ key. value_of (look_of gregorian (viewed over.now (map alias_of aliases.now) accums.now accums.now)) (view key.0)) order.now) result }
 {
-    let sight = over.view(aliases, accums, accums);
+    let sight = over.eval_context(aliases, accums, accums);
     keys_seen(order, alloc, &sight)
 }
 

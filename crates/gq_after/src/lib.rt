@@ -5,14 +5,14 @@
 //!
 //! Read `Tails.antt` of `gq_rules_meaning` first, then `specs/Ranks.antt` (the order in which rows of keys
 //! are compared, for rows of any length) and `specs/Sights.antt` (what the expressions see). The code begins
-//! in `src/whole.rt`; `src/having.rt`, `src/keys.rt`, `src/rows.rt` and `src/limit.rt` have one step each.
+//! in `src/tails.rt`; `src/having.rt`, `src/keys.rt`, `src/rows.rt` and `src/limit.rt` have one step each.
 #![tactic(auto)]
 
 mod having;
 mod keys;
 mod limit;
 mod rows;
-mod whole;
+mod tails;
 
 pub use rows::Ranked;
-pub use whole::tail;
+pub use tails::tail;

@@ -5,6 +5,7 @@ ghost use Rattle.std.specs.Option.{option_map};
 ghost use Rattle.gq_rules_meaning.specs.Expressions.{number_of};
 ghost use Rattle.gq_rules_meaning.specs.Graphs.{vertex_count};
 ghost use Rattle.gq_rules_meaning.specs.Tails.{cut};
+ghost use Rattle.gq_rules_calendar.specs.Gregorian.{gregorian};
 ghost use Rattle.gq_plan_ir.specs.ExprView.{view};
 ghost use Rattle.gq_eval_operand.specs.Meant.{itself, Tells};
 ghost use Rattle.gq_frame.specs.Names.{alias_of};
@@ -18,7 +19,7 @@ ghost use Rattle.gq_after.specs.Sights.{first_of, plain_look};
 use crate::rows::Ranked;
 use gq_base::OutOfMemory;
 use gq_eval::run_value;
-use gq_eval_context::{BlockFault, Clock, Setting, fault_at, limit_count};
+use gq_eval_context::{BlockContext, BlockFault, fault_at, limit_count};
 use gq_eval_operand::{Halt, Sees};
 use gq_frame::{Accums, Alias};
 use gq_index::VertexList;
@@ -27,14 +28,14 @@ use std::alloc::Global;
 
 /// How many vertices LIMIT keeps, if there is one. Its fault has the number of vertices as its place.
 #[tactic(auto, using(crate::proofs::LimitLemmas::limit_laws))]
-pub(crate) fn most<C: Clock>(
+pub(crate) fn most(
     limit: &Option<Expr>,
     alloc: Global,
-    over: &Setting<'_, C>,
+    over: &BlockContext<'_>,
     accums: &Accums,
 ) -> Result<Option<u64>, BlockFault>
     requires { AreSound accums.now }
-    ensures { (vs : List ℕ) → Answered (λ most. first_of most vs) (cut (world_over C.clock over.now) (plain_look C.clock over.now accums.now) (option_map view limit.now) vs) result }
+    ensures { (vs : List ℕ) → Answered (λ most. first_of most vs) (cut (world_over gregorian over.now) (plain_look gregorian over.now accums.now) (option_map view limit.now) vs) result }
 {
     match limit {
         None => Ok(None),
@@ -46,23 +47,23 @@ pub(crate) fn most<C: Clock>(
 }
 
 /// How many vertices there are.
-fn vertex_count<C: Clock>(over: &Setting<'_, C>) -> u32
-    ensures { result ≡ vertex_count (world_over C.clock over.now).graph }
+fn vertex_count(over: &BlockContext<'_>) -> u32
+    ensures { result ≡ vertex_count (world_over gregorian over.now).graph }
 {
     over.graph.store.vertices.len()
 }
 
-fn count_under<C: Clock>(
+fn count_under(
     expr: &Expr,
     alloc: Global,
-    over: &Setting<'_, C>,
+    over: &BlockContext<'_>,
     accums: &Accums,
     aliases: &[Alias<'_>],
 ) -> Result<u64, Halt>
     requires { AreSound accums.now }
-    ensures { Tells itself (most_of (number_of (look_of C.clock (viewed over.now (map alias_of aliases.now) accums.now accums.now)) (view expr.now))) result }
+    ensures { Tells itself (most_of (number_of (look_of gregorian (viewed over.now (map alias_of aliases.now) accums.now accums.now)) (view expr.now))) result }
 {
-    let sight = over.view(aliases, accums, accums);
+    let sight = over.eval_context(aliases, accums, accums);
     count_seen(expr, alloc, &sight)
 }
 

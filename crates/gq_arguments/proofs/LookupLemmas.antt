@@ -9,7 +9,7 @@ use Rattle.gq_graph.specs.declared.rows.VertexRow.{VertexRow}
 use Rattle.gq_rules_typing.specs.Statements.{Bytes}
 use Rattle.gq_rules_typing.specs.Sorts.{Sorts}
 use Rattle.gq_rules_typing.specs.Words.{by_name}
-use Rattle.gq_rules_typing.specs.QueryTypes.{signed}
+use Rattle.gq_tree.specs.Signed.{signed}
 use Rattle.gq_rules_meaning.specs.Arguments.{a_vertex, vertex_in, number_id}
 
 abbrev of_type : List VertexRow → Bytes → Option ℕ → Option Val

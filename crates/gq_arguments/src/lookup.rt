@@ -4,10 +4,10 @@ ghost use Rattle.std.specs.Fmt.{signed_decimal};
 ghost use Rattle.std.specs.Option.{option_map};
 ghost use Rattle.gq_value.specs.Views.{val};
 ghost use Rattle.gq_scope.specs.Held.{sorts_in};
-ghost use Rattle.gq_rules_typing.specs.QueryTypes.{signed as signed_number};
 ghost use Rattle.gq_rules_meaning.specs.Arguments as spec;
 
 use gq_scope::Scope;
+use gq_tree::signed;
 use gq_value::Value;
 use gq_vertex::Vertices;
 use itoa::Buffer;
@@ -43,15 +43,4 @@ pub(crate) fn numbered_vertex(
 {
     let mut digits = Buffer::new();
     vertex_in(types, vertices, kind, digits.format(signed(minus, number)))
-}
-
-/// A number with its sign.
-pub(crate) fn signed(minus: bool, number: u64) -> i128
-    ensures { result ≡ signed_number minus number }
-{
-    if minus {
-        -i128::from(number)
-    } else {
-        i128::from(number)
-    }
 }

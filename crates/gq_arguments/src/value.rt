@@ -10,15 +10,15 @@ ghost use Rattle.gq_rules_typing.specs.Statements.{AnyVertex, Bools, Ints, Strin
 ghost use Rattle.gq_rules_typing.specs.StatementViews.{view_base};
 ghost use Rattle.gq_rules_typing.specs.Sorts.{Sorts};
 ghost use Rattle.gq_graph.specs.declared.rows.VertexRow.{VertexRow};
-ghost use Rattle.gq_rules_typing.specs.QueryTypes.{signed as signed_number};
+ghost use Rattle.gq_tree.specs.Signed.{signed as signed_number};
 ghost use Rattle.gq_rules_meaning.specs.Arguments as spec;
 ghost use Rattle.gq_arguments.specs.Given.{view_given};
 
 use crate::given::Given;
-use crate::lookup::{numbered_vertex, signed, vertex_in};
+use crate::lookup::{numbered_vertex, vertex_in};
 use gq_base::OutOfMemory;
 use gq_scope::Scope;
-use gq_tree::BaseTree;
+use gq_tree::{BaseTree, signed};
 use gq_value::{Txt, Value};
 use gq_vertex::Vertices;
 use std::alloc::Global;

@@ -1,6 +1,7 @@
 // Lists.
 ghost use Rattle.std.specs.Borrow.{sem};
 ghost use Rattle.std.specs.Prelude.{◌≡◌, [], ◌∷◌, ◌++◌, ◌<◌, length, slice_get, slice_set, take, IfOk, OnOk, OnErr};
+ghost use Rattle.std.specs.Option.{option_copied};
 
 use crate::memory::OutOfMemory;
 use std::alloc::Global;
@@ -62,6 +63,13 @@ impl<T> List<T> {
         ensures { slice_get self.now at ≡ Some result.now }
     {
         &self.items[at]
+    }
+
+    /// The item at `at`, if there is one.
+    pub fn get(&self, at: usize) -> Option<&T>
+        ensures { slice_get self.now at ≡ option_copied result }
+    {
+        self.items.as_slice().get(at)
     }
 
     /// The item at `at`, to be changed in its place.

@@ -1,21 +1,19 @@
 -- RuleLemmas: rules on statements and queries in the pieces in which the code has them.
-use Rattle.std.proofs.Common.{ℕ, ◌≡◌, Bool, true, false, [], map, Option, Ok, Err, refl}
+use Rattle.std.proofs.Common.{ℕ, ◌≡◌, Bool, [], map, Option, Ok, Err, refl}
 use Rattle.std.specs.List.{list_any}
-use Rattle.gq_value.specs.Accums.{Base, INT, UINT}
 use Rattle.gq_graph.specs.Catalog.{Schema}
 use Rattle.gq_tree.specs.declared.query.QueryTree.{QueryTree}
 use Rattle.gq_rules_typing.specs.Statements.{Bytes, Over, Stmts, Foreach}
 use Rattle.gq_rules_typing.specs.StatementViews.{is_v2, view_parameter, view_definition, view_stmts, view_query}
 use Rattle.gq_rules_typing.specs.Sorts.{sorts_of}
 use Rattle.gq_rules_typing.specs.Judging.{Judged, ◌>>=◌, ◌>>◌}
-use Rattle.gq_rules_typing.specs.Types.{number_of_both}
 use Rattle.gq_rules_typing.specs.Scopes as typing
 use Rattle.gq_rules_typing.specs.SetTypes.{here}
 use Rattle.gq_rules_typing.specs.StatementTypes.{typing_stmt, typing_stmts, variable_type}
 use Rattle.gq_rules_typing.specs.QueryTypes.{typing_query}
 use Rattle.gq_scope.specs.Held.{Held, graph_in, sorts_in, setting_in, scope_in}
 use Rattle.gq_check_decls.specs.Counts.{accum_count}
-use Rattle.gq_check.specs.Rules.{is_uint, loop_variable, query}
+use Rattle.gq_check.specs.Rules.{loop_variable, query}
 
 -- ---- FOREACH
 
@@ -43,21 +41,3 @@ pub query_is : (schema : Schema) (graph : Option ℕ) (q : QueryTree) → typing
     ≡ query (scope_in (opened schema graph (list_any is_v2 q.modes))) (map view_parameter q.parameters) (map view_definition q.body.definitions) (view_stmts q.body.statements)
 unfolding scope_in setting_in sorts_in
 query_is schema graph q = refl
-
--- ---- numbers
-
-pub both_uint : (b c : Base) → is_uint b ≡ true → is_uint c ≡ true → number_of_both b c ≡ UINT
-both_uint UINT UINT one two = refl
-both_uint UINT _ one two = absurd (cc)
-both_uint _ c one two = absurd (cc)
-
-pub first_no_uint : (b c : Base) → is_uint b ≡ false → number_of_both b c ≡ INT
-first_no_uint UINT c never = absurd (cc)
-first_no_uint _ c never = refl
-
-pub second_no_uint : (b c : Base) → is_uint c ≡ false → number_of_both b c ≡ INT
-second_no_uint UINT UINT never = absurd (cc)
-second_no_uint UINT _ never = refl
-second_no_uint _ c never = refl
-
-pub ruleset both_laws = (both_uint, first_no_uint, second_no_uint)

@@ -1,10 +1,10 @@
 -- Rules: rules of gq_rules_typing on statements in the pieces in which the code has them.
-use Rattle.std.specs.Prelude.{Bool, true, false, if◌then◌else◌, List, [], Option, Ok}
+use Rattle.std.specs.Prelude.{Bool, if◌then◌else◌, List, [], Option, Ok}
 use Rattle.std.specs.Option.{unwrap_or}
-use Rattle.gq_value.specs.Accums.{Base, UINT}
+use Rattle.gq_value.specs.Accums.{Base}
 use Rattle.gq_tree.specs.Tree.{Tree, Name}
 use Rattle.gq_rules_typing.specs.Statements.{Bytes, KindTree, Item, Over, Stmts, Definition, Parameter}
-use Rattle.gq_rules_typing.specs.Judging.{Typed, SetOf, Judged, Mismatch, NotAllowedHere, ◌>>=◌, ◌>>◌, unless, or_fault, through_judged}
+use Rattle.gq_rules_typing.specs.Judging.{Typed, SetOf, Judged, Mismatch, ◌>>=◌, ◌>>◌, or_fault, through_judged}
 use Rattle.gq_rules_typing.specs.Types.{printable}
 use Rattle.gq_rules_typing.specs.ExpressionTypes.{Names, typing, number, converting}
 use Rattle.gq_rules_typing.specs.Scopes.{Scope, Variable, InSelection, entry, with_entry, new_name, names_at}
@@ -13,9 +13,6 @@ use Rattle.gq_rules_typing.specs.SetTypes.{here, is_set, set_types}
 use Rattle.gq_rules_typing.specs.StatementTypes.{typing_item, typing_stmts, variable_type}
 use Rattle.gq_rules_typing.specs.KindTypes.{kind_written}
 use Rattle.gq_rules_typing.specs.QueryTypes.{typing_parameter, typing_definition}
-
-abbrev pub allowed : Bool → Judged Bool
-allowed test = unless NotAllowedHere test
 
 -- the value of a local
 abbrev pub own_value : Scope Bytes → Base → Option (Tree Bytes) → Judged Bool
@@ -55,10 +52,6 @@ loop_variable s x over = new_name s x >> variable_type (here s) over >>= λ b. O
 -- the type of an element, where there is one
 abbrev pub elements : Option Base → Judged Base
 elements o = or_fault Mismatch o
-
-abbrev pub is_uint : Base → Bool
-is_uint UINT = true
-is_uint b = false
 
 -- ---- queries
 

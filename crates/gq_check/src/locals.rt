@@ -1,14 +1,14 @@
 // Locals, and changes of global accumulators.
 ghost use Rattle.std.specs.Prelude.{◌≡◌, true, IfOk, is_some};
 ghost use Rattle.std.specs.Option.{option_map, option_copied};
-ghost use Rattle.gq_value.specs.AccumViews.{base_of, accum_of};
+ghost use Rattle.gq_value.specs.AccumViews.{base_of};
 ghost use Rattle.gq_tree.specs.View.{view};
 ghost use Rattle.gq_rules_typing.specs.Statements.{Local, ChangeGlobal};
 ghost use Rattle.gq_rules_typing.specs.Judging.{through_judged};
 ghost use Rattle.gq_rules_typing.specs.ExpressionTypes as forms;
 ghost use Rattle.gq_rules_typing.specs.Scopes as typing;
 ghost use Rattle.gq_rules_typing.specs.SetTypes.{here};
-ghost use Rattle.gq_rules_typing.specs.StatementTypes.{typing_stmt, typing_local, typing_change, may_lack_value};
+ghost use Rattle.gq_rules_typing.specs.StatementTypes.{typing_stmt, typing_local, may_lack_value};
 ghost use Rattle.gq_rules_typing.specs.SelectViews.{view_change};
 ghost use Rattle.gq_rules_typing.specs.StatementViews.{view_base, view_locals};
 ghost use Rattle.gq_scope.specs.Held.{scope_in};
@@ -17,11 +17,11 @@ ghost use Rattle.gq_check.specs.Rules as spec;
 
 use gq_check_decls::base_written;
 use gq_check_from::{CheckFault, add, new_name};
-use gq_check_select::{input, settable};
-use gq_scope::{Base, Entry, Scope};
+use gq_check_select::written;
+use gq_scope::{Base, Entry, Scope, allowed};
 use gq_tree::{BaseTree, ChangeTree, Node};
 use gq_type::{converting, declared_kind, is_vertex};
-use gq_value::{BaseType, Kind, Txt};
+use gq_value::{BaseType, Txt};
 use std::alloc::Global;
 
 /// Locals of one type.
@@ -78,16 +78,6 @@ fn one_local(
     Ok(())
 }
 
-/// Not allowed here, where a test fails.
-fn allowed(test: bool) -> Result<(), CheckFault>
-    ensures { Judges (λ _. true) (spec.allowed test) result }
-{
-    match test {
-        true => Ok(()),
-        false => Err(CheckFault::NotAllowedHere),
-    }
-}
-
 fn lacks_nothing(base: &BaseType, has_value: bool) -> bool
     ensures { result ≡ may_lack_value (base_of base.now) has_value }
 {
@@ -127,6 +117,7 @@ fn valued(alloc: Global, scope: &Scope<'_>, base: &BaseType, node: &Node) -> Res
 }
 
 /// A change of the global accumulator of a name.
+#[tactic(auto, using(crate::proofs::PlaceLemmas::change_laws))]
 pub(crate) fn change_global(
     alloc: Global,
     scope: &Scope<'_>,
@@ -138,27 +129,6 @@ pub(crate) fn change_global(
         (typing_stmt (scope_in scope.now) (ChangeGlobal name.now (view_change change.now))) result }
 {
     let kind = declared_kind(alloc, scope, false, name)?;
-    changed(alloc, scope, kind, change)?;
+    written(alloc, scope, kind, change)?;
     Ok(())
-}
-
-/// A change of an accumulator of a kind.
-#[tactic(auto, using(crate::proofs::PlaceLemmas::here_laws))]
-fn changed(
-    alloc: Global,
-    scope: &Scope<'_>,
-    kind: &Kind,
-    change: &ChangeTree,
-) -> Result<(), CheckFault>
-    requires { scope.now.place ≡ typing.InStatement }
-    ensures { Judges (λ _. true) (typing_change (scope_in scope.now) (accum_of kind.now) (view_change change.now)) result }
-{
-    match change {
-        ChangeTree::Feed(tree) => input(tree, alloc, scope, Some(kind)),
-        ChangeTree::Set(node) => {
-            let base = settable(kind)?;
-            converting(alloc, scope, base, node)?;
-            Ok(())
-        }
-    }
 }

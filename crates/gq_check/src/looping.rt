@@ -3,7 +3,6 @@ ghost use Rattle.std.specs.Prelude.{◌≡◌, true, IfOk};
 ghost use Rattle.std.specs.Option.{option_map, option_copied};
 ghost use Rattle.gq_value.specs.AccumViews.{base_of};
 ghost use Rattle.gq_tree.specs.View.{view};
-ghost use Rattle.gq_rules_typing.specs.Types as types;
 ghost use Rattle.gq_rules_typing.specs.ExpressionTypes as forms;
 ghost use Rattle.gq_rules_typing.specs.Scopes as typing;
 ghost use Rattle.gq_rules_typing.specs.SetTypes.{here};
@@ -17,7 +16,7 @@ ghost use Rattle.gq_check.specs.Rules as spec;
 use gq_check_from::{CheckFault, add, new_name};
 use gq_scope::{Base, Entry, Scope, Typed, element_type};
 use gq_tree::{Node, OverTree};
-use gq_type::{condition, number, type_of};
+use gq_type::{condition, number, number_of_both, type_of};
 use gq_value::BaseType;
 use std::alloc::Global;
 
@@ -90,7 +89,8 @@ fn variable_type(alloc: Global, scope: &Scope<'_>, over: &OverTree) -> Result<Ba
         OverTree::Range(from, to) => {
             let low = number(alloc, scope, from)?;
             let high = number(alloc, scope, to)?;
-            Ok(number_of_both(low, high))
+            let base = number_of_both(low, high);
+            Ok(base.keep(alloc)?)
         }
     }
 }
@@ -113,27 +113,5 @@ fn elements(base: Option<Base<'_>>) -> Result<Base<'_>, CheckFault>
     match base {
         None => Err(CheckFault::Mismatch),
         Some(base) => Ok(base),
-    }
-}
-
-/// Two UINT give UINT, other numbers INT.
-#[tactic(auto, using(gq_scope::proofs::BaseLemmas::base_laws, crate::proofs::RuleLemmas::both_laws))]
-fn number_of_both(low: Base<'_>, high: Base<'_>) -> BaseType
-    ensures { base_of result ≡ types.number_of_both (base_is low.entry) (base_is high.entry) }
-{
-    if is_uint(low) && is_uint(high) {
-        BaseType::UInt
-    } else {
-        BaseType::Int
-    }
-}
-
-fn is_uint(base: Base<'_>) -> bool
-    ensures { result ≡ spec.is_uint (base_is base.entry) }
-{
-    match base {
-        Base::UInt => true,
-        Base::Int | Base::Bool | Base::Text | Base::Time => false,
-        Base::AnyVertex | Base::VertexOf(_) | Base::Tuple(_, _) => false,
     }
 }

@@ -7,17 +7,16 @@ ghost use Rattle.gq_rules_typing.specs.Statements.{Print};
 ghost use Rattle.gq_rules_typing.specs.Scopes as typing;
 ghost use Rattle.gq_rules_typing.specs.SetTypes as sets;
 ghost use Rattle.gq_rules_typing.specs.StatementTypes as rules;
-ghost use Rattle.gq_rules_typing.specs.StatementViews.{key_of, view_item, view_labelled};
+ghost use Rattle.gq_rules_typing.specs.StatementViews.{view_item, view_labelled};
 ghost use Rattle.gq_scope.specs.Held.{entry_of, scope_in, names_in};
 ghost use Rattle.gq_scope.specs.Views.{typed_is};
 ghost use Rattle.gq_check_from.specs.Faults.{Judges};
 ghost use Rattle.gq_check.specs.Rules as spec;
 
 use crate::keys::PrintKeys;
-use gq_base::OutOfMemory;
 use gq_check_from::CheckFault;
 use gq_check_select::set_types;
-use gq_scope::{Entry, Place, Scope, Typed};
+use gq_scope::{Entry, Place, Scope, Typed, key_text};
 use gq_tree::{ItemTree, Label, Node};
 use gq_type::{printable, type_of};
 use gq_value::Txt;
@@ -59,19 +58,6 @@ fn one_item<'q>(
             selection(alloc, scope, set.as_str(), columns.as_slice())?;
             keys.give(alloc, selection_key(set, name))
         }
-    }
-}
-
-/// The key of a label. OutOfMemory comes too where a spelling isn't UTF-8; tokens of a script spell texts alone.
-fn key_text(label: &Label) -> Result<&str, OutOfMemory>
-    ensures { IfOk result (λ key. key.now ≡ key_of label.now) }
-{
-    match label {
-        Label::Named(name) => Ok(name.as_str()),
-        Label::Spelled(spelling) => match std::str::from_utf8(spelling.as_slice()) {
-            Ok(key) => Ok(key),
-            Err(_) => Err(OutOfMemory),
-        },
     }
 }
 

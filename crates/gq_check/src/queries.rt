@@ -1,11 +1,10 @@
 // Whole queries.
 ghost use Rattle.std.specs.Prelude.{◌≡◌, ◌<◌, length, map};
 ghost use Rattle.std.specs.Option.{ForSome};
-ghost use Rattle.std.specs.List.{list_any};
 ghost use Rattle.gq_rules_typing.specs.Sorts.{sorts_of};
 ghost use Rattle.gq_rules_typing.specs.Scopes as typing;
 ghost use Rattle.gq_rules_typing.specs.QueryTypes.{typing_query};
-ghost use Rattle.gq_rules_typing.specs.StatementViews.{is_v2, view_parameter, view_definition, view_stmts, view_query};
+ghost use Rattle.gq_rules_typing.specs.StatementViews.{view_parameter, view_definition, view_stmts, view_query};
 ghost use Rattle.gq_scope.specs.Held.{graph_in, scope_in};
 ghost use Rattle.gq_check_from.specs.Faults.{Judges};
 ghost use Rattle.gq_check_decls.specs.Counts.{accum_count};
@@ -16,8 +15,8 @@ use crate::bodies::statements;
 use gq_check_decls::{definitions, parameters};
 use gq_check_from::CheckFault;
 use gq_schema::Catalog;
-use gq_scope::Scope;
-use gq_tree::{Mode, QueryTree};
+use gq_scope::{Scope, allows_paths};
+use gq_tree::QueryTree;
 use std::alloc::Global;
 
 /// Whether a query is well typed that sees the types of a graph of the catalog, by the graph's number; a query for no graph sees
@@ -64,25 +63,4 @@ fn all_of<'q>(alloc: Global, scope: &mut Scope<'q>, query: &'q QueryTree) -> Res
     parameters(alloc, scope, query.parameters.as_slice())?;
     definitions(alloc, scope, query.body.definitions.as_slice())?;
     statements(query.body.statements.as_slice(), alloc, scope)
-}
-
-/// Whether the query is in SYNTAX v2.
-fn allows_paths(modes: &[Mode]) -> bool
-    ensures { result ≡ list_any is_v2 modes.now }
-{
-    for mode in modes {
-        if is_second(mode) {
-            return true;
-        }
-    }
-    false
-}
-
-fn is_second(mode: &Mode) -> bool
-    ensures { result ≡ is_v2 mode.now }
-{
-    match mode {
-        Mode::Api(_) => false,
-        Mode::Syntax(name) => name.as_str().eq_ignore_ascii_case("v2"),
-    }
 }

@@ -14,9 +14,8 @@ ghost use Rattle.gq_check_decls.specs.Counts.{accum_count};
 
 use crate::written::base_written;
 use gq_check_from::{CheckFault, add, new_name};
-use gq_scope::{Entry, Scope};
+use gq_scope::{Entry, Scope, matched};
 use gq_tree::{Literal, ParameterTree};
-use gq_type::matched;
 use gq_value::BaseType;
 use std::alloc::Global;
 

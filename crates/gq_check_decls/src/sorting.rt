@@ -1,7 +1,6 @@
 // Heaps: their capacity, and the fields by which they order tuples.
-ghost use Rattle.std.specs.Prelude.{◌≡◌, map, IfOk};
+ghost use Rattle.std.specs.Prelude.{◌≡◌, map};
 ghost use Rattle.gq_value.specs.AccumViews.{accum_of};
-ghost use Rattle.gq_rules_typing.specs.Words as words;
 ghost use Rattle.gq_rules_typing.specs.Sorts.{names_of};
 ghost use Rattle.gq_rules_typing.specs.FieldTypes.{tuple_fields};
 ghost use Rattle.gq_rules_typing.specs.KindTypes as kinds;
@@ -11,9 +10,9 @@ ghost use Rattle.gq_check_decls.specs.Written as spec;
 
 use crate::elements::good;
 use crate::written::{tuple_number, tuple_types};
-use gq_base::{List, OutOfMemory};
+use gq_base::List;
 use gq_check_from::{CheckFault, bad_kind};
-use gq_scope::Scope;
+use gq_scope::{Scope, field_place};
 use gq_value::{BaseType, HeapShape, Kind, Txt};
 use std::alloc::Global;
 
@@ -92,20 +91,4 @@ fn known_place(alloc: Global, name: &str, place: Option<u32>) -> Result<u32, Che
         None => Err(bad_kind(alloc, name)),
         Some(place) => Ok(place),
     }
-}
-
-/// The place of the first field of a name. OutOfMemory comes too where there are some four thousand million fields.
-#[tactic(auto, using(crate::proofs::FieldLemmas::place_laws))]
-fn field_place(fields: &[(Txt, BaseType)], name: &str) -> Result<Option<u32>, OutOfMemory>
-    ensures { IfOk result (λ place. place ≡ words.place_of (map (λ f. f.0) fields.now) name.now) }
-{
-    if fields.len() > u32::MAX as usize {
-        return Err(OutOfMemory);
-    }
-    for (place, field) in fields.iter().enumerate() {
-        if name == field.0.as_str() {
-            return Ok(Some(place as u32));
-        }
-    }
-    Ok(None)
 }

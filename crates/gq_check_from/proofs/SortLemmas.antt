@@ -3,39 +3,48 @@ use Rattle.std.proofs.Common.{ℕ, zero, suc, ◌+◌, ◌-◌, ◌<◌, ◌≤�
 use Rattle.std.specs.List.{slice_get, filter_map, flat_map, cons_option}
 use Rattle.std.specs.Option.{option_map, option_to_list}
 use Rattle.std.proofs.lemmas.List.{append-nil, append_assoc}
-use Rattle.std.proofs.lemmas.Option.{slice_get-get_or, slice_get_past}
 use Rattle.gq_tree.specs.declared.select.Way.{Way}
 use Rattle.gq_tree.specs.declared.select.Way.TheVariants as way
 use Rattle.gq_tree.specs.declared.select.StepTree.{StepTree}
-use Rattle.gq_graph.specs.declared.types.EdgeType.{EdgeType}
+use Rattle.gq_graph.specs.Catalog.{Schema}
 use Rattle.gq_rules_typing.specs.Statements.{Bytes}
-use Rattle.gq_rules_typing.specs.Sorts.{EdgeSort, Sorts, edge_sort}
+use Rattle.gq_rules_typing.specs.Sorts.{EdgeSort, Sorts, sorts_of}
 use Rattle.gq_rules_typing.specs.Words.{Setting}
 use Rattle.gq_rules_typing.specs.Patterns.{ends_of, own_way, way_of, last_step}
 use Rattle.gq_rules_typing.specs.SelectViews.{view_step}
 use Rattle.gq_scope.specs.Held.{Held, sorts_in, setting_in}
+use Rattle.gq_check_from.specs.Walks.{own_ways}
 
 -- ---- edge types by number
 
-slice_get_map : {A B : Type 0} (f : A → B) (xs : List A) (n : ℕ) → slice_get (map f xs) n ≡ option_map f (slice_get xs n)
+pub slice_get_map : {A B : Type 0} (f : A → B) (xs : List A) (n : ℕ) → slice_get (map f xs) n ≡ option_map f (slice_get xs n)
 slice_get_map f [] n = refl
 slice_get_map f (x ∷ xs) zero = refl
 slice_get_map f (x ∷ xs) (suc n) = slice_get_map f xs n
 
-sorts_edges : (h : Held) → (setting_in h).sorts.edges ≡ map edge_sort h.schema.edge_types
+-- ---- a scope sees all edge types of its catalog, whichever are the graph's
+
+edge_here_in : (h : Held) (t : ℕ) → slice_get (sorts_of h.schema None).edges t ≡ slice_get (setting_in h).sorts.edges t
 unfolding setting_in sorts_in
-sorts_edges h = refl
+edge_here_in h t = refl
 
-pub edge_there : (h : Held) (t : ℕ) (types : List EdgeType) (e : EdgeType) → types ≡ h.schema.edge_types → t < length types → e ≡ get_or types t e
-    → Some (edge_sort e) ≡ slice_get (setting_in h).sorts.edges t
-edge_there h t types e is low at =
-    ap (λ x. Some (edge_sort x)) at ∙ ap (option_map edge_sort) (sym (slice_get-get_or types t e low)) ∙ ap (λ l. option_map edge_sort (slice_get l t)) is
-    ∙ sym (slice_get_map edge_sort h.schema.edge_types t) ∙ ap (λ (l : List EdgeSort). slice_get l t) (sym (sorts_edges h))
+pub edge_here : (h : Held) (schema : Schema) (t : ℕ) → schema ≡ h.schema → slice_get (sorts_of schema None).edges t ≡ slice_get (setting_in h).sorts.edges t
+edge_here h schema t is = ap (λ (s : Schema). slice_get (sorts_of s None).edges t) is ∙ edge_here_in h t
 
-pub edge_past : (h : Held) (t : ℕ) (types : List EdgeType) → types ≡ h.schema.edge_types → length types ≤ t → None ≡ slice_get (setting_in h).sorts.edges t
-edge_past h t types is over =
-    ap (option_map edge_sort) (sym (slice_get_past types t over)) ∙ ap (λ l. option_map edge_sort (slice_get l t)) is
-    ∙ sym (slice_get_map edge_sort h.schema.edge_types t) ∙ ap (λ (l : List EdgeSort). slice_get l t) (sym (sorts_edges h))
+ends_here_in : (h : Held) (d : Way × ℕ) → ends_of (sorts_of h.schema None) d ≡ ends_of (setting_in h).sorts d
+unfolding setting_in sorts_in
+ends_here_in h d = refl
+
+pub ends_here : (h : Held) (schema : Schema) (d : Way × ℕ) → schema ≡ h.schema → ends_of (sorts_of schema None) d ≡ ends_of (setting_in h).sorts d
+ends_here h schema d is = ap (λ (s : Schema). ends_of (sorts_of s None) d) is ∙ ends_here_in h d
+
+far_here_in : (h : Held) (ts : List ℕ) → flat_map (ends_of (sorts_of h.schema None)) (own_ways (sorts_of h.schema None) ts) ≡ flat_map (ends_of (setting_in h).sorts) (own_ways (setting_in h).sorts ts)
+unfolding setting_in sorts_in
+far_here_in h ts = refl
+
+pub far_here : (h : Held) (schema : Schema) (ts : List ℕ) → schema ≡ h.schema
+    → flat_map (ends_of (sorts_of schema None)) (own_ways (sorts_of schema None) ts) ≡ flat_map (ends_of (setting_in h).sorts) (own_ways (setting_in h).sorts ts)
+far_here h schema ts is = ap (λ (s : Schema). flat_map (ends_of (sorts_of s None)) (own_ways (sorts_of s None) ts)) is ∙ far_here_in h ts
 
 pub setting_sorts : (h : Held) → (setting_in h).sorts ≡ sorts_in h
 unfolding setting_in

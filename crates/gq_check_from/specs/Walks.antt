@@ -7,9 +7,10 @@ use Rattle.gq_rules_typing.specs.Statements.{Bytes}
 use Rattle.gq_rules_typing.specs.Selecting.{Types, Hop, Step}
 use Rattle.gq_rules_typing.specs.Sorts.{Sorts}
 use Rattle.gq_rules_typing.specs.Words.{Setting}
-use Rattle.gq_rules_typing.specs.Judging.{Mismatch, NotAllowedHere, UnknownName, Judged, ◌>>=◌, ◌>>◌, unless, or_fault, each_judged}
+use Rattle.gq_rules_typing.specs.Judging.{Mismatch, UnknownName, Judged, ◌>>=◌, ◌>>◌, unless, or_fault, each_judged}
 use Rattle.gq_rules_typing.specs.Scopes.{Alias, EdgeAlias, Scope, vertex_type, edge_type}
 use Rattle.gq_rules_typing.specs.Patterns.{ends_of, own_way, or_all, edge_types, is_alias}
+use Rattle.gq_scope.specs.Views.{matched, allowed}
 use Rattle.gq_rules_typing.specs.SelectTypes.{with_alias, all_known, suits_way, way_known, nameless, typing_steps}
 
 -- ---- where walks lead
@@ -31,12 +32,6 @@ last_alias (Some s) = s.target_alias
 -- whatever it gives
 abbrev pub passes : {A : Type 0} → Judged A → Judged Bool
 passes j = j >> Ok true
-
-abbrev pub allowed : Bool → Judged Bool
-allowed test = unless NotAllowedHere test
-
-abbrev pub matched : Bool → Judged Bool
-matched test = unless Mismatch test
 
 abbrev pub edge_known : Scope Bytes → Bytes → Judged ℕ
 edge_known s n = edge_type s n

@@ -1,8 +1,9 @@
 // Aliases come into view.
-ghost use Rattle.std.specs.Prelude.{◌≡◌, IfOk};
+ghost use Rattle.std.specs.Prelude.{◌≡◌, false, IfOk};
 ghost use Rattle.gq_rules_typing.specs.Scopes as typing;
 ghost use Rattle.gq_rules_typing.specs.SelectTypes as spec;
-ghost use Rattle.gq_scope.specs.Held.{scope_in};
+ghost use Rattle.gq_scope.specs.Held.{entry_of, scope_in};
+ghost use Rattle.gq_scope.specs.Kept.{is_tuple};
 ghost use Rattle.gq_check_from.specs.Faults.{Judges, Grows};
 
 use crate::fault::CheckFault;
@@ -13,7 +14,6 @@ use gq_value::Txt;
 use std::alloc::Global;
 
 /// A vertex alias of these types is a new name; there may be none.
-#[tactic(auto, using(crate::proofs::ScopeLemmas::grow_laws))]
 pub fn with_alias(
     alloc: Global,
     scope: &mut Scope<'_>,
@@ -23,19 +23,11 @@ pub fn with_alias(
     ensures judged { Judges (λ _. scope_in scope.new) (spec.with_alias name.now (typing.Alias types.now) (scope_in scope.old)) result }
     ensures grows { IfOk result (λ _. Grows scope.old scope.new) }
 {
-    match name {
-        None => Ok(()),
-        Some(name) => {
-            new_name(alloc, scope, name.as_str())?;
-            let kept = List::from_slice(alloc, types)?;
-            add(scope, name.as_str(), Entry::Alias(kept))?;
-            Ok(())
-        }
-    }
+    let kept = List::from_slice(alloc, types)?;
+    with_entry(alloc, scope, name, Entry::Alias(kept))
 }
 
 /// An edge alias, likewise.
-#[tactic(auto, using(crate::proofs::ScopeLemmas::grow_laws))]
 pub(crate) fn with_edge_alias(
     alloc: Global,
     scope: &mut Scope<'_>,
@@ -45,12 +37,27 @@ pub(crate) fn with_edge_alias(
     ensures judged { Judges (λ _. scope_in scope.new) (spec.with_alias name.now (typing.EdgeAlias types.now) (scope_in scope.old)) result }
     ensures grows { IfOk result (λ _. Grows scope.old scope.new) }
 {
+    let kept = List::from_slice(alloc, types)?;
+    with_entry(alloc, scope, name, Entry::EdgeAlias(kept))
+}
+
+/// A name that may be left out comes into view as what it is; a tuple type is none of these.
+#[tactic(auto, using(crate::proofs::ScopeLemmas::grow_laws))]
+fn with_entry(
+    alloc: Global,
+    scope: &mut Scope<'_>,
+    name: &Option<Txt>,
+    what: Entry,
+) -> Result<(), CheckFault>
+    requires { is_tuple what ≡ false }
+    ensures judged { Judges (λ _. scope_in scope.new) (spec.with_alias name.now (entry_of what) (scope_in scope.old)) result }
+    ensures grows { IfOk result (λ _. Grows scope.old scope.new) }
+{
     match name {
         None => Ok(()),
         Some(name) => {
             new_name(alloc, scope, name.as_str())?;
-            let kept = List::from_slice(alloc, types)?;
-            add(scope, name.as_str(), Entry::EdgeAlias(kept))?;
+            add(scope, name.as_str(), what)?;
             Ok(())
         }
     }

@@ -11,6 +11,7 @@
 #![tactic(auto)]
 
 mod aliases;
+mod ends;
 mod fault;
 mod names;
 mod numbers;
@@ -19,6 +20,7 @@ mod source;
 mod walks;
 
 pub use aliases::with_alias;
+pub use ends::{hop_far, or_all, push_ends};
 pub use fault::{CheckFault, bad_kind, name_twice, order_dependent, unknown, wider_set};
 pub use names::{add, new_name, vertex_type};
 pub use numbers::{both, by_number, lie_within};

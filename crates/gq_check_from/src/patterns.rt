@@ -1,16 +1,16 @@
 // Which types a walk goes along, and where it leads.
-ghost use Rattle.std.specs.Prelude.{◌≡◌, ◌++◌, map, slice_get, IfOk, OnOk};
+ghost use Rattle.std.specs.Prelude.{◌≡◌, ◌++◌, map, IfOk, OnOk};
 ghost use Rattle.std.specs.List.{filter_map, flat_map};
-ghost use Rattle.std.specs.Option.{option_copied, option_map, option_to_list};
-ghost use Rattle.gq_rules_typing.specs.Sorts.{edge_sort};
+ghost use Rattle.std.specs.Option.{option_copied, option_to_list};
 ghost use Rattle.gq_rules_typing.specs.SelectViews.{view_types_if, view_hop, view_step, view_walk};
 ghost use Rattle.gq_rules_typing.specs.Patterns as spec;
 ghost use Rattle.gq_scope.specs.Held.{setting_in};
 ghost use Rattle.gq_check_from.specs.Walks as walks;
 
+use crate::ends::{hop_far, or_all, push_ends};
 use crate::numbers::by_number;
 use gq_base::{List, OutOfMemory};
-use gq_graph::{EdgeType, Numbers};
+use gq_graph::Numbers;
 use gq_scope::Scope;
 use gq_tree::{HopTree, PatternTree, StepTree, TypesTree, Way};
 use gq_value::Txt;
@@ -23,62 +23,6 @@ pub fn text_of(name: &Option<Txt>) -> Option<&str>
     match name {
         None => None,
         Some(name) => Some(name.as_str()),
-    }
-}
-
-// ---- one edge type
-
-/// The edge type with a number.
-pub(crate) fn edge_at<'s>(scope: &'s Scope<'_>, t: u32) -> Option<&'s EdgeType>
-    ensures { option_map edge_sort (option_copied result) ≡ slice_get (setting_in scope.now).sorts.edges t }
-{
-    let types = scope.catalog().edge_types();
-    if (t as usize) < types.len() {
-        Some(&types[t as usize])
-    } else {
-        None
-    }
-}
-
-/// A directed type is walked from FROM to TO, an undirected one from either end.
-#[tactic(auto, using(crate::proofs::SortLemmas::way_laws))]
-fn own_way(scope: &Scope<'_>, t: u32) -> Way
-    ensures { result ≡ spec.own_way (setting_in scope.now).sorts t }
-{
-    match edge_at(scope, t) {
-        None => Way::Both,
-        Some(edge) => {
-            if edge.directed {
-                Way::Forward
-            } else {
-                Way::Both
-            }
-        }
-    }
-}
-
-/// Puts last where an edge type leads, walked in a way.
-#[tactic(auto, using(crate::proofs::SortLemmas::way_laws))]
-fn push_ends(scope: &Scope<'_>, way: Way, t: u32, ends: &mut Vec<u32>) -> Result<(), OutOfMemory>
-    ensures { OnOk result (ends.new.items ≡ ends.old.items ++ spec.ends_of (setting_in scope.now).sorts (way, t)) }
-{
-    match edge_at(scope, t) {
-        None => Ok(()),
-        Some(edge) => match way {
-            Way::Forward => {
-                ends.push(edge.to)?;
-                Ok(())
-            }
-            Way::Backward => {
-                ends.push(edge.from)?;
-                Ok(())
-            }
-            Way::Both => {
-                ends.push(edge.from)?;
-                ends.push(edge.to)?;
-                Ok(())
-            }
-        },
     }
 }
 
@@ -132,17 +76,6 @@ pub(crate) fn edge_types(
 
 // ---- far ends
 
-/// Where edge types lead, each walked its own way.
-fn hop_far(alloc: Global, scope: &Scope<'_>, edges: &[u32]) -> Result<Vec<u32>, OutOfMemory>
-    ensures { IfOk result (λ v. v.items ≡ flat_map (spec.ends_of (setting_in scope.now).sorts) (walks.own_ways (setting_in scope.now).sorts edges.now)) }
-{
-    let mut far = Vec::new(alloc);
-    for t in edges {
-        push_ends(scope, own_way(scope, *t), *t, &mut far)?;
-    }
-    Ok(far)
-}
-
 /// Puts last where the edge type of a name leads, where it is one.
 #[tactic(auto, using(crate::proofs::SortLemmas::named_way_laws))]
 fn push_named(
@@ -155,7 +88,7 @@ fn push_named(
 {
     match scope.edge_type(name) {
         None => Ok(()),
-        Some(t) => push_ends(scope, way, t, far),
+        Some(t) => push_ends(scope.catalog(), way, t, far),
     }
 }
 
@@ -170,18 +103,6 @@ fn step_far(alloc: Global, scope: &Scope<'_>, ways: &[(Way, Txt)]) -> Result<Vec
     Ok(far)
 }
 
-/// The far ends, or all types of the graph where there is none.
-#[tactic(auto, using(crate::proofs::SortLemmas::own_laws))]
-fn or_all(alloc: Global, scope: &Scope<'_>, far: Vec<u32>) -> Result<Numbers, OutOfMemory>
-    ensures { IfOk result (λ l. l ≡ spec.or_all (setting_in scope.now).sorts.own_vertices far.items) }
-{
-    if far.is_empty() {
-        List::from_slice(alloc, scope.own_vertices())
-    } else {
-        by_number(far)
-    }
-}
-
 /// The vertex types that are named, in order.
 fn targets(alloc: Global, scope: &Scope<'_>, names: &[Txt]) -> Result<Numbers, OutOfMemory>
     ensures { IfOk result (λ l. l ≡ spec.by_number (filter_map (setting_in scope.now).words.vertex_type names.now)) }
@@ -193,15 +114,15 @@ fn hop_open(alloc: Global, scope: &Scope<'_>, hop: &HopTree) -> Result<Numbers, 
     ensures { IfOk result (λ l. l ≡ walks.open_ends (setting_in scope.now) (walks.own_ways (setting_in scope.now).sorts (spec.edge_types (setting_in scope.now) (view_types_if hop.now.edges)))) }
 {
     let edges = edge_types(alloc, scope, &hop.edges)?;
-    let far = hop_far(alloc, scope, edges.as_slice())?;
-    or_all(alloc, scope, far)
+    let far = hop_far(alloc, scope.catalog(), edges.as_slice())?;
+    or_all(alloc, scope.own_vertices(), far)
 }
 
 fn step_open(alloc: Global, scope: &Scope<'_>, step: &StepTree) -> Result<Numbers, OutOfMemory>
     ensures { IfOk result (λ l. l ≡ walks.open_ends (setting_in scope.now) (filter_map (spec.way_of (setting_in scope.now)) step.now.ways)) }
 {
     let far = step_far(alloc, scope, step.ways.as_slice())?;
-    or_all(alloc, scope, far)
+    or_all(alloc, scope.own_vertices(), far)
 }
 
 /// Where a hop leads.

@@ -1,22 +1,23 @@
 // Walks: a hop, or a path of one to three steps.
-ghost use Rattle.std.specs.Prelude.{◌≡◌, map, true, IfOk};
-ghost use Rattle.std.specs.Option.{option_copied};
+ghost use Rattle.std.specs.Prelude.{◌≡◌, map, true, IfOk, slice_get};
+ghost use Rattle.std.specs.Option.{option_copied, option_map};
 ghost use Rattle.gq_rules_typing.specs.Sorts.{edge_sort};
 ghost use Rattle.gq_rules_typing.specs.Judging.{each_judged};
 ghost use Rattle.gq_rules_typing.specs.SelectViews.{view_types, view_types_if, view_hop, view_step, view_walk};
 ghost use Rattle.gq_rules_typing.specs.Patterns as patterns;
 ghost use Rattle.gq_rules_typing.specs.SelectTypes as spec;
-ghost use Rattle.gq_scope.specs.Held.{scope_in};
+ghost use Rattle.gq_scope.specs.Held.{scope_in, setting_in};
 ghost use Rattle.gq_check_from.specs.Faults.{Judges, Grows};
 ghost use Rattle.gq_check_from.specs.Walks as walks;
 
 use crate::aliases::{with_alias, with_edge_alias};
+use crate::ends::edge_at;
 use crate::fault::CheckFault;
 use crate::names::{edge_type, vertex_type};
-use crate::patterns::{edge_at, edge_types, text_of};
+use crate::patterns::{edge_types, text_of};
 use gq_base::List;
 use gq_graph::{EdgeType, Numbers};
-use gq_scope::Scope;
+use gq_scope::{Scope, allowed, matched};
 use gq_tree::{HopTree, PatternTree, StepTree, TypesTree, Way};
 use gq_value::Txt;
 use std::alloc::Global;
@@ -83,26 +84,6 @@ fn known_targets_if(
 
 // ---- hops, which stand in v1
 
-/// Not allowed here, where a test fails.
-fn allowed(test: bool) -> Result<(), CheckFault>
-    ensures { Judges (λ _. true) (walks.allowed test) result }
-{
-    match test {
-        true => Ok(()),
-        false => Err(CheckFault::NotAllowedHere),
-    }
-}
-
-/// Type mismatch, where a test fails.
-fn matched(test: bool) -> Result<(), CheckFault>
-    ensures { Judges (λ _. true) (walks.matched test) result }
-{
-    match test {
-        true => Ok(()),
-        false => Err(CheckFault::Mismatch),
-    }
-}
-
 /// The parts of a hop, in order.
 #[tactic(auto, using(crate::proofs::ScopeLemmas::walk_laws))]
 fn hop_parts(
@@ -160,12 +141,19 @@ fn way_known(alloc: Global, scope: &Scope<'_>, way: Way, name: &str) -> Result<u
     walked(scope, way, t)
 }
 
+/// The edge type with a number, of those that the scope sees.
+fn edge_of<'s>(scope: &'s Scope<'_>, t: u32) -> Option<&'s EdgeType>
+    ensures { option_map edge_sort (option_copied result) ≡ slice_get (setting_in scope.now).sorts.edges t }
+{
+    edge_at(scope.catalog(), t)
+}
+
 /// The edge type with a number, where it may be walked in this way.
 #[tactic(auto, using(crate::proofs::ScopeLemmas::walk_laws))]
 fn walked(scope: &Scope<'_>, way: Way, t: u32) -> Result<u32, CheckFault>
     ensures { Judges (λ t. t) (walks.walked (scope_in scope.now) way t) result }
 {
-    match edge_at(scope, t) {
+    match edge_of(scope, t) {
         None => Err(CheckFault::Mismatch),
         Some(edge) => {
             matched(suits_way(edge, way))?;
@@ -193,7 +181,7 @@ fn nameless(is_last: bool, name: &Option<Txt>) -> Result<(), CheckFault>
 {
     match is_last {
         true => Ok(()),
-        false => allowed(!name.is_some()),
+        false => Ok(allowed(!name.is_some())?),
     }
 }
 

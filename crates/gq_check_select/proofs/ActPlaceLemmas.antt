@@ -1,21 +1,34 @@
 -- PlaceLemmas: what an expression may name, at the scope's own place.
 use Rattle.std.proofs.Common.{ℕ, ◌+◌, ◌<◌, ◌≡◌, true, List, length, get_or, drop, Option, Ok, Err, refl, ap, sym, ◌∙◌}
 use Rattle.std.proofs.lemmas.List.{drop_more}
+use Rattle.gq_value.specs.Accums.{Accum}
 use Rattle.gq_tree.specs.declared.select.ActTree.{ActTree}
 use Rattle.gq_rules_typing.specs.Statements.{Bytes}
 use Rattle.gq_rules_typing.specs.Selecting as plain
 use Rattle.gq_rules_typing.specs.SelectViews.{view_act, view_acts}
 use Rattle.gq_rules_typing.specs.Judging.{Judged, ◌>>=◌, ◌>>◌}
-use Rattle.gq_rules_typing.specs.ActTypes.{one_more, typing_act, typing_post}
+use Rattle.gq_rules_typing.specs.ActTypes.{one_more, typing_act, typing_post, typing_written}
+use Rattle.gq_rules_typing.specs.ExpressionTypes.{Names}
+use Rattle.gq_rules_typing.specs.Scopes as typing
 use Rattle.gq_rules_typing.specs.Scopes.{names_at}
 use Rattle.gq_scope.specs.Held.{Held, scope_in, setting_in, names_in}
-use Rattle.gq_check_select.specs.Trees.{names_one, post_act}
+use Rattle.gq_check_select.specs.Trees.{change_written, names_one, post_act}
 
 pub names_here : (h : Held) → names_in h ≡ names_at (scope_in h) h.place
 unfolding names_in
 names_here h = refl
 
 pub ruleset place_laws = (names_here)
+
+-- a change in POST-ACCUM, at the scope's own place
+pub change_is : (h : Held) (k : Accum) (change : plain.Change Bytes) → h.place ≡ typing.InPost → change_written (names_in h) k change ≡ typing_written (scope_in h) k change
+change_is h k change is = ap (λ (names : Names Bytes). change_written names k change) (names_here h ∙ ap (names_at (scope_in h)) is) ∙ by change
+  where
+    by : (change : plain.Change Bytes) → change_written (names_at (scope_in h) typing.InPost) k change ≡ typing_written (scope_in h) k change
+    by (plain.Adds x) = refl
+    by (plain.Puts t) = refl
+
+pub ruleset written_laws = (change_is)
 
 -- a statement of POST-ACCUM more, over names that are bytes
 one_alias : (h : Held) (source target : Option Bytes) (n : ℕ) (a : plain.Act Bytes) (rest : plain.Acts Bytes)

@@ -19,14 +19,12 @@ use Rattle.gq_rules_typing.specs.Patterns.{target_alias, end_types}
 use Rattle.gq_rules_typing.specs.ActTypes.{typing_acts, typing_post}
 use Rattle.gq_rules_typing.specs.SelectTypes.{with_alias, source_types, typing_walk, selected_types, optional, is_sortable, sort_key}
 use Rattle.gq_rules_typing.specs.SetTypes.{here, types_of, seed_types, all_types, term_types, joined_types, right_types, right_value}
+use Rattle.gq_scope.specs.Views.{matched}
 use Rattle.gq_check_from.specs.Walks.{passes}
 use Rattle.gq_check_select.specs.declared.assignments.AssignTarget.{AssignTarget}
 use Rattle.gq_check_select.specs.declared.assignments.AssignTarget.TheVariants as left
 
 -- ---- SELECT
-
-abbrev pub matched : Bool → Judged Bool
-matched test = unless Mismatch test
 
 abbrev pub is_sortable_base : Base → Bool
 is_sortable_base STRING = true

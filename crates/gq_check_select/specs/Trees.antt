@@ -1,5 +1,5 @@
 -- Trees: lists of inputs, and the branches of an IF, as plain data; and two rules of ACCUM and POST-ACCUM over names that are bytes.
-use Rattle.std.specs.Prelude.{ℕ, Bool, true, not, ◌&&◌, List, map, Option, Ok}
+use Rattle.std.specs.Prelude.{ℕ, Bool, true, not, ◌&&◌, List, map, Option, Some, Ok}
 use Rattle.std.specs.Option.{option_map}
 use Rattle.std.specs.Str.{bytes_eq}
 use Rattle.gq_tree.specs.View.{Named, view}
@@ -12,8 +12,9 @@ use Rattle.gq_rules_typing.specs.Selecting as plain
 use Rattle.gq_rules_typing.specs.SelectViews.{inputs_of, view_input, choices_of, view_act}
 use Rattle.gq_rules_typing.specs.Judging.{TwoAliases, OrderDependent, Judged, ◌>>=◌, ◌>>◌, unless}
 use Rattle.gq_rules_typing.specs.Kinds.{is_list}
+use Rattle.gq_rules_typing.specs.ExpressionTypes.{Names, converting}
 use Rattle.gq_rules_typing.specs.Scopes.{Scope}
-use Rattle.gq_rules_typing.specs.ActTypes.{one_more, typing_act}
+use Rattle.gq_rules_typing.specs.ActTypes.{one_more, settable, typing_act, typing_input}
 use Rattle.gq_rules_typing.specs.Patterns.{is_alias}
 use Rattle.gq_rules_typing.specs.Mentions.{in_act}
 
@@ -27,6 +28,11 @@ view_choices branches others = choices_of (map (λ b. (view b.0, map view_act b.
 -- a ListAccum takes no input in ACCUM
 abbrev pub in_any_order : Bytes → Accum → Judged Bool
 in_any_order a k = unless (OrderDependent a) (not (is_list k))
+
+-- a change by inputs, or to a value
+abbrev pub change_written : Names Bytes → Accum → plain.Change Bytes → Judged Bool
+change_written names k (plain.Adds x) = typing_input names (Some k) x
+change_written names k (plain.Puts t) = settable k >>= λ b. converting names b t
 
 -- a statement of POST-ACCUM names one vertex alias at most
 abbrev pub names_one : Option Bytes → Option Bytes → plain.Act Named → Judged Bool

@@ -4,7 +4,7 @@ ghost use Rattle.gq_value.specs.AccumViews.{accum_of};
 ghost use Rattle.gq_rules_typing.specs.SelectViews.{view_change};
 ghost use Rattle.gq_rules_typing.specs.Scopes.{InBlock, InPost};
 ghost use Rattle.gq_rules_typing.specs.ActTypes as spec;
-ghost use Rattle.gq_scope.specs.Held.{scope_in};
+ghost use Rattle.gq_scope.specs.Held.{scope_in, names_in};
 ghost use Rattle.gq_scope.specs.Views.{base_is};
 ghost use Rattle.gq_check_from.specs.Faults.{Judges};
 ghost use Rattle.gq_check_select.specs.Trees as trees;
@@ -34,7 +34,7 @@ fn vertex_alias(alloc: Global, scope: &Scope<'_>, name: &str) -> Result<(), Chec
 }
 
 /// The type that `=` sets an accumulator of a kind to; type mismatch for one that can't be set.
-pub fn settable(kind: &Kind) -> Result<Base<'_>, CheckFault>
+fn settable(kind: &Kind) -> Result<Base<'_>, CheckFault>
     ensures { Judges base_is (spec.settable (accum_of kind.now)) result }
 {
     match set_type(kind) {
@@ -75,16 +75,14 @@ fn given(
     }
 }
 
-/// A change at an alias in POST-ACCUM.
-#[tactic(auto, using(crate::proofs::ActPlaceLemmas::place_laws))]
-fn written(
+/// A change of an accumulator of a kind: inputs, or a value that it is set to. So it is in statements, and at an alias in POST-ACCUM.
+pub fn written(
     alloc: Global,
     scope: &Scope<'_>,
     kind: &Kind,
     change: &ChangeTree,
 ) -> Result<(), CheckFault>
-    requires { scope.now.place ≡ InPost }
-    ensures { Judges (λ _. true) (spec.typing_written (scope_in scope.now) (accum_of kind.now) (view_change change.now)) result }
+    ensures { Judges (λ _. true) (trees.change_written (names_in scope.now) (accum_of kind.now) (view_change change.now)) result }
 {
     match change {
         ChangeTree::Feed(tree) => input(tree, alloc, scope, Some(kind)),
@@ -109,6 +107,7 @@ fn fed(alloc: Global, scope: &Scope<'_>, kind: &Kind, change: &ChangeTree) -> Re
 }
 
 /// A change at an alias; `post` tells POST-ACCUM.
+#[tactic(auto, using(crate::proofs::ActPlaceLemmas::written_laws))]
 pub(crate) fn at_alias(
     alloc: Global,
     scope: &Scope<'_>,

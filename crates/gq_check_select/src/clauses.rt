@@ -18,7 +18,7 @@ ghost use Rattle.gq_check_select.specs.Selects as selects;
 use crate::acts::{accum, post_accum};
 use gq_base::List;
 use gq_check_from::{CheckFault, target_alias, text_of};
-use gq_scope::{Base, Place, Scope, Typed};
+use gq_scope::{Base, Place, Scope, Typed, matched};
 use gq_tree::{ActTree, Node, SelectTree};
 use gq_type::{condition, is_number, is_numeric, number, type_of};
 use std::alloc::Global;
@@ -72,21 +72,11 @@ fn is_sortable_base(base: Base<'_>) -> bool
     }
 }
 
-/// Type mismatch, where a test fails.
-fn matched(test: bool) -> Result<(), CheckFault>
-    ensures { Judges (λ _. true) (selects.matched test) result }
-{
-    match test {
-        true => Ok(()),
-        false => Err(CheckFault::Mismatch),
-    }
-}
-
 fn sort_key(alloc: Global, scope: &Scope<'_>, node: &Node) -> Result<(), CheckFault>
     ensures { Judges (λ _. true) (selects.sortable (names_in scope.now) (view node.now)) result }
 {
     let x = type_of(alloc, scope, node)?;
-    matched(is_sortable(x))
+    Ok(matched(is_sortable(x))?)
 }
 
 fn each_key(alloc: Global, scope: &Scope<'_>, keys: &[(Node, bool)]) -> Result<(), CheckFault>

@@ -14,9 +14,9 @@ ghost use Rattle.gq_check_from.specs.Faults.{fault_of, Judges};
 ghost use Rattle.gq_check_select.specs.Trees.{view_inputs};
 
 use gq_check_from::CheckFault;
-use gq_scope::{Base, Scope, Typed, input_type, key_types};
+use gq_scope::{Base, Scope, Typed, input_type, key_types, matched};
 use gq_tree::{InputTree, Node};
-use gq_type::{as_base, base_type, convert_all, converts, matched, type_of};
+use gq_type::{as_base, base_type, convert_all, converts, type_of};
 use gq_value::Kind;
 use std::alloc::Global;
 
@@ -138,7 +138,7 @@ fn bases<'s>(alloc: Global, typed: &[Typed<'s>]) -> Result<Vec<Base<'s>>, CheckF
 /// part. Where it is nested below keys and there is no such part, its kind is None, and it is judged by itself.
 #[cycle(inputs)]
 #[tactic(auto, using(crate::proofs::TreeLemmas::input_laws))]
-pub fn input(
+pub(crate) fn input(
     tree: &InputTree,
     alloc: Global,
     scope: &Scope<'_>,

@@ -19,6 +19,5 @@ mod mentions;
 mod sets;
 
 pub use assignments::assignment;
-pub use changes::settable;
-pub use inputs::input;
+pub use changes::written;
 pub use sets::set_types;

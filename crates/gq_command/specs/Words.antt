@@ -1,7 +1,7 @@
--- Words: what the words of the command line ask for, or None where they are no use of the command.
+-- Words: what the words of a command line ask for, or None where the command line is invalid.
 --
 -- Here each part is a function of the rows that `clap` matched. The code reads the rows by name, and stops at the first part
--- that is no use.
+-- that is invalid.
 use Rattle.std.specs.Prelude.{ℕ, List, Option, Some, None, codes, option_map, option_and_then}
 use Rattle.clap.specs.Words.{Row, Text, first_of}
 use Rattle.gq_io.specs.declared.shape.Shape.{Shape}
@@ -34,7 +34,7 @@ shape_of rows =
     (number_or 1024 1048576 (first_of (codes "chunk") rows))
     (number_or 16 256 (first_of (codes "stripes") rows))
 
--- how many turns of a loop the rows ask for
+-- how often the bodies of all loops of a query's run may be entered
 abbrev pub turns_of : List Row → Option ℕ
 turns_of rows = number_or 1000000 1000000000 (first_of (codes "turns") rows)
 

@@ -1,4 +1,4 @@
-// What the words ask for.
+// What a command line asks for.
 ghost use Rattle.std.specs.Prelude.{◌≡◌};
 
 use gq_base::OutOfMemory;
@@ -6,17 +6,13 @@ use gq_io::Shape;
 use gq_value::Txt;
 use thiserror::Error;
 
-/// How `gsql` is used: what users read where the words are no use of it.
-pub const USAGE: &str =
-    "usage: gsql [--workers N] [--chunk N] [--stripes N] [--turns N] [--args FILE] SCRIPT\n       gsql [--workers N] [--chunk N] [--stripes N] [--turns N] --sample N";
-
-/// What the words of a command line ask for.
+/// What a command line asks for.
 #[derive(Debug, Drop)]
 pub struct Command {
-    /// How the work of a block is cut: 4 workers, chunks of 1,024 and 16 stripes, where the words don't say.
+    /// How the work of a block is cut: by default 4 workers, chunks of 1,024 and 16 stripes.
     pub shape: Shape,
 
-    /// How many turns a loop may take: 1 to 1,000,000,000, and 1,000,000 where the words don't say.
+    /// How often the bodies of all loops of a query's run may be entered: 1 to 1,000,000,000, by default 1,000,000.
     pub turns: u64,
 
     pub task: Task,
@@ -35,8 +31,8 @@ pub enum Task {
 /// Why there is no command.
 #[derive(Clone, Copy, Debug, PartialEq, Eq, Error)]
 pub enum WordsFault {
-    /// The words are no use of the command; `USAGE` says which are.
-    #[error("no use of the command")]
+    /// The command line is invalid.
+    #[error("invalid command line")]
     Usage,
 
     #[error("out of memory")]

@@ -1,4 +1,4 @@
-// The command as `clap` sees it, and what `clap` matches of the words.
+// The command as `clap` sees it, and what `clap` matches of the arguments.
 ghost use Rattle.std.specs.Prelude.{◌≡◌, ◌≢◌, Some, None, IfOk, IsErrOf, codes, map, option_map, string_bytes};
 ghost use Rattle.clap.specs.Words.{app_of, first_of, found_of, kind_of, new_rule, rows_of, with_rule, fault_of, FailsBy, matches_of};
 ghost use Rattle.gq_command.specs.Line.{bare, gsql, matched, option};
@@ -8,7 +8,7 @@ use clap::error::ErrorKind;
 use clap::{Arg, ArgMatches, Command, Error};
 use std::alloc::{AllocError, Global};
 
-/// What the words match, where they are those of the command.
+/// What `clap` matches of the arguments, where they are valid.
 pub fn matches_in<'a>(alloc: Global, words: &'a [String]) -> Result<ArgMatches<'a>, WordsFault>
     ensures rows { IfOk result (λ found. matched (map string_bytes words.entry.now) ≡ Some (rows_of (found_of found))) }
     ensures usage { IsErrOf result WordsFault.Usage → matched (map string_bytes words.entry.now) ≡ None }

@@ -1,4 +1,4 @@
-// From words to a command.
+// From a command line to a command.
 ghost use Rattle.std.specs.Prelude.{◌≡◌, Some, None, IfOk, IfSome, IsErrOf, map, option_map, string_bytes};
 ghost use Rattle.clap.specs.Words.{found_of, rows_of};
 ghost use Rattle.gq_command.specs.Words.{command_from, command_of, shape_of, task_of, turns_of};
@@ -14,7 +14,7 @@ use gq_io::Shape;
 use gq_value::Txt;
 use std::alloc::Global;
 
-/// The command that the words after the program's name ask for.
+/// The command that the arguments after the program's name ask for.
 ///
 /// A number is one to ten ASCII digits. A script and `--sample` exclude one another, and so do `--args` and `--sample`.
 pub fn read_words(alloc: Global, words: &[String]) -> Result<Command, WordsFault>

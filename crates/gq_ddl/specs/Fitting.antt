@@ -1,7 +1,7 @@
 -- Fitting: when named jobs are those of a catalog.
 use Rattle.std.specs.Prelude.{List, All}
 use Rattle.gq_graph.specs.Catalog.{Schema}
-use Rattle.gq_load_plan.specs.Fits.{LineFits}
+use Rattle.gq_load_check.specs.Fits.{LineFits}
 use Rattle.gq_ddl.specs.declared.named.NamedJob.{NamedJob}
 
 -- each LOAD of each job is one of the catalog

@@ -2,9 +2,9 @@
 use Rattle.std.proofs.Common.{ℕ, zero, suc, ◌≡◌, List, [], ◌∷◌, ◌++◌, get_or, All, Some, Bool, true, false, cond, subst, arith}
 use Rattle.std.specs.List.{find}
 use Rattle.gq_graph.specs.Catalog.{Schema}
-use Rattle.gq_load_plan.specs.declared.job.LoadLine.{LoadLine}
-use Rattle.gq_load_plan.specs.Fits.{HasGrown, LineFits}
-use Rattle.gq_load_plan.specs.GrowthLaws.{line_stays}
+use Rattle.gq_load_check.specs.declared.job.LoadLine.{LoadLine}
+use Rattle.gq_load_check.specs.Fits.{HasGrown, LineFits}
+use Rattle.gq_load_check.specs.GrowthLaws.{line_stays}
 use Rattle.gq_ddl.specs.declared.named.NamedJob.{NamedJob}
 use Rattle.gq_ddl.specs.Fitting.{JobsFit}
 use Rattle.gq_ddl.specs.Jobs.{is_named, entry_of}

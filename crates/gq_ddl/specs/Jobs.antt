@@ -5,11 +5,11 @@ use Rattle.gq_graph.specs.Catalog.{Schema, graph_of}
 use Rattle.gq_tree.specs.declared.job.JobTree.{JobTree}
 use Rattle.gq_diagnostics.specs.declared.refusal.Refusal.{Refusal}
 use Rattle.gq_diagnostics.specs.declared.refusal.Refusal.TheVariants as refusal
-use Rattle.gq_load_plan.specs.declared.job.Job.{Job}
-use Rattle.gq_load_plan.specs.declared.fault.JobFault.{JobFault}
-use Rattle.gq_load_plan.specs.declared.fault.JobFault.TheVariants as fault
-use Rattle.gq_load_plan.specs.Lines.{job_of}
-use Rattle.gq_load_plan.specs.Refusals.{job_refusal}
+use Rattle.gq_load_check.specs.declared.job.Job.{Job}
+use Rattle.gq_load_check.specs.declared.fault.JobFault.{JobFault}
+use Rattle.gq_load_check.specs.declared.fault.JobFault.TheVariants as fault
+use Rattle.gq_load_check.specs.Lines.{job_of}
+use Rattle.gq_load_check.specs.Refusals.{job_refusal}
 use Rattle.gq_ddl.specs.declared.named.NamedJob.{NamedJob}
 
 -- ---- names

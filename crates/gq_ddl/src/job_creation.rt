@@ -9,7 +9,7 @@ use crate::job_fault::statement_fault;
 use crate::named::{NamedJob, has_job};
 use gq_base::{List, OutOfMemory};
 use gq_diagnostics::{Refusal, StatementFault};
-use gq_load_plan::check_job;
+use gq_load_check::check_job;
 use gq_schema::Catalog;
 use gq_tree::JobTree;
 use gq_value::Txt;

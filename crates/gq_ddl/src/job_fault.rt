@@ -1,12 +1,12 @@
 // Refusals of jobs.
 ghost use Rattle.std.specs.Prelude.{◌≡◌, ◌≢◌, Some, Option, List};
 ghost use Rattle.gq_diagnostics.specs.Answers.{Denies};
-ghost use Rattle.gq_load_plan.specs.declared.fault.JobFault.{JobFault};
+ghost use Rattle.gq_load_check.specs.declared.fault.JobFault.{JobFault};
 ghost use Rattle.gq_ddl.specs.declared.named.NamedJob.{NamedJob};
 ghost use Rattle.gq_ddl.specs.Jobs.{unless_refused};
 
 use gq_diagnostics::{Refusal, StatementFault};
-use gq_load_plan::JobFault;
+use gq_load_check::JobFault;
 
 /// The refusal of a statement whose job is refused.
 pub(crate) fn statement_fault(fault: JobFault) -> StatementFault

@@ -1,7 +1,7 @@
 // What holds of jobs while their catalog grows.
 ghost use Rattle.std.specs.Prelude.{List};
 ghost use Rattle.gq_graph.specs.Catalog.{Schema};
-ghost use Rattle.gq_load_plan.specs.Fits.{HasGrown};
+ghost use Rattle.gq_load_check.specs.Fits.{HasGrown};
 ghost use Rattle.gq_ddl.specs.declared.named.NamedJob.{NamedJob};
 ghost use Rattle.gq_ddl.specs.Fitting.{JobsFit};
 

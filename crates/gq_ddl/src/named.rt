@@ -2,11 +2,11 @@
 ghost use Rattle.std.specs.Prelude.{◌≡◌, All, IfSome};
 ghost use Rattle.std.specs.Option.{option_copied};
 ghost use Rattle.gq_graph.specs.Catalog.{Schema};
-ghost use Rattle.gq_load_plan.specs.Fits.{LineFits};
+ghost use Rattle.gq_load_check.specs.Fits.{LineFits};
 ghost use Rattle.gq_ddl.specs.Jobs as spec;
 ghost use Rattle.gq_ddl.specs.Fitting.{JobsFit};
 
-use gq_load_plan::Job;
+use gq_load_check::Job;
 use gq_value::Txt;
 
 /// A loading job with its name.

@@ -54,7 +54,7 @@ module _ (known : Known) where
   TaskMeans turns (Script path arguments) outcome = Asks known path (BytesMean turns arguments) outcome
   TaskMeans turns (Sample people) outcome = SampleMeans turns people outcome
 
-  -- what a command means, or words that are no use of it
+  -- what a command means; without one the command line is invalid
   abbrev pub CommandMeans : Option Command → Outcome → Type 0
   CommandMeans None outcome = outcome ≡ usage
   CommandMeans (Some command) outcome = TaskMeans command.turns command.task outcome

@@ -15,13 +15,13 @@ use Rattle.gq_arguments.specs.Objects.{IsObject}
 use Rattle.gq_diagnostics.specs.Outcome.{Outcome, refused_with}
 use Rattle.gq_io.specs.Known.{Known}
 use Rattle.gq_session.specs.Runs.{Runs}
-use Rattle.gq_session.specs.Statements.{Does, opening}
+use Rattle.gq_session.specs.Statements.{opening}
 use Rattle.gq_driver.specs.Messages.{message_at, name_of, fault_message}
 
 module _ (bytes : List ℕ) (known : Known) (turns : ℕ) where
   -- what the statements of the script mean, one after another from a new session on, with this file of arguments, if one is named
   abbrev pub StatementsMean : Option (List ℕ) → List Placed → Outcome → Type 0
-  StatementsMean arguments statements outcome = Runs Does bytes known (opening arguments turns) 1 statements outcome
+  StatementsMean arguments statements outcome = Runs bytes known (opening arguments turns) 1 statements outcome
 
   -- the same, where the bytes of the file, if one is named, have to be a JSON object
   abbrev pub ArgumentsMean : Option (List ℕ) → List Placed → Outcome → Type 0

@@ -17,11 +17,12 @@ use gq_query_run::{Runner, RunsQueries};
 use std::alloc::Global;
 use std::thread::Threads;
 
-/// Runs what the words after the program's name ask for, over these files, and writes its lines to the sink. Its queries run on this
-/// machine, on threads of this runtime.
+/// Runs what the arguments after the program's name ask for, over these files, and writes its lines to the sink. Its queries run on
+/// this machine, on threads of this runtime.
 ///
-/// The words are read first, then the script's file, then that of the arguments, where one is named. The whole script is read before
-/// its first statement runs, and each line is written when its statement has ended. A sample has a script and files of its own.
+/// The command line is read first, then the script's file, then that of the queries' arguments, where one is named. The whole script
+/// is read before its first statement runs, and each line is written when its statement has ended. A sample has a script and files of
+/// its own.
 pub fn run<R: Threads + Sync, M: RunsQueries, F: Files, K: Sink>(
     rt: &R,
     machine: &M,
@@ -30,18 +31,18 @@ pub fn run<R: Threads + Sync, M: RunsQueries, F: Files, K: Sink>(
     files: &mut F,
     out: &mut K,
 ) -> Status
-    // Over files that are told: the lines and the status are those that the words mean, or a counted fault or `OutOfMemory` ended
-    // the run sooner: after a failed read with whole lines, else with a prefix of the bytes.
+    // Over files that are told: the lines and the status are those that the command line means, or a counted fault or `OutOfMemory`
+    // ended the run sooner: after a failed read with whole lines, else with a prefix of the bytes.
     ensures told { (pairs : Listing) → F.held files.old ≡ Some pairs → (outcome : Outcome) → Means (Told pairs) (map string_bytes words.now) outcome
         → KeepsTo outcome result (K.written out.old) (K.written out.new) (Rose (F.faults files.old) (F.faults files.new)) (Rose (K.faults out.old) (K.faults out.new)) }
 
-    // Over all files: a run that comes to its end is one that the words may have. Where the files aren't told, a file that is missing
-    // or too large has its cause in their counts.
+    // Over all files: a run that comes to its end is one that the command line may have. Where the files aren't told, a file that is
+    // missing or too large has its cause in their counts.
     ensures is_meant { IsFinal result → (outcome : Outcome)
         × Means (known_of (F.held files.old) (F.absences files.old) (F.absences files.new) (F.length_met files.new)) (map string_bytes words.now) outcome
         × Ends outcome result (K.written out.old) (K.written out.new) }
 
-    // Words that are no use of the command are answered so, without a look at files and sink, and no others are.
+    // An invalid command line is answered so, without a look at files and sink, and no other is.
     ensures usage { result ≡ Status.Usage → command_of (map string_bytes words.now) ≡ None }
     ensures no_use { command_of (map string_bytes words.now) ≡ None → (result ≡ Status.Usage) ⊎ (result ≡ Status.OutOfMemory) }
     ensures silent { command_of (map string_bytes words.now) ≡ None → out.new ≡ out.old }

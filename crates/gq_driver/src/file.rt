@@ -10,7 +10,6 @@ use crate::script::run_script;
 use gq_diagnostics::{Status, refuse_file};
 use gq_io::{FileFault, Files, Sink, ask};
 use gq_query_run::{Runner, RunsQueries};
-use gq_stmt_read::QueryBodies;
 use gq_value::Txt;
 use std::alloc::Global;
 use std::thread::Threads;
@@ -56,7 +55,7 @@ fn run_bytes<R: Threads + Sync, M: RunsQueries, F: Files, K: Sink>(
     ensures only_runs { OnlyRuns result (Rose (F.faults files.old) (F.faults files.new)) (Rose (K.faults out.old) (K.faults out.new)) }
 {
     match arguments {
-        None => run_script::<QueryBodies, R, M, F, K>(rt, alloc, bytes, None, runner, files, out),
+        None => run_script(rt, alloc, bytes, None, runner, files, out),
         Some(name) => run_with_arguments(rt, alloc, bytes, name.as_str(), runner, files, out),
     }
 }
@@ -78,15 +77,7 @@ fn run_with_arguments<R: Threads + Sync, M: RunsQueries, F: Files, K: Sink>(
     ensures only_runs { OnlyRuns result (Rose (F.faults files.old) (F.faults files.new)) (Rose (K.faults out.old) (K.faults out.new)) }
 {
     match file_of(alloc, arguments, files, out) {
-        Ok(file) => run_script::<QueryBodies, R, M, F, K>(
-            rt,
-            alloc,
-            bytes,
-            Some(&file),
-            runner,
-            files,
-            out,
-        ),
+        Ok(file) => run_script(rt, alloc, bytes, Some(&file), runner, files, out),
         Err(status) => status,
     }
 }

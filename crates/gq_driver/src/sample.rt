@@ -10,7 +10,6 @@ use gq_command::{knows_csv, people_csv, sample_script};
 use gq_diagnostics::Status;
 use gq_io::{Sink, SureFiles};
 use gq_query_run::{Runner, RunsQueries};
-use gq_stmt_read::QueryBodies;
 use std::alloc::Global;
 use std::thread::Threads;
 
@@ -32,9 +31,7 @@ pub fn run_sample<R: Threads + Sync, M: RunsQueries, K: Sink>(
         Err(OutOfMemory) => return Status::OutOfMemory,
     };
     match files_of(alloc, people) {
-        Ok(mut files) => run_script::<QueryBodies, R, M, SureFiles, K>(
-            rt, alloc, &script, None, runner, &mut files, out,
-        ),
+        Ok(mut files) => run_script(rt, alloc, &script, None, runner, &mut files, out),
         Err(OutOfMemory) => Status::OutOfMemory,
     }
 }

@@ -4,7 +4,6 @@ ghost use Rattle.std.specs.Option.{option_copied};
 ghost use Rattle.gq_io.specs.Counts.{Rose};
 ghost use Rattle.gq_io.specs.Listing.{Listing};
 ghost use Rattle.gq_token.specs.Cut.{IsSpelledIn};
-ghost use Rattle.gq_stmt_read.specs.Bodies.{ReadsBodies};
 ghost use Rattle.gq_diagnostics.specs.Outcome.{Outcome, Ends, IsFinal, KeepsTo, OnlyRuns};
 ghost use Rattle.gq_io.specs.Known.{Told, known_of};
 ghost use Rattle.gq_driver.specs.Scripts.{ArgumentsMean, ScriptMeans, StatementsMean, TokensMean};
@@ -15,7 +14,7 @@ use gq_diagnostics::{Status, refuse};
 use gq_io::{Files, Sink};
 use gq_query_run::{Runner, RunsQueries};
 use gq_session::{ArgsFile, Session, run_statements};
-use gq_stmt_read::{Bodies, ScriptFault, read_with};
+use gq_stmt_read::{ScriptFault, read_script};
 use gq_token::{LexFault, Token, tokens};
 use gq_tree::Placed;
 use std::alloc::Global;
@@ -23,7 +22,7 @@ use std::thread::Threads;
 
 /// Runs the script with these bytes, where the file of arguments, if one is named, has those. Its queries run by what is given, on
 /// threads of this runtime.
-pub fn run_script<B: Bodies, R: Threads + Sync, M: RunsQueries, F: Files, K: Sink>(
+pub fn run_script<R: Threads + Sync, M: RunsQueries, F: Files, K: Sink>(
     rt: &R,
     alloc: Global,
     bytes: &[u8],
@@ -32,7 +31,6 @@ pub fn run_script<B: Bodies, R: Threads + Sync, M: RunsQueries, F: Files, K: Sin
     files: &mut F,
     out: &mut K,
 ) -> Status
-    requires { ReadsBodies B.parser }
     ensures keeps { (pairs : Listing) → F.held files.old ≡ Some pairs → (outcome : Outcome) → ScriptMeans bytes.now (Told pairs) runner.now.turns (option_copied arguments.entry) outcome
         → KeepsTo outcome result (K.written out.old) (K.written out.new) (Rose (F.faults files.old) (F.faults files.new)) (Rose (K.faults out.old) (K.faults out.new)) }
     ensures is_meant { IsFinal result → (before : ℕ) → before ≤ F.absences files.old → (outcome : Outcome)
@@ -41,9 +39,7 @@ pub fn run_script<B: Bodies, R: Threads + Sync, M: RunsQueries, F: Files, K: Sin
     ensures only_runs { OnlyRuns result (Rose (F.faults files.old) (F.faults files.new)) (Rose (K.faults out.old) (K.faults out.new)) }
 {
     match tokens(alloc, bytes) {
-        Ok(tokens) => run_tokens::<B, R, M, F, K>(
-            rt, alloc, bytes, &tokens, arguments, runner, files, out,
-        ),
+        Ok(tokens) => run_tokens(rt, alloc, bytes, &tokens, arguments, runner, files, out),
         Err(fault) => {
             if fault == LexFault::OutOfMemory {
                 return Status::OutOfMemory;
@@ -53,7 +49,7 @@ pub fn run_script<B: Bodies, R: Threads + Sync, M: RunsQueries, F: Files, K: Sin
     }
 }
 
-fn run_tokens<B: Bodies, R: Threads + Sync, M: RunsQueries, F: Files, K: Sink>(
+fn run_tokens<R: Threads + Sync, M: RunsQueries, F: Files, K: Sink>(
     rt: &R,
     alloc: Global,
     bytes: &[u8],
@@ -64,7 +60,6 @@ fn run_tokens<B: Bodies, R: Threads + Sync, M: RunsQueries, F: Files, K: Sink>(
     out: &mut K,
 ) -> Status
     requires tokens { All (IsSpelledIn bytes.now) tokens.now }
-    requires bodies { ReadsBodies B.parser }
     ensures keeps { (pairs : Listing) → F.held files.old ≡ Some pairs → (outcome : Outcome) → TokensMean bytes.now (Told pairs) runner.now.turns (option_copied arguments.entry) tokens.now outcome
         → KeepsTo outcome result (K.written out.old) (K.written out.new) (Rose (F.faults files.old) (F.faults files.new)) (Rose (K.faults out.old) (K.faults out.new)) }
     ensures is_meant { IsFinal result → (before : ℕ) → before ≤ F.absences files.old → (outcome : Outcome)
@@ -72,7 +67,7 @@ fn run_tokens<B: Bodies, R: Threads + Sync, M: RunsQueries, F: Files, K: Sink>(
         × Ends outcome result (K.written out.old) (K.written out.new) }
     ensures only_runs { OnlyRuns result (Rose (F.faults files.old) (F.faults files.new)) (Rose (K.faults out.old) (K.faults out.new)) }
 {
-    match read_with::<B>(alloc, bytes, tokens) {
+    match read_script(alloc, bytes, tokens) {
         Ok(statements) => run_read(rt, alloc, bytes, &statements, arguments, runner, files, out),
         Err(ScriptFault::Syntax { statement, at }) => refuse_syntax(
             alloc, bytes, statement, at, out,

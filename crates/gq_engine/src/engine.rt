@@ -12,7 +12,7 @@ ghost use Rattle.gq_flow.specs.Plans.{Objects, Prints};
 ghost use Rattle.gq_query_run.specs.Runs.{Runs};
 ghost use Rattle.gq_engine.specs.Engines.{plan_over};
 
-use crate::whole::{has_attributes, has_ends};
+use crate::premises::{has_attributes, has_ends};
 use gq_base::List;
 use gq_exec_control::RunFault as PlanFault;
 use gq_flow::{Workers, run_query};

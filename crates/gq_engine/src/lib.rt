@@ -7,6 +7,6 @@
 #![tactic(auto)]
 
 mod engine;
-mod whole;
+mod premises;
 
 pub use engine::Engine;

@@ -3,6 +3,7 @@ ghost use Rattle.std.specs.Prelude.{◌≡◌, IfOk, map, Some};
 ghost use Rattle.gq_value.specs.Views.{val};
 ghost use Rattle.gq_tree.specs.Tree as plain;
 ghost use Rattle.gq_rules_typing.specs.Words as words;
+ghost use Rattle.gq_rules_typing.specs.Builtins.{builtin_is};
 ghost use Rattle.gq_rules_meaning.specs.Answers.{Gives};
 ghost use Rattle.gq_rules_meaning.specs.Meanings.{literal};
 ghost use Rattle.gq_rules_meaning.specs.Expressions.{value_of, truth_of, meaning, arguments};
@@ -24,6 +25,7 @@ use gq_eval_operand::{
     summed, truly, truth, value,
 };
 use gq_plan_ir::{Behind, Expr, Function, Method};
+use gq_rules_typing::Builtin;
 use gq_tree::{AddSign, MulSign};
 use gq_value::{Number, Row, Value};
 use std::alloc::Global;
@@ -327,15 +329,9 @@ fn called<'v, V: Sees>(
 {
     match function {
         Function::Tuple(number, _) => made(arguments, *number, alloc, sight),
-        Function::DatetimeDiff => difference(arguments, alloc, sight),
-        Function::DatetimeAdd => later(arguments, alloc, sight),
-        Function::Abs | Function::ToString => single(arguments, function, alloc, sight),
-        Function::ToDatetime => single(arguments, function, alloc, sight),
-        Function::EpochToDatetime => single(arguments, function, alloc, sight),
-        Function::DatetimeToEpoch => single(arguments, function, alloc, sight),
-        Function::Year | Function::Month => single(arguments, function, alloc, sight),
-        Function::Day | Function::Hour => single(arguments, function, alloc, sight),
-        Function::Minute | Function::Second => single(arguments, function, alloc, sight),
+        Function::Own(Builtin::DatetimeDiff) => difference(arguments, alloc, sight),
+        Function::Own(Builtin::DatetimeAdd) => later(arguments, alloc, sight),
+        Function::Own(builtin) => single(arguments, *builtin, alloc, sight),
     }
 }
 
@@ -365,20 +361,20 @@ fn made<'v, V: Sees>(
 #[tactic(auto, using(gq_eval_builtins::proofs::ListSteps::one_found))]
 fn single<'v, V: Sees>(
     arguments: &'v [Expr],
-    function: &'v Function,
+    builtin: Builtin,
     alloc: Global,
     sight: &'v V,
 ) -> Result<Seen<'v>, Halt>
-    ensures told { Tells meant (meaning (V.look sight.entry.now) (plain.Call (function_of function.entry.now) (views arguments.entry.now))) result }
+    ensures told { Tells meant (meaning (V.look sight.entry.now) (plain.Call (Calls (builtin_is builtin)) (views arguments.entry.now))) result }
     ensures sound { IfOk result Sound }
 {
-    if !is_single(function) {
+    if !is_single(builtin) {
         return Err(Halt::Outside);
     }
     match arguments {
         [argument] => {
             let x = run_value(argument, alloc, sight)?;
-            one(alloc, function, &x)
+            one(alloc, builtin, &x)
         }
         [] | [_, _, ..] => Err(Halt::Outside),
     }

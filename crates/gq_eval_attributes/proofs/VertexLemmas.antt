@@ -37,13 +37,6 @@ use Rattle.gq_eval_attributes.specs.Attributes.{attribute_at, vertex_value, id_s
 use Rattle.gq_eval_attributes.specs.Worlds.{InWorld, HaveAttributes}
 use Rattle.gq_eval_attributes.proofs.ListLemmas.{item_there, value_there, no_base_there, no_value_there}
 
--- ---- the type of a vertex
-
-pub type_past : (s : Schema) (count kind : ℕ) → count ≡ length s.vertex_types + length s.edge_types - length s.edge_types → count ≤ kind → slice_get s.vertex_types kind ≡ None
-type_past s count kind e h = slice_get_past s.vertex_types kind (omega (arith, e, h))
-
-pub ruleset type_laws = (type_past)
-
 -- ---- the meaning, part by part
 
 go : {A : Type 0} (o : Option A) (k : A → Outcome) (a : A) → o ≡ Some a → (found o >>= k) ≡ k a

@@ -1,14 +1,10 @@
 // INTs of edges.
-ghost use Rattle.std.specs.Prelude.{◌≡◌, slice_get};
-ghost use Rattle.std.specs.Option.{option_copied};
 ghost use Rattle.gq_rules_meaning.specs.States as states;
 ghost use Rattle.gq_plan_ir.specs.ExprView.{field_of};
 ghost use Rattle.gq_eval_attributes.specs.Reads.{IsReadInt};
 
+use crate::edges::edge_row;
 use crate::int_items::{int_at, place_in};
-use crate::items::edge_type;
-use gq_edge::Edges;
-use gq_graph::EdgeRow;
 use gq_index::Graph;
 use gq_plan_ir::Field;
 
@@ -24,18 +20,11 @@ pub fn edge_int(graph: Graph<'_>, field: &Field, edge: u32, kind: u32) -> Option
             None => None,
             Some(place) => match edge_row(&graph.store.edges, edge) {
                 None => None,
-                Some(row) => match edge_type(graph.catalog, kind) {
+                Some(row) => match graph.catalog.edge_by_number(kind) {
                     None => None,
                     Some(of) => int_at(&of.attributes, &row.attributes, place),
                 },
             },
         },
     }
-}
-
-/// An edge by its number, if there is one.
-fn edge_row(edges: &Edges, edge: u32) -> Option<&EdgeRow>
-    ensures { slice_get edges.now.rows edge ≡ option_copied result }
-{
-    edges.rows().get(edge as usize)
 }

@@ -1,5 +1,6 @@
 // Fields of edges.
-ghost use Rattle.std.specs.Prelude.{◌≡◌, IfOk, Some};
+ghost use Rattle.std.specs.Prelude.{◌≡◌, IfOk, Some, slice_get};
+ghost use Rattle.std.specs.Option.{option_copied};
 ghost use Rattle.gq_rules_typing.specs.Sorts.{names_of, attribute_fields};
 ghost use Rattle.gq_rules_typing.specs.Words.{OfEdgeType};
 ghost use Rattle.gq_rules_meaning.specs.States as states;
@@ -10,8 +11,8 @@ ghost use Rattle.gq_eval_operand.specs.Sound.{Sound};
 ghost use Rattle.gq_eval_attributes.specs.Attributes.{attribute_at};
 ghost use Rattle.gq_eval_attributes.specs.Worlds.{InWorld};
 
-use crate::items::{edge_row, edge_type, item};
 use crate::names::attribute_place;
+use gq_edge::Edges;
 use gq_eval_operand::{Halt, Operand, Seen, Sort};
 use gq_graph::{EdgeRow, EdgeType};
 use gq_index::Graph;
@@ -28,7 +29,7 @@ pub fn edge_field<'a>(
     ensures told { InWorld graph.entry (λ world. states.edge_field world (field_of field.now) edge kind) result }
     ensures sound { IfOk result Sound }
 {
-    match edge_type(graph.catalog, kind) {
+    match graph.catalog.edge_by_number(kind) {
         None => Err(Halt::Stuck),
         Some(of) => match field {
             Field::Type => Ok(Seen::Value(Sort::Text, Operand::Text(of.name.as_str()))),
@@ -43,11 +44,18 @@ pub fn edge_field<'a>(
     }
 }
 
+/// An edge by its number, if there is one.
+pub(crate) fn edge_row(edges: &Edges, edge: u32) -> Option<&EdgeRow>
+    ensures { slice_get edges.now.rows edge ≡ option_copied result }
+{
+    edges.rows().get(edge as usize)
+}
+
 /// Where a field stands among those of an edge type: as the plan says, or by its name.
 fn place_of_field(places: &FieldPlaces, of: &EdgeType, kind: u32) -> Option<usize>
     ensures { result ≡ place_in places.now (OfEdgeType kind) (names_of (attribute_fields of.now.attributes)) }
 {
-    match item(&places.edges, kind as usize) {
+    match places.edges.get(kind as usize) {
         None => attribute_place(of.attributes.as_slice(), places.name.as_str()),
         Some(None) => None,
         Some(Some(place)) => Some(*place as usize),
@@ -62,9 +70,9 @@ fn attribute<'a>(of: &'a EdgeType, row: &'a EdgeRow, place: Option<usize>) -> Re
 {
     match place {
         None => Err(Halt::Stuck),
-        Some(place) => match item(&of.attributes, place) {
+        Some(place) => match of.attributes.get(place) {
             None => Err(Halt::Stuck),
-            Some(attribute) => match item(&row.attributes, place) {
+            Some(attribute) => match row.attributes.get(place) {
                 None => Err(Halt::Stuck),
                 Some(value) => Ok(Seen::Value(Sort::of(&attribute.kind), Operand::Lent(value))),
             },

@@ -10,7 +10,6 @@ ghost use Rattle.gq_eval_operand.specs.Meant.{meant, keys_are, parts_are, parts_
 ghost use Rattle.gq_eval_operand.specs.Sound.{IsSound, Sound};
 ghost use Rattle.gq_eval_attributes.specs.Parts.{name_in, part_named};
 
-use crate::items::item;
 use gq_eval_operand::{Halt, Seen, opening, read};
 use gq_nest::Content;
 use gq_plan_ir::Field;
@@ -30,7 +29,7 @@ pub fn row_part<'a>(
 {
     match part_place(shape.parts.as_slice(), field) {
         None => Err(Halt::Stuck),
-        Some(place) => match item(&shape.parts, place) {
+        Some(place) => match shape.parts.get(place) {
             None => Err(Halt::Stuck),
             Some(part) => match u32::try_from(place) {
                 Err(_) => Err(Halt::Outside),
@@ -51,7 +50,7 @@ pub fn opening_part<'a>(shape: &'a GroupShape, field: &Field) -> Result<Seen<'a>
 {
     match part_place(shape.parts.as_slice(), field) {
         None => Err(Halt::Stuck),
-        Some(place) => match item(&shape.parts, place) {
+        Some(place) => match shape.parts.get(place) {
             None => Err(Halt::Stuck),
             Some(part) => Ok(opening(&part.1)),
         },

@@ -17,11 +17,11 @@ pub(crate) fn id_value<'a>(shape: &IdShape, id: &'a str) -> Result<Seen<'a>, Hal
 {
     match shape.kind {
         IdKind::Text => Ok(Seen::Value(Sort::Text, Operand::Text(id))),
-        IdKind::Int => match integer(id.as_bytes()) {
+        IdKind::Int => match integer_in(id.as_bytes()) {
             Some(x) => Ok(Seen::Value(Sort::Int, Operand::Made(Value::Int(x)))),
             None => Err(Halt::Outside),
         },
-        IdKind::UInt => match number(id.as_bytes()) {
+        IdKind::UInt => match number_in(id.as_bytes()) {
             Some(n) => Ok(Seen::Value(Sort::UInt, Operand::Made(Value::UInt(n)))),
             None => Err(Halt::Outside),
         },
@@ -30,7 +30,7 @@ pub(crate) fn id_value<'a>(shape: &IdShape, id: &'a str) -> Result<Seen<'a>, Hal
 
 /// The number that decimal digits are, within 64 bits.
 #[tactic(auto, using(crate::proofs::IdLemmas::digit_laws))]
-fn number(digits: &[u8]) -> Option<u64>
+pub fn number_in(digits: &[u8]) -> Option<u64>
     ensures { IfSome result (λ n. number_in digits.now 0 ≡ n) }
 {
     let mut n = 0u64;
@@ -55,16 +55,16 @@ fn with_digit(n: u64, digit: u8) -> Option<u64>
 
 /// The number that decimal digits are, with a minus sign or without one, within 64 bits.
 #[tactic(auto, using(crate::proofs::IdLemmas::integer_laws))]
-fn integer(text: &[u8]) -> Option<i64>
+pub fn integer_in(text: &[u8]) -> Option<i64>
     ensures { IfSome result (λ x. integer_in text.now ≡ x) }
 {
     match text {
         [] => Some(0),
-        [b'-', digits @ ..] => match number(digits) {
+        [b'-', digits @ ..] => match number_in(digits) {
             Some(n) => negative(n),
             None => None,
         },
-        [_, ..] => match number(text) {
+        [_, ..] => match number_in(text) {
             Some(n) => positive(n),
             None => None,
         },

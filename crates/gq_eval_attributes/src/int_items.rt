@@ -1,6 +1,6 @@
-// Items at places.
+// INTs at places of rows.
 ghost use Rattle.std.specs.Prelude.{◌≡◌, IfSome, Some, slice_get};
-ghost use Rattle.std.specs.Option.{option_copied, option_flatten};
+ghost use Rattle.std.specs.Option.{option_flatten};
 ghost use Rattle.gq_value.specs.Val.{Int};
 ghost use Rattle.gq_rules_meaning.specs.Answers.{Gives};
 ghost use Rattle.gq_eval_attributes.specs.Attributes.{attribute_at};
@@ -10,18 +10,11 @@ use gq_base::List;
 use gq_graph::Attribute;
 use gq_value::Value;
 
-/// The item at a place, if there is one.
-pub(crate) fn item<T>(items: &List<T>, at: u32) -> Option<&T>
-    ensures { slice_get items.now at ≡ option_copied result }
-{
-    items.as_slice().get(at as usize)
-}
-
 /// The place that a table has for a type, if it has one.
 pub(crate) fn place_in(table: &List<Option<u32>>, kind: u32) -> Option<u32>
     ensures { result ≡ option_flatten (slice_get table.now kind) }
 {
-    match item(table, kind) {
+    match table.get(kind as usize) {
         Some(Some(place)) => Some(*place),
         Some(None) => None,
         None => None,
@@ -33,8 +26,8 @@ pub(crate) fn place_in(table: &List<Option<u32>>, kind: u32) -> Option<u32>
 pub(crate) fn int_at(attributes: &List<Attribute>, row: &List<Value>, place: u32) -> Option<i64>
     ensures { IfSome result (λ x. value_meant (attribute_at attributes.now row.now (Some place)) ≡ Gives (Int x)) }
 {
-    match item(row, place) {
-        Some(Value::Int(x)) => match item(attributes, place) {
+    match row.get(place as usize) {
+        Some(Value::Int(x)) => match attributes.get(place as usize) {
             Some(_) => Some(*x),
             None => None,
         },

@@ -10,7 +10,6 @@ ghost use Rattle.gq_eval_operand.specs.Meant.{meant, Tells};
 ghost use Rattle.gq_eval_operand.specs.Sound.{Sound};
 ghost use Rattle.gq_eval_attributes.specs.Tuples.{fields_in};
 
-use crate::items::{item, nth};
 use crate::names::name_place;
 use crate::tuple_type::TupleType;
 use gq_base::OutOfMemory;
@@ -32,9 +31,9 @@ pub fn tuple_field<'a>(
 {
     match place_of_field(of, number, field) {
         None => Err(Halt::Stuck),
-        Some(place) => match item(&of.types, place) {
+        Some(place) => match of.types.get(place) {
             None => Err(Halt::Stuck),
-            Some(base) => match nth(row, place) {
+            Some(base) => match row.get(place) {
                 None => Err(Halt::Stuck),
                 Some(value) => Ok(Seen::Value(Sort::of(base), Operand::Lent(value))),
             },
@@ -56,9 +55,9 @@ pub fn made_field<'a>(
 {
     match place_of_field(of, number, field) {
         None => Err(Halt::Stuck),
-        Some(place) => match item(&of.types, place) {
+        Some(place) => match of.types.get(place) {
             None => Err(Halt::Stuck),
-            Some(base) => match item(row, place) {
+            Some(base) => match row.get(place) {
                 None => Err(Halt::Stuck),
                 Some(value) => match own(alloc, Operand::Lent(value)) {
                     Ok(copy) => Ok(Seen::Value(Sort::of(base), Operand::Made(copy))),
@@ -76,7 +75,7 @@ fn place_of_field(of: &TupleType, number: u32, field: &Field) -> Option<usize>
 {
     match field {
         Field::Type => name_place(of.names.as_slice(), "type"),
-        Field::Named(places) => match item(&places.tuples, number as usize) {
+        Field::Named(places) => match places.tuples.get(number as usize) {
             None => name_place(of.names.as_slice(), places.name.as_str()),
             Some(None) => None,
             Some(Some(place)) => Some(*place as usize),

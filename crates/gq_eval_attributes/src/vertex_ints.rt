@@ -1,6 +1,5 @@
 // INTs of vertices.
-ghost use Rattle.std.specs.Prelude.{◌≡◌, ◌<◌, ◌≤◌, IfSome, Some, length, slice_get};
-ghost use Rattle.std.specs.Option.{option_copied};
+ghost use Rattle.std.specs.Prelude.{◌≡◌, ◌<◌, ◌≤◌, IfSome, Some, length};
 ghost use Rattle.gq_value.specs.Val.{Int};
 ghost use Rattle.gq_graph.specs.Vertices.{vertex_at};
 ghost use Rattle.gq_graph.specs.declared.rows.VertexRow.{VertexRow};
@@ -11,11 +10,10 @@ ghost use Rattle.gq_eval_attributes.specs.Attributes.{attribute_at, vertex_value
 ghost use Rattle.gq_eval_attributes.specs.Worlds.{HaveAttributes};
 ghost use Rattle.gq_eval_attributes.specs.Reads.{value_meant, IsReadInt};
 
-use crate::int_items::{item, place_in};
+use crate::int_items::place_in;
 use gq_graph::VertexType;
 use gq_index::Graph;
 use gq_plan_ir::Field;
-use gq_schema::Catalog;
 use gq_value::Value;
 use gq_vertex::Vertices;
 
@@ -35,7 +33,7 @@ pub fn vertex_int(graph: Graph<'_>, field: &Field, vertex: u32) -> Option<i64>
         Field::Type => None,
         Field::Named(places) => match place_in(&places.vertices, kind) {
             None => None,
-            Some(place) => match vertex_type(graph.catalog, kind) {
+            Some(place) => match graph.catalog.vertex_by_number(kind) {
                 None => None,
                 Some(of) => match among_attributes(of, place) {
                     None => None,
@@ -43,19 +41,6 @@ pub fn vertex_int(graph: Graph<'_>, field: &Field, vertex: u32) -> Option<i64>
                 },
             },
         },
-    }
-}
-
-/// A vertex type by its number, if there is one.
-#[tactic(auto, using(crate::proofs::VertexLemmas::type_laws))]
-fn vertex_type(catalog: &Catalog, kind: u32) -> Option<&VertexType>
-    ensures { slice_get catalog.now.vertex_types kind ≡ option_copied result }
-{
-    let count = catalog.type_count() - catalog.edge_types().len() as u32;
-    if kind < count {
-        Some(catalog.vertex_at(kind))
-    } else {
-        None
     }
 }
 
@@ -78,7 +63,7 @@ fn attribute_int(vertices: &Vertices, of: &VertexType, vertex: u32, place: u32) 
     requires within { length of.now.attributes ≤ length (vertex_at vertices.now vertex).attributes }
     ensures { IfSome result (λ x. value_meant (attribute_at of.now.attributes (vertex_at vertices.now vertex).attributes (Some place)) ≡ Gives (Int x)) }
 {
-    match item(&of.attributes, place) {
+    match of.attributes.get(place as usize) {
         None => None,
         Some(_) => match vertices.attr(vertex, place) {
             Value::Int(x) => Some(*x),

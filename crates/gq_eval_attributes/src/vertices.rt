@@ -1,6 +1,5 @@
 // Fields of vertices.
-ghost use Rattle.std.specs.Prelude.{◌≡◌, ◌<◌, ◌≤◌, IfOk, Some, length, slice_get};
-ghost use Rattle.std.specs.Option.{option_copied};
+ghost use Rattle.std.specs.Prelude.{◌≡◌, ◌<◌, ◌≤◌, IfOk, Some, length};
 ghost use Rattle.gq_graph.specs.Vertices.{vertex_at};
 ghost use Rattle.gq_rules_typing.specs.Sorts.{names_of, vertex_sort};
 ghost use Rattle.gq_rules_typing.specs.Words.{OfVertexType};
@@ -13,13 +12,11 @@ ghost use Rattle.gq_eval_attributes.specs.Attributes.{attribute_at, vertex_value
 ghost use Rattle.gq_eval_attributes.specs.Worlds.{InWorld, HaveAttributes};
 
 use crate::ids::id_value;
-use crate::items::item;
 use crate::names::vertex_place;
 use gq_eval_operand::{Halt, Operand, Seen, Sort};
 use gq_graph::VertexType;
 use gq_index::Graph;
 use gq_plan_ir::{Field, FieldPlaces};
-use gq_schema::Catalog;
 use gq_vertex::Vertices;
 
 /// `v.f`: an attribute of a vertex, or the name of its type. Takes no memory.
@@ -34,7 +31,7 @@ pub fn vertex_field<'a>(graph: Graph<'a>, field: &Field, vertex: u32) -> Result<
         return Err(Halt::Stuck);
     }
     let kind = vertices.kind(vertex);
-    match vertex_type(graph.catalog, kind) {
+    match graph.catalog.vertex_by_number(kind) {
         None => Err(Halt::Stuck),
         Some(of) => match field {
             Field::Type => Ok(Seen::Value(Sort::Text, Operand::Text(of.name.as_str()))),
@@ -46,24 +43,11 @@ pub fn vertex_field<'a>(graph: Graph<'a>, field: &Field, vertex: u32) -> Result<
     }
 }
 
-/// A vertex type by its number, if there is one.
-#[tactic(auto, using(crate::proofs::VertexLemmas::type_laws))]
-fn vertex_type(catalog: &Catalog, kind: u32) -> Option<&VertexType>
-    ensures { slice_get catalog.now.vertex_types kind ≡ option_copied result }
-{
-    let count = catalog.type_count() - catalog.edge_types().len() as u32;
-    if kind < count {
-        Some(catalog.vertex_at(kind))
-    } else {
-        None
-    }
-}
-
 /// Where a field stands among those of a vertex type: as the plan says, or by its name.
 fn place_of_field(places: &FieldPlaces, of: &VertexType, kind: u32) -> Option<usize>
     ensures { result ≡ place_in places.now (OfVertexType kind) (names_of (vertex_sort of.now).fields) }
 {
-    match item(&places.vertices, kind as usize) {
+    match places.vertices.get(kind as usize) {
         None => vertex_place(of, places.name.as_str()),
         Some(None) => None,
         Some(Some(place)) => Some(*place as usize),
@@ -105,7 +89,7 @@ fn attribute<'a>(
     ensures told { Tells meant (attribute_at of.entry.now.attributes (vertex_at vertices.entry.now vertex).attributes (Some place)) result }
     ensures sound { IfOk result Sound }
 {
-    match item(&of.attributes, place) {
+    match of.attributes.get(place) {
         None => Err(Halt::Stuck),
         Some(attribute) => match u32::try_from(place) {
             Ok(at) => Ok(Seen::Value(

@@ -15,7 +15,6 @@ mod keys;
 mod method;
 mod methods;
 mod times;
-mod units;
 
 pub use call::{is_single, units_later};
 pub use functions::one;
@@ -23,4 +22,3 @@ pub use keys::{Wants, contains_key, get, key_wants, keys_wanted};
 pub use method::{attached, degree_of, earlier, sized};
 pub use methods::{contained, contains, counted, size};
 pub use times::{datetime_add, datetime_diff};
-pub use units::unit_named;

@@ -3,26 +3,16 @@ ghost use Rattle.std.specs.Prelude.{◌≡◌, ◌∷◌, []};
 ghost use Rattle.gq_value.specs.Views.{val};
 ghost use Rattle.gq_value.specs.Typed.{in_calendar};
 ghost use Rattle.gq_rules_typing.specs.Words as words;
+ghost use Rattle.gq_rules_typing.specs.Builtins.{part_is};
 ghost use Rattle.gq_rules_meaning.specs.Meanings.{as_number, at_time};
 ghost use Rattle.gq_rules_meaning.specs.Calls.{if_in_calendar, function_of};
 ghost use Rattle.gq_eval_operand.specs.Meant.{meant, valued, itself, Tells};
-ghost use Rattle.gq_eval_builtins.specs.Clock.{ByClock, part_is, part_among, time_of_epoch, later};
+ghost use Rattle.gq_eval_builtins.specs.Clock.{ByClock, part_among, time_of_epoch, later};
 
-use crate::units::unit_named;
 use gq_eval_operand::{Halt, Operand, Seen, Sort, held, numbered, text};
-use gq_time::{DateTimeParts, add, parts, read_time};
+use gq_rules_typing::unit_named;
+use gq_time::{DateTimeParts, Unit, add, parts, read_time};
 use gq_value::{Value, Wrong};
-
-/// A part of a time.
-#[derive(Clone, Copy)]
-pub(crate) enum TimePart {
-    Year,
-    Month,
-    Day,
-    Hour,
-    Minute,
-    Second,
-}
 
 /// The whole number as one of 64 bits with a sign.
 pub(crate) fn seconds(operand: &Operand<'_>) -> Result<i64, Halt>
@@ -174,7 +164,7 @@ fn later<'a>(x: i64, n: i64, unit: &str) -> Result<Seen<'a>, Halt>
 
 /// A part of a DATETIME.
 #[tactic(auto, using(gq_value::specs::ViewLaws::view_laws, crate::proofs::TimeLemmas::part_laws))]
-pub(crate) fn part_of<'a>(part: TimePart, operand: &Operand<'_>) -> Result<Seen<'a>, Halt>
+pub(crate) fn part_of<'a>(part: Unit, operand: &Operand<'_>) -> Result<Seen<'a>, Halt>
     ensures { ByClock (λ clock. function_of clock (words.PartOf (part_is part)) (valued operand.now ∷ [])) result }
 {
     let x = seconds(operand)?;
@@ -186,15 +176,15 @@ pub(crate) fn part_of<'a>(part: TimePart, operand: &Operand<'_>) -> Result<Seen<
     }
 }
 
-fn part_in(part: TimePart, parts: DateTimeParts) -> i64
+fn part_in(part: Unit, parts: DateTimeParts) -> i64
     ensures { result ≡ part_among (part_is part) parts }
 {
     match part {
-        TimePart::Year => parts.year,
-        TimePart::Month => parts.month,
-        TimePart::Day => parts.day,
-        TimePart::Hour => parts.hour,
-        TimePart::Minute => parts.minute,
-        TimePart::Second => parts.second,
+        Unit::Year => parts.year,
+        Unit::Month => parts.month,
+        Unit::Day => parts.day,
+        Unit::Hour => parts.hour,
+        Unit::Minute => parts.minute,
+        Unit::Second => parts.second,
     }
 }

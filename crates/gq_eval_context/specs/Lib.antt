@@ -1,3 +1,4 @@
+pub mod Times
 pub mod Ends
 pub mod Viewed
 pub mod Looks

@@ -1,4 +1,4 @@
--- LookLaws: what a view shows is what the definitions see, of names that are alike with what it has at its places. Words of a plan
+-- LookLaws: what an `EvalContext` shows is what the definitions see, of names that are alike with what it has at its places. Words of a plan
 -- stand for themselves, whatever tuple types a query has.
 use Rattle.std.specs.Prelude.{◌≡◌, ◌==◌, ℕ, List, [], ◌∷◌, ◌++◌, Bool, true, false, if◌then◌else◌, Some, refl}
 use Rattle.std.specs.Option.{option_or, option_map}
@@ -58,12 +58,12 @@ names_seen v names alike (Does m) = ap thing_meant (sym (elsewhere (Does m) (λ 
 abbrev with_named : Calendar → Viewed → (Reference → Outcome) → Look Reference
 with_named clock v named = record (look_of clock v) { named = named }
 
--- a view is what the definitions see, with the names of its aliases before those that are alike with its places
+-- a context is what the definitions see, with the names of its aliases before those that are alike with its places
 pub look_is_sight : (clock : Calendar) (v : Viewed) (names : List (Reference × Thing)) → Alike v names
     → look_of clock v ≡ sight (world_in clock v) (aliases_named v.aliases ++ names) (slots_are v.accums) (slots_are v.before)
 look_is_sight clock v names alike = ap (with_named clock v) (fun_ext (names_seen v names alike))
 
--- the same over a setting whose frame shows a state
+-- the same in a block whose frame shows a state
 pub look_over : (clock : Calendar) (s : Over) (state : State Reference) (aliases : List (ℕ × Placed)) (accums before : Accums) → Shows s.plan.places s.frame state
     → look_of clock (viewed s aliases accums before) ≡ sight (world_over clock s) (aliases_named aliases ++ state.names) (slots_are accums) (slots_are before)
 look_over clock s state aliases accums before shows = look_is_sight clock (viewed s aliases accums before) state.names shows.names

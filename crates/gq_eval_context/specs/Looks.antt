@@ -1,4 +1,4 @@
--- Looks: what a view stands for, in the words of the definitions.
+-- Looks: what an `EvalContext` stands for, in the words of the definitions.
 use Rattle.std.specs.Prelude.{List, [], Some}
 use Rattle.gq_graph.specs.Catalog.{Schema}
 use Rattle.gq_graph.specs.Edges.{EdgeTable}
@@ -20,7 +20,7 @@ use Rattle.gq_eval_context.specs.Viewed.{Viewed, Over}
 abbrev pub graph_for : Schema → List VertexRow → EdgeTable → Plan → Graph
 graph_for schema vertices edges plan = graph_of schema (Some (record { name = []; vertices = plan.vertices; edges = plan.edges })) vertices edges.rows
 
--- all that stays the same while a query runs, of a setting and of a view
+-- all that stays the same while a query runs, of a block and of an expression
 abbrev pub world_over : Calendar → Over → World Reference
 world_over clock s = world_of (accum_names s.plan) (tuples_are s.tuples) (graph_for s.schema s.vertices s.edges s.plan) clock
 

@@ -1,4 +1,4 @@
--- Viewed: what a view and a setting lend, and when they belong together.
+-- Viewed: what an `EvalContext` and a `BlockContext` lend, and when they belong together.
 use Rattle.std.specs.Prelude.{◌≡◌, ℕ, ◌≤◌, List, length, Option}
 use Rattle.gq_graph.specs.Catalog.{Schema, most_types}
 use Rattle.gq_graph.specs.Edges.{EdgeTable}

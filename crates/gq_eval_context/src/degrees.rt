@@ -10,7 +10,6 @@ ghost use Rattle.gq_rules_meaning.specs.Calls.{sum, degree_of};
 ghost use Rattle.gq_eval_attributes.specs.Worlds.{graph_is};
 ghost use Rattle.gq_eval_context.specs.Ends.{HaveEnds};
 
-use gq_eval_attributes::edge_type;
 use gq_index::Graph;
 
 /// How many edges of these types can be walked from a vertex.
@@ -55,7 +54,7 @@ fn walked(graph: Graph<'_>, vertex: u32, kind: u32) -> u64
     ensures degree { (own : List ℕ) → result ≡ degree_of (graph_is graph.entry own own) vertex kind }
     ensures few { result ≤ most_edges }
 {
-    match edge_type(graph.catalog, kind) {
+    match graph.catalog.edge_by_number(kind) {
         None => 0,
         Some(_) => {
             if vertex < graph.store.vertices.len() {

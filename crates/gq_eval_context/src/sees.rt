@@ -1,12 +1,13 @@
-// A view, as what expressions see.
+// The look-ups of expressions.
 ghost use Rattle.std.specs.Prelude.{refl};
+ghost use Rattle.gq_rules_calendar.specs.Gregorian.{gregorian};
 ghost use Rattle.gq_eval_context.specs.Looks.{look_of};
 ghost use Rattle.gq_eval_context.specs.LookLaws.{own_calls};
+ghost use Rattle.gq_eval_context.specs.Times.{is_calendar};
 
-use crate::clock::Clock;
 use crate::degrees::{degree, degree_under};
+use crate::eval_context::EvalContext;
 use crate::fields::{field_seen, tuple_type};
-use crate::view::View;
 use gq_eval_operand::{Halt, Seen, Sees};
 use gq_frame::{named, read_target};
 use gq_plan_ir::Field;
@@ -14,8 +15,8 @@ use gq_value::BaseType;
 use std::alloc::Global;
 
 #[tactic(auto, using(crate::proofs::SeesLemmas::sees_laws))]
-impl<'a, C: Clock> Sees for View<'a, C> {
-    ghost look = { look_of C.clock };
+impl<'a> Sees for EvalContext<'a> {
+    ghost look = { look_of gregorian };
 
     fn named(&self, place: u32) -> Result<Seen<'_>, Halt> {
         named(
@@ -62,9 +63,9 @@ impl<'a, C: Clock> Sees for View<'a, C> {
         degree_under(self.graph, self.plan.edges.as_slice(), vertex, edge)
     }
 
-    ghost calls = { λ v f own. own_calls C.clock v f own };
+    ghost calls = { λ v f own. own_calls gregorian v f own };
 
     ghost does = { λ v m. refl };
 
-    ghost calendar = { λ v. C.is };
+    ghost calendar = { λ v. is_calendar };
 }

@@ -12,6 +12,7 @@
 mod compare;
 mod contents;
 mod convert;
+mod digits;
 mod halt;
 mod operand;
 mod operators;
@@ -21,8 +22,9 @@ mod sees;
 pub use compare::{compared, held};
 pub use contents::{opening, read};
 pub use convert::{converted, converted_to, made};
+pub use digits::{decimal, signed_decimal};
 pub use halt::Halt;
 pub use operand::{number, own, text, truth, vertex_in};
-pub use operators::{calculated, minus, nots, numbered, product, summed, truly};
+pub use operators::{calculated, is_unsigned, minus, nots, numbered, product, summed, truly};
 pub use seen::{Operand, Seen, Sort, value, vertex};
 pub use sees::Sees;

@@ -27,7 +27,8 @@ pub fn numbered<'a>(operand: Operand<'a>) -> Seen<'a>
     }
 }
 
-fn is_unsigned(operand: &Operand<'_>) -> bool
+/// Whether an operand is a UINT.
+pub fn is_unsigned(operand: &Operand<'_>) -> bool
     ensures { result ≡ is_unsigned (valued operand.now) }
 {
     match operand {

@@ -10,7 +10,6 @@ ghost use Rattle.gq_exec_contribute.specs.Gathered.{shown, gathered_in, after};
 
 use crate::feeding::Feeding;
 use crate::inputs::run_feed;
-use crate::kinds::item;
 use gq_base::OutOfMemory;
 use gq_eval::run_truth;
 use gq_eval_operand::{Halt, Sees, vertex};
@@ -95,7 +94,7 @@ fn run_change<V: Sees>(
 {
     match change {
         Change::Set(_) => Err(Halt::Stuck),
-        Change::Feed(feed) => match item(&accums.slots.declared, to.0 as usize) {
+        Change::Feed(feed) => match accums.slots.declared.get(to.0 as usize) {
             None => Err(Halt::Stuck),
             Some(declared) => {
                 let input = run_feed(feed, &declared.kind, alloc, sight)?;

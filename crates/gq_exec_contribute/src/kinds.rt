@@ -5,7 +5,6 @@ ghost use Rattle.gq_value.specs.AccumViews.{accum_of, base_of};
 ghost use Rattle.gq_rules_typing.specs.Kinds.{input_type, part_kinds};
 ghost use Rattle.gq_exec_contribute.specs.Taking.{TakesAs, TakesBase};
 
-use gq_base::List;
 use gq_value::{BaseType, Kind, Number};
 
 /// How one value is taken: as a number of a type, or as it is.
@@ -49,7 +48,7 @@ pub(crate) fn part_at(kind: &Kind, place: usize) -> Option<&Kind>
 {
     match kind {
         Kind::Map(_, inner) => { if place == 0 { Some(inner.get()) } else { None } }
-        Kind::Group(shape) => match item(&shape.parts, place) {
+        Kind::Group(shape) => match shape.parts.get(place) {
             Some(part) => Some(&part.1),
             None => None,
         },
@@ -57,11 +56,4 @@ pub(crate) fn part_at(kind: &Kind, place: usize) -> Option<&Kind>
         Kind::BitOr | Kind::BitAnd | Kind::Avg => None,
         Kind::Set(_) | Kind::Bag(_) | Kind::List(_) | Kind::Heap(_) => None,
     }
-}
-
-/// The item at a place, if there is one.
-pub(crate) fn item<T>(items: &List<T>, at: usize) -> Option<&T>
-    ensures { slice_get items.now at ≡ option_copied result }
-{
-    items.as_slice().get(at)
 }

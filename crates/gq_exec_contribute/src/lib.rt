@@ -1,4 +1,4 @@
-//! ACCUM of one match: evaluates its inputs and adds them to a batch.
+//! WHERE and ACCUM of one match: evaluates the condition and the inputs, and adds the inputs to a batch.
 //!
 //! All inputs of a match are evaluated before the first is added, so a match whose ACCUM faults adds nothing.
 //!

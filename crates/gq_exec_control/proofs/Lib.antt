@@ -1,8 +1,7 @@
-pub mod ControlLemmas
-pub mod LoopLemmas
+pub mod FaultLemmas
 pub mod RoundLemmas
 pub mod Steps
-pub mod GroundLemmas
+pub mod ContextLemmas
 pub mod LimitLemmas
 pub mod ElementLemmas
 pub mod RangeLemmas

@@ -31,10 +31,10 @@ use Rattle.gq_frame.specs.Names.{held_thing}
 use Rattle.gq_frame.specs.declared.live.Live.{Live}
 use Rattle.gq_frame.specs.Lives.{Lives}
 use Rattle.gq_exec_control.specs.declared.running.RunFault.{RunFault}
-use Rattle.gq_exec_control.proofs.ControlLemmas.{ends_bind, ends_same}
-use Rattle.gq_exec_control.specs.Grounds.{Basis, world_on}
+use Rattle.gq_exec_control.proofs.FaultLemmas.{ends_bind, ends_same}
+use Rattle.gq_exec_control.specs.Contexts.{Basis, world_on}
 use Rattle.gq_exec_control.specs.Changes.{Becomes, Reads}
-use Rattle.gq_exec_control.proofs.GroundLemmas.{shows_of}
+use Rattle.gq_exec_control.proofs.ContextLemmas.{shows_of}
 use Rattle.gq_exec_control.proofs.Steps.{bound, unblamed}
 use Rattle.gq_exec_control.specs.Locals.{declared_all, declared_one, base_declared, IsKnown}
 

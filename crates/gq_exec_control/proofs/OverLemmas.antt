@@ -21,9 +21,9 @@ use Rattle.gq_exec_control.specs.declared.running.Rounds.{Rounds}
 use Rattle.gq_exec_control.specs.declared.running.RunFault.{RunFault}
 use Rattle.gq_exec_control.specs.declared.running.RunFault.TheVariants as fault
 use Rattle.gq_exec_control.specs.Standing.{GivesRounds}
-use Rattle.gq_exec_control.specs.Grounds.{Basis, look_on, world_on}
+use Rattle.gq_exec_control.specs.Contexts.{Basis, look_on, world_on}
 use Rattle.gq_exec_control.specs.Faults.{faults_of}
-use Rattle.gq_exec_control.proofs.GroundLemmas.{ends_told, look_there}
+use Rattle.gq_exec_control.proofs.ContextLemmas.{ends_told, look_there}
 use Rattle.gq_exec_control.specs.Rounds.{GoesRound, rounds_in}
 
 pub no_place : (clock : Calendar) (b : Basis) (f : Frame) (place : ℕ) (over : Over Reference) → GoesRound b.plan.places (world_on clock b) place over f (Err fault.OutOfMemory)

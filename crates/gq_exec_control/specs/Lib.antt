@@ -1,7 +1,6 @@
 pub mod Standing
 pub mod Values
-pub mod Bodies
-pub mod Grounds
+pub mod Contexts
 pub mod Faults
 pub mod Places
 pub mod Changes

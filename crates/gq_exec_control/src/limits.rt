@@ -4,46 +4,47 @@ ghost use Rattle.gq_rules_meaning.specs.Answers.{blaming};
 ghost use Rattle.gq_rules_meaning.specs.Expressions.{number_of};
 ghost use Rattle.gq_rules_meaning.specs.Runs.{limit_of};
 ghost use Rattle.gq_rules_meaning.specs.Statements.{Evaluation};
+ghost use Rattle.gq_rules_calendar.specs.Gregorian.{gregorian};
 ghost use Rattle.gq_plan_ir.specs.ExprView.{view};
 ghost use Rattle.gq_eval_operand.specs.Meant.{Tells, itself};
 ghost use Rattle.gq_frame.specs.Slots.{AreSound};
 ghost use Rattle.gq_eval_context.specs.Limits.{most_of};
 ghost use Rattle.gq_exec_control.specs.Changes.{Reads};
-ghost use Rattle.gq_exec_control.specs.Grounds.{look_on, world_on};
+ghost use Rattle.gq_exec_control.specs.Contexts.{look_on, world_on};
 
 use crate::faults::or_fault;
-use crate::ground::Ground;
+use crate::run_context::RunContext;
 use crate::running::RunFault;
 use gq_eval::run_value;
-use gq_eval_context::{Clock, limit_count};
+use gq_eval_context::limit_count;
 use gq_eval_operand::{Halt, Sees};
 use gq_frame::Frame;
 use gq_plan_ir::Expr;
 use std::alloc::Global;
 
 /// How often LIMIT lets a body run; a negative number counts as 0.
-pub fn limit<C: Clock>(
+pub fn limit(
     alloc: Global,
-    ground: &Ground<'_, C>,
+    context: &RunContext<'_>,
     limit: &Expr,
     frame: &Frame,
 ) -> Result<u64, RunFault>
     requires { AreSound frame.now.accums }
-    ensures { Reads ground.now.plan.places Some (λ s. blaming Evaluation (limit_of (world_on C.clock ground.now) s (Some (view limit.now)))) frame.now result }
+    ensures { Reads context.now.plan.places Some (λ s. blaming Evaluation (limit_of (world_on gregorian context.now) s (Some (view limit.now)))) frame.now result }
 {
-    or_fault(limit_over(alloc, ground, limit, frame))
+    or_fault(limit_over(alloc, context, limit, frame))
 }
 
-fn limit_over<C: Clock>(
+fn limit_over(
     alloc: Global,
-    ground: &Ground<'_, C>,
+    context: &RunContext<'_>,
     limit: &Expr,
     frame: &Frame,
 ) -> Result<u64, Halt>
     requires { AreSound frame.now.accums }
-    ensures { Tells itself (most_of (number_of (look_on C.clock ground.now frame.now) (view limit.now))) result }
+    ensures { Tells itself (most_of (number_of (look_on gregorian context.now frame.now) (view limit.now))) result }
 {
-    let sight = ground.sight(frame);
+    let sight = context.eval_context(frame);
     limit_seen(limit, alloc, &sight)
 }
 

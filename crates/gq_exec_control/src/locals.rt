@@ -2,20 +2,20 @@
 ghost use Rattle.std.specs.Prelude.{◌≡◌, IfSome, Some, slice_get, true};
 ghost use Rattle.std.specs.Option.{option_map};
 ghost use Rattle.gq_value.specs.AccumViews.{base_of};
+ghost use Rattle.gq_rules_calendar.specs.Gregorian.{gregorian};
 ghost use Rattle.gq_plan_ir.specs.declared.plan.PlaceType.TheVariants as held;
 ghost use Rattle.gq_plan_ir.specs.ExprView.{view};
 ghost use Rattle.gq_plan_ir.specs.PlanView.{view_declared, view_locals};
 ghost use Rattle.gq_plan_ir.specs.Reference.{Place};
 ghost use Rattle.gq_frame.specs.Slots.{AreSound};
 ghost use Rattle.gq_exec_control.specs.Changes.{Becomes};
-ghost use Rattle.gq_exec_control.specs.Grounds.{world_on};
+ghost use Rattle.gq_exec_control.specs.Contexts.{world_on};
 ghost use Rattle.gq_exec_control.specs.Locals.{IsKnown, base_declared, declared_all, declared_one};
 
-use crate::ground::Ground;
 use crate::places::variable_at;
+use crate::run_context::RunContext;
 use crate::running::RunFault;
 use crate::value::first_value;
-use gq_eval_context::Clock;
 use gq_frame::{Live, Thing};
 use gq_plan_ir::{Declared, Expr};
 use gq_value::BaseType;
@@ -24,22 +24,22 @@ use std::alloc::Global;
 /// New variables of a type, one after the other: each sees those before it. A variable without a value has the default of its type.
 ///
 /// A place to which the plan doesn't give this type is `OutOfMemory`.
-pub fn declare<C: Clock>(
-    ground: &Ground<'_, C>,
+pub fn declare(
+    context: &RunContext<'_>,
     alloc: Global,
     declared: Declared,
     locals: &[(u32, Option<Expr>)],
     live: &mut Live,
 ) -> Result<(), RunFault>
     requires { AreSound live.old.frame.accums }
-    ensures names { Becomes ground.now.plan.places (declared_all (world_on C.clock ground.now) (view_declared declared) (view_locals locals.now)) live.old live.new result }
+    ensures names { Becomes context.now.plan.places (declared_all (world_on gregorian context.now) (view_declared declared) (view_locals locals.now)) live.old live.new result }
     ensures accums { live.new.frame.accums ≡ live.old.frame.accums }
 {
-    if !is_known(declared, ground.plan.vertices.as_slice()) {
+    if !is_known(declared, context.plan.vertices.as_slice()) {
         return Err(RunFault::OutOfMemory);
     }
     for local in locals {
-        declare_one(ground, alloc, declared, local.0, &local.1, live)?;
+        declare_one(context, alloc, declared, local.0, &local.1, live)?;
     }
     Ok(())
 }
@@ -56,8 +56,8 @@ fn is_known(declared: Declared, own: &[u32]) -> bool
 }
 
 /// A new variable of a type.
-fn declare_one<C: Clock>(
-    ground: &Ground<'_, C>,
+fn declare_one(
+    context: &RunContext<'_>,
     alloc: Global,
     declared: Declared,
     place: u32,
@@ -65,13 +65,13 @@ fn declare_one<C: Clock>(
     live: &mut Live,
 ) -> Result<(), RunFault>
     requires { AreSound live.old.frame.accums }
-    ensures names { Becomes ground.now.plan.places (declared_one (world_on C.clock ground.now) (base_declared declared) (Place place, option_map view local.now)) live.old live.new result }
+    ensures names { Becomes context.now.plan.places (declared_one (world_on gregorian context.now) (base_declared declared) (Place place, option_map view local.now)) live.old live.new result }
     ensures accums { live.new.frame.accums ≡ live.old.frame.accums }
 {
-    match base_at(ground, place, declared) {
+    match base_at(context, place, declared) {
         None => Err(RunFault::OutOfMemory),
         Some(base) => {
-            match first_value(local, base, alloc, ground, &live.frame) {
+            match first_value(local, base, alloc, context, &live.frame) {
                 Err(fault) => Err(fault),
                 Ok(value) => match live.declare(place, Thing::Value(value)) {
                     Err(_) => Err(RunFault::OutOfMemory),
@@ -83,10 +83,10 @@ fn declare_one<C: Clock>(
 }
 
 /// The type of a place, where it is the declared one.
-fn base_at<'a, C>(ground: &'a Ground<'_, C>, place: u32, declared: Declared) -> Option<&'a BaseType>
-    ensures { IfSome result (λ base. (slice_get ground.entry.now.plan.places place ≡ Some (held.Variable base.now)) × (base_of base.now ≡ base_declared declared)) }
+fn base_at<'a>(context: &'a RunContext<'_>, place: u32, declared: Declared) -> Option<&'a BaseType>
+    ensures { IfSome result (λ base. (slice_get context.entry.now.plan.places place ≡ Some (held.Variable base.now)) × (base_of base.now ≡ base_declared declared)) }
 {
-    match variable_at(ground.plan.places.as_slice(), place) {
+    match variable_at(context.plan.places.as_slice(), place) {
         None => None,
         Some(base) => {
             if is_of(base, declared) {

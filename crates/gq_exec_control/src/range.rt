@@ -1,17 +1,16 @@
 // Ranges of numbers.
-ghost use Rattle.std.specs.Prelude.{◌≡◌, pos};
+ghost use Rattle.std.specs.Prelude.{pos};
 ghost use Rattle.gq_value.specs.AccumViews.{base_of};
-ghost use Rattle.gq_value.specs.Views.{val};
 ghost use Rattle.gq_value.specs.declared.kind.Number.TheVariants as number;
 ghost use Rattle.gq_rules_meaning.specs.Expressions.{value_of};
 ghost use Rattle.gq_rules_meaning.specs.Statements.{between, end_of};
 ghost use Rattle.gq_plan_ir.specs.ExprView.{view};
-ghost use Rattle.gq_eval_operand.specs.Meant.{Tells, is_unsigned, itself, valued};
+ghost use Rattle.gq_eval_operand.specs.Meant.{Tells, itself, valued};
 ghost use Rattle.gq_exec_control.specs.Rounds.{between_as, both_ends, rounds_in};
 
 use crate::running::Rounds;
 use gq_eval::run_value;
-use gq_eval_operand::{Halt, Operand, Sees, converted_to, number};
+use gq_eval_operand::{Halt, Operand, Sees, converted_to, is_unsigned, number};
 use gq_plan_ir::Expr;
 use gq_value::{BaseType, Number, Value};
 use std::alloc::Global;
@@ -94,27 +93,5 @@ fn uint_end(operand: &Operand<'_>) -> Result<u64, Halt>
     match number(&end) {
         Ok(Value::UInt(n)) => Ok(n),
         Ok(_) | Err(_) => Err(Halt::Outside),
-    }
-}
-
-/// Whether a value is a UINT.
-fn is_unsigned(operand: &Operand<'_>) -> bool
-    ensures { result ≡ is_unsigned (valued operand.now) }
-{
-    match operand {
-        Operand::Made(value) => is_uint(value),
-        Operand::Lent(value) => is_uint(value),
-        Operand::Text(_) => false,
-    }
-}
-
-#[tactic(auto, using(gq_value::specs::ViewLaws::view_laws))]
-fn is_uint(value: &Value) -> bool
-    ensures { result ≡ is_unsigned (val value.now) }
-{
-    match value {
-        Value::UInt(_) => true,
-        Value::Int(_) | Value::Bool(_) | Value::Text(_) | Value::Vertex(_) => false,
-        Value::Tuple(_) | Value::Fraction(_) => false,
     }
 }

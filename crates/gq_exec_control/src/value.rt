@@ -6,17 +6,17 @@ ghost use Rattle.gq_rules_meaning.specs.Expressions.{value_as};
 ghost use Rattle.gq_rules_meaning.specs.Answers.{blaming};
 ghost use Rattle.gq_rules_meaning.specs.States.{seen};
 ghost use Rattle.gq_rules_meaning.specs.Statements.{Evaluation, default_of, local_value};
+ghost use Rattle.gq_rules_calendar.specs.Gregorian.{gregorian};
 ghost use Rattle.gq_plan_ir.specs.ExprView.{view};
 ghost use Rattle.gq_eval_operand.specs.Meant.{Tells};
 ghost use Rattle.gq_frame.specs.Slots.{AreSound};
 ghost use Rattle.gq_exec_control.specs.Changes.{Reads};
-ghost use Rattle.gq_exec_control.specs.Grounds.{look_on, world_on};
+ghost use Rattle.gq_exec_control.specs.Contexts.{look_on, world_on};
 
 use crate::faults::or_fault;
-use crate::ground::Ground;
+use crate::run_context::RunContext;
 use crate::running::RunFault;
 use gq_eval::run_value;
-use gq_eval_context::Clock;
 use gq_eval_operand::{Halt, Sees, converted, own};
 use gq_frame::Frame;
 use gq_plan_ir::Expr;
@@ -39,30 +39,30 @@ pub fn value_as<V: Sees>(
 }
 
 /// The value that a variable of a type is declared with, or else the default of the type.
-pub(crate) fn first_value<C: Clock>(
+pub(crate) fn first_value(
     local: &Option<Expr>,
     base: &BaseType,
     alloc: Global,
-    ground: &Ground<'_, C>,
+    context: &RunContext<'_>,
     frame: &Frame,
 ) -> Result<Value, RunFault>
     requires { AreSound frame.now.accums }
-    ensures { Reads ground.now.plan.places val (λ s. blaming Evaluation (local_value (seen (world_on C.clock ground.now) s) (base_of base.now) (option_map view local.now))) frame.now result }
+    ensures { Reads context.now.plan.places val (λ s. blaming Evaluation (local_value (seen (world_on gregorian context.now) s) (base_of base.now) (option_map view local.now))) frame.now result }
 {
-    or_fault(value_over(local, base, alloc, ground, frame))
+    or_fault(value_over(local, base, alloc, context, frame))
 }
 
-fn value_over<C: Clock>(
+fn value_over(
     local: &Option<Expr>,
     base: &BaseType,
     alloc: Global,
-    ground: &Ground<'_, C>,
+    context: &RunContext<'_>,
     frame: &Frame,
 ) -> Result<Value, Halt>
     requires { AreSound frame.now.accums }
-    ensures { Tells val (local_value (look_on C.clock ground.now frame.now) (base_of base.now) (option_map view local.now)) result }
+    ensures { Tells val (local_value (look_on gregorian context.now frame.now) (base_of base.now) (option_map view local.now)) result }
 {
-    let sight = ground.sight(frame);
+    let sight = context.eval_context(frame);
     value_seen(local, base, alloc, &sight)
 }
 

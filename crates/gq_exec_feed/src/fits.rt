@@ -1,11 +1,10 @@
 // Sums judged.
-ghost use Rattle.std.specs.Prelude.{◌≡◌, ℕ};
+ghost use Rattle.std.specs.Prelude.{◌≡◌, ℕ, IfSome};
 ghost use Rattle.gq_rules_meaning.specs.Blocks.{first_unfit};
 ghost use Rattle.gq_frame.specs.Slots.{slots_are};
 ghost use Rattle.gq_exec_feed.specs.Feeding.{AreFed};
 ghost use Rattle.gq_exec_feed.specs.Steps.{AllFit};
 
-use crate::targets::targets;
 use gq_frame::Accums;
 use gq_nest::Content;
 
@@ -17,7 +16,7 @@ pub fn first_unfit(accums: &Accums) -> Option<usize>
     let contents = accums.contents.as_slice();
     let mut start = 0;
     for (number, slot) in accums.slots.declared.as_slice().iter().enumerate() {
-        let targets = targets(&accums.slots, slot) as usize;
+        let targets = accums.slots.targets(slot) as usize;
         let end = (start + targets).min(contents.len());
         if !all_fit(&contents[start..end]) {
             return Some(number);
@@ -25,6 +24,16 @@ pub fn first_unfit(accums: &Accums) -> Option<usize>
         start = end;
     }
     None
+}
+
+/// A number of a slot, in 32 bits.
+pub fn slot_number(number: usize) -> Option<u32>
+    ensures { IfSome result (λ slot. slot ≡ number) }
+{
+    if number > u32::MAX as usize {
+        return None;
+    }
+    Some(number as u32)
 }
 
 /// Whether all contents fit.

@@ -18,7 +18,7 @@ mod targets;
 mod values;
 
 pub use feed::feed_all;
-pub use fits::first_unfit;
+pub use fits::{first_unfit, slot_number};
 pub use inputs::{suits, takes};
 pub use ints::feed_ints;
 pub use targets::place;

@@ -1,42 +1,26 @@
 // Where an input goes.
-ghost use Rattle.std.specs.Prelude.{◌≡◌, IfSome, slice_get};
-ghost use Rattle.std.specs.Option.{option_copied};
+ghost use Rattle.std.specs.Prelude.{◌≡◌, IfSome};
 ghost use Rattle.gq_value.specs.AccumViews.{given};
-ghost use Rattle.gq_frame.specs.Targets.{number_of, targets_of};
+ghost use Rattle.gq_frame.specs.Targets.{number_of};
 ghost use Rattle.gq_exec_feed.specs.Taking.{MayTake};
 
 use crate::inputs::suits;
-use gq_base::List;
 use gq_frame::Slots;
-use gq_value::{Input, Slot};
+use gq_value::Input;
 
 /// The number of the target of a slot and a vertex, if there is such a target and its kind takes the input. A global accumulator has its
 /// target at vertex 0. It takes a step for each slot before, and no memory.
 pub fn place(slots: &Slots, slot: u32, vertex: u32, input: &Input) -> Option<u64>
     ensures { IfSome result (λ target. (target ≡ number_of slots.now slot vertex) × MayTake slots.now (record { slot = slot; vertex = vertex; input = given input.now })) }
 {
-    match item(&slots.declared, slot as usize) {
+    match slots.declared.get(slot as usize) {
         None => None,
         Some(declared) => {
-            if vertex < targets(slots, declared) && suits(input, &declared.kind) {
+            if vertex < slots.targets(declared) && suits(input, &declared.kind) {
                 Some(slots.target(slot, vertex))
             } else {
                 None
             }
         }
     }
-}
-
-/// The item at a place, if there is one.
-fn item<T>(items: &List<T>, at: usize) -> Option<&T>
-    ensures { slice_get items.now at ≡ option_copied result }
-{
-    items.as_slice().get(at)
-}
-
-/// How many targets a slot has.
-pub(crate) fn targets(slots: &Slots, slot: &Slot) -> u32
-    ensures { result ≡ targets_of slots.now.vertices slot.now }
-{
-    if slot.attached { slots.vertices } else { 1 }
 }

@@ -1,5 +1,5 @@
 -- RunLemmas: one phase, and all of them.
-use Rattle.std.proofs.Common.{◌≡◌, ℕ, zero, suc, Bool, List, [], ◌∷◌, take, drop, map, length, get_or, ◌-◌, ◌≤◌, Result, Ok, Err, refl, sym, ap, ap₂, subst, ◌∙◌}
+use Rattle.std.proofs.Common.{◌≡◌, ℕ, zero, suc, Bool, true, false, cond, List, [], ◌∷◌, take, drop, map, length, get_or, ◌-◌, ◌≤◌, Result, Ok, Err, refl, sym, ap, ap₂, subst, ◌∙◌}
 use Rattle.std.proofs.lemmas.List.{drop_more, take_rest}
 use Rattle.gq_rules_typing.specs.Selecting.{Act, Acts, act_and}
 use Rattle.gq_rules_typing.specs.SelectViews.{acts_of}
@@ -53,6 +53,10 @@ joined : (a : blocks.After Reference) (p : Answer blocks.BlockFault (Written Ref
 joined a (Gives w) = refl
 joined a (Faults e) = refl
 joined a Stuck = refl
+
+pub matched_is : (a : After) (b : Bool) (vs ss ts : List ℕ) → vs ≡ cond b ts ss → ss ≡ a.sources → ts ≡ a.targets → vs ≡ matched (after_is a) b
+matched_is a true vs ss ts e s t = e ∙ t
+matched_is a false vs ss ts e s t = e ∙ s
 
 module _ (clock : Calendar) (o : Over) (ends : Ends) (b : Bool) (acts : Acts Reference) (after : After) (end : End) (at_end : end ≡ end_at ends b) (vs : List ℕ) (lent : vs ≡ matched (after_is after) b) where
   in_two : (q : ℕ → Post Reference) → phase_of q b acts (after_is after) ≡ put_slots (after_is after) (slots_at q acts vs (slots_are after.accums))

@@ -1,10 +1,10 @@
 // The statements of a phase at one vertex.
-ghost use Rattle.std.specs.Prelude.{◌≡◌, ◌++◌, ◌∷◌, [], IfOk, map, slice_get};
-ghost use Rattle.std.specs.Option.{option_copied};
+ghost use Rattle.std.specs.Prelude.{◌≡◌, ◌++◌, ◌∷◌, [], IfOk, map};
 ghost use Rattle.gq_value.specs.AccumViews.{given};
 ghost use Rattle.gq_rules_meaning.specs.Blocks.{contributed};
 ghost use Rattle.gq_rules_meaning.specs.Expressions.{truth_of};
 ghost use Rattle.gq_rules_meaning.specs.Posts.{post_act, post_acts, write, feed};
+ghost use Rattle.gq_rules_calendar.specs.Gregorian.{gregorian};
 ghost use Rattle.gq_plan_ir.specs.BlockView.{view_act, view_acts, view_change};
 ghost use Rattle.gq_plan_ir.specs.ExprView.{view};
 ghost use Rattle.gq_plan_ir.specs.Reference.{Slot};
@@ -19,9 +19,9 @@ ghost use Rattle.gq_exec_post.specs.Writing.{KeepsTo};
 use crate::changed::{ChangeFault, change_at};
 use crate::making::{Made, made_by};
 use crate::writing::{Waiting, Writing};
-use gq_base::{List, OutOfMemory};
+use gq_base::OutOfMemory;
 use gq_eval::run_truth;
-use gq_eval_context::{BlockFault, Clock, Setting, fault_at};
+use gq_eval_context::{BlockContext, BlockFault, fault_at};
 use gq_eval_operand::Halt;
 use gq_exec_contribute::run_feed;
 use gq_frame::{Accums, Alias};
@@ -32,16 +32,16 @@ use std::alloc::Global;
 /// What acts do at a vertex, one after the other.
 #[cycle(act)]
 #[tactic(auto, using(crate::proofs::ActLemmas::acts_laws))]
-pub(crate) fn run_acts<C: Clock>(
+pub(crate) fn run_acts(
     acts: &[Act],
     alloc: Global,
-    over: &Setting<'_, C>,
+    over: &BlockContext<'_>,
     aliases: &[Alias<'_>],
     vertex: u32,
     before: Writing,
 ) -> Result<Writing, BlockFault>
     requires { AreSound before.accums }
-    ensures told { DoesSo C.clock over.now (map alias_of aliases.now) vertex (λ p. post_acts p (view_acts acts.now)) before result }
+    ensures told { DoesSo gregorian over.now (map alias_of aliases.now) vertex (λ p. post_acts p (view_acts acts.now)) before result }
     ensures sound { IfOk result (λ w. KeepsTo before.accums w.accums) }
 {
     let mut writing = before;
@@ -57,16 +57,16 @@ pub(crate) fn run_acts<C: Clock>(
 /// What an act does at a vertex.
 #[cycle(act)]
 #[tactic(auto, using(gq_plan_ir::proofs::ViewLaws::step_laws, crate::proofs::ActLemmas::act_laws))]
-fn run_act<C: Clock>(
+fn run_act(
     act: &Act,
     alloc: Global,
-    over: &Setting<'_, C>,
+    over: &BlockContext<'_>,
     aliases: &[Alias<'_>],
     vertex: u32,
     before: Writing,
 ) -> Result<Writing, BlockFault>
     requires { AreSound before.accums }
-    ensures told { DoesSo C.clock over.now (map alias_of aliases.now) vertex (λ p. post_act p (view_act act.now)) before result }
+    ensures told { DoesSo gregorian over.now (map alias_of aliases.now) vertex (λ p. post_act p (view_act act.now)) before result }
     ensures sound { IfOk result (λ w. KeepsTo before.accums w.accums) }
 {
     match act {
@@ -96,17 +96,17 @@ fn run_act<C: Clock>(
 }
 
 /// Whether a condition holds.
-fn holds<C: Clock>(
+fn holds(
     expr: &Expr,
     alloc: Global,
-    over: &Setting<'_, C>,
+    over: &BlockContext<'_>,
     aliases: &[Alias<'_>],
     accums: &Accums,
 ) -> Result<bool, Halt>
     requires { AreSound accums.now }
-    ensures { Tells itself (truth_of (look_now C.clock over.now (map alias_of aliases.now) accums.now) (view expr.now)) result }
+    ensures { Tells itself (truth_of (look_now gregorian over.now (map alias_of aliases.now) accums.now) (view expr.now)) result }
 {
-    let sight = over.view(aliases, accums, &over.frame.accums);
+    let sight = over.eval_context(aliases, accums, &over.frame.accums);
     run_truth(expr, alloc, &sight)
 }
 
@@ -114,16 +114,16 @@ fn holds<C: Clock>(
 
 /// Changes the attached accumulator in a slot at a vertex, at once.
 #[tactic(auto, using(crate::proofs::WriteLemmas::write_laws))]
-fn write<C: Clock>(
+fn write(
     change: &Change,
     alloc: Global,
-    over: &Setting<'_, C>,
+    over: &BlockContext<'_>,
     aliases: &[Alias<'_>],
     to: (u32, u32),
     before: Writing,
 ) -> Result<Writing, BlockFault>
     requires { AreSound before.accums }
-    ensures told { DoesSo C.clock over.now (map alias_of aliases.now) to.1 (λ p. write p (Slot to.0) (view_change change.now)) before result }
+    ensures told { DoesSo gregorian over.now (map alias_of aliases.now) to.1 (λ p. write p (Slot to.0) (view_change change.now)) before result }
     ensures sound { IfOk result (λ w. KeepsTo before.accums w.accums) }
 {
     match made_at(change, alloc, over, aliases, &before.accums, to.0) {
@@ -134,21 +134,21 @@ fn write<C: Clock>(
 
 /// What a change makes of the accumulator in a slot.
 #[tactic(auto, using(crate::proofs::WriteLemmas::made_laws))]
-fn made_at<C: Clock>(
+fn made_at(
     change: &Change,
     alloc: Global,
-    over: &Setting<'_, C>,
+    over: &BlockContext<'_>,
     aliases: &[Alias<'_>],
     accums: &Accums,
     slot: u32,
 ) -> Result<Made, Halt>
     requires { AreSound accums.now }
-    ensures { Tells making_of (made_at (look_now C.clock over.now (map alias_of aliases.now) accums.now) accums.now.slots slot (view_change change.now)) result }
+    ensures { Tells making_of (made_at (look_now gregorian over.now (map alias_of aliases.now) accums.now) accums.now.slots slot (view_change change.now)) result }
 {
-    match item(&accums.slots.declared, slot as usize) {
+    match accums.slots.declared.get(slot as usize) {
         None => Err(Halt::Stuck),
         Some(declared) => {
-            let sight = over.view(aliases, accums, &over.frame.accums);
+            let sight = over.eval_context(aliases, accums, &over.frame.accums);
             made_by(change, &declared.kind, alloc, &sight)
         }
     }
@@ -177,16 +177,16 @@ fn put_in(
 
 /// Puts last what a change feeds the global accumulator in a slot.
 #[tactic(auto, using(crate::proofs::WaitLemmas::wait_laws))]
-fn wait<C: Clock>(
+fn wait(
     change: &Change,
     alloc: Global,
-    over: &Setting<'_, C>,
+    over: &BlockContext<'_>,
     aliases: &[Alias<'_>],
     to: (u32, u32),
     before: Writing,
 ) -> Result<Writing, BlockFault>
     requires { AreSound before.accums }
-    ensures told { DoesSo C.clock over.now (map alias_of aliases.now) to.1 (λ p. feed p (Slot to.0) (view_change change.now)) before result }
+    ensures told { DoesSo gregorian over.now (map alias_of aliases.now) to.1 (λ p. feed p (Slot to.0) (view_change change.now)) before result }
     ensures sound { IfOk result (λ w. KeepsTo before.accums w.accums) }
 {
     match input_at(change, alloc, over, aliases, &before.accums, to.0) {
@@ -204,23 +204,23 @@ fn wait<C: Clock>(
 
 /// What a change feeds the global accumulator in a slot. `=` has no place there.
 #[tactic(auto, using(crate::proofs::WaitLemmas::input_laws))]
-fn input_at<C: Clock>(
+fn input_at(
     change: &Change,
     alloc: Global,
-    over: &Setting<'_, C>,
+    over: &BlockContext<'_>,
     aliases: &[Alias<'_>],
     accums: &Accums,
     slot: u32,
 ) -> Result<Input, Halt>
     requires { AreSound accums.now }
-    ensures { Tells (λ input. one_waiting slot (given input)) (contributed (look_now C.clock over.now (map alias_of aliases.now) accums.now) (slots_are accums.now) (Slot slot) 0 (view_change change.now)) result }
+    ensures { Tells (λ input. one_waiting slot (given input)) (contributed (look_now gregorian over.now (map alias_of aliases.now) accums.now) (slots_are accums.now) (Slot slot) 0 (view_change change.now)) result }
 {
     match change {
         Change::Set(_) => Err(Halt::Stuck),
-        Change::Feed(feed) => match item(&accums.slots.declared, slot as usize) {
+        Change::Feed(feed) => match accums.slots.declared.get(slot as usize) {
             None => Err(Halt::Stuck),
             Some(declared) => {
-                let sight = over.view(aliases, accums, &over.frame.accums);
+                let sight = over.eval_context(aliases, accums, &over.frame.accums);
                 run_feed(feed, &declared.kind, alloc, &sight)
             }
         },
@@ -234,11 +234,4 @@ fn with_one(before: Vec<Waiting>, one: Waiting) -> Result<Vec<Waiting>, OutOfMem
     let mut waiting = before;
     waiting.push(one)?;
     Ok(waiting)
-}
-
-/// The item at a place, if there is one.
-fn item<T>(items: &List<T>, at: usize) -> Option<&T>
-    ensures { slice_get items.now at ≡ option_copied result }
-{
-    items.as_slice().get(at)
 }

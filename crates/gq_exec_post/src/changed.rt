@@ -1,20 +1,19 @@
 // Changes put into accumulators.
 ghost use Rattle.std.specs.Prelude.{◌≡◌, IfOk, IfSome, OnOk, Some, slice_get, true, false};
-ghost use Rattle.std.specs.Option.{option_copied};
 ghost use Rattle.gq_value.specs.AccumViews.{accum_of};
 ghost use Rattle.gq_accum_laws.specs.Fits.{fits as all_fit};
 ghost use Rattle.gq_nest.specs.declared.content.Content as content;
 ghost use Rattle.gq_nest.specs.Tells.{Tells, is_settable};
-ghost use Rattle.gq_frame.specs.Targets.{number_of, targets_of};
+ghost use Rattle.gq_frame.specs.Targets.{number_of};
 ghost use Rattle.gq_frame.specs.Slots.{AreSound};
 ghost use Rattle.gq_exec_post.specs.Changing.{Becomes, CanTake, Changed, ChangesOne, MayChange, MaySuit};
 
 use crate::making::Made;
-use gq_base::{List, OutOfMemory};
+use gq_base::OutOfMemory;
 use gq_exec_feed::{suits, takes};
 use gq_frame::{Accums, Slots};
 use gq_nest::Content;
-use gq_value::{Kind, Slot};
+use gq_value::Kind;
 use std::alloc::Global;
 
 /// Why a change isn't made.
@@ -53,10 +52,10 @@ pub fn change_at(
 fn place(slots: &Slots, slot: u32, vertex: u32, made: &Made) -> Option<u64>
     ensures { IfSome result (λ target. (target ≡ number_of slots.now slot vertex) × MayChange slots.now slot vertex made.now) }
 {
-    match item(&slots.declared, slot as usize) {
+    match slots.declared.get(slot as usize) {
         None => None,
         Some(declared) => {
-            if vertex < targets(slots, declared) && may_suit(&declared.kind, made) {
+            if vertex < slots.targets(declared) && may_suit(&declared.kind, made) {
                 Some(slots.target(slot, vertex))
             } else {
                 None
@@ -87,20 +86,6 @@ fn is_settable(kind: &Kind) -> bool
         Kind::Set(_) | Kind::Bag(_) | Kind::List(_) => false,
         Kind::Map(_, _) | Kind::Group(_) | Kind::Heap(_) => false,
     }
-}
-
-/// The item at a place, if there is one.
-fn item<T>(items: &List<T>, at: usize) -> Option<&T>
-    ensures { slice_get items.now at ≡ option_copied result }
-{
-    items.as_slice().get(at)
-}
-
-/// How many targets a slot has.
-fn targets(slots: &Slots, slot: &Slot) -> u32
-    ensures { result ≡ targets_of slots.now.vertices slot.now }
-{
-    if slot.attached { slots.vertices } else { 1 }
 }
 
 /// Makes the change at a target, and judges what stands there.

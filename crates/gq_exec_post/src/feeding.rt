@@ -1,5 +1,5 @@
 // The end of a phase.
-ghost use Rattle.std.specs.Prelude.{◌≡◌, IfOk, IfSome};
+ghost use Rattle.std.specs.Prelude.{IfOk};
 ghost use Rattle.gq_rules_meaning.specs.Blocks.{fed_together};
 ghost use Rattle.gq_eval_operand.specs.Meant.{itself};
 ghost use Rattle.gq_frame.specs.Slots.{AreSound, slots_are};
@@ -10,7 +10,7 @@ ghost use Rattle.gq_exec_post.specs.Writing.{KeepsTo, waiting_are};
 use crate::writing::{Waiting, Writing};
 use gq_base::{List, OutOfMemory};
 use gq_eval_context::BlockFault;
-use gq_exec_feed::{feed_all, first_unfit, place};
+use gq_exec_feed::{feed_all, first_unfit, place, slot_number};
 use gq_frame::{Accums, Slots};
 use gq_value::Input;
 use std::alloc::Global;
@@ -71,14 +71,4 @@ fn batch_of(
         }
     }
     Ok(batch)
-}
-
-/// A number of a slot, in 32 bits.
-fn slot_number(number: usize) -> Option<u32>
-    ensures { IfSome result (λ slot. slot ≡ number) }
-{
-    if number > u32::MAX as usize {
-        return None;
-    }
-    Some(number as u32)
 }

@@ -6,7 +6,7 @@
 //!
 //! Read `Posts.antt` of `gq_rules_meaning` first, then `specs/Phases.antt`, `specs/Sights.antt` (what
 //! statements see), `specs/Writing.antt` (what vertices leave) and `specs/Making.antt` (what `+=` and `=` do
-//! to a content). The code begins in `src/whole.rt`; `src/phases.rt` splits statements, `src/making.rt` and
+//! to a content). The code begins in `src/post_accum.rt`; `src/phases.rt` splits statements, `src/making.rt` and
 //! `src/changed.rt` apply changes.
 #![tactic(auto)]
 
@@ -17,10 +17,10 @@ mod exprs;
 mod feeding;
 mod making;
 mod phases;
+mod post_accum;
 mod vertices;
-mod whole;
 mod writing;
 
 pub use changed::{ChangeFault, change_at};
 pub use making::{Made, made_by};
-pub use whole::post;
+pub use post_accum::post;

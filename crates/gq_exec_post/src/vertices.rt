@@ -1,6 +1,7 @@
 // The vertices of a phase.
 ghost use Rattle.std.specs.Prelude.{◌≡◌, IfOk};
 ghost use Rattle.gq_rules_meaning.specs.Posts.{post_acts};
+ghost use Rattle.gq_rules_calendar.specs.Gregorian.{gregorian};
 ghost use Rattle.gq_plan_ir.specs.BlockView.{view_acts};
 ghost use Rattle.gq_exec_source.specs.Ends.{end_things};
 ghost use Rattle.gq_frame.specs.Slots.{AreSound};
@@ -9,23 +10,23 @@ ghost use Rattle.gq_exec_post.specs.Writing.{KeepsTo};
 
 use crate::acts::run_acts;
 use crate::writing::Writing;
-use gq_eval_context::{BlockFault, Clock, Setting};
+use gq_eval_context::{BlockContext, BlockFault};
 use gq_exec_source::End;
 use gq_plan_ir::Act;
 use std::alloc::Global;
 
 /// What acts do at vertices of one end, one vertex after the other.
 #[tactic(auto, using(crate::proofs::VertexLemmas::vertex_laws))]
-pub(crate) fn run_vertices<C: Clock>(
+pub(crate) fn run_vertices(
     acts: &[Act],
     alloc: Global,
-    over: &Setting<'_, C>,
+    over: &BlockContext<'_>,
     end: &End,
     vertices: &[u32],
     before: Writing,
 ) -> Result<Writing, BlockFault>
     requires { AreSound before.accums }
-    ensures told { GoesSo C.clock over.now end.now (view_acts acts.now) vertices.now before result }
+    ensures told { GoesSo gregorian over.now end.now (view_acts acts.now) vertices.now before result }
     ensures sound { IfOk result (λ w. KeepsTo before.accums w.accums) }
 {
     let mut writing = before;
@@ -39,16 +40,16 @@ pub(crate) fn run_vertices<C: Clock>(
 }
 
 /// What acts do at a vertex, under the alias of its end.
-fn run_vertex<C: Clock>(
+fn run_vertex(
     acts: &[Act],
     alloc: Global,
-    over: &Setting<'_, C>,
+    over: &BlockContext<'_>,
     end: &End,
     vertex: u32,
     before: Writing,
 ) -> Result<Writing, BlockFault>
     requires { AreSound before.accums }
-    ensures told { DoesSo C.clock over.now (one_alias (end_things end.now vertex)) vertex (λ p. post_acts p (view_acts acts.now)) before result }
+    ensures told { DoesSo gregorian over.now (one_alias (end_things end.now vertex)) vertex (λ p. post_acts p (view_acts acts.now)) before result }
     ensures sound { IfOk result (λ w. KeepsTo before.accums w.accums) }
 {
     match end.alias(vertex) {

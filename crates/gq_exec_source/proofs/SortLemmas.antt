@@ -1,59 +1,15 @@
 -- SortLemmas: edge types by number, where they lead, and which types are the graph's.
 use Rattle.std.proofs.Common.{if◌then◌else◌, ℕ, zero, suc, ◌+◌, ◌<◌, ◌≤◌, ◌≡◌, ◌==◌, Bool, true, false, List, [], ◌∷◌, ◌++◌, length, get_or, map, drop, Option, Some, None, refl, ap, sym, ◌∙◌, arith}
-use Rattle.std.specs.List.{slice_get, filter_map, flat_map, cons_option, list_any}
-use Rattle.std.specs.Option.{option_map, option_to_list}
+use Rattle.std.specs.List.{filter_map, flat_map, cons_option, list_any}
+use Rattle.std.specs.Option.{option_to_list}
 use Rattle.std.proofs.lemmas.List.{append-nil, append_assoc, drop_more, drop_all}
-use Rattle.std.proofs.lemmas.Option.{slice_get-get_or, slice_get_past}
 use Rattle.gq_tree.specs.declared.select.Way.{Way}
-use Rattle.gq_tree.specs.declared.select.Way.TheVariants as way
-use Rattle.gq_graph.specs.declared.types.EdgeType.{EdgeType}
 use Rattle.gq_graph.specs.Catalog.{Schema}
-use Rattle.gq_rules_typing.specs.Sorts.{EdgeSort, Sorts, edge_sort}
-use Rattle.gq_rules_typing.specs.Patterns.{ends_of, own_way, way_of}
+use Rattle.gq_rules_typing.specs.Patterns.{way_of}
 use Rattle.gq_plan_ir.specs.declared.plan.Plan.{Plan}
 use Rattle.gq_plan_ir.specs.Reference as reference
 use Rattle.gq_plan_ir.specs.Reference.{Reference}
 use Rattle.gq_exec_source.specs.Seen.{own_of, setting_for}
-
--- ---- edge types by number
-
-slice_get_map : {A B : Type 0} (f : A → B) (xs : List A) (n : ℕ) → slice_get (map f xs) n ≡ option_map f (slice_get xs n)
-slice_get_map f [] n = refl
-slice_get_map f (x ∷ xs) zero = refl
-slice_get_map f (x ∷ xs) (suc n) = slice_get_map f xs n
-
-pub edge_there : (types all : List EdgeType) (t : ℕ) (e : EdgeType) → types ≡ all → t < length types → e ≡ get_or types t e → Some (edge_sort e) ≡ slice_get (map edge_sort all) t
-edge_there types all t e is low at =
-    ap (λ x. Some (edge_sort x)) at ∙ ap (option_map edge_sort) (sym (slice_get-get_or types t e low)) ∙ ap (λ l. option_map edge_sort (slice_get l t)) is ∙ sym (slice_get_map edge_sort all t)
-
-pub edge_past : (types all : List EdgeType) (t : ℕ) → types ≡ all → length types ≤ t → None ≡ slice_get (map edge_sort all) t
-edge_past types all t is over =
-    ap (option_map edge_sort) (sym (slice_get_past types t over)) ∙ ap (λ l. option_map edge_sort (slice_get l t)) is ∙ sym (slice_get_map edge_sort all t)
-
--- ---- ways
-
-pub no_own_way : (sorts : Sorts) (t : ℕ) → None ≡ slice_get sorts.edges t → own_way sorts t ≡ way.Both
-no_own_way sorts t e = rw (sym e) refl
-
-pub directed_way : (sorts : Sorts) (t : ℕ) (s : EdgeSort) → Some s ≡ slice_get sorts.edges t → s.directed ≡ true → own_way sorts t ≡ way.Forward
-directed_way sorts t s e is = rw (sym e) (rw is refl)
-
-pub undirected_way : (sorts : Sorts) (t : ℕ) (s : EdgeSort) → Some s ≡ slice_get sorts.edges t → s.directed ≡ false → own_way sorts t ≡ way.Both
-undirected_way sorts t s e is = rw (sym e) (rw is refl)
-
-pub no_ends : (sorts : Sorts) (w : Way) (t : ℕ) → None ≡ slice_get sorts.edges t → ends_of sorts (w, t) ≡ []
-no_ends sorts w t e = rw (sym e) refl
-
-pub forward_ends : (sorts : Sorts) (t : ℕ) (s : EdgeSort) → Some s ≡ slice_get sorts.edges t → ends_of sorts (way.Forward, t) ≡ s.to ∷ []
-forward_ends sorts t s e = rw (sym e) refl
-
-pub backward_ends : (sorts : Sorts) (t : ℕ) (s : EdgeSort) → Some s ≡ slice_get sorts.edges t → ends_of sorts (way.Backward, t) ≡ s.from ∷ []
-backward_ends sorts t s e = rw (sym e) refl
-
-pub both_ends : (sorts : Sorts) (t : ℕ) (s : EdgeSort) → Some s ≡ slice_get sorts.edges t → ends_of sorts (way.Both, t) ≡ s.from ∷ s.to ∷ []
-both_ends sorts t s e = rw (sym e) refl
-
-pub ruleset way_laws = (no_own_way, directed_way, undirected_way, no_ends, forward_ends, backward_ends, both_ends)
 
 -- ---- ways that are named
 

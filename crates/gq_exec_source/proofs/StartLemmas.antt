@@ -22,6 +22,7 @@ use Rattle.gq_rules_meaning.specs.Calendars.{Calendar}
 use Rattle.gq_rules_meaning.specs.Expressions.{setting}
 use Rattle.gq_rules_meaning.specs.States as states
 use Rattle.gq_rules_meaning.specs.States.{Thing, Variable, SetOf, Member, State, thing_named}
+use Rattle.gq_rules_meaning.specs.Statements.{is_set}
 use Rattle.gq_rules_meaning.specs.Sources as sources
 use Rattle.gq_rules_meaning.specs.Sources.{source_of, from, hop_pattern}
 use Rattle.gq_plan_ir.specs.declared.block.Block.{Block}
@@ -43,7 +44,7 @@ use Rattle.gq_eval_context.specs.Viewed.{Over}
 use Rattle.gq_eval_context.specs.Looks.{world_over}
 use Rattle.gq_exec_source.specs.declared.ends.Ends.{Ends}
 use Rattle.gq_exec_source.specs.Ends.{HasEnds}
-use Rattle.gq_exec_source.specs.Starts.{listed_at, listed_in, all_under, vertices_under, types_in, IsBelow, IsWithin, AreFrom, AreCandidates}
+use Rattle.gq_exec_source.specs.Starts.{listed_at, all_under, vertices_under, types_in, IsBelow, IsWithin, AreFrom, AreCandidates}
 
 -- ---- the source
 
@@ -167,6 +168,12 @@ pub from_hop_if : {E : Type 0} (o : Over) (block : Block) (ends : Ends) (set : L
     → pattern.targets ≡ ends.target.types → IfOk result (λ cs. cs ≡ candidates (sight_of o.schema o.vertices o.edges) set (Some pattern)) → IfOk result (AreFrom o block set)
 from_hop_if o block ends set hop pattern (Ok cs) has e edges targets is = from_hop o block ends set hop pattern cs has e edges targets is
 from_hop_if o block ends set hop pattern (Err x) has e edges targets is = tt
+
+-- where no set is in view, nothing is listed
+pub no_set_listed : (t : Option Thing) → is_set t ≡ false → [] ≡ listed_at t
+no_set_listed None h = refl
+no_set_listed (Some (SetOf ts vs)) h = absurd (cc h)
+no_set_listed (Some thing) h = refl
 
 pub start_set : (o : Over) (block : Block) (n : ℕ) (set : List ℕ) (cs : List Candidate) → block.source ≡ source.Set n → set ≡ listed_at (thing_in o.plan.places o.frame.things n) → AreFrom o block set cs → AreCandidates o block cs
 start_set o block n set cs e is h = record {

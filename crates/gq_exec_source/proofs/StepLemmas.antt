@@ -5,6 +5,7 @@ use Rattle.std.specs.List.{filter_map, flat_map}
 use Rattle.std.specs.List.{slice_get}
 use Rattle.std.specs.Option.{option_map, option_to_list}
 use Rattle.gq_rules_typing.specs.Selecting as plain
+use Rattle.gq_rules_typing.specs.Sorts.{sorts_of}
 use Rattle.gq_rules_typing.specs.Patterns.{last_step, target_alias}
 use Rattle.gq_tree.specs.declared.select.Way.{Way}
 use Rattle.gq_graph.specs.Catalog.{Schema}
@@ -20,7 +21,8 @@ use Rattle.gq_plan_ir.specs.BlockView.{view_hop, view_path_step, view_types}
 use Rattle.gq_plan_ir.specs.Reference as reference
 use Rattle.gq_plan_ir.specs.Reference.{Reference, Place}
 use Rattle.gq_frame.specs.declared.frame.Thing.{Thing}
-use Rattle.gq_exec_source.specs.Seen.{own_of, own_ways, setting_for, sorts_for, types_from}
+use Rattle.gq_exec_source.specs.Seen.{own_of, setting_for, sorts_for, types_from}
+use Rattle.gq_check_from.specs.Walks.{own_ways}
 use Rattle.gq_exec_source.proofs.SortLemmas.{edges_named, vertices_named}
 
 pub last_is : (steps : List PathStep) → last_step (map view_path_step steps) ≡ option_map view_path_step (slice_get steps (length steps - 1))
@@ -58,11 +60,11 @@ module _ (schema : Schema) (p : Plan) where
 
   -- ---- where a step leads
 
-  pub step_open : {E : Type 0} (step : PathStep) (ways : List (Way × ℕ)) (far : List ℕ) (r : Result (List ℕ) E) → step.targets ≡ types.Every → ways ≡ step.ways
-      → far ≡ flat_map (ends_of (sorts_for schema p)) (filter_map (way_of (setting_for schema p)) (map (λ w. (w.0, reference.EdgeType w.1)) ways)) → IfOk r (λ l. l ≡ or_all p.vertices far)
+  pub step_open : {E : Type 0} (step : PathStep) (ways : List (Way × ℕ)) (far own : List ℕ) (r : Result (List ℕ) E) → step.targets ≡ types.Every → ways ≡ step.ways
+      → far ≡ flat_map (ends_of (sorts_for schema p)) (filter_map (way_of (setting_for schema p)) (map (λ w. (w.0, reference.EdgeType w.1)) ways)) → own ≡ p.vertices → IfOk r (λ l. l ≡ or_all own far)
       → IfOk r (λ l. l ≡ (path_step (setting_for schema p) (view_path_step step)).targets)
-  step_open step ways far r e w f h = subst (λ (ns : List ℕ). IfOk r (λ l. l ≡ ns)) (
-      ap (or_all p.vertices) (f ∙ ap (λ (ws : List (Way × ℕ)). flat_map (ends_of (sorts_for schema p)) (filter_map (way_of (setting_for schema p)) (map (λ w. (w.0, reference.EdgeType w.1)) ws))) w)
+  step_open step ways far own r e w f o h = subst (λ (ns : List ℕ). IfOk r (λ l. l ≡ ns)) (
+      ap (λ (ns : List ℕ). or_all ns far) o ∙ ap (or_all p.vertices) (f ∙ ap (λ (ws : List (Way × ℕ)). flat_map (ends_of (sorts_for schema p)) (filter_map (way_of (setting_for schema p)) (map (λ w. (w.0, reference.EdgeType w.1)) ws))) w)
       ∙ ap (λ (t : Types). (path_step (setting_for schema p) (view_path_step (record step { targets = t }))).targets) (sym e)) h
 
   pub step_named : {E : Type 0} (step : PathStep) (ts slice : List ℕ) (r : Result (List ℕ) E) → step.targets ≡ types.These ts → slice ≡ ts
@@ -74,11 +76,11 @@ module _ (schema : Schema) (p : Plan) where
 
   -- ---- where a hop leads
 
-  pub hop_open : {E : Type 0} (hop : Hop) (edges slice far : List ℕ) (r : Result (List ℕ) E) → hop.targets ≡ types.Every → edges ≡ edge_types (setting_for schema p) (view_types reference.EdgeType hop.edges) → slice ≡ edges
-      → far ≡ flat_map (ends_of (sorts_for schema p)) (own_ways (sorts_for schema p) slice) → IfOk r (λ l. l ≡ or_all p.vertices far)
+  pub hop_open : {E : Type 0} (hop : Hop) (edges slice far own : List ℕ) (r : Result (List ℕ) E) → hop.targets ≡ types.Every → edges ≡ edge_types (setting_for schema p) (view_types reference.EdgeType hop.edges) → slice ≡ edges
+      → far ≡ flat_map (ends_of (sorts_of schema None)) (own_ways (sorts_of schema None) slice) → own ≡ p.vertices → IfOk r (λ l. l ≡ or_all own far)
       → IfOk r (λ l. l ≡ (hop_step (setting_for schema p) (view_hop hop)).targets)
-  hop_open hop edges slice far r e g s f h = subst (λ (ns : List ℕ). IfOk r (λ l. l ≡ ns)) (
-      ap (or_all p.vertices) (f ∙ ap (λ (ts : List ℕ). flat_map (ends_of (sorts_for schema p)) (own_ways (sorts_for schema p) ts)) (s ∙ g))
+  hop_open hop edges slice far own r e g s f o h = subst (λ (ns : List ℕ). IfOk r (λ l. l ≡ ns)) (
+      ap (λ (ns : List ℕ). or_all ns far) o ∙ ap (or_all p.vertices) (f ∙ ap (λ (ts : List ℕ). flat_map (ends_of (sorts_for schema p)) (own_ways (sorts_for schema p) ts)) (s ∙ g))
       ∙ ap (λ (t : Types). (hop_step (setting_for schema p) (view_hop (record hop { targets = t }))).targets) (sym e)) h
 
   pub hop_named : {E : Type 0} (hop : Hop) (ts slice : List ℕ) (r : Result (List ℕ) E) → hop.targets ≡ types.These ts → slice ≡ ts

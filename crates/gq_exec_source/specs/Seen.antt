@@ -1,11 +1,9 @@
 -- Seen: which types a plan sees of a catalog, and what stands behind FROM.
-use Rattle.std.specs.Prelude.{ℕ, List, [], map, Option, Some}
+use Rattle.std.specs.Prelude.{ℕ, List, [], Option, Some}
 use Rattle.std.specs.Option.{option_to_list}
-use Rattle.gq_tree.specs.declared.select.Way.{Way}
 use Rattle.gq_graph.specs.Catalog.{Schema}
 use Rattle.gq_rules_typing.specs.Sorts.{Sorts, sorts_of}
 use Rattle.gq_rules_typing.specs.Words.{Setting, if_own}
-use Rattle.gq_rules_typing.specs.Patterns.{own_way}
 use Rattle.gq_rules_meaning.specs.States as states
 use Rattle.gq_rules_meaning.specs.States.{SetOf}
 use Rattle.gq_plan_ir.specs.declared.block.SelectSource.{SelectSource}
@@ -22,10 +20,6 @@ sorts_for schema p = sorts_of schema (Some (record { name = []; vertices = p.ver
 -- names of accumulators and tuple types have no part in patterns
 abbrev pub setting_for : Schema → Plan → Setting Reference
 setting_for schema p = record { words = by_reference (sorts_for schema p) []; sorts = sorts_for schema p; tuples = [] }
-
--- edge types, each in its own way
-abbrev pub own_ways : Sorts → List ℕ → List (Way × ℕ)
-own_ways sorts ts = map (λ t. (own_way sorts t, t)) ts
 
 -- a type, if it is among those of the graph
 abbrev pub own_of : List ℕ → ℕ → Option ℕ

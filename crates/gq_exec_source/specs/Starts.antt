@@ -22,10 +22,6 @@ abbrev pub listed_at : Option Thing → List ℕ
 listed_at (Some (SetOf ts vs)) = vs
 listed_at _ = []
 
-abbrev pub listed_in : Option (List ℕ) → List ℕ
-listed_in None = []
-listed_in (Some vs) = vs
-
 -- all vertices of a type, by number
 abbrev pub all_under : List VertexRow → ℕ → List ℕ
 all_under vertices t = filter (is_target (vertex_kinds vertices) (t ∷ [])) (range_with_len 0 (length (vertex_kinds vertices)))

@@ -4,10 +4,11 @@ ghost use Rattle.gq_exec_source.specs.Ends.{HasEnds};
 ghost use Rattle.gq_exec_source.specs.Starts.{AreCandidates, AreFrom};
 
 use crate::ends::Ends;
-use crate::starts::{set_at, vertices_of};
+use crate::starts::vertices_of;
 use crate::types::edge_types;
 use gq_base::{List, OutOfMemory};
-use gq_eval_context::Setting;
+use gq_eval_context::BlockContext;
+use gq_frame::set_at;
 use gq_graph::Pattern;
 use gq_index::{Candidates, VertexList};
 use gq_plan_ir::{Block, SelectSource, Walk};
@@ -15,10 +16,10 @@ use std::alloc::Global;
 
 /// The candidates of a block whose ends these are. A set is walked from where it lies; from a type all of its vertices are listed. Along
 /// a path it answers OutOfMemory.
-pub fn candidates_of<C>(
+pub fn candidates_of(
     alloc: Global,
     block: &Block,
-    over: &Setting<'_, C>,
+    over: &BlockContext<'_>,
     ends: &Ends,
 ) -> Result<Candidates, OutOfMemory>
     requires { HasEnds over.now.schema over.now.plan over.now.frame.things block.now ends.now }
@@ -28,7 +29,7 @@ pub fn candidates_of<C>(
         SelectSource::Set(place) => {
             let places = over.plan.places.as_slice();
             match set_at(places, over.frame.things.as_slice(), place) {
-                Some(set) => candidates_from(alloc, block, over, ends, set),
+                Some((_, set)) => candidates_from(alloc, block, over, ends, set),
                 None => candidates_from(alloc, block, over, ends, &VertexList::new(alloc)),
             }
         }
@@ -41,10 +42,10 @@ pub fn candidates_of<C>(
 }
 
 /// The candidates from a set.
-fn candidates_from<C>(
+fn candidates_from(
     alloc: Global,
     block: &Block,
-    over: &Setting<'_, C>,
+    over: &BlockContext<'_>,
     ends: &Ends,
     set: &VertexList,
 ) -> Result<Candidates, OutOfMemory>

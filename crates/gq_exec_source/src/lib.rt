@@ -22,3 +22,4 @@ pub use candidates::candidates_of;
 pub use ends::{End, Ends, ends_of, selects_target};
 pub use marks::{is_marked, listed, mark, unmarked};
 pub use sets::{difference, intersection, union};
+pub use types::is_own;

@@ -1,93 +1,22 @@
 // Which types a walk goes along, and where it leads.
-ghost use Rattle.std.specs.Prelude.{◌≡◌, ◌==◌, ◌++◌, map, slice_get, IfOk, OnOk};
-ghost use Rattle.std.specs.List.{filter_map, flat_map, list_any};
-ghost use Rattle.std.specs.Option.{option_copied, option_map, option_to_list};
-ghost use Rattle.gq_rules_typing.specs.Sorts.{edge_sort};
+ghost use Rattle.std.specs.Prelude.{◌≡◌, ◌++◌, map, IfOk, OnOk};
+ghost use Rattle.std.specs.List.{filter_map, flat_map};
+ghost use Rattle.std.specs.Option.{option_to_list};
 ghost use Rattle.gq_rules_typing.specs.Patterns as spec;
 ghost use Rattle.gq_plan_ir.specs.BlockView.{view_hop, view_path_step, view_types, view_walk};
 ghost use Rattle.gq_plan_ir.specs.Reference as reference;
-ghost use Rattle.gq_exec_source.specs.Seen.{own_of, own_ways, setting_for, sorts_for};
+ghost use Rattle.gq_exec_source.specs.Seen.{own_of, setting_for, sorts_for};
 
+use crate::types::is_own;
 use gq_base::{List, OutOfMemory};
-use gq_check_from::by_number;
-use gq_graph::{EdgeType, Numbers};
+use gq_check_from::{by_number, hop_far, or_all, push_ends};
+use gq_graph::Numbers;
 use gq_plan_ir::{Hop, PathStep, Plan, Types, Walk};
 use gq_schema::Catalog;
 use gq_tree::Way;
 use std::alloc::Global;
 
-// ---- one edge type
-
-/// The edge type with a number.
-fn edge_at(catalog: &Catalog, t: u32) -> Option<&EdgeType>
-    ensures { option_map edge_sort (option_copied result) ≡ slice_get (map edge_sort catalog.now.edge_types) t }
-{
-    let types = catalog.edge_types();
-    if (t as usize) < types.len() {
-        Some(&types[t as usize])
-    } else {
-        None
-    }
-}
-
-/// A directed type is walked from FROM to TO, an undirected one from either end.
-#[tactic(auto, using(crate::proofs::SortLemmas::way_laws))]
-fn own_way(catalog: &Catalog, plan: &Plan, t: u32) -> Way
-    ensures { result ≡ spec.own_way (sorts_for catalog.now plan.now) t }
-{
-    let _ = plan;
-    match edge_at(catalog, t) {
-        None => Way::Both,
-        Some(edge) => {
-            if edge.directed {
-                Way::Forward
-            } else {
-                Way::Both
-            }
-        }
-    }
-}
-
-/// Puts last where an edge type leads, walked in a way.
-#[tactic(auto, using(crate::proofs::SortLemmas::way_laws))]
-fn push_ends(
-    catalog: &Catalog,
-    plan: &Plan,
-    way: Way,
-    t: u32,
-    ends: &mut Vec<u32>,
-) -> Result<(), OutOfMemory>
-    ensures { OnOk result (ends.new.items ≡ ends.old.items ++ spec.ends_of (sorts_for catalog.now plan.now) (way, t)) }
-{
-    let _ = plan;
-    match edge_at(catalog, t) {
-        None => Ok(()),
-        Some(edge) => match way {
-            Way::Forward => {
-                ends.push(edge.to)?;
-                Ok(())
-            }
-            Way::Backward => {
-                ends.push(edge.from)?;
-                Ok(())
-            }
-            Way::Both => {
-                ends.push(edge.from)?;
-                ends.push(edge.to)?;
-                Ok(())
-            }
-        },
-    }
-}
-
 // ---- the types that are named
-
-/// Whether a type is among those of the graph.
-pub(crate) fn is_own(own: &[u32], t: u32) -> bool
-    ensures { result ≡ list_any (λ m. m == t) own.now }
-{
-    own.contains(&t)
-}
 
 /// Those types that are among the graph's.
 #[tactic(auto, using(crate::proofs::SortLemmas::own_laws))]
@@ -138,22 +67,6 @@ fn edge_types(
 
 // ---- far ends
 
-/// Where edge types lead, each walked its own way.
-fn hop_far(
-    alloc: Global,
-    catalog: &Catalog,
-    plan: &Plan,
-    edges: &[u32],
-) -> Result<Vec<u32>, OutOfMemory>
-    ensures { IfOk result (λ v. v.items ≡ flat_map (spec.ends_of (sorts_for catalog.now plan.now)) (own_ways (sorts_for catalog.now plan.now) edges.now)) }
-{
-    let mut far = Vec::new(alloc);
-    for t in edges {
-        push_ends(catalog, plan, own_way(catalog, plan, *t), *t, &mut far)?;
-    }
-    Ok(far)
-}
-
 /// Puts last where an edge type leads, where it is the graph's.
 #[tactic(auto, using(crate::proofs::SortLemmas::named_way_laws))]
 fn push_named(
@@ -166,7 +79,7 @@ fn push_named(
     ensures { OnOk result (far.new.items ≡ far.old.items ++ flat_map (spec.ends_of (sorts_for catalog.now plan.now)) (option_to_list (spec.way_of (setting_for catalog.now plan.now) (way, reference.EdgeType t)))) }
 {
     if is_own(plan.edges.as_slice(), t) {
-        push_ends(catalog, plan, way, t, far)
+        push_ends(catalog, way, t, far)
     } else {
         Ok(())
     }
@@ -188,17 +101,6 @@ fn step_far(
     Ok(far)
 }
 
-/// The far ends, or all types of the graph where there is none.
-fn or_all(alloc: Global, plan: &Plan, far: Vec<u32>) -> Result<Numbers, OutOfMemory>
-    ensures { IfOk result (λ l. l ≡ spec.or_all plan.now.vertices far.items) }
-{
-    if far.is_empty() {
-        List::from_slice(alloc, plan.vertices.as_slice())
-    } else {
-        by_number(far)
-    }
-}
-
 /// Where a hop leads.
 #[tactic(auto, using(crate::proofs::StepLemmas::far_laws))]
 fn hop_ends(
@@ -212,8 +114,8 @@ fn hop_ends(
     match &hop.targets {
         Types::Every => {
             let edges = edge_types(alloc, catalog, plan, &hop.edges)?;
-            let far = hop_far(alloc, catalog, plan, edges.as_slice())?;
-            or_all(alloc, plan, far)
+            let far = hop_far(alloc, catalog, edges.as_slice())?;
+            or_all(alloc, plan.vertices.as_slice(), far)
         }
         Types::These(types) => named_vertices(alloc, catalog, plan, types.as_slice()),
     }
@@ -232,7 +134,7 @@ fn step_ends(
     match &step.targets {
         Types::Every => {
             let far = step_far(alloc, catalog, plan, step.ways.as_slice())?;
-            or_all(alloc, plan, far)
+            or_all(alloc, plan.vertices.as_slice(), far)
         }
         Types::These(types) => named_vertices(alloc, catalog, plan, types.as_slice()),
     }

@@ -4,7 +4,7 @@ ghost use Rattle.std.specs.Option.{option_to_list};
 ghost use Rattle.gq_frame.specs.Names.{held_thing};
 ghost use Rattle.gq_exec_source.specs.Seen.{own_of, set_types, types_from};
 
-use crate::patterns::is_own;
+use crate::types::is_own;
 use gq_base::{List, OutOfMemory};
 use gq_frame::Thing;
 use gq_graph::Numbers;

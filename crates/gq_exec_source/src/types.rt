@@ -1,4 +1,4 @@
-// The edge types of a hop.
+// Types of the graph, and the edge types of a hop.
 ghost use Rattle.std.specs.Prelude.{◌≡◌, IfOk, filter};
 ghost use Rattle.gq_graph.specs.Candidates.{among};
 ghost use Rattle.gq_exec_source.specs.Starts.{types_in};
@@ -33,7 +33,7 @@ fn named_of(alloc: Global, own: &[u32], kinds: &[u32]) -> Result<Numbers, OutOfM
 }
 
 /// Whether a type is one of these.
-pub(crate) fn is_own(own: &[u32], kind: u32) -> bool
+pub fn is_own(own: &[u32], kind: u32) -> bool
     ensures { result ≡ among own.now kind }
 {
     own.contains(&kind)

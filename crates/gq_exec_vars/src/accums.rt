@@ -5,17 +5,17 @@ ghost use Rattle.gq_nest.specs.Shows.{Shows};
 ghost use Rattle.gq_rules_meaning.specs.Answers.{through};
 ghost use Rattle.gq_rules_meaning.specs.Queries.{opened};
 ghost use Rattle.gq_rules_meaning.specs.States.{State};
+ghost use Rattle.gq_rules_calendar.specs.Gregorian.{gregorian};
 ghost use Rattle.gq_plan_ir.specs.PlanView.{view_accum};
 ghost use Rattle.gq_plan_ir.specs.Reference.{Reference};
 ghost use Rattle.gq_frame.specs.Lives.{Lives};
 ghost use Rattle.gq_exec_vars.specs.Begun.{AddsContents, AddsSlot, AreReady, CanOpen, Leads, MayOpen, opens_with, world_with};
 
-use crate::values::{first_value, targets};
+use crate::values::first_value;
 use gq_base::{List, OutOfMemory};
 use gq_eval_attributes::TupleType;
-use gq_eval_context::Clock;
 use gq_eval_operand::Halt;
-use gq_frame::{Accums, Live};
+use gq_frame::{Accums, Live, targets};
 use gq_index::Graph;
 use gq_nest::Content;
 use gq_plan_ir::{Accum, Plan};
@@ -23,7 +23,7 @@ use gq_value::{Kind, Slot, Value};
 use std::alloc::Global;
 
 /// Accumulators of one kind, one after the other.
-pub(crate) fn accums<C: Clock>(
+pub(crate) fn accums(
     alloc: Global,
     graph: Graph<'_>,
     plan: &Plan,
@@ -35,17 +35,17 @@ pub(crate) fn accums<C: Clock>(
     requires may { MayOpen graph plan.now }
     requires ready { AreReady (length graph.store.now.vertices) live.old.frame.accums }
     ensures leads { (s : State Reference) → Lives plan.now.places live.old s
-        → Leads (Lives plan.now.places live.new) (through (opened (world_with C.clock graph.entry plan.now tuples.now) (accum_of kind.now)) s (map view_accum trees.now)) result }
+        → Leads (Lives plan.now.places live.new) (through (opened (world_with gregorian graph.entry plan.now tuples.now) (accum_of kind.now)) s (map view_accum trees.now)) result }
     ensures ready { OnOk result (AreReady (length graph.entry.store.now.vertices) live.new.frame.accums) }
 {
     for tree in trees.as_slice() {
-        accum::<C>(alloc, graph, plan, tuples, kind, tree, live)?;
+        accum(alloc, graph, plan, tuples, kind, tree, live)?;
     }
     Ok(())
 }
 
 /// One accumulator, whose slot is the next one.
-fn accum<C: Clock>(
+fn accum(
     alloc: Global,
     graph: Graph<'_>,
     plan: &Plan,
@@ -57,14 +57,14 @@ fn accum<C: Clock>(
     requires may { MayOpen graph plan.now }
     requires ready { AreReady (length graph.store.now.vertices) live.old.frame.accums }
     ensures leads { (s : State Reference) → Lives plan.now.places live.old s
-        → Leads (Lives plan.now.places live.new) (opened (world_with C.clock graph.entry plan.now tuples.now) (accum_of kind.now) s (view_accum tree.now)) result }
+        → Leads (Lives plan.now.places live.new) (opened (world_with gregorian graph.entry plan.now tuples.now) (accum_of kind.now) s (view_accum tree.now)) result }
     ensures ready { OnOk result (AreReady (length graph.entry.store.now.vertices) live.new.frame.accums) }
 {
     if !is_next(&live.frame.accums, tree.slot) {
         return Err(Halt::OutOfMemory);
     }
     let opening = &tree.opening;
-    let first = first_value::<C>(
+    let first = first_value(
         alloc,
         graph,
         plan,

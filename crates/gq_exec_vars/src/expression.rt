@@ -11,11 +11,12 @@ ghost use Rattle.gq_exec_vars.specs.Lookups.{IsSeen};
 ghost use Rattle.gq_exec_vars.specs.Written.{typed, set_is, others_of, chain_of, step_of, is_bare};
 
 use crate::join::join;
-use crate::lookup::{Lookup, set_at};
+use crate::lookup::Lookup;
 use crate::seeds::gathered;
 use crate::typed::{SetOperand, TypedSet};
 use gq_base::List;
 use gq_eval_operand::Halt;
+use gq_frame::set_at;
 use gq_index::VertexList;
 use gq_plan_ir::{SetTerm, Sets};
 use gq_tree::SetOp;

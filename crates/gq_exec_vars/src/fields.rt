@@ -1,12 +1,12 @@
 // Declared types, and fields of tuple types.
-ghost use Rattle.std.specs.Prelude.{◌≡◌, ◌==◌, ◌++◌, ◌∷◌, [], true, IfOk, IfSome, Ok};
-ghost use Rattle.std.specs.List.{list_any};
+ghost use Rattle.std.specs.Prelude.{◌≡◌, ◌++◌, ◌∷◌, [], true, IfOk, IfSome, Ok};
 ghost use Rattle.gq_rules_typing.specs.KindTypes as kinds;
 ghost use Rattle.gq_value.specs.declared.kind.BaseType.TheVariants as bases;
 ghost use Rattle.gq_exec_vars.specs.Begun.{HasFields, IsDeclared};
 
 use gq_base::{List, OutOfMemory};
 use gq_eval_attributes::TupleType;
+use gq_exec_source::is_own;
 use gq_plan_ir::Declared;
 use gq_value::{BaseType, Txt};
 use std::alloc::Global;
@@ -105,13 +105,6 @@ fn is_vertex_of(base: &BaseType, kind: u32) -> bool
         BaseType::Int | BaseType::UInt | BaseType::Bool | BaseType::Text => false,
         BaseType::Time | BaseType::AnyVertex | BaseType::Tuple(_, _) => false,
     }
-}
-
-/// Whether a vertex type is one of these.
-fn is_own(own: &[u32], kind: u32) -> bool
-    ensures { result ≡ list_any (λ m. m == kind) own.now }
-{
-    own.contains(&kind)
 }
 
 /// Whether a field may have a name behind these.

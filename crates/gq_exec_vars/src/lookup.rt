@@ -3,12 +3,11 @@ ghost use Rattle.std.specs.Prelude.{◌≡◌, Some, IfSome, slice_get};
 ghost use Rattle.gq_value.specs.AccumViews.{base_of};
 ghost use Rattle.gq_value.specs.Val.{Vertex};
 ghost use Rattle.gq_value.specs.Views.{val};
-ghost use Rattle.gq_rules_meaning.specs.States.{Variable, SetOf};
+ghost use Rattle.gq_rules_meaning.specs.States.{Variable};
 ghost use Rattle.gq_plan_ir.specs.declared.plan.PlaceType.TheVariants as held;
 ghost use Rattle.gq_frame.specs.Names.{thing_in};
 
 use gq_frame::{Frame, Thing};
-use gq_index::VertexList;
 use gq_plan_ir::PlaceType;
 use gq_value::{BaseType, Value};
 use gq_vertex::Vertices;
@@ -24,26 +23,6 @@ pub struct Lookup<'a> {
     /// What stands at each place of the frame.
     pub places: &'a [PlaceType],
     pub frame: &'a Frame,
-}
-
-/// The types and the vertices of the set at a place, if one is in view.
-pub fn set_at<'a>(
-    places: &'a [PlaceType],
-    things: &'a [Option<Thing>],
-    place: u32,
-) -> Option<(&'a [u32], &'a VertexList)>
-    ensures { IfSome result (λ set. thing_in places.entry.now things.entry.now place ≡ Some (SetOf set.0.now set.1.now)) }
-{
-    match places.get(place as usize) {
-        Some(PlaceType::Set(types)) => match things.get(place as usize) {
-            Some(Some(Thing::Set(vertices))) => Some((types.as_slice(), vertices)),
-            Some(Some(Thing::Value(_))) | Some(None) | None => None,
-        },
-        Some(PlaceType::Variable(_))
-        | Some(PlaceType::Alias(_))
-        | Some(PlaceType::EdgeAlias(_))
-        | None => None,
-    }
 }
 
 /// The types of the set variable that the plan has at a place.

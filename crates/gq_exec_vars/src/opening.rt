@@ -6,6 +6,7 @@ ghost use Rattle.gq_index.specs.Sights.{sight_of};
 ghost use Rattle.gq_index.specs.Walks.{adjacency};
 ghost use Rattle.gq_rules_meaning.specs.Answers.{Gives, through};
 ghost use Rattle.gq_rules_meaning.specs.Queries.{Defining, defined};
+ghost use Rattle.gq_rules_calendar.specs.Gregorian.{gregorian};
 ghost use Rattle.gq_plan_ir.specs.PlanView.{view_definition};
 ghost use Rattle.gq_plan_ir.specs.Reference.{Reference};
 ghost use Rattle.gq_eval_attributes.specs.Worlds.{HaveAttributes};
@@ -17,7 +18,6 @@ use crate::fields::tuple_type;
 use crate::parameters::bound;
 use gq_base::{List, OutOfMemory};
 use gq_eval_attributes::TupleType;
-use gq_eval_context::Clock;
 use gq_eval_operand::Halt;
 use gq_frame::Live;
 use gq_index::Graph;
@@ -36,16 +36,11 @@ pub struct Opened {
 ///
 /// There is no memory for a plan that isn't well typed, nor for arguments that aren't those of its parameters.
 #[tactic(auto, using(crate::proofs::OpenLemmas::may_open, crate::proofs::OpenLemmas::ready_none))]
-pub fn open<C: Clock>(
-    alloc: Global,
-    graph: Graph<'_>,
-    plan: &Plan,
-    arguments: &Row,
-) -> Result<Opened, Halt>
+pub fn open(alloc: Global, graph: Graph<'_>, plan: &Plan, arguments: &Row) -> Result<Opened, Halt>
     requires indexed { graph.index.now ≡ adjacency (sight_of graph.catalog.now graph.store.now.vertices graph.store.now.edges) }
     requires attributes { HaveAttributes graph.catalog.now graph.store.now.vertices }
     requires ends { HaveEnds graph.store.now.vertices graph.store.now.edges.rows }
-    ensures begins { Begins plan.now.places (begins C.clock graph.entry plan.now (map val arguments.now)) result }
+    ensures begins { Begins plan.now.places (begins gregorian graph.entry plan.now (map val arguments.now)) result }
     ensures ready { IfOk result (λ o. AreReady (length graph.entry.store.now.vertices) o.live.frame.accums) }
     ensures few { IfOk result (λ o. length plan.now.edges ≤ most_types) }
 {
@@ -56,12 +51,12 @@ pub fn open<C: Clock>(
         live: bound(alloc, graph, plan, arguments)?,
         tuples: List::new(alloc),
     };
-    definitions::<C>(alloc, graph, plan, &mut opened)?;
+    definitions(alloc, graph, plan, &mut opened)?;
     Ok(opened)
 }
 
 /// All definitions, one after the other.
-fn definitions<C: Clock>(
+fn definitions(
     alloc: Global,
     graph: Graph<'_>,
     plan: &Plan,
@@ -70,17 +65,17 @@ fn definitions<C: Clock>(
     requires may { MayOpen graph plan.now }
     requires ready { AreReady (length graph.store.now.vertices) opened.old.live.frame.accums }
     ensures leads { (d : Defining Reference) → Stands plan.now.places opened.old d
-        → Leads (Stands plan.now.places opened.new) (through (defined (world_with C.clock graph.entry plan.now []) (λ w k. Gives k)) d (map view_definition plan.now.definitions)) result }
+        → Leads (Stands plan.now.places opened.new) (through (defined (world_with gregorian graph.entry plan.now []) (λ w k. Gives k)) d (map view_definition plan.now.definitions)) result }
     ensures ready { OnOk result (AreReady (length graph.entry.store.now.vertices) opened.new.live.frame.accums) }
 {
     for definition in plan.definitions.as_slice() {
-        define::<C>(alloc, graph, plan, definition, opened)?;
+        define(alloc, graph, plan, definition, opened)?;
     }
     Ok(())
 }
 
 /// One definition, which sees the tuple types before it.
-fn define<C: Clock>(
+fn define(
     alloc: Global,
     graph: Graph<'_>,
     plan: &Plan,
@@ -90,7 +85,7 @@ fn define<C: Clock>(
     requires may { MayOpen graph plan.now }
     requires ready { AreReady (length graph.store.now.vertices) opened.old.live.frame.accums }
     ensures leads { (d : Defining Reference) → Stands plan.now.places opened.old d
-        → Leads (Stands plan.now.places opened.new) (defined (world_with C.clock graph.entry plan.now []) (λ w k. Gives k) d (view_definition definition.now)) result }
+        → Leads (Stands plan.now.places opened.new) (defined (world_with gregorian graph.entry plan.now []) (λ w k. Gives k) d (view_definition definition.now)) result }
     ensures ready { OnOk result (AreReady (length graph.entry.store.now.vertices) opened.new.live.frame.accums) }
 {
     match definition {
@@ -99,7 +94,7 @@ fn define<C: Clock>(
             Ok(())
         }
         Definition::Accums(kind, trees) => {
-            accums::<C>(
+            accums(
                 alloc,
                 graph,
                 plan,

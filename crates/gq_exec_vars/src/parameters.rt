@@ -1,6 +1,5 @@
 // Parameters.
-ghost use Rattle.std.specs.Prelude.{◌≡◌, IfOk, OnOk, [], length, slice_get};
-ghost use Rattle.std.specs.Option.{option_copied};
+ghost use Rattle.std.specs.Prelude.{◌≡◌, IfOk, OnOk, [], length};
 ghost use Rattle.gq_exec_vars.specs.Begun.{Binds, HasNothing, IsBound, no_accums};
 
 use crate::fields::is_declared;
@@ -53,7 +52,7 @@ fn bind(
     ensures binds { OnOk result (Binds plan.now parameter.now argument.now live.old live.new) }
     ensures accums { live.new.frame.accums ≡ live.old.frame.accums }
 {
-    match item(&plan.places, parameter.place as usize) {
+    match plan.places.get(parameter.place as usize) {
         Some(PlaceType::Variable(base)) => {
             if !is_declared(parameter.base, base, plan.vertices.as_slice()) {
                 return Err(OutOfMemory);
@@ -91,11 +90,4 @@ fn nothing(alloc: Global, graph: Graph<'_>, plan: &Plan) -> Result<Live, OutOfMe
         frame: Frame { things, accums },
         undo: Vec::new(alloc),
     })
-}
-
-/// The item at a place, if there is one.
-fn item<T>(items: &List<T>, at: usize) -> Option<&T>
-    ensures { slice_get items.now at ≡ option_copied result }
-{
-    items.as_slice().get(at)
 }

@@ -1,5 +1,5 @@
 // What an accumulator opens with.
-ghost use Rattle.std.specs.Prelude.{◌≡◌, true, if◌then◌else◌, IfOk, Some, is_some, map};
+ghost use Rattle.std.specs.Prelude.{◌≡◌, true, IfOk, Some, is_some, map};
 ghost use Rattle.std.specs.Option.{option_map};
 ghost use Rattle.gq_value.specs.AccumViews.{accum_of, base_of};
 ghost use Rattle.gq_value.specs.Typed.{number_type, takes};
@@ -8,6 +8,7 @@ ghost use Rattle.gq_nest.specs.Tells.{is_settable};
 ghost use Rattle.gq_rules_typing.specs.Kinds as kinds;
 ghost use Rattle.gq_rules_meaning.specs.Queries.{places};
 ghost use Rattle.gq_rules_meaning.specs.States.{State, seen};
+ghost use Rattle.gq_rules_calendar.specs.Gregorian.{gregorian};
 ghost use Rattle.gq_plan_ir.specs.ExprView.{view};
 ghost use Rattle.gq_plan_ir.specs.Reference.{Reference};
 ghost use Rattle.gq_eval_operand.specs.Meant.{Tells};
@@ -21,21 +22,20 @@ ghost use Rattle.gq_exec_vars.specs.Begun.{CanOpen, MayOpen, TellsFirst, over_of
 use gq_base::{List, OutOfMemory};
 use gq_eval::run_value;
 use gq_eval_attributes::TupleType;
-use gq_eval_context::{Clock, Setting};
+use gq_eval_context::BlockContext;
 use gq_eval_operand::{Halt, Sees, converted, own};
 use gq_exec_feed::takes;
-use gq_frame::{Alias, Frame, Live};
+use gq_frame::{Alias, Frame, Live, targets};
 use gq_index::Graph;
 use gq_plan_ir::{Expr, Plan};
 use gq_value::{BaseType, Kind, Number, Value};
 use std::alloc::Global;
-use std::marker::PhantomData;
 
 /// The value that an accumulator opens with, at all of its targets; None where it opens as its kind does, and where it has no target.
 ///
 /// An opening sees the same at each target, so it is evaluated once.
 #[tactic(auto, using(crate::proofs::ValueLemmas::told_nowhere))]
-pub(crate) fn first_value<C: Clock>(
+pub(crate) fn first_value(
     alloc: Global,
     graph: Graph<'_>,
     plan: &Plan,
@@ -48,7 +48,7 @@ pub(crate) fn first_value<C: Clock>(
     requires may { MayOpen graph plan.now }
     requires sound { AreSound live.now.frame.accums }
     ensures told { (s : State Reference) → Lives plan.now.places live.now s
-        → TellsFirst (seen (world_with C.clock graph.entry plan.now tuples.now) s) (accum_of kind.now) (places (world_with C.clock graph.entry plan.now tuples.now) attached) (option_map view tree.now) result }
+        → TellsFirst (seen (world_with gregorian graph.entry plan.now tuples.now) s) (accum_of kind.now) (places (world_with gregorian graph.entry plan.now tuples.now) attached) (option_map view tree.now) result }
     ensures suited { IfOk result (CanOpen (accum_of kind.now)) }
 {
     match tree {
@@ -57,7 +57,7 @@ pub(crate) fn first_value<C: Clock>(
             if targets(attached, graph.store.vertices.len()) == 0 {
                 return Ok(None);
             }
-            let over = setting::<C>(graph, plan, tuples, &live.frame);
+            let over = block_context(graph, plan, tuples, &live.frame);
             match value_over(expr, alloc, kind, &over, &[]) {
                 Ok(value) => Ok(Some(value)),
                 Err(halt) => Err(halt),
@@ -66,46 +66,38 @@ pub(crate) fn first_value<C: Clock>(
     }
 }
 
-/// How many targets an accumulator has.
-pub(crate) fn targets(attached: bool, vertices: u32) -> u32
-    ensures { result ≡ (if attached then vertices else 1) }
-{
-    if attached { vertices } else { 1 }
-}
-
 /// What an opening is evaluated over.
-fn setting<'a, C: Clock>(
+fn block_context<'a>(
     graph: Graph<'a>,
     plan: &'a Plan,
     tuples: &'a List<TupleType>,
     frame: &'a Frame,
-) -> Setting<'a, C>
+) -> BlockContext<'a>
     requires may { MayOpen graph plan.now }
     requires sound { AreSound frame.now.accums }
     ensures { result ≡ over_of graph.entry plan.entry.now tuples.entry.now frame.entry.now }
 {
-    Setting {
+    BlockContext {
         graph,
         plan,
         tuples: tuples.as_slice(),
         frame,
-        clock: PhantomData,
     }
 }
 
 /// The value of an opening, over what stands there so far.
-fn value_over<C: Clock>(
+fn value_over(
     expr: &Expr,
     alloc: Global,
     kind: &Kind,
-    over: &Setting<'_, C>,
+    over: &BlockContext<'_>,
     aliases: &[Alias<'_>],
 ) -> Result<Value, Halt>
-    ensures told { Tells val (value_opened (look_of C.clock (viewed over.now (map alias_of aliases.now) over.now.frame.accums over.now.frame.accums)) (accum_of kind.now) (view expr.now)) result }
+    ensures told { Tells val (value_opened (look_of gregorian (viewed over.now (map alias_of aliases.now) over.now.frame.accums over.now.frame.accums)) (accum_of kind.now) (view expr.now)) result }
     ensures suited { IfOk result (λ v. CanOpen (accum_of kind.now) (Some v)) }
 {
     let accums = &over.frame.accums;
-    let sight = over.view(aliases, accums, accums);
+    let sight = over.eval_context(aliases, accums, accums);
     value_seen(expr, alloc, kind, &sight)
 }
 

@@ -54,18 +54,18 @@ use Rattle.gq_eval_context.specs.Answered.{EndsAs}
 use Rattle.gq_exec_control.specs.declared.running.RunFault.{RunFault}
 use Rattle.gq_exec_control.specs.declared.running.RunFault.TheVariants as fault
 use Rattle.gq_exec_control.specs.Standing.{Ends, Says}
-use Rattle.gq_exec_control.proofs.ControlLemmas.{ends_bind, ends_same, leads_same}
+use Rattle.gq_exec_control.proofs.FaultLemmas.{ends_bind, ends_same, leads_same}
 use Rattle.gq_exec_vars.specs.declared.lookup.Lookup.{Lookup}
 use Rattle.gq_exec_vars.specs.declared.typed.TypedSet.{TypedSet}
 use Rattle.gq_exec_vars.specs.Lookups.{IsOver, IsSeen}
 use Rattle.gq_exec_vars.specs.Written.{typed}
-use Rattle.gq_flow.specs.declared.whole.Selected.{Selected}
+use Rattle.gq_flow.specs.declared.selects.Selected.{Selected}
 use Rattle.gq_flow.specs.Selecting.{Chosen, Selects, chosen, chosen_by}
-use Rattle.gq_exec_control.specs.Grounds.{Basis, over_of, world_on}
+use Rattle.gq_exec_control.specs.Contexts.{Basis, over_of, world_on}
 use Rattle.gq_exec_control.specs.Faults.{fault_of_block, faults_of}
 use Rattle.gq_exec_control.specs.Changes.{Change, Becomes, Reads}
 use Rattle.gq_exec_control.specs.Places.{IsVariable}
-use Rattle.gq_exec_control.proofs.GroundLemmas.{says_told, shows_of}
+use Rattle.gq_exec_control.proofs.ContextLemmas.{says_told, shows_of}
 use Rattle.gq_exec_control.proofs.Steps.{bound}
 use Rattle.gq_flow.specs.Assigning.{Fixed, IsNoName, Kept, is_path}
 

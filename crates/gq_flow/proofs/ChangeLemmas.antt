@@ -22,15 +22,15 @@ use Rattle.gq_frame.specs.Lives.{Lives, Unwinds}
 use Rattle.gq_exec_control.specs.declared.running.RunFault.{RunFault}
 use Rattle.gq_exec_control.specs.declared.running.RunFault.TheVariants as fault
 use Rattle.gq_exec_control.specs.Standing.{Ends}
-use Rattle.gq_exec_control.proofs.ControlLemmas.{ends_bind, ends_same}
+use Rattle.gq_exec_control.proofs.FaultLemmas.{ends_bind, ends_same}
 use Rattle.gq_exec_post.specs.declared.making.Made.{Made}
 use Rattle.gq_exec_post.specs.Changing.{Changed}
 use Rattle.gq_exec_post.specs.Making.{making_of}
 use Rattle.gq_exec_post.proofs.WriteLaws.{change_faults, change_made}
-use Rattle.gq_exec_control.specs.Grounds.{Basis, look_on, world_on}
+use Rattle.gq_exec_control.specs.Contexts.{Basis, look_on, world_on}
 use Rattle.gq_exec_control.specs.Faults.{fault_of}
 use Rattle.gq_exec_control.specs.Changes.{Becomes}
-use Rattle.gq_exec_control.proofs.GroundLemmas.{look_there, shows_of}
+use Rattle.gq_exec_control.proofs.ContextLemmas.{look_there, shows_of}
 use Rattle.gq_flow.specs.Steps.{Makes, global_so}
 
 -- ---- what is made

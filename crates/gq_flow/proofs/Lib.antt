@@ -1,3 +1,5 @@
+pub mod ControlLemmas
+pub mod LoopLemmas
 pub mod SelectLemmas
 pub mod AssignLemmas
 pub mod ChangeLemmas

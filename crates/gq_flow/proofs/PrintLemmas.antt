@@ -26,14 +26,14 @@ use Rattle.gq_frame.specs.Lives.{Lives}
 use Rattle.gq_exec_control.specs.declared.running.Running.{Running}
 use Rattle.gq_exec_control.specs.declared.running.RunFault.{RunFault}
 use Rattle.gq_exec_control.specs.Standing.{Does}
-use Rattle.gq_exec_control.proofs.ControlLemmas.{ends_bind}
+use Rattle.gq_exec_control.proofs.FaultLemmas.{ends_bind}
 use Rattle.gq_output.specs.Prints.{Prints}
 use Rattle.gq_exec_control.specs.Faults.{faults_of}
-use Rattle.gq_exec_control.specs.Grounds.{Basis, over_of, world_on}
-use Rattle.gq_exec_control.proofs.GroundLemmas.{ends_told, shows_of}
+use Rattle.gq_exec_control.specs.Contexts.{Basis, over_of, world_on}
+use Rattle.gq_exec_control.proofs.ContextLemmas.{ends_told, shows_of}
 use Rattle.gq_flow.specs.Steps.{PrintsOn, PrintsOne, PrintsSo, members_of}
 
--- what one PRINT prints over the setting of a frame
+-- what one PRINT prints over a frame
 pub prints_over : (clock : Calendar) (b : Basis) (f : Frame) (items : List (plain.Printed Reference)) (told : Result Printed Halt) (o : Over) → o ≡ over_of b f
     → ((s : State Reference) → Shows o.plan.places o.frame s → Prints (members_of (world_over clock o) s items) told) → PrintsOn b.plan.places (world_on clock b) items f told
 prints_over clock b f items told o e h = subst (λ (x : Over). PrintsOn x.plan.places (world_over clock x) items x.frame told) e (record { each = h })

@@ -22,7 +22,7 @@ use Rattle.gq_exec_control.specs.declared.running.RunFault.{RunFault}
 use Rattle.gq_exec_control.specs.declared.running.Rounds.{Rounds}
 use Rattle.gq_exec_control.specs.Standing.{Does, GoesOver, Limits, Tests}
 use Rattle.gq_exec_control.specs.Changes.{Becomes, Reads}
-use Rattle.gq_exec_control.proofs.GroundLemmas.{becomes_does, shows_of}
+use Rattle.gq_exec_control.proofs.ContextLemmas.{becomes_does, shows_of}
 use Rattle.gq_exec_control.proofs.Steps.{joined}
 use Rattle.gq_exec_control.specs.Locals.{declared_all}
 use Rattle.gq_exec_control.specs.Rounds.{GoesRound}

@@ -21,12 +21,12 @@ use Rattle.gq_frame.specs.declared.live.Live.{Live}
 use Rattle.gq_exec_control.specs.declared.running.Running.{Running}
 use Rattle.gq_exec_control.specs.declared.running.RunFault.{RunFault}
 use Rattle.gq_exec_control.specs.Standing.{Does, Ends, Stands as standing}
-use Rattle.gq_exec_control.proofs.ControlLemmas.{ends_bind, ends_same}
+use Rattle.gq_exec_control.proofs.FaultLemmas.{ends_bind, ends_same}
 use Rattle.gq_exec_vars.specs.declared.opening.Opened.{Opened}
 use Rattle.gq_exec_vars.specs.Begun.{Begins, Stands, begins}
-use Rattle.gq_exec_control.specs.Grounds.{Basis, world_on}
+use Rattle.gq_exec_control.specs.Contexts.{Basis, world_on}
 use Rattle.gq_exec_control.specs.Faults.{fault_of}
-use Rattle.gq_exec_control.proofs.GroundLemmas.{ends_told}
+use Rattle.gq_exec_control.proofs.ContextLemmas.{ends_told}
 use Rattle.gq_flow.specs.Plans.{Objects, Prints, RunsFrom, plan_world, printed_from}
 
 -- ---- the opening

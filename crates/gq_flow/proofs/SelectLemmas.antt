@@ -33,7 +33,7 @@ use Rattle.gq_exec_source.specs.declared.ends.Ends.{Ends}
 use Rattle.gq_exec_source.specs.Ends.{HasEnds, AreEnds, end_at}
 use Rattle.gq_workers.specs.Results.{Answers}
 use Rattle.gq_exec_post.specs.Phases.{KeepsAll}
-use Rattle.gq_flow.specs.declared.whole.Selected.{Selected}
+use Rattle.gq_flow.specs.declared.selects.Selected.{Selected}
 use Rattle.gq_flow.specs.Selecting.{Chosen, chosen, chosen_by, chosen_after, Selects, Posts, HasTypes}
 
 -- ---- faults

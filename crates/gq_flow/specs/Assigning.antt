@@ -15,8 +15,8 @@ use Rattle.gq_frame.specs.Slots.{slots_are}
 use Rattle.gq_frame.specs.declared.live.Live.{Live}
 use Rattle.gq_frame.specs.Lives.{Lives}
 use Rattle.gq_exec_vars.specs.declared.typed.TypedSet.{TypedSet}
-use Rattle.gq_flow.specs.declared.whole.Selected.{Selected}
-use Rattle.gq_exec_control.specs.Grounds.{Basis, world_on}
+use Rattle.gq_flow.specs.declared.selects.Selected.{Selected}
+use Rattle.gq_exec_control.specs.Contexts.{Basis, world_on}
 
 abbrev pub is_path : Walk → Bool
 is_path (walk.Path steps) = true

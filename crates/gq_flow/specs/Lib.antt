@@ -2,4 +2,4 @@ pub mod Selecting
 pub mod Assigning
 pub mod Plans
 pub mod Steps
-pub mod Times
+pub mod Bodies

@@ -21,7 +21,7 @@ use Rattle.gq_eval_context.specs.Looks.{world_over}
 use Rattle.gq_eval_context.specs.declared.after.After.{After}
 use Rattle.gq_eval_context.specs.declared.after.BlockFault.{BlockFault}
 use Rattle.gq_eval_context.specs.Answered.{Answered, after_is}
-use Rattle.gq_flow.specs.declared.whole.Selected.{Selected}
+use Rattle.gq_flow.specs.declared.selects.Selected.{Selected}
 
 -- the selected vertices with the types of their end, and the accumulators
 abbrev pub Chosen : Type 0

@@ -2,20 +2,21 @@
 ghost use Rattle.std.specs.Prelude.{◌≡◌, IfOk, OnOk};
 ghost use Rattle.std.specs.Option.{option_map};
 ghost use Rattle.gq_rules_meaning.specs.Statements.{assigned};
+ghost use Rattle.gq_rules_calendar.specs.Gregorian.{gregorian};
 ghost use Rattle.gq_plan_ir.specs.PlanView.{view_right, view_set_types};
 ghost use Rattle.gq_plan_ir.specs.declared.step.Right.TheVariants as right;
 ghost use Rattle.gq_plan_ir.specs.Reference.{Place};
 ghost use Rattle.gq_frame.specs.Slots.{AreSound};
 ghost use Rattle.gq_flow.specs.Selecting.{Selects};
 ghost use Rattle.gq_exec_control.specs.Changes.{Becomes};
-ghost use Rattle.gq_exec_control.specs.Grounds.{over_of, world_on};
+ghost use Rattle.gq_exec_control.specs.Contexts.{over_of, world_on};
 ghost use Rattle.gq_flow.specs.Assigning.{Kept, is_path};
 
+use crate::selects::{Selected, Workers, select};
 use crate::sets::give_set;
-use crate::whole::{Selected, Workers, select};
 use gq_base::OutOfMemory;
-use gq_eval_context::{BlockFault, Clock};
-use gq_exec_control::{Ground, RunFault, block_fault};
+use gq_eval_context::BlockFault;
+use gq_exec_control::{RunContext, RunFault, block_fault};
 use gq_exec_vars::TypedSet;
 use gq_frame::{Frame, Live};
 use gq_plan_ir::{Block, SetTypes, Walk};
@@ -23,25 +24,25 @@ use std::alloc::Global;
 use std::thread::Threads;
 
 /// Assigns what a SELECT selects, and keeps its accumulators. Along a path it answers OutOfMemory.
-pub(crate) fn assign_select<R: Threads + Sync, C: Clock + Sync>(
+pub(crate) fn assign_select<R: Threads + Sync>(
     workers: &Workers<'_, R>,
     alloc: Global,
-    ground: &Ground<'_, C>,
+    context: &RunContext<'_>,
     place: u32,
     types: Option<SetTypes>,
     block: &Block,
     live: &mut Live,
 ) -> Result<(), RunFault>
     requires { AreSound live.old.frame.accums }
-    ensures names { Becomes ground.now.plan.places (λ s. assigned (world_on C.clock ground.now) s (Place place) (option_map view_set_types types) (view_right (right.Select block.now))) live.old live.new result }
+    ensures names { Becomes context.now.plan.places (λ s. assigned (world_on gregorian context.now) s (Place place) (option_map view_set_types types) (view_right (right.Select block.now))) live.old live.new result }
     ensures sound { OnOk result (AreSound live.new.frame.accums) }
 {
     if is_path(&block.walk) {
         return Err(RunFault::OutOfMemory);
     }
-    match select_over(workers, alloc, ground, block, &live.frame) {
+    match select_over(workers, alloc, context, block, &live.frame) {
         Err(fault) => Err(block_fault(fault)),
-        Ok(selected) => match keep(ground, place, types, selected, live) {
+        Ok(selected) => match keep(context, place, types, selected, live) {
             Err(_) => Err(RunFault::OutOfMemory),
             Ok(()) => Ok(()),
         },
@@ -57,30 +58,30 @@ fn is_path(walk: &Walk) -> bool
     }
 }
 
-fn select_over<R: Threads + Sync, C: Clock + Sync>(
+fn select_over<R: Threads + Sync>(
     workers: &Workers<'_, R>,
     alloc: Global,
-    ground: &Ground<'_, C>,
+    context: &RunContext<'_>,
     block: &Block,
     frame: &Frame,
 ) -> Result<Selected, BlockFault>
     requires { AreSound frame.now.accums }
-    ensures selects { Selects C.clock (over_of ground.now frame.now) block.now result }
+    ensures selects { Selects gregorian (over_of context.now frame.now) block.now result }
     ensures sound { IfOk result (λ selected. AreSound selected.accums) }
 {
-    let over = ground.over(frame);
+    let over = context.block_context(frame);
     select(workers, alloc, block, &over)
 }
 
 /// Keeps the accumulators of a SELECT, and gives its vertices to the set variable at a place.
-fn keep<C: Clock>(
-    ground: &Ground<'_, C>,
+fn keep(
+    context: &RunContext<'_>,
     place: u32,
     types: Option<SetTypes>,
     selected: Selected,
     live: &mut Live,
 ) -> Result<(), OutOfMemory>
-    ensures names { Kept C.clock ground.now place (option_map view_set_types types) selected live.old live.new result }
+    ensures names { Kept gregorian context.now place (option_map view_set_types types) selected live.old live.new result }
     ensures accums { live.new.frame.accums ≡ selected.accums }
 {
     let Selected {
@@ -93,5 +94,5 @@ fn keep<C: Clock>(
         types: found,
         vertices,
     };
-    give_set(ground, place, types, set, live)
+    give_set(context, place, types, set, live)
 }

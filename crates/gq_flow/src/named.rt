@@ -3,6 +3,7 @@ ghost use Rattle.std.specs.Prelude.{◌≡◌, IfOk, MatchOption};
 ghost use Rattle.std.specs.Option.{option_map};
 ghost use Rattle.gq_rules_meaning.specs.Statements.{assigned};
 ghost use Rattle.gq_tree.specs.Tree.{Name};
+ghost use Rattle.gq_rules_calendar.specs.Gregorian.{gregorian};
 ghost use Rattle.gq_plan_ir.specs.ExprView.{view};
 ghost use Rattle.gq_plan_ir.specs.PlanView.{view_right, view_set_types};
 ghost use Rattle.gq_plan_ir.specs.declared.step.Right.TheVariants as right;
@@ -10,38 +11,37 @@ ghost use Rattle.gq_plan_ir.specs.Reference.{Place};
 ghost use Rattle.gq_frame.specs.Names.{thing_in};
 ghost use Rattle.gq_frame.specs.Slots.{AreSound};
 ghost use Rattle.gq_exec_control.specs.Changes.{Becomes};
-ghost use Rattle.gq_exec_control.specs.Grounds.{world_on};
+ghost use Rattle.gq_exec_control.specs.Contexts.{world_on};
 ghost use Rattle.gq_flow.specs.Assigning.{IsNoName, IsCopied};
 
 use crate::sets::give_set;
 use crate::value::assign_variable;
 use gq_base::OutOfMemory;
-use gq_eval_context::Clock;
-use gq_exec_control::{Ground, RunFault, set_at};
+use gq_exec_control::{RunContext, RunFault};
 use gq_exec_vars::{SetOperand, TypedSet};
-use gq_frame::{Frame, Live};
+use gq_frame::{Frame, Live, set_at};
 use gq_plan_ir::{Expr, SetTypes};
 use std::alloc::Global;
 
 /// Assigns what an expression is. The name of a set variable alone is its set.
-pub(crate) fn assign_value<C: Clock>(
+pub(crate) fn assign_value(
     alloc: Global,
-    ground: &Ground<'_, C>,
+    context: &RunContext<'_>,
     place: u32,
     types: Option<SetTypes>,
     expr: &Expr,
     live: &mut Live,
 ) -> Result<(), RunFault>
     requires { AreSound live.old.frame.accums }
-    ensures names { Becomes ground.now.plan.places (λ s. assigned (world_on C.clock ground.now) s (Place place) (option_map view_set_types types) (view_right (right.Value expr.now))) live.old live.new result }
+    ensures names { Becomes context.now.plan.places (λ s. assigned (world_on gregorian context.now) s (Place place) (option_map view_set_types types) (view_right (right.Value expr.now))) live.old live.new result }
     ensures accums { live.new.frame.accums ≡ live.old.frame.accums }
 {
     match name_of(expr) {
-        None => assign_variable(alloc, ground, place, expr, live),
-        Some(name) => match set_copied(alloc, ground, name, &live.frame) {
+        None => assign_variable(alloc, context, place, expr, live),
+        Some(name) => match set_copied(alloc, context, name, &live.frame) {
             Err(_) => Err(RunFault::OutOfMemory),
-            Ok(None) => assign_variable(alloc, ground, place, expr, live),
-            Ok(Some(set)) => match give_set(ground, place, types, set, live) {
+            Ok(None) => assign_variable(alloc, context, place, expr, live),
+            Ok(Some(set)) => match give_set(context, place, types, set, live) {
                 Err(_) => Err(RunFault::OutOfMemory),
                 Ok(()) => Ok(()),
             },
@@ -64,17 +64,17 @@ fn name_of(expr: &Expr) -> Option<u32>
 }
 
 /// A copy of the set at a place, if one is in view.
-fn set_copied<C>(
+fn set_copied(
     alloc: Global,
-    ground: &Ground<'_, C>,
+    context: &RunContext<'_>,
     place: u32,
     frame: &Frame,
 ) -> Result<Option<TypedSet>, OutOfMemory>
-    ensures { IfOk result (IsCopied (thing_in ground.now.plan.places frame.now.things place)) }
+    ensures { IfOk result (IsCopied (thing_in context.now.plan.places frame.now.things place)) }
 {
-    let count = ground.graph.store.vertices.len();
+    let count = context.graph.store.vertices.len();
     match set_at(
-        ground.plan.places.as_slice(),
+        context.plan.places.as_slice(),
         frame.things.as_slice(),
         place,
     ) {

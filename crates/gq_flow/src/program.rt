@@ -1,37 +1,41 @@
 // What single statements do.
-ghost use Rattle.std.specs.Thread.{IsSync};
+ghost use Rattle.std.specs.Prelude.{◌≡◌, OnOk};
+ghost use Rattle.gq_rules_meaning.specs.Runs.{run, condition_of};
 ghost use Rattle.gq_rules_calendar.specs.Gregorian.{gregorian};
-ghost use Rattle.gq_exec_control.specs.Grounds.{world_on};
+ghost use Rattle.gq_plan_ir.specs.ExprView.{view};
+ghost use Rattle.gq_plan_ir.specs.PlanView.{view_over, view_step};
+ghost use Rattle.gq_frame.specs.Slots.{AreSound};
+ghost use Rattle.gq_exec_control.specs.Contexts.{world_on};
+ghost use Rattle.gq_exec_control.specs.Standing.{Does, Tests, Limits, GoesOver};
 
 use crate::change::change;
-use crate::clock::Gregorian;
 use crate::print::print_more;
 use crate::rights::assign;
-use crate::whole::Workers;
-use gq_exec_control::{Ground, Rounds, RunFault, Running, StepExecutor, declare, rounds, truth};
+use crate::selects::Workers;
+use gq_exec_control::{Rounds, RunContext, RunFault, Running, declare, limit, rounds, truth};
 use gq_plan_ir::{Expr, Over, Step};
 use std::alloc::Global;
 use std::thread::Threads;
 
-/// A plan over a graph, as what does single statements.
+/// A plan over a graph, with the workers of its blocks.
 #[derive(Drop)]
 pub struct Program<'a, R> {
     pub workers: &'a Workers<'a, R>,
     pub alloc: Global,
-    pub ground: Ground<'a, Gregorian>,
+    pub context: RunContext<'a>,
 }
 
-impl<'a, R: Threads + Sync> StepExecutor for Program<'a, R> {
-    ghost world = { λ p. world_on gregorian p.ground };
-
-    ghost places = { λ p. p.ground.plan.places };
-
-    ghost can = { λ p. IsSync R.row };
-
-    fn act(&self, step: &Step, r: &mut Running) -> Result<(), RunFault> {
+impl<'a, R: Threads + Sync> Program<'a, R> {
+    /// A declaration, an assignment, a change of a global accumulator, or PRINT.
+    pub(crate) fn act(&self, step: &Step, r: &mut Running) -> Result<(), RunFault>
+        requires sound { AreSound r.old.live.frame.accums }
+        ensures does { Does self.now.context.plan.places (run (world_on gregorian self.now.context) (view_step step.now)) r.old r.new result }
+        ensures sound { OnOk result (AreSound r.new.live.frame.accums) }
+        ensures turns { r.new.turns ≡ r.old.turns }
+    {
         match step {
             Step::Local(declared, locals) => declare(
-                &self.ground,
+                &self.context,
                 self.alloc,
                 *declared,
                 locals.as_slice(),
@@ -40,30 +44,42 @@ impl<'a, R: Threads + Sync> StepExecutor for Program<'a, R> {
             Step::Assign(place, types, right) => assign(
                 self.workers,
                 self.alloc,
-                &self.ground,
+                &self.context,
                 *place,
                 *types,
                 right,
                 &mut r.live,
             ),
             Step::Global(slot, made) => {
-                change(self.alloc, &self.ground, *slot, made, &mut r.live)
+                change(self.alloc, &self.context, *slot, made, &mut r.live)
             }
-            Step::Print(items) => print_more(self.alloc, &self.ground, items.as_slice(), r),
+            Step::Print(items) => print_more(self.alloc, &self.context, items.as_slice(), r),
             Step::If(_, _) | Step::While(_, _, _) => Err(RunFault::OutOfMemory),
             Step::Foreach(_, _, _) => Err(RunFault::OutOfMemory),
         }
     }
 
-    fn truth(&self, condition: &Expr, r: &Running) -> Result<bool, RunFault> {
-        truth(self.alloc, &self.ground, condition, &r.live.frame)
+    /// Whether a condition holds.
+    pub(crate) fn truth(&self, condition: &Expr, r: &Running) -> Result<bool, RunFault>
+        requires sound { AreSound r.now.live.frame.accums }
+        ensures { Tests self.now.context.plan.places (condition_of (world_on gregorian self.now.context) (view condition.now)) r.now result }
+    {
+        truth(self.alloc, &self.context, condition, &r.live.frame)
     }
 
-    fn limit(&self, limit: &Expr, r: &Running) -> Result<u64, RunFault> {
-        gq_exec_control::limit(self.alloc, &self.ground, limit, &r.live.frame)
+    /// How often LIMIT lets a body run; a negative number counts as 0.
+    pub(crate) fn limit(&self, most: &Expr, r: &Running) -> Result<u64, RunFault>
+        requires sound { AreSound r.now.live.frame.accums }
+        ensures { Limits self.now.context.plan.places (world_on gregorian self.now.context) (view most.now) r.now result }
+    {
+        limit(self.alloc, &self.context, most, &r.live.frame)
     }
 
-    fn rounds(&self, place: u32, over: &Over, r: &Running) -> Result<Rounds, RunFault> {
-        rounds(self.alloc, &self.ground, place, over, &r.live.frame)
+    /// What FOREACH goes over, whose values have the type of a place.
+    pub(crate) fn rounds(&self, place: u32, over: &Over, r: &Running) -> Result<Rounds, RunFault>
+        requires sound { AreSound r.now.live.frame.accums }
+        ensures { GoesOver self.now.context.plan.places (world_on gregorian self.now.context) place (view_over over.now) r.now result }
+    {
+        rounds(self.alloc, &self.context, place, over, &r.live.frame)
     }
 }

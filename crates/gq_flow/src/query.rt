@@ -12,18 +12,17 @@ ghost use Rattle.gq_frame.specs.Slots.{AreSound};
 ghost use Rattle.gq_eval_context.specs.Ends.{HaveEnds};
 ghost use Rattle.gq_flow.specs.Plans.{Prints, RunsFrom, plan_world};
 
-use crate::clock::Gregorian;
 use crate::program::Program;
-use crate::whole::Workers;
+use crate::run::run_steps;
+use crate::selects::Workers;
 use gq_base::List;
-use gq_exec_control::{Ground, RunFault, Running, run_fault, run_steps};
+use gq_exec_control::{RunContext, RunFault, Running, run_fault};
 use gq_exec_vars::{Opened, open};
 use gq_index::Graph;
 use gq_json::Printed;
 use gq_plan_ir::Plan;
 use gq_value::Row;
 use std::alloc::Global;
-use std::marker::PhantomData;
 use std::thread::Threads;
 
 /// Runs a plan over its arguments, with so many turns: what each PRINT prints, in order. Each entry of a loop's body takes a turn.
@@ -42,7 +41,7 @@ pub fn run_query<'x, R: Threads + Sync>(
     requires ends { HaveEnds graph.store.now.vertices graph.store.now.edges.rows }
     ensures { Prints (run_plan (plan_world gregorian graph.entry plan.now) (view_plan plan.now) (map val arguments.now) turns) result }
 {
-    match open::<Gregorian>(alloc, graph, plan, arguments) {
+    match open(alloc, graph, plan, arguments) {
         Err(halt) => Err(run_fault(halt)),
         Ok(opened) => run_opened(workers, alloc, graph, plan, opened, turns),
     }
@@ -65,23 +64,22 @@ fn run_opened<'x, R: Threads + Sync>(
     ensures { RunsFrom gregorian graph.entry plan.now opened turns result }
 {
     let Opened { live, tuples } = opened;
-    let ground: Ground<'_, Gregorian> = Ground {
+    let context = RunContext {
         graph,
         plan,
         tuples: tuples.as_slice(),
-        clock: PhantomData,
     };
     let program = Program {
         workers,
         alloc,
-        ground,
+        context,
     };
     let mut r = Running {
         live,
         turns,
         printed: List::new(alloc),
     };
-    match run_steps(plan.steps.as_slice(), alloc, &program, &mut r) {
+    match run_steps(plan.steps.as_slice(), &program, &mut r) {
         Err(fault) => Err(fault),
         Ok(()) => Ok(printed_of(r)),
     }

@@ -4,39 +4,39 @@ ghost use Rattle.std.specs.Option.{option_map};
 ghost use Rattle.gq_rules_meaning.specs.Answers.{blaming};
 ghost use Rattle.gq_rules_meaning.specs.Sets.{sets_of};
 ghost use Rattle.gq_rules_meaning.specs.Statements.{Evaluation, assigned};
+ghost use Rattle.gq_rules_calendar.specs.Gregorian.{gregorian};
 ghost use Rattle.gq_plan_ir.specs.PlanView.{view_right, view_set_types, view_term};
 ghost use Rattle.gq_plan_ir.specs.declared.step.Right.TheVariants as right;
 ghost use Rattle.gq_plan_ir.specs.Reference.{Place};
 ghost use Rattle.gq_frame.specs.Slots.{AreSound};
 ghost use Rattle.gq_exec_vars.specs.Written.{others_of, typed};
 ghost use Rattle.gq_exec_control.specs.Changes.{Becomes, Reads};
-ghost use Rattle.gq_exec_control.specs.Grounds.{world_on};
+ghost use Rattle.gq_exec_control.specs.Contexts.{world_on};
 ghost use Rattle.gq_flow.specs.Assigning.{Fixed};
 
 use gq_base::OutOfMemory;
-use gq_eval_context::Clock;
-use gq_exec_control::{Ground, RunFault, or_fault};
+use gq_exec_control::{RunContext, RunFault, or_fault};
 use gq_exec_vars::{Lookup, TypedSet, assign_set, sets};
 use gq_frame::{Frame, Live};
 use gq_plan_ir::{SetTypes, Sets};
 use std::alloc::Global;
 
 /// Assigns what a set expression holds.
-pub(crate) fn assign_sets<C: Clock>(
+pub(crate) fn assign_sets(
     alloc: Global,
-    ground: &Ground<'_, C>,
+    context: &RunContext<'_>,
     place: u32,
     types: Option<SetTypes>,
     sets: &Sets,
     live: &mut Live,
 ) -> Result<(), RunFault>
     requires { AreSound live.old.frame.accums }
-    ensures names { Becomes ground.now.plan.places (λ s. assigned (world_on C.clock ground.now) s (Place place) (option_map view_set_types types) (view_right (right.Sets sets.now))) live.old live.new result }
+    ensures names { Becomes context.now.plan.places (λ s. assigned (world_on gregorian context.now) s (Place place) (option_map view_set_types types) (view_right (right.Sets sets.now))) live.old live.new result }
     ensures accums { live.new.frame.accums ≡ live.old.frame.accums }
 {
-    match set_held(alloc, ground, sets, &live.frame) {
+    match set_held(alloc, context, sets, &live.frame) {
         Err(fault) => Err(fault),
-        Ok(set) => match give_set(ground, place, types, set, live) {
+        Ok(set) => match give_set(context, place, types, set, live) {
             Err(_) => Err(RunFault::OutOfMemory),
             Ok(()) => Ok(()),
         },
@@ -44,36 +44,36 @@ pub(crate) fn assign_sets<C: Clock>(
 }
 
 /// What a set expression holds, with its types.
-fn set_held<C: Clock>(
+fn set_held(
     alloc: Global,
-    ground: &Ground<'_, C>,
+    context: &RunContext<'_>,
     expression: &Sets,
     frame: &Frame,
 ) -> Result<TypedSet, RunFault>
     requires { AreSound frame.now.accums }
-    ensures { Reads ground.now.plan.places typed (λ s. blaming Evaluation (sets_of (world_on C.clock ground.now) s (view_term expression.now.first) (others_of expression.now.others))) frame.now result }
+    ensures { Reads context.now.plan.places typed (λ s. blaming Evaluation (sets_of (world_on gregorian context.now) s (view_term expression.now.first) (others_of expression.now.others))) frame.now result }
 {
     let at = Lookup {
-        vertices: &ground.graph.store.vertices,
-        own: ground.plan.vertices.as_slice(),
-        places: ground.plan.places.as_slice(),
+        vertices: &context.graph.store.vertices,
+        own: context.plan.vertices.as_slice(),
+        places: context.plan.places.as_slice(),
         frame,
     };
     or_fault(sets(alloc, expression, &at))
 }
 
 /// Gives a set to the set variable at a place.
-pub(crate) fn give_set<C: Clock>(
-    ground: &Ground<'_, C>,
+pub(crate) fn give_set(
+    context: &RunContext<'_>,
     place: u32,
     types: Option<SetTypes>,
     set: TypedSet,
     live: &mut Live,
 ) -> Result<(), OutOfMemory>
-    ensures names { Fixed C.clock ground.now place (option_map view_set_types types) (typed set) live.old live.new result }
+    ensures names { Fixed gregorian context.now place (option_map view_set_types types) (typed set) live.old live.new result }
     ensures accums { live.new.frame.accums ≡ live.old.frame.accums }
 {
-    let own = ground.plan.vertices.as_slice();
-    let places = ground.plan.places.as_slice();
+    let own = context.plan.vertices.as_slice();
+    let places = context.plan.places.as_slice();
     assign_set(live, own, places, place, types, set)
 }

@@ -19,6 +19,6 @@ mod slots;
 pub use accums::Accums;
 pub use frame::{Alias, Bound, Frame, Thing};
 pub use live::{Live, Undo};
-pub use names::named;
+pub use names::{named, set_at};
 pub use slot_places::read_target;
-pub use slots::Slots;
+pub use slots::{Slots, targets};

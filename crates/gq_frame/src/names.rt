@@ -1,5 +1,5 @@
 // What names stand for.
-ghost use Rattle.std.specs.Prelude.{◌≡◌, ◌==◌, IfOk, map, slice_get};
+ghost use Rattle.std.specs.Prelude.{◌≡◌, ◌==◌, IfOk, MatchOption, Some, false, map, slice_get};
 ghost use Rattle.std.specs.Option.{option_map};
 ghost use Rattle.gq_eval_operand.specs.Types.{vertex_base};
 ghost use Rattle.gq_eval_operand.specs.Words.{under};
@@ -7,10 +7,13 @@ ghost use Rattle.gq_eval_operand.specs.States as states;
 ghost use Rattle.gq_eval_operand.specs.Reference.{Place};
 ghost use Rattle.gq_eval_operand.specs.Meant.{meant, sort_is, Tells};
 ghost use Rattle.gq_eval_operand.specs.Sound.{Sound};
+ghost use Rattle.gq_rules_meaning.specs.States.{SetOf};
+ghost use Rattle.gq_rules_meaning.specs.Statements.{is_set};
 ghost use Rattle.gq_frame.specs.Names.{alias_of, placed_of, thing_of, thing_at, thing_in, named_in, thing_meant};
 
 use crate::frame::{Alias, Bound, Thing};
 use gq_eval_operand::{Halt, Operand, Seen, Sort};
+use gq_index::VertexList;
 use gq_plan_ir::PlaceType;
 use gq_value::Value;
 
@@ -27,6 +30,26 @@ pub fn named<'a>(
     match alias_at(aliases, place) {
         Some(bound) => Ok(seen_as(bound)),
         None => held(places, things, place),
+    }
+}
+
+/// The types and the vertices of the set at a place, if one is in view. Takes no memory.
+pub fn set_at<'a>(
+    places: &'a [PlaceType],
+    things: &'a [Option<Thing>],
+    place: u32,
+) -> Option<(&'a [u32], &'a VertexList)>
+    ensures { MatchOption result (is_set (thing_in places.entry.now things.entry.now place) ≡ false) (λ set. thing_in places.entry.now things.entry.now place ≡ Some (SetOf set.0.now set.1.now)) }
+{
+    match places.get(place as usize) {
+        Some(PlaceType::Set(types)) => match things.get(place as usize) {
+            Some(Some(Thing::Set(vertices))) => Some((types.as_slice(), vertices)),
+            Some(Some(Thing::Value(_))) | Some(None) | None => None,
+        },
+        Some(PlaceType::Variable(_))
+        | Some(PlaceType::Alias(_))
+        | Some(PlaceType::EdgeAlias(_))
+        | None => None,
     }
 }
 

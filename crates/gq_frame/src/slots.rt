@@ -1,5 +1,5 @@
 // Slots, and the numbers of their targets.
-ghost use Rattle.std.specs.Prelude.{◌≡◌, ◌<◌, length, IfOk};
+ghost use Rattle.std.specs.Prelude.{if◌then◌else◌, ◌≡◌, ◌<◌, length, IfOk};
 ghost use Rattle.gq_frame.specs.Targets.{number_of, targets_of};
 
 use gq_base::{List, OutOfMemory};
@@ -11,6 +11,13 @@ use std::alloc::Global;
 pub struct Slots {
     pub declared: List<Slot>,
     pub vertices: u32,
+}
+
+/// How many targets an accumulator has: one for each vertex where it is attached, and one where it is global.
+pub fn targets(attached: bool, vertices: u32) -> u32
+    ensures { result ≡ (if attached then vertices else 1) }
+{
+    if attached { vertices } else { 1 }
 }
 
 impl Slots {
@@ -30,10 +37,10 @@ impl Slots {
     }
 
     /// How many targets a slot has.
-    pub(crate) fn targets(&self, slot: &Slot) -> u32
+    pub fn targets(&self, slot: &Slot) -> u32
         ensures { result ≡ targets_of self.now.vertices slot.now }
     {
-        if slot.attached { self.vertices } else { 1 }
+        targets(slot.attached, self.vertices)
     }
 
     /// Equal slots with memory of their own.

@@ -2,7 +2,7 @@
 ghost use Rattle.std.specs.Prelude.{◌≡◌, ℕ, ◌+◌, ◌<◌, ◌≤◌, ◌^◌, ◌++◌, List, [], ◌∷◌, length, Some, IfOk, map, filter, nat_lt, slice_get};
 ghost use Rattle.std.specs.List.{flat_map};
 ghost use Rattle.std.specs.Option.{option_copied};
-ghost use Rattle.gq_graph.specs.Candidates.{by_number, candidates, is_target};
+ghost use Rattle.gq_graph.specs.Candidates.{alone, by_number, candidates, is_target};
 ghost use Rattle.gq_index.specs.declared.walks.Traversal.{Traversal};
 ghost use Rattle.gq_index.specs.Runs.{Holds};
 ghost use Rattle.gq_index.specs.Sights.{sight_of, vertex_kinds};
@@ -185,6 +185,30 @@ impl Model for Candidates {
     ghost view = { λ c. listed c.held };
 }
 
+/// A vertex as a candidate, without an edge.
+fn vertex_alone(source: u32) -> Candidate
+    ensures { result ≡ alone source }
+{
+    Candidate {
+        source,
+        edge: None,
+        kind: None,
+        target: None,
+    }
+}
+
+/// A walked edge as a candidate.
+fn walked_candidate(walk: Traversal) -> Candidate
+    ensures { result ≡ of_walk walk }
+{
+    Candidate {
+        source: walk.source,
+        edge: Some(walk.row),
+        kind: Some(walk.kind),
+        target: Some(walk.target),
+    }
+}
+
 impl Candidates {
     /// The candidates of a set along a pattern, or of a set alone. The cost is that of sorting the set, and of the walks
     /// from its vertices, whatever else the graph holds. More than 4,294,967,295 candidates are `OutOfMemory` too.
@@ -235,21 +259,8 @@ impl Candidates {
         ensures few { (d : ℕ) → segment_count self.now < 2 ^ d → steps.new ≤ steps.old + d + 1 }
     {
         match &self.held {
-            CandidateRows::Vertices(vertices) => Candidate {
-                source: vertices[place as usize],
-                edge: None,
-                kind: None,
-                target: None,
-            },
-            CandidateRows::Edges(walks) => {
-                let walk = walks.at(place, steps);
-                Candidate {
-                    source: walk.source,
-                    edge: Some(walk.row),
-                    kind: Some(walk.kind),
-                    target: Some(walk.target),
-                }
-            }
+            CandidateRows::Vertices(vertices) => vertex_alone(vertices[place as usize]),
+            CandidateRows::Edges(walks) => walked_candidate(walks.at(place, steps)),
         }
     }
 
@@ -260,21 +271,8 @@ impl Candidates {
         ensures { slice_get self.now place ≡ Some result }
     {
         match &self.held {
-            CandidateRows::Vertices(vertices) => Candidate {
-                source: vertices[place as usize],
-                edge: None,
-                kind: None,
-                target: None,
-            },
-            CandidateRows::Edges(walks) => {
-                let walk = walks.near(place, cursor);
-                Candidate {
-                    source: walk.source,
-                    edge: Some(walk.row),
-                    kind: Some(walk.kind),
-                    target: Some(walk.target),
-                }
-            }
+            CandidateRows::Vertices(vertices) => vertex_alone(vertices[place as usize]),
+            CandidateRows::Edges(walks) => walked_candidate(walks.near(place, cursor)),
         }
     }
 }

@@ -34,7 +34,8 @@ pub fn put_vertex(store: &mut Store, kind: u32, id: &str, attributes: Row) -> Re
     }
 }
 
-/// Puts an edge into the store, and before it those of its ends that aren't there. After a refusal the ends that were put stay.
+/// Puts an edge into the store, and before it those of its ends that aren't there: first the FROM vertex, then the TO vertex. After a
+/// refusal the ends that were put stay.
 pub fn put_edge(
     alloc: Global,
     store: &mut Store,

@@ -154,12 +154,18 @@ fn walk_at_place(
     let end = find(segments, place, steps);
     let segment = segments[end - 1];
     steps.tick();
-    let found = reached[place as usize];
+    traversal(segment, reached[place as usize])
+}
+
+/// An edge as it is walked in its segment.
+fn traversal(segment: Segment, reached: Reached) -> Traversal
+    ensures { result ≡ walk_of segment reached }
+{
     Traversal {
         source: segment.source,
         kind: segment.kind,
-        row: found.row,
-        target: found.target,
+        row: reached.row,
+        target: reached.target,
     }
 }
 
@@ -178,13 +184,7 @@ fn walk_near(
     let end = find_near(segments, place, cursor.end);
     cursor.end = end;
     let segment = segments[end - 1];
-    let found = reached[place as usize];
-    Traversal {
-        source: segment.source,
-        kind: segment.kind,
-        row: found.row,
-        target: found.target,
-    }
+    traversal(segment, reached[place as usize])
 }
 
 /// Where a reader of candidates is: how many segments start at or before the place that it read last.

@@ -5,9 +5,9 @@ use Rattle.gq_tree.specs.declared.schema.Literal.{Literal}
 use Rattle.gq_graph.specs.declared.types.Attribute.{Attribute}
 use Rattle.gq_value.specs.declared.value.Value.{Value}
 use Rattle.gq_graph.specs.Catalog.{Schema}
-use Rattle.gq_load_plan.specs.declared.job.Target.{Target}
-use Rattle.gq_load_plan.specs.declared.job.Target.TheVariants as targets
-use Rattle.gq_load_plan.specs.Targets.{edge_type_at}
+use Rattle.gq_load_check.specs.declared.job.Target.{Target}
+use Rattle.gq_load_check.specs.declared.job.Target.TheVariants as targets
+use Rattle.gq_load_check.specs.Targets.{edge_type_at}
 use Rattle.gq_insert.specs.Inserts.{attribute_value, value_and, row_of, end_of, both, edge_with, insert_of}
 
 -- the values of a row, behind others

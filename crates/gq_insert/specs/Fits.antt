@@ -14,10 +14,10 @@ use Rattle.gq_graph.specs.Catalog.{Schema}
 use Rattle.gq_graph.specs.Defaults.{Sort, INT, UINT, BOOL, STRING, DATETIME, OTHER, sort_of, is_time}
 use Rattle.gq_value.specs.Val.{Val, Int, UInt, Truth, Text}
 use Rattle.gq_value.specs.Views.{val}
-use Rattle.gq_load_plan.specs.declared.insert.Endpoint.{Endpoint}
-use Rattle.gq_load_plan.specs.declared.insert.Insert.{Insert}
-use Rattle.gq_load_plan.specs.declared.insert.Insert.TheVariants as insert
-use Rattle.gq_load_plan.specs.Targets.{vertex_type_at, edge_type_at}
+use Rattle.gq_load_check.specs.declared.insert.Endpoint.{Endpoint}
+use Rattle.gq_load_check.specs.declared.insert.Insert.{Insert}
+use Rattle.gq_load_check.specs.declared.insert.Insert.TheVariants as insert
+use Rattle.gq_load_check.specs.Targets.{vertex_type_at, edge_type_at}
 
 -- ---- values and ids
 

@@ -5,9 +5,9 @@ use Rattle.gq_tree.specs.declared.schema.InsertTree.{InsertTree}
 use Rattle.gq_diagnostics.specs.declared.refusal.Refusal.{Refusal}
 use Rattle.gq_diagnostics.specs.declared.refusal.Refusal.TheVariants as refusal
 use Rattle.gq_index.specs.declared.store.Store.{Store}
-use Rattle.gq_load_plan.specs.declared.insert.Insert.{Insert}
-use Rattle.gq_load_plan.specs.declared.insert.InsertFault.{InsertFault}
-use Rattle.gq_load_plan.specs.declared.insert.InsertFault.TheVariants as fault
+use Rattle.gq_load_check.specs.declared.insert.Insert.{Insert}
+use Rattle.gq_load_check.specs.declared.insert.InsertFault.{InsertFault}
+use Rattle.gq_load_check.specs.declared.insert.InsertFault.TheVariants as fault
 use Rattle.gq_insert.specs.Inserts.{insert_named, insert_refusal}
 use Rattle.gq_load.specs.Inserts.{steps_of_insert}
 use Rattle.gq_load_csv.specs.Readings.{reading}

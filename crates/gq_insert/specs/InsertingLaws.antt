@@ -12,10 +12,10 @@ use Rattle.gq_value.specs.Views.{val}
 use Rattle.gq_graph.specs.Defaults.{sort_of}
 use Rattle.gq_index.specs.declared.store.Store.{Store}
 use Rattle.gq_tree.specs.declared.schema.InsertTree.{InsertTree}
-use Rattle.gq_load_plan.specs.declared.insert.Insert.{Insert}
-use Rattle.gq_load_plan.specs.declared.insert.Insert.TheVariants as insert
-use Rattle.gq_load_plan.specs.declared.insert.InsertFault.{InsertFault}
-use Rattle.gq_load_plan.specs.Targets.{edge_type_at}
+use Rattle.gq_load_check.specs.declared.insert.Insert.{Insert}
+use Rattle.gq_load_check.specs.declared.insert.Insert.TheVariants as insert
+use Rattle.gq_load_check.specs.declared.insert.InsertFault.{InsertFault}
+use Rattle.gq_load_check.specs.Targets.{edge_type_at}
 use Rattle.gq_index.specs.Namings.{naming_in}
 use Rattle.gq_insert.specs.Fits.{is_value, row_fits, EdgeTypeFits, IsSound, InsertFits}
 use Rattle.gq_insert.specs.Inserts.{insert_named, insert_refusal}

@@ -1,9 +1,10 @@
 -- Inserts: the row that an INSERT names, with its values as its type has them, and why an INSERT is refused.
 -- Times are read by a function that gives what gq_time says of each text.
-use Rattle.std.specs.Prelude.{ℕ, ◌≡◌, ◌≢◌, ◌==◌, ◌||◌, Bool, true, false, if◌then◌else◌, List, [], ◌∷◌, length, map, take, drop, ℤ, pos, neg_ℤ, Option, Some, None, Result, Ok, Err, is_some}
+use Rattle.std.specs.Prelude.{ℕ, ◌≡◌, ◌≢◌, ◌==◌, ◌||◌, Bool, true, false, if◌then◌else◌, List, [], ◌∷◌, length, map, take, drop, ℤ, Option, Some, None, Result, Ok, Err, is_some}
 use Rattle.std.specs.Fmt.{decimal, signed_decimal}
 use Rattle.std.specs.List.{list_any}
 use Rattle.std.specs.Option.{option_or, option_map, option_and_then}
+use Rattle.gq_tree.specs.Signed.{signed}
 use Rattle.gq_tree.specs.declared.schema.Literal.{Literal}
 use Rattle.gq_tree.specs.declared.schema.Literal.TheVariants as literal
 use Rattle.gq_tree.specs.declared.schema.InsertTree.{InsertTree}
@@ -17,19 +18,16 @@ use Rattle.gq_value.specs.Arithmetic.{is_within}
 use Rattle.gq_graph.specs.Catalog.{Schema, vertex_type_of, edge_type_of}
 use Rattle.gq_graph.specs.Defaults.{Sort, INT, UINT, BOOL, STRING, DATETIME, sort_of}
 use Rattle.gq_load_csv.specs.Fields.{default_of}
-use Rattle.gq_load_plan.specs.declared.job.Target.{Target}
-use Rattle.gq_load_plan.specs.declared.job.Target.TheVariants as targets
-use Rattle.gq_load_plan.specs.declared.insert.Endpoint.{Endpoint}
-use Rattle.gq_load_plan.specs.declared.insert.Insert.{Insert}
-use Rattle.gq_load_plan.specs.declared.insert.Insert.TheVariants as insert
-use Rattle.gq_load_plan.specs.declared.insert.InsertFault.{InsertFault}
-use Rattle.gq_load_plan.specs.declared.insert.InsertFault.TheVariants as fault
-use Rattle.gq_load_plan.specs.Targets.{vertex_type_at, edge_type_at, id_count, key_count, value_count}
+use Rattle.gq_load_check.specs.declared.job.Target.{Target}
+use Rattle.gq_load_check.specs.declared.job.Target.TheVariants as targets
+use Rattle.gq_load_check.specs.declared.insert.Endpoint.{Endpoint}
+use Rattle.gq_load_check.specs.declared.insert.Insert.{Insert}
+use Rattle.gq_load_check.specs.declared.insert.Insert.TheVariants as insert
+use Rattle.gq_load_check.specs.declared.insert.InsertFault.{InsertFault}
+use Rattle.gq_load_check.specs.declared.insert.InsertFault.TheVariants as fault
+use Rattle.gq_load_check.specs.Targets.{vertex_type_at, edge_type_at, id_count, key_count, value_count}
 
 -- ---- values
-
-abbrev pub signed : Bool → ℕ → ℤ
-signed minus n = if minus then neg_ℤ (pos n) else pos n
 
 abbrev pub if_fits : {A : Type 0} → Bool → A → Option A
 if_fits true a = Some a

@@ -2,13 +2,14 @@
 ghost use Rattle.std.specs.Prelude.{◌≡◌, ◌<◌, ◌||◌, ◌+◌, ℕ, ℤ, List, false, Option, Some, None, IfOk, IfSome, OnOk, length, take, drop};
 ghost use Rattle.std.specs.List.{list_any};
 ghost use Rattle.gq_load_csv.specs.Fields.{TellsTimes};
-ghost use Rattle.gq_load_plan.specs.Targets.{HasTarget, vertex_type_at as vertex_of, edge_type_at as edge_of, value_count as count_of};
+ghost use Rattle.gq_load_check.specs.Targets.{HasTarget, vertex_type_at as vertex_of, edge_type_at as edge_of, value_count as count_of};
 ghost use Rattle.gq_insert.specs.Fits.{IsSound, EndFits, EndsFit, InsertFits};
 ghost use Rattle.gq_insert.specs.Inserts as spec;
 
-use crate::values::{default_row, given_id, row_of};
+use crate::values::{given_id, row_of};
 use gq_base::OutOfMemory;
-use gq_load_plan::{
+use gq_load::default_row;
+use gq_load_check::{
     Endpoint, Insert, InsertFault, Target, edge_type_at, id_count, key_count, value_count,
     vertex_type_at,
 };

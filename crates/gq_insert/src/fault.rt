@@ -6,7 +6,7 @@ ghost use Rattle.gq_diagnostics.specs.Answers.{Denies};
 ghost use Rattle.gq_insert.specs.Inserting.{unless_refused};
 
 use gq_diagnostics::{Refusal, StatementFault};
-use gq_load_plan::InsertFault;
+use gq_load_check::InsertFault;
 
 /// The refusal of a statement whose row is refused.
 pub(crate) fn statement_fault(fault: InsertFault) -> StatementFault

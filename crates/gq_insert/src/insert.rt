@@ -11,7 +11,7 @@ use gq_diagnostics::{Refusal, StatementFault};
 use gq_graph::StoreFault;
 use gq_index::Store;
 use gq_load::insert;
-use gq_load_plan::Insert;
+use gq_load_check::Insert;
 use gq_schema::Catalog;
 use gq_tree::InsertTree;
 use std::alloc::Global;

@@ -4,6 +4,7 @@ ghost use Rattle.std.specs.Fmt.{decimal, signed_decimal};
 ghost use Rattle.std.specs.Option.{option_map};
 ghost use Rattle.gq_value.specs.Arithmetic.{is_within};
 ghost use Rattle.gq_graph.specs.Defaults.{sort_of, DATETIME};
+ghost use Rattle.gq_tree.specs.Signed.{signed as signed_number};
 ghost use Rattle.gq_value.specs.Views.{val};
 ghost use Rattle.gq_value.specs.declared.kind.Number.TheVariants as numbers;
 ghost use Rattle.gq_value.specs.declared.value.Value.TheVariants as values;
@@ -15,19 +16,9 @@ use gq_base::{List, OutOfMemory};
 use gq_graph::{Attribute, IdKind};
 use gq_load_csv::default_value;
 use gq_time::read_time;
-use gq_tree::Literal;
+use gq_tree::{Literal, signed};
 use gq_value::{BaseType, Row, Txt, Value};
 use std::alloc::Global;
-
-fn signed(minus: bool, number: u64) -> i128
-    ensures { result ≡ spec.signed minus number }
-{
-    if minus {
-        -i128::from(number)
-    } else {
-        i128::from(number)
-    }
-}
 
 fn int_in(number: i128) -> Option<i64>
     ensures { result ≡ spec.if_fits (is_within numbers.Int number) number }
@@ -39,13 +30,13 @@ fn int_in(number: i128) -> Option<i64>
 }
 
 fn int_of(minus: bool, number: u64) -> Option<i64>
-    ensures { result ≡ spec.if_fits (is_within numbers.Int (spec.signed minus number)) (spec.signed minus number) }
+    ensures { result ≡ spec.if_fits (is_within numbers.Int (signed_number minus number)) (signed_number minus number) }
 {
     int_in(signed(minus, number))
 }
 
 fn uint_of(minus: bool, number: u64) -> Option<u64>
-    ensures { result ≡ spec.if_fits (is_within numbers.UInt (spec.signed minus number)) number }
+    ensures { result ≡ spec.if_fits (is_within numbers.UInt (signed_number minus number)) number }
 {
     if minus && number > 0 {
         return None;
@@ -206,17 +197,6 @@ pub(crate) fn given_id(
         Some(literal) => id_text(alloc, kind, literal),
         None => Ok(None),
     }
-}
-
-/// The defaults of all attributes.
-pub(crate) fn default_row(alloc: Global, attributes: &[Attribute]) -> Result<Row, OutOfMemory>
-    ensures { IfOk result (λ row. row ≡ spec.default_row attributes.now) }
-{
-    let mut row = List::new(alloc);
-    for attribute in attributes {
-        row.push(default_value(alloc, attribute)?)?;
-    }
-    Ok(row)
 }
 
 /// A value for each attribute, or None where one isn't of its type.

@@ -1,8 +1,8 @@
 //! The devices that a run uses: files to read, a sink to write to, and a gate that workers pass.
 //!
-//! Each is a trait with two implementations: one in memory, for tests and for embedding, and one of the host.
-//! Contracts see what a device holds, if that is known, and how often it failed; no caller sees a failure
-//! that wasn't counted. The host's devices in `src/host.rt` are the trusted boundary: only their failures are
+//! Each is a trait. Files and sinks are in memory, for tests and for embedding, or of the host; gates are open
+//! or hold workers back. Contracts see what a device holds, if that is known, and how often it failed; no
+//! caller sees a failure that wasn't counted. The host's devices in `src/host.rt` are the trusted boundary: only their failures are
 //! known.
 //!
 //! Read `specs/Counts.antt`, `specs/Files.antt` and `specs/Sink.antt` first, then the traits in

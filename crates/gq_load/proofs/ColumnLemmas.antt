@@ -5,7 +5,7 @@ use Rattle.std.specs.Option.{option_map, option_or}
 use Rattle.std.proofs.lemmas.List.{map-append}
 use Rattle.std.proofs.lemmas.List.Folds.{find-append}
 use Rattle.gq_tree.specs.declared.job.Column.{Column}
-use Rattle.gq_load_plan.specs.declared.job.LoadInto.{LoadInto}
+use Rattle.gq_load_check.specs.declared.job.LoadInto.{LoadInto}
 use Rattle.gq_load.specs.declared.fault.LoadFault.{LoadFault}
 use Rattle.gq_load.specs.declared.fault.LoadFault.TheVariants as fault
 use Rattle.gq_load.specs.Columns.{Fields, is_missing, missing_name, name_in, columns_of, Names}

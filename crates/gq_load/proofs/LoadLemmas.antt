@@ -14,9 +14,9 @@ use Rattle.gq_load.specs.declared.record.Verdict.{Verdict}
 use Rattle.csv.specs.Machine.{next_record}
 use Rattle.csv.specs.Reading.{records_from, strip_bom}
 use Rattle.gq_load_csv.specs.Records.{records_of}
-use Rattle.gq_load_plan.specs.declared.job.LoadInto.{LoadInto}
-use Rattle.gq_load_plan.specs.declared.job.LoadLine.{LoadLine}
-use Rattle.gq_load_plan.specs.Fits.{IntoFits}
+use Rattle.gq_load_check.specs.declared.job.LoadInto.{LoadInto}
+use Rattle.gq_load_check.specs.declared.job.LoadLine.{LoadLine}
+use Rattle.gq_load_check.specs.Fits.{IntoFits}
 use Rattle.gq_load.specs.declared.fault.LoadFault.{LoadFault}
 use Rattle.gq_load.specs.Routes.{route_of}
 use Rattle.gq_load.specs.Columns.{Fields}

@@ -5,7 +5,7 @@ use Rattle.std.specs.List.{flat_map}
 use Rattle.gq_tree.specs.declared.job.Column.{Column}
 use Rattle.gq_tree.specs.declared.job.Column.TheVariants as column
 use Rattle.csv.specs.Records.{Row, fields_of}
-use Rattle.gq_load_plan.specs.declared.job.LoadInto.{LoadInto}
+use Rattle.gq_load_check.specs.declared.job.LoadInto.{LoadInto}
 use Rattle.gq_load.specs.declared.fault.LoadFault.{LoadFault}
 use Rattle.gq_load.specs.declared.fault.LoadFault.TheVariants as fault
 

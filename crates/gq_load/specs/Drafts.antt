@@ -1,9 +1,9 @@
 -- Drafts: the values of one row, as the code reads them before any row of a record is put. No clause of another crate cites this.
 use Rattle.std.specs.Prelude.{◌≡◌, length, slice_get, ℕ, List, [], ◌∷◌, ◌++◌, string_bytes, if◌then◌else◌, Bool, Option, Some, None}
 use Rattle.gq_graph.specs.Catalog.{Schema}
-use Rattle.gq_load_plan.specs.declared.job.Target.{Target}
-use Rattle.gq_load_plan.specs.declared.job.Target.TheVariants as target
-use Rattle.gq_load_plan.specs.Targets.{edge_type_at, attributes_of}
+use Rattle.gq_load_check.specs.declared.job.Target.{Target}
+use Rattle.gq_load_check.specs.declared.job.Target.TheVariants as target
+use Rattle.gq_load_check.specs.Targets.{edge_type_at, attributes_of}
 use Rattle.gq_index.specs.Steps.{Step, Vertex}
 use Rattle.gq_index.specs.Ends.{edge_steps}
 use Rattle.gq_index.specs.Namings.{naming_in}

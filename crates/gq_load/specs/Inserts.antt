@@ -5,9 +5,9 @@ use Rattle.gq_graph.specs.declared.rows.StoreFault.TheVariants as fault
 use Rattle.gq_graph.specs.declared.rows.VertexRow.{VertexRow}
 use Rattle.gq_graph.specs.Edges.{naming_with, Agrees}
 use Rattle.gq_index.specs.declared.store.Store.{Store}
-use Rattle.gq_load_plan.specs.declared.insert.Endpoint.{Endpoint}
-use Rattle.gq_load_plan.specs.declared.insert.Insert.{Insert}
-use Rattle.gq_load_plan.specs.declared.insert.Insert.TheVariants as insert
+use Rattle.gq_load_check.specs.declared.insert.Endpoint.{Endpoint}
+use Rattle.gq_load_check.specs.declared.insert.Insert.{Insert}
+use Rattle.gq_load_check.specs.declared.insert.Insert.TheVariants as insert
 use Rattle.gq_index.specs.Steps.{Step, Vertex, Done, Refused}
 use Rattle.gq_index.specs.Ends.{edge_steps}
 

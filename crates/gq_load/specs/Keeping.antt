@@ -4,7 +4,7 @@ use Rattle.gq_graph.specs.Catalog.{Schema}
 use Rattle.gq_graph.specs.declared.rows.Naming.{Naming}
 use Rattle.gq_graph.specs.Edges.{naming_of}
 use Rattle.gq_index.specs.declared.store.Store.{Store}
-use Rattle.gq_load_plan.specs.Targets.{edge_type_at}
+use Rattle.gq_load_check.specs.Targets.{edge_type_at}
 use Rattle.gq_index.specs.Namings.{AreNamedBy, naming_in}
 use Rattle.gq_index.specs.Steps.{Step, Vertex, End, Edge}
 

@@ -12,9 +12,9 @@ use Rattle.gq_graph.specs.declared.rows.VertexRow.{VertexRow}
 use Rattle.gq_graph.specs.Vertices.{upsert_vertex}
 use Rattle.gq_graph.specs.Edges.{EdgeTable, naming_of, naming_with, noted}
 use Rattle.gq_index.specs.declared.store.Store.{Store}
-use Rattle.gq_load_plan.specs.Targets.{edge_type_at}
-use Rattle.gq_load_plan.specs.Fits.{HasGrown}
-use Rattle.gq_load_plan.specs.GrowthLaws.{edge_type_stays}
+use Rattle.gq_load_check.specs.Targets.{edge_type_at}
+use Rattle.gq_load_check.specs.Fits.{HasGrown}
+use Rattle.gq_load_check.specs.GrowthLaws.{edge_type_stays}
 use Rattle.gq_index.specs.Namings.{AreNamedBy, naming_in}
 use Rattle.gq_index.specs.Steps.{Step, Vertex, End, Edge, after, after_all, has_vertex, name_of, Begun}
 use Rattle.gq_index.proofs.NamingLemmas.{named_more}

@@ -4,7 +4,7 @@ use Rattle.std.specs.Prelude.{◌≡◌, ℕ, ℤ, if◌then◌else◌, List, []
 use Rattle.std.specs.List.{flat_map}
 use Rattle.gq_graph.specs.Catalog.{Schema}
 use Rattle.gq_graph.specs.declared.rows.StoreFault.{StoreFault}
-use Rattle.gq_load_plan.specs.declared.job.LoadLine.{LoadLine}
+use Rattle.gq_load_check.specs.declared.job.LoadLine.{LoadLine}
 use Rattle.gq_index.specs.declared.store.Store.{Store}
 use Rattle.gq_load_csv.specs.Records.{records_of}
 use Rattle.gq_index.specs.Steps.{Step, Done, Refused, Begun, Puts}

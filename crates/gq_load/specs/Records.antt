@@ -1,7 +1,7 @@
 -- Records: what becomes of a record: it is short, unreadable or loaded.
 use Rattle.std.specs.Prelude.{◌≤◌, ◌<◌, ℕ, ℤ, if◌then◌else◌, List, [], length, Option, Some, None}
 use Rattle.gq_graph.specs.Catalog.{Schema}
-use Rattle.gq_load_plan.specs.Targets.{edge_type_at, HasTarget}
+use Rattle.gq_load_check.specs.Targets.{edge_type_at, HasTarget}
 use Rattle.gq_index.specs.Steps.{Step}
 use Rattle.gq_load.specs.declared.route.Route.{Route}
 use Rattle.gq_load.specs.declared.record.Verdict.{Verdict}

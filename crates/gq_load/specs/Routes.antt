@@ -2,10 +2,10 @@
 use Rattle.std.specs.Prelude.{ℕ, List, [], map, Option}
 use Rattle.gq_graph.specs.Catalog.{Schema}
 use Rattle.gq_value.specs.declared.value.Value.{Value}
-use Rattle.gq_load_plan.specs.declared.job.Target.{Target}
-use Rattle.gq_load_plan.specs.declared.job.Target.TheVariants as target
-use Rattle.gq_load_plan.specs.declared.job.LoadInto.{LoadInto}
-use Rattle.gq_load_plan.specs.Targets.{vertex_type_at, edge_type_at}
+use Rattle.gq_load_check.specs.declared.job.Target.{Target}
+use Rattle.gq_load_check.specs.declared.job.Target.TheVariants as target
+use Rattle.gq_load_check.specs.declared.job.LoadInto.{LoadInto}
+use Rattle.gq_load_check.specs.Targets.{vertex_type_at, edge_type_at}
 use Rattle.gq_load_csv.specs.Fields.{default_of}
 use Rattle.gq_load.specs.declared.route.Route.{Route}
 use Rattle.gq_load.specs.Columns.{Fields, field_of}

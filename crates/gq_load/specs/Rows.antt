@@ -8,9 +8,9 @@ use Rattle.gq_graph.specs.declared.types.Attribute.{Attribute}
 use Rattle.gq_graph.specs.declared.types.IdKind.{IdKind}
 use Rattle.gq_graph.specs.declared.rows.VertexRow.{VertexRow}
 use Rattle.gq_value.specs.declared.value.Value.{Value}
-use Rattle.gq_load_plan.specs.declared.job.Target.{Target}
-use Rattle.gq_load_plan.specs.declared.job.Target.TheVariants as target
-use Rattle.gq_load_plan.specs.Targets.{vertex_type_at, edge_type_at}
+use Rattle.gq_load_check.specs.declared.job.Target.{Target}
+use Rattle.gq_load_check.specs.declared.job.Target.TheVariants as target
+use Rattle.gq_load_check.specs.Targets.{vertex_type_at, edge_type_at}
 use Rattle.gq_load_csv.specs.Fields.{default_of, field_value, key_value, id_in}
 use Rattle.gq_index.specs.Steps.{Step, Vertex}
 use Rattle.gq_index.specs.Ends.{edge_steps}

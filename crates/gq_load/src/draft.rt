@@ -2,7 +2,7 @@
 ghost use Rattle.std.specs.Prelude.{◌≡◌, ◌≤◌, ◌<◌, ℕ, ℤ, List, Option, Some, None, length, true, IfOk};
 ghost use Rattle.csv.specs.Records.{fields_of};
 ghost use Rattle.gq_load_csv.specs.Fields.{TellsTimes};
-ghost use Rattle.gq_load_plan.specs.Targets.{HasTarget, attributes_of, vertex_type_at, edge_type_at};
+ghost use Rattle.gq_load_check.specs.Targets.{HasTarget, attributes_of, vertex_type_at, edge_type_at};
 ghost use Rattle.gq_index.specs.Steps.{Puts};
 ghost use Rattle.gq_index.specs.Namings.{AreNamedBy};
 ghost use Rattle.gq_load.specs.declared.route.Route.{Route};
@@ -16,7 +16,7 @@ use csv::ByteRecord;
 use gq_base::{List, OutOfMemory};
 use gq_graph::{EdgeType, Naming, StoreFault, VertexType};
 use gq_index::{EndpointRef, Store, put_edge, put_vertex};
-use gq_load_plan::Target;
+use gq_load_check::Target;
 use gq_schema::Catalog;
 use gq_value::Row;
 use std::alloc::Global;

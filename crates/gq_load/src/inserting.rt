@@ -8,7 +8,7 @@ ghost use Rattle.gq_load.specs.Inserts.{IsNamedAs, Inserts, PutsAll, end_row};
 use gq_base::OutOfMemory;
 use gq_graph::{Naming, StoreFault};
 use gq_index::{Store, put_edge, put_vertex};
-use gq_load_plan::{Endpoint, Insert};
+use gq_load_check::{Endpoint, Insert};
 use gq_value::{Value, duplicate_row};
 use std::alloc::Global;
 

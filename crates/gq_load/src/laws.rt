@@ -2,7 +2,7 @@
 ghost use Rattle.std.specs.Prelude.{◌≡◌, List, [], Some, None};
 ghost use Rattle.gq_graph.specs.Catalog.{Schema};
 ghost use Rattle.gq_index.specs.declared.store.Store.{Store};
-ghost use Rattle.gq_load_plan.specs.Fits.{HasGrown};
+ghost use Rattle.gq_load_check.specs.Fits.{HasGrown};
 ghost use Rattle.gq_index.specs.Steps.{Step, Done, Refused, Begun};
 ghost use Rattle.gq_load.specs.Puts.{put_all};
 ghost use Rattle.gq_load.specs.Keeping.{StoreFits, AllOfTypes, no_rows};

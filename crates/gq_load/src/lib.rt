@@ -29,4 +29,4 @@ pub use laws::{stores_stay_fit, upserts_are_decided};
 pub use loading::load;
 pub use record::Verdict;
 pub use report::Report;
-pub use route::Route;
+pub use route::{Route, default_row};

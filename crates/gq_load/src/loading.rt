@@ -2,8 +2,8 @@
 ghost use Rattle.std.specs.Prelude.{◌≡◌, ℕ, ℤ, List, Option, All};
 ghost use Rattle.std.specs.Option.{option_copied};
 ghost use Rattle.gq_load_csv.specs.Fields.{TellsTimes};
-ghost use Rattle.gq_load_plan.specs.Fits.{LineFits};
-ghost use Rattle.gq_load_plan.specs.Targets.{edge_type_at};
+ghost use Rattle.gq_load_check.specs.Fits.{LineFits};
+ghost use Rattle.gq_load_check.specs.Targets.{edge_type_at};
 ghost use Rattle.gq_index.specs.Namings.{AreNamedBy};
 ghost use Rattle.gq_load.specs.Columns.{header_in};
 ghost use Rattle.gq_load.specs.Records.{AllHaveEnds, IsThere};
@@ -18,8 +18,8 @@ use csv::ByteRecord;
 use gq_base::OutOfMemory;
 use gq_graph::StoreFault;
 use gq_index::Store;
+use gq_load_check::LoadLine;
 use gq_load_csv::Records;
-use gq_load_plan::LoadLine;
 use gq_schema::Catalog;
 use std::alloc::Global;
 

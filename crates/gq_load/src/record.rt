@@ -2,7 +2,7 @@
 ghost use Rattle.std.specs.Prelude.{◌≡◌, ◌≤◌, ◌<◌, ℕ, ℤ, List, Option, length, true, All, IfOk};
 ghost use Rattle.csv.specs.Records.{fields_of};
 ghost use Rattle.gq_load_csv.specs.Fields.{TellsTimes};
-ghost use Rattle.gq_load_plan.specs.Targets.{edge_type_at};
+ghost use Rattle.gq_load_check.specs.Targets.{edge_type_at};
 ghost use Rattle.gq_index.specs.Steps.{Puts};
 ghost use Rattle.gq_index.specs.Namings.{AreNamedBy};
 ghost use Rattle.std.specs.List.{list_any};

@@ -2,9 +2,9 @@
 ghost use Rattle.std.specs.Prelude.{◌≡◌, ◌<◌, length, map, IfOk, All};
 ghost use Rattle.std.specs.Option.{option_copied};
 ghost use Rattle.gq_load_csv.specs.Fields.{default_of};
-ghost use Rattle.gq_load_plan.specs.Targets.{HasTarget};
+ghost use Rattle.gq_load_check.specs.Targets.{HasTarget};
 ghost use Rattle.gq_load.specs.Columns as spec;
-ghost use Rattle.gq_load_plan.specs.declared.job.LoadInto.{LoadInto};
+ghost use Rattle.gq_load_check.specs.declared.job.LoadInto.{LoadInto};
 ghost use Rattle.gq_load.specs.Routes.{route_of, from_defaults, to_defaults, defaults_of};
 ghost use Rattle.gq_load.specs.Records.{AllHaveEnds};
 
@@ -13,8 +13,8 @@ use crate::fault::LoadFault;
 use csv::ByteRecord;
 use gq_base::{List, OutOfMemory};
 use gq_graph::Attribute;
+use gq_load_check::{LoadInto, Target};
 use gq_load_csv::default_value;
-use gq_load_plan::{LoadInto, Target};
 use gq_schema::Catalog;
 use gq_value::Row;
 use std::alloc::Global;
@@ -99,7 +99,8 @@ fn defaults(alloc: Global, catalog: &Catalog, kind: u32) -> Result<Row, OutOfMem
     default_row(alloc, catalog.vertex_at(kind).attributes.as_slice())
 }
 
-fn default_row(alloc: Global, attributes: &[Attribute]) -> Result<Row, OutOfMemory>
+/// The defaults of all attributes.
+pub fn default_row(alloc: Global, attributes: &[Attribute]) -> Result<Row, OutOfMemory>
     ensures { IfOk result (λ row. row ≡ map default_of attributes.now) }
 {
     let mut row = List::from_vec(Vec::with_capacity(alloc, attributes.len())?);

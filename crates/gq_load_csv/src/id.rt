@@ -2,10 +2,10 @@
 ghost use Rattle.std.specs.Prelude.{◌≡◌, IfOk, Some, None, if◌then◌else◌, string_bytes};
 ghost use Rattle.gq_load_csv.specs.Fields as spec;
 
-use crate::blanks::trimmed;
 use crate::numbers::{int_in, uint_in};
 use gq_base::OutOfMemory;
 use gq_graph::IdKind;
+use gq_time::trimmed;
 use itoa::Buffer;
 
 /// Reads an id from its field into `id`, as it is kept: a text, or the shortest text of a number. False is a field that

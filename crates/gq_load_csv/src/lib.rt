@@ -9,7 +9,6 @@
 //! `src/records.rt`, `src/value.rt` and `src/id.rt`.
 #![tactic(auto)]
 
-mod blanks;
 mod id;
 mod laws;
 mod numbers;

@@ -3,11 +3,10 @@ ghost use Rattle.std.specs.Prelude.{◌≡◌, ℕ, ℤ, List, Option, IfOk};
 ghost use Rattle.gq_graph.specs.Defaults.{sort_of};
 ghost use Rattle.gq_load_csv.specs.Fields as spec;
 
-use crate::blanks::trimmed;
 use crate::numbers::{int_in, truth_in, uint_in};
 use gq_base::OutOfMemory;
 use gq_graph::Attribute;
-use gq_time::read_time;
+use gq_time::{read_time, trimmed};
 use gq_value::{BaseType, Txt, Value};
 use std::alloc::Global;
 

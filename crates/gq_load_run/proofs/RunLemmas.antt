@@ -5,10 +5,10 @@ use Rattle.gq_graph.specs.Catalog.{Schema}
 use Rattle.gq_tree.specs.declared.job.RunJobTree.{RunJobTree}
 use Rattle.gq_diagnostics.specs.declared.refusal.StatementFault.{StatementFault}
 use Rattle.gq_index.specs.declared.store.Store.{Store}
-use Rattle.gq_load_plan.specs.declared.job.Job.{Job}
-use Rattle.gq_load_plan.specs.declared.job.LoadLine.{LoadLine}
+use Rattle.gq_load_check.specs.declared.job.Job.{Job}
+use Rattle.gq_load_check.specs.declared.job.LoadLine.{LoadLine}
 use Rattle.gq_load.specs.Loads.{records_in}
-use Rattle.gq_load_plan.specs.Paths.{File, Given, undefined_name}
+use Rattle.gq_load_check.specs.Paths.{File, Given, undefined_name}
 use Rattle.gq_io.specs.Known.{Known}
 use Rattle.gq_diagnostics.specs.Effects.{Effect}
 use Rattle.gq_load_run.specs.Loadings.{LineLeaves, OneLeaves, Leaves}

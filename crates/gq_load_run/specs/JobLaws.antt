@@ -4,8 +4,8 @@ use Rattle.gq_io.specs.Listing.{Listing}
 use Rattle.gq_graph.specs.Catalog.{Schema}
 use Rattle.gq_tree.specs.declared.job.RunJobTree.{RunJobTree}
 use Rattle.gq_index.specs.declared.store.Store.{Store}
-use Rattle.gq_load_plan.specs.declared.job.Job.{Job}
-use Rattle.gq_load_plan.specs.Paths.{Given, undefined_name}
+use Rattle.gq_load_check.specs.declared.job.Job.{Job}
+use Rattle.gq_load_check.specs.Paths.{Given, undefined_name}
 use Rattle.gq_io.specs.Known.{Told}
 use Rattle.gq_diagnostics.specs.Effects.{Effect}
 use Rattle.gq_load_run.specs.LoadLaws.{loads_determined}

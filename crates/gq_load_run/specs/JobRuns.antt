@@ -6,8 +6,8 @@ use Rattle.gq_diagnostics.specs.declared.refusal.Refusal.TheVariants as refusal
 use Rattle.gq_diagnostics.specs.declared.refusal.StatementFault.{StatementFault}
 use Rattle.gq_diagnostics.specs.Messages.{message_of}
 use Rattle.gq_index.specs.declared.store.Store.{Store}
-use Rattle.gq_load_plan.specs.declared.job.Job.{Job}
-use Rattle.gq_load_plan.specs.Paths.{Given, undefined_name}
+use Rattle.gq_load_check.specs.declared.job.Job.{Job}
+use Rattle.gq_load_check.specs.Paths.{Given, undefined_name}
 use Rattle.gq_io.specs.Known.{Known}
 use Rattle.gq_diagnostics.specs.Effects.{Effect, Refused}
 use Rattle.gq_load_run.specs.Loads.{LoadsMean}

@@ -5,12 +5,12 @@ use Rattle.gq_graph.specs.Catalog.{Schema}
 use Rattle.gq_value.specs.declared.value.Value.{Value}
 use Rattle.gq_diagnostics.specs.declared.refusal.Refusal.TheVariants as refusal
 use Rattle.gq_index.specs.declared.store.Store.{Store}
-use Rattle.gq_load_plan.specs.declared.job.Target.{Target}
-use Rattle.gq_load_plan.specs.declared.job.Target.TheVariants as target
-use Rattle.gq_load_plan.specs.declared.job.LoadInto.{LoadInto}
-use Rattle.gq_load_plan.specs.declared.job.LoadLine.{LoadLine}
-use Rattle.gq_load_plan.specs.Targets.{HasTarget, edge_type_at, vertex_type_at}
-use Rattle.gq_load_plan.specs.Fits.{LineFits, IntoFits}
+use Rattle.gq_load_check.specs.declared.job.Target.{Target}
+use Rattle.gq_load_check.specs.declared.job.Target.TheVariants as target
+use Rattle.gq_load_check.specs.declared.job.LoadInto.{LoadInto}
+use Rattle.gq_load_check.specs.declared.job.LoadLine.{LoadLine}
+use Rattle.gq_load_check.specs.Targets.{HasTarget, edge_type_at, vertex_type_at}
+use Rattle.gq_load_check.specs.Fits.{LineFits, IntoFits}
 use Rattle.gq_index.specs.Steps.{Step, Begun}
 use Rattle.gq_index.proofs.StepLemmas.{none_begun}
 use Rattle.gq_load.specs.declared.fault.LoadFault.{LoadFault}

@@ -5,15 +5,15 @@ use Rattle.gq_diagnostics.specs.declared.refusal.Refusal.TheVariants as refusal
 use Rattle.gq_diagnostics.specs.declared.refusal.StatementFault.{StatementFault}
 use Rattle.gq_diagnostics.specs.declared.refusal.StatementFault.TheVariants as fault
 use Rattle.gq_index.specs.declared.store.Store.{Store}
-use Rattle.gq_load_plan.specs.declared.job.FileName.{FileName}
-use Rattle.gq_load_plan.specs.declared.job.FileName.TheVariants as names
-use Rattle.gq_load_plan.specs.declared.job.LoadLine.{LoadLine}
-use Rattle.gq_load_plan.specs.declared.job.Job.{Job}
+use Rattle.gq_load_check.specs.declared.job.FileName.{FileName}
+use Rattle.gq_load_check.specs.declared.job.FileName.TheVariants as names
+use Rattle.gq_load_check.specs.declared.job.LoadLine.{LoadLine}
+use Rattle.gq_load_check.specs.declared.job.Job.{Job}
 use Rattle.gq_index.specs.Steps.{Step, Begun, Refused}
 use Rattle.gq_load.specs.Columns.{Fields}
 use Rattle.gq_load.specs.declared.report.Report.{Report}
 use Rattle.gq_load.specs.Loads.{all_steps, report_on, records_in, header_of, loaded_of, routes_of, missing_of}
-use Rattle.gq_load_plan.specs.Paths.{File, Given, path_of}
+use Rattle.gq_load_check.specs.Paths.{File, Given, path_of}
 use Rattle.gq_load_run.specs.declared.place.LoadPath.{LoadPath}
 use Rattle.gq_load_run.specs.declared.place.LoadPath.TheVariants.{At, Nowhere}
 use Rattle.gq_load_run.specs.Loads.{Loaded, Loads, Fails}

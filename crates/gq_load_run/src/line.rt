@@ -1,7 +1,7 @@
 // One LOAD.
 ghost use Rattle.std.specs.Prelude.{◌≡◌, ◌<◌, length, All, Err, IfOk, IfErr};
 ghost use Rattle.gq_diagnostics.specs.declared.refusal.Refusal.{Refusal};
-ghost use Rattle.gq_load_plan.specs.Fits.{LineFits};
+ghost use Rattle.gq_load_check.specs.Fits.{LineFits};
 ghost use Rattle.gq_load.specs.Records.{AllHaveEnds};
 ghost use Rattle.gq_load.specs.Loads.{records_in};
 ghost use Rattle.gq_load_run.specs.Loads.{Fails, Loads};
@@ -11,7 +11,7 @@ ghost use Rattle.gq_load_run.specs.Loadings.{Leaves, LineLeaves, line_loaded, lo
 use gq_diagnostics::{Refusal, StatementFault};
 use gq_index::Store;
 use gq_load::{LoadFault, Report, load};
-use gq_load_plan::{Job, LoadLine};
+use gq_load_check::{Job, LoadLine};
 use gq_schema::Catalog;
 use std::alloc::Global;
 

@@ -4,7 +4,7 @@ ghost use Rattle.std.specs.Option.{option_copied};
 ghost use Rattle.gq_load_run.specs.Loadings as spec;
 
 use gq_base::OutOfMemory;
-use gq_load_plan::{FileName, Job, path_of};
+use gq_load_check::{FileName, Job, path_of};
 use gq_value::Txt;
 use std::alloc::Global;
 

@@ -3,7 +3,7 @@ ghost use Rattle.std.specs.Prelude.{◌≡◌, ◌≤◌, ◌∷◌, [], ℕ, Al
 ghost use Rattle.gq_io.specs.Counts.{Rose};
 ghost use Rattle.gq_diagnostics.specs.declared.refusal.Refusal.{Refusal};
 ghost use Rattle.gq_diagnostics.specs.Messages.{message_of};
-ghost use Rattle.gq_load_plan.specs.Fits.{LineFits};
+ghost use Rattle.gq_load_check.specs.Fits.{LineFits};
 ghost use Rattle.gq_load.specs.Records.{AllHaveEnds};
 ghost use Rattle.gq_diagnostics.specs.Effects.{Becomes, Refused};
 ghost use Rattle.gq_io.specs.Known.{known_of};
@@ -18,7 +18,7 @@ use gq_ddl::{NamedJob, find_job};
 use gq_diagnostics::{Refusal, StatementFault};
 use gq_index::Store;
 use gq_io::Files;
-use gq_load_plan::{Job, undefined};
+use gq_load_check::{Job, undefined};
 use gq_schema::Catalog;
 use gq_tree::RunJobTree;
 use gq_value::Txt;

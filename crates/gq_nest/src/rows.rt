@@ -48,7 +48,7 @@ pub(crate) fn key_rows(
     Ok(all)
 }
 
-/// The key rows of a group, ascending.
+/// The key rows of a group, ascending by the order of keys (`order` of gq_value, field by field), in which the map keeps them.
 pub(crate) fn group_rows(
     alloc: Global,
     groups: &BTreeMap<Vec<Value>, Parts>,

@@ -3,8 +3,10 @@ use Rattle.std.specs.Global.{Vec}
 use Rattle.std.proofs.Common.{◌≡◌, ℕ, zero, suc, ◌+◌, ◌<◌, ◌≤◌, ℤ, Bool, true, List, [], ◌∷◌, ◌++◌, drop, map, length, get_or, Option, Some, None, Bor, IfSome, Result, Ok, Err, IfOk, refl, sym, ap, ap₂, subst, ◌∙◌}
 use Rattle.std.specs.List.{slice_get}
 use Rattle.std.specs.Option.{option_copied}
+use Rattle.std.specs.Slice.{IsItemAt}
 use Rattle.std.specs.Ordering.{on}
 use Rattle.std.specs.Map.{keys_of}
+use Rattle.std.proofs.lemmas.Option.{slice_get_past}
 use Rattle.std.specs.List.Sorted.{IsStrictlySortedBy}
 use Rattle.std.specs.BTreeMap.{BTreeMap}
 use Rattle.std.specs.BTreeSet.{BTreeSet}
@@ -347,6 +349,11 @@ shown_at (k ∷ kinds) (c ∷ cs) zero kind part s e f =
     let b : c ≡ part = some_inj f in
     subst (λ (q : Bytes × Kind). IsShown (accum_of q.1) part) a (subst (IsShown (accum_of k.1)) b s.0)
 shown_at (k ∷ kinds) (c ∷ cs) (suc i) kind part s e f = shown_at kinds cs i kind part s.1 e f
+
+-- what a slice lends at a place, if there is anything
+pub lent_at : {A : Type 0} (xs : List A) (i : ℕ) (o : Option (Bor A)) → IsItemAt xs i o → slice_get xs i ≡ option_copied o
+lent_at xs i None h = slice_get_past xs i h.3
+lent_at xs i (Some x) h = at_get xs i x.now h.3.0 (h.3.1 x.now)
 
 pub kind_shown : (kinds : List (Bytes × Kind)) (cs : List Content) (i : ℕ) (part : Content) (o : Option (Bor (Bytes × Kind))) → AreShown (part_kinds kinds) cs → slice_get cs i ≡ Some part → slice_get kinds i ≡ option_copied o → IfSome o (λ kind. IsShown (accum_of kind.now.1) part)
 kind_shown kinds cs i part None s f e = tt

@@ -90,9 +90,9 @@ module _ (world : World Reference) where
   tuple_next fs row whole done new i name b v inv e l f is = row_field fs row whole done new i name b v inv e (at_get row i v l f) is
 
   pub key_next : (keys : List (Bytes × BaseType)) (row : List Value) (whole done new : List (Bytes × Out)) (i : ℕ) (key : Bytes × BaseType) (v : Value) → NamedFrom (key_fields keys) (map val row) whole done i → i < length keys → key ≡ get_or keys i key
-      → slice_get row i ≡ Some v → new ≡ done ++ (key.0, value_shown world (base_of key.1) (val v)) ∷ [] → NamedFrom (key_fields keys) (map val row) whole new (i + 1)
-  key_next keys row whole done new i key v inv l e f is =
-      row_field (key_fields keys) row whole done new i key.0 (base_of key.1) v inv (mapped_at (λ (k : Bytes × BaseType). (k.0, base_of k.1)) keys i key (at_get keys i key l e)) f is
+      → i < length row → v ≡ get_or row i v → new ≡ done ++ (key.0, value_shown world (base_of key.1) (val v)) ∷ [] → NamedFrom (key_fields keys) (map val row) whole new (i + 1)
+  key_next keys row whole done new i key v inv l e m f is =
+      row_field (key_fields keys) row whole done new i key.0 (base_of key.1) v inv (mapped_at (λ (k : Bytes × BaseType). (k.0, base_of k.1)) keys i key (at_get keys i key l e)) (at_get row i v m f) is
 
   pub keys_through : (keys : List (Bytes × BaseType)) (row : List Value) (whole done : List (Bytes × Out)) (i : ℕ) → NamedFrom (key_fields keys) (map val row) whole done i → length keys ≤ i → done ≡ whole
   keys_through keys row whole done i inv l = named_fields (key_fields keys) (map val row) whole done i inv (let m = length-map {B = Bytes × Base} keys (λ (k : Bytes × BaseType). (k.0, base_of k.1)) in omega (arith, m, l))

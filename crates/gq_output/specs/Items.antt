@@ -1,4 +1,4 @@
--- Items: what items are printed as, over a setting, as gq_json's values. The setting has what names and accumulators hold.
+-- Items: what items are printed as, in a `BlockContext`, as gq_json's values. It has what names and accumulators hold.
 use Rattle.std.specs.Prelude.{ℕ, List, [], ◌∷◌, Option, Some}
 use Rattle.gq_value.specs.declared.value.Wrong.{Wrong}
 use Rattle.gq_json.specs.declared.out.Out as json
@@ -37,7 +37,7 @@ members_shown world look slots items = each (member_of world look slots) items
 abbrev pub member_shown : World Reference → Look Reference → List (Slot Reference) → List (Expr × Bytes) → ℕ → Answer Wrong json.Out
 member_shown world look slots columns v = members_shown world look slots columns >>= vertex_shown world v
 
--- ---- over a setting
+-- ---- in a block
 
 -- what is seen of it, with aliases before its names
 abbrev pub look_with : Calendar → Over → List (ℕ × Placed) → Look Reference

@@ -8,15 +8,16 @@ ghost use Rattle.gq_rules_typing.specs.Sorts.{attribute_fields};
 ghost use Rattle.gq_eval_context.specs.Looks.{world_over};
 ghost use Rattle.gq_frame.specs.Slots.{slots_are};
 ghost use Rattle.gq_rules_meaning.specs.Answers.{Gives};
+ghost use Rattle.gq_rules_calendar.specs.Gregorian.{gregorian};
 ghost use Rattle.gq_plan_ir.specs.PlanView.{accum_names, names_in};
 ghost use Rattle.gq_output.specs.Printed.{named_shown};
 ghost use Rattle.gq_output.specs.Vertices.{IsAttached, attached_shown, read_shown, slot_shown, vertex_named};
 
 use crate::ids::shown_id;
 use crate::seen::out_read;
-use crate::values::{item, put, put_value};
+use crate::values::{put, put_value};
 use gq_base::{List, OutOfMemory};
-use gq_eval_context::{Clock, Setting};
+use gq_eval_context::BlockContext;
 use gq_frame::read_target;
 use gq_graph::{Attribute, VertexType};
 use gq_json::{Members, Out};
@@ -27,16 +28,16 @@ use std::alloc::Global;
 
 /// The attributes of a vertex of a type, as members: a shown id stands first.
 #[tactic(auto, using(crate::proofs::VertexLemmas::id_first_laws))]
-pub(crate) fn attributes<C: Clock>(
+pub(crate) fn attributes(
     alloc: Global,
-    over: &Setting<'_, C>,
+    over: &BlockContext<'_>,
     of: &VertexType,
     vertices: &Vertices,
     vertex: u32,
 ) -> Result<Members, OutOfMemory>
     requires there { vertex < length vertices.now }
     requires within { length of.now.attributes ≤ length (vertex_at vertices.now vertex).attributes }
-    ensures { IfOk result (λ members. members ≡ vertex_named (world_over C.clock over.now) of.now (vertex_at vertices.now vertex)) }
+    ensures { IfOk result (λ members. members ≡ vertex_named (world_over gregorian over.now) of.now (vertex_at vertices.now vertex)) }
 {
     let mut members = List::new(alloc);
     if of.id.shown {
@@ -56,9 +57,9 @@ pub(crate) fn attributes<C: Clock>(
 
 /// The declared attributes of a vertex, behind other members.
 #[tactic(auto, using(crate::proofs::VertexLemmas::attribute_laws))]
-fn put_attributes<C: Clock>(
+fn put_attributes(
     alloc: Global,
-    over: &Setting<'_, C>,
+    over: &BlockContext<'_>,
     attributes: &[Attribute],
     vertices: &Vertices,
     vertex: u32,
@@ -66,7 +67,7 @@ fn put_attributes<C: Clock>(
 ) -> Result<(), OutOfMemory>
     requires there { vertex < length vertices.now }
     requires within { length attributes.now ≤ length (vertex_at vertices.now vertex).attributes }
-    ensures { OnOk result (members.new ≡ members.old ++ named_shown (world_over C.clock over.now) (attribute_fields attributes.now) (map val (vertex_at vertices.now vertex).attributes)) }
+    ensures { OnOk result (members.new ≡ members.old ++ named_shown (world_over gregorian over.now) (attribute_fields attributes.now) (map val (vertex_at vertices.now vertex).attributes)) }
 {
     for (place, attribute) in attributes.iter().enumerate() {
         match u32::try_from(place) {
@@ -89,13 +90,13 @@ fn put_attributes<C: Clock>(
 
 /// The attached accumulators of a vertex by their names, in order of declaration, behind other members.
 #[tactic(auto, using(crate::proofs::SlotLemmas::attached_laws))]
-pub(crate) fn put_attached<C: Clock>(
+pub(crate) fn put_attached(
     alloc: Global,
-    over: &Setting<'_, C>,
+    over: &BlockContext<'_>,
     vertex: u32,
     members: &mut Members,
 ) -> Result<(), OutOfMemory>
-    ensures { OnOk result (members.new ≡ members.old ++ attached_shown (world_over C.clock over.now) vertex (slots_are over.now.frame.accums)) }
+    ensures { OnOk result (members.new ≡ members.old ++ attached_shown (world_over gregorian over.now) vertex (slots_are over.now.frame.accums)) }
 {
     let count = slot_count(over)?;
     for slot in 0..count {
@@ -105,7 +106,7 @@ pub(crate) fn put_attached<C: Clock>(
 }
 
 /// How many accumulators there are.
-fn slot_count<C>(over: &Setting<'_, C>) -> Result<u32, OutOfMemory>
+fn slot_count(over: &BlockContext<'_>) -> Result<u32, OutOfMemory>
     ensures { IfOk result (λ count. count ≡ length over.now.frame.accums.slots.declared) }
 {
     match u32::try_from(over.frame.accums.slots.declared.len()) {
@@ -116,14 +117,14 @@ fn slot_count<C>(over: &Setting<'_, C>) -> Result<u32, OutOfMemory>
 
 /// What a vertex has of the accumulator in a slot, if it is attached, behind other members.
 #[tactic(auto, using(crate::proofs::SlotLemmas::slot_laws))]
-fn put_slot<C: Clock>(
+fn put_slot(
     alloc: Global,
-    over: &Setting<'_, C>,
+    over: &BlockContext<'_>,
     slot: u32,
     vertex: u32,
     members: &mut Members,
 ) -> Result<(), OutOfMemory>
-    ensures { OnOk result (members.new ≡ members.old ++ slot_shown (world_over C.clock over.now) vertex (slice_get (slots_are over.now.frame.accums) slot)) }
+    ensures { OnOk result (members.new ≡ members.old ++ slot_shown (world_over gregorian over.now) vertex (slice_get (slots_are over.now.frame.accums) slot)) }
 {
     match declared(over, slot) {
         None => Err(OutOfMemory),
@@ -138,23 +139,23 @@ fn put_slot<C: Clock>(
 }
 
 /// What was declared in a slot.
-fn declared<'a, C>(over: &Setting<'a, C>, slot: u32) -> Option<&'a Slot>
+fn declared<'a>(over: &BlockContext<'a>, slot: u32) -> Option<&'a Slot>
     ensures { slice_get over.now.frame.accums.slots.declared slot ≡ option_copied result }
 {
-    item(&over.frame.accums.slots.declared, slot as usize)
+    over.frame.accums.slots.declared.get(slot as usize)
 }
 
 /// What a vertex has of the attached accumulator in a slot, behind other members.
 #[tactic(auto, using(crate::proofs::SlotLemmas::slot_laws))]
-fn put_attached_slot<C: Clock>(
+fn put_attached_slot(
     alloc: Global,
-    over: &Setting<'_, C>,
+    over: &BlockContext<'_>,
     slot: u32,
     vertex: u32,
     members: &mut Members,
 ) -> Result<(), OutOfMemory>
     requires { IsAttached over.now slot }
-    ensures { OnOk result (members.new ≡ members.old ++ slot_shown (world_over C.clock over.now) vertex (slice_get (slots_are over.now.frame.accums) slot)) }
+    ensures { OnOk result (members.new ≡ members.old ++ slot_shown (world_over gregorian over.now) vertex (slice_get (slots_are over.now.frame.accums) slot)) }
 {
     match name_of(over, slot) {
         None => Err(OutOfMemory),
@@ -166,13 +167,13 @@ fn put_attached_slot<C: Clock>(
 }
 
 /// What the accumulator in a slot reads as at a vertex.
-fn read_slot<C: Clock>(
+fn read_slot(
     alloc: Global,
-    over: &Setting<'_, C>,
+    over: &BlockContext<'_>,
     slot: u32,
     vertex: u32,
 ) -> Result<Out, OutOfMemory>
-    ensures { IfOk result (λ out. read_shown (world_over C.clock over.now) (slots_are over.now.frame.accums) slot vertex ≡ Gives out) }
+    ensures { IfOk result (λ out. read_shown (world_over gregorian over.now) (slots_are over.now.frame.accums) slot vertex ≡ Gives out) }
 {
     match read_target(&over.frame.accums, slot, vertex) {
         Ok(seen) => out_read(alloc, over, seen),
@@ -181,7 +182,7 @@ fn read_slot<C: Clock>(
 }
 
 /// The name of the accumulator in a slot, if it has one.
-fn name_of<'a, C>(over: &Setting<'a, C>, slot: u32) -> Option<&'a Txt>
+fn name_of<'a>(over: &BlockContext<'a>, slot: u32) -> Option<&'a Txt>
     ensures { IfSome result (λ name. slice_get (accum_names over.now.plan) slot ≡ Some name.now) }
 {
     accum_name(over.plan.definitions.as_slice(), slot)
@@ -209,7 +210,7 @@ fn name_in(definition: &Definition, place: usize) -> Option<&Txt>
 {
     match definition {
         Definition::Tuple(_, _) => None,
-        Definition::Accums(_, accums) => match item(accums, place) {
+        Definition::Accums(_, accums) => match accums.get(place) {
             Some(accum) => Some(&accum.name),
             None => None,
         },

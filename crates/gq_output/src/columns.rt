@@ -2,6 +2,7 @@
 ghost use Rattle.std.specs.Prelude.{◌≡◌, IfSome, Some, map};
 ghost use Rattle.gq_rules_meaning.specs.Answers.{each};
 ghost use Rattle.gq_rules_meaning.specs.States.{SetOf};
+ghost use Rattle.gq_rules_calendar.specs.Gregorian.{gregorian};
 ghost use Rattle.gq_eval_operand.specs.Meant.{itself, Tells};
 ghost use Rattle.gq_frame.specs.Names.{alias_of, thing_in};
 ghost use Rattle.gq_frame.specs.Slots.{slots_are};
@@ -12,25 +13,25 @@ ghost use Rattle.gq_output.specs.Items.{columns_shown, member_at, member_shown};
 use crate::items::{accums_of, members};
 use crate::vertices::out_vertex;
 use gq_base::List;
-use gq_eval_context::{Clock, Setting};
+use gq_eval_context::BlockContext;
 use gq_eval_operand::{Halt, Sees};
-use gq_frame::{Alias, Bound, Thing};
+use gq_frame::{Alias, Bound, set_at};
 use gq_json::{Out, Outs};
-use gq_plan_ir::{Expr, PlaceType};
+use gq_plan_ir::Expr;
 use gq_value::Txt;
 use std::alloc::Global;
 
 /// The vertices of the set at a place, each with these columns in place of its attributes.
 #[tactic(auto, using(crate::proofs::ColumnLemmas::column_laws))]
-pub(crate) fn columns<C: Clock>(
+pub(crate) fn columns(
     columns: &[(Expr, Txt)],
     alloc: Global,
-    over: &Setting<'_, C>,
+    over: &BlockContext<'_>,
     place: u32,
 ) -> Result<Out, Halt>
-    ensures { Tells itself (columns_shown C.clock over.now columns.now place (thing_in over.now.plan.places over.now.frame.things place)) result }
+    ensures { Tells itself (columns_shown gregorian over.now columns.now place (thing_in over.now.plan.places over.now.frame.things place)) result }
 {
-    match set_at(over, place) {
+    match set_of(over, place) {
         None => Err(Halt::OutOfMemory),
         Some((types, set)) => match vertices(columns, alloc, over, place, types, set) {
             Ok(outs) => Ok(Out::List(outs)),
@@ -40,31 +41,30 @@ pub(crate) fn columns<C: Clock>(
 }
 
 /// The types and the vertices of the set at a place, if there is one.
-fn set_at<'a, C>(over: &Setting<'a, C>, place: u32) -> Option<(&'a [u32], &'a [u32])>
+fn set_of<'a>(over: &BlockContext<'a>, place: u32) -> Option<(&'a [u32], &'a [u32])>
     ensures { IfSome result (λ set. thing_in over.now.plan.places over.now.frame.things place ≡ Some (SetOf set.0.now set.1.now)) }
 {
-    match over.plan.places.as_slice().get(place as usize) {
-        Some(PlaceType::Set(types)) => match over.frame.things.as_slice().get(place as usize) {
-            Some(Some(Thing::Set(set))) => Some((types.as_slice(), set.as_slice())),
-            Some(Some(Thing::Value(_))) | Some(None) | None => None,
-        },
-        Some(PlaceType::Variable(_)) | Some(PlaceType::Alias(_)) | Some(PlaceType::EdgeAlias(_)) =>
-            None,
+    match set_at(
+        over.plan.places.as_slice(),
+        over.frame.things.as_slice(),
+        place,
+    ) {
         None => None,
+        Some((types, set)) => Some((types, set.as_slice())),
     }
 }
 
 /// Vertex after vertex, in the set's order.
 #[tactic(auto, using(crate::proofs::ColumnLemmas::vertex_laws))]
-fn vertices<C: Clock>(
+fn vertices(
     columns: &[(Expr, Txt)],
     alloc: Global,
-    over: &Setting<'_, C>,
+    over: &BlockContext<'_>,
     place: u32,
     types: &[u32],
     set: &[u32],
 ) -> Result<Outs, Halt>
-    ensures { Tells itself (each (member_at C.clock over.now columns.now place types.now set.now) set.now) result }
+    ensures { Tells itself (each (member_at gregorian over.now columns.now place types.now set.now) set.now) result }
 {
     let mut outs = List::new(alloc);
     for vertex in set {
@@ -83,30 +83,30 @@ fn vertices<C: Clock>(
     Ok(outs)
 }
 
-fn member_under<C: Clock>(
+fn member_under(
     columns: &[(Expr, Txt)],
     alloc: Global,
-    over: &Setting<'_, C>,
+    over: &BlockContext<'_>,
     aliases: &[Alias<'_>],
     vertex: u32,
 ) -> Result<Out, Halt>
-    ensures { Tells itself (member_shown (world_over C.clock over.now) (look_of C.clock (viewed over.now (map alias_of aliases.now) over.now.frame.accums over.now.frame.accums)) (slots_are over.now.frame.accums) columns.now vertex) result }
+    ensures { Tells itself (member_shown (world_over gregorian over.now) (look_of gregorian (viewed over.now (map alias_of aliases.now) over.now.frame.accums over.now.frame.accums)) (slots_are over.now.frame.accums) columns.now vertex) result }
 {
     let accums = accums_of(over);
-    let sight = over.view(aliases, accums, accums);
+    let sight = over.eval_context(aliases, accums, accums);
     member_seen(columns, alloc, over, &sight, vertex)
 }
 
 /// A vertex with these columns, of whatever they look at.
 #[tactic(auto, using(crate::proofs::ColumnLemmas::member_laws))]
-fn member_seen<V: Sees, C: Clock>(
+fn member_seen<V: Sees>(
     columns: &[(Expr, Txt)],
     alloc: Global,
-    over: &Setting<'_, C>,
+    over: &BlockContext<'_>,
     sight: &V,
     vertex: u32,
 ) -> Result<Out, Halt>
-    ensures { Tells itself (member_shown (world_over C.clock over.now) (V.look sight.now) (slots_are over.now.frame.accums) columns.now vertex) result }
+    ensures { Tells itself (member_shown (world_over gregorian over.now) (V.look sight.now) (slots_are over.now.frame.accums) columns.now vertex) result }
 {
     match members(columns, alloc, over, sight) {
         Err(halt) => Err(halt),

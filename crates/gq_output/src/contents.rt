@@ -8,14 +8,15 @@ ghost use Rattle.gq_value.specs.Views.{val};
 ghost use Rattle.gq_value.specs.Order.{place};
 ghost use Rattle.gq_accum_laws.specs.Gather.{distinct};
 ghost use Rattle.gq_nest.specs.Tells.{Tells};
+ghost use Rattle.gq_rules_calendar.specs.Gregorian.{gregorian};
 ghost use Rattle.gq_eval_operand.specs.Meant.{keys_are, parts_are, sort_is};
 ghost use Rattle.gq_eval_context.specs.Looks.{world_over};
 ghost use Rattle.gq_output.specs.Printed.{AreShown, IsGroup, IsMap, IsShown, content_shown, elements_out, elements_shown, groups_shown, key_fields, map_shown, named_shown, part_kinds, parts_shown, plain_shown, scalar_shown, value_shown};
 
 use crate::keys::key_text;
-use crate::values::{nth, out_value, put, put_value, values};
+use crate::values::{out_value, put, put_value, values};
 use gq_base::{List, OutOfMemory};
-use gq_eval_context::{Clock, Setting};
+use gq_eval_context::BlockContext;
 use gq_eval_operand::Sort;
 use gq_json::{Members, Out, Outs};
 use gq_nest::{Content, Parts};
@@ -28,14 +29,14 @@ use std::collections::BTreeSet;
 /// What it holds is lent; a bag or heap alone is copied, to be put in order.
 #[cycle(contents)]
 #[tactic(auto, using(gq_value::proofs::AccumLemmas::accum_laws, crate::proofs::ContentLemmas::content_laws))]
-pub fn out_content<C: Clock>(
+pub fn out_content(
     alloc: Global,
-    over: &Setting<'_, C>,
+    over: &BlockContext<'_>,
     kind: &Kind,
     content: &Content,
 ) -> Result<Out, OutOfMemory>
     requires { IsShown (accum_of kind.now) content.now }
-    ensures { IfOk result (λ out. out ≡ content_shown (world_over C.clock over.now) (accum_of kind.now) content.now) }
+    ensures { IfOk result (λ out. out ≡ content_shown (world_over gregorian over.now) (accum_of kind.now) content.now) }
 {
     match kind {
         Kind::Sum(_) | Kind::Min(_) | Kind::Max(_) | Kind::Avg => scalar(kind, content),
@@ -80,26 +81,26 @@ fn plain(value: Value) -> Result<Out, OutOfMemory>
 
 /// A set, bag, list or heap, as a list.
 #[tactic(auto, using(crate::proofs::ContentLemmas::list_made))]
-fn collection<C: Clock>(
+fn collection(
     alloc: Global,
-    over: &Setting<'_, C>,
+    over: &BlockContext<'_>,
     sort: Sort<'_>,
     content: &Content,
 ) -> Result<Out, OutOfMemory>
-    ensures { IfOk result (λ out. Tells content.now out (elements_out (world_over C.clock over.now) (sort_is sort.entry))) }
+    ensures { IfOk result (λ out. Tells content.now out (elements_out (world_over gregorian over.now) (sort_is sort.entry))) }
 {
     let outs = elements(alloc, over, sort, content)?;
     Ok(Out::List(outs))
 }
 
 /// The elements of a set, bag, list or heap.
-fn elements<C: Clock>(
+fn elements(
     alloc: Global,
-    over: &Setting<'_, C>,
+    over: &BlockContext<'_>,
     sort: Sort<'_>,
     content: &Content,
 ) -> Result<Outs, OutOfMemory>
-    ensures { IfOk result (λ outs. Tells content.now outs (elements_shown (world_over C.clock over.now) (sort_is sort.entry))) }
+    ensures { IfOk result (λ outs. Tells content.now outs (elements_shown (world_over gregorian over.now) (sort_is sort.entry))) }
 {
     match content {
         Content::Set(keys) => keys_of(alloc, over, sort, keys),
@@ -111,26 +112,26 @@ fn elements<C: Clock>(
 }
 
 /// Copies of the elements, put in order.
-fn in_order<C: Clock>(
+fn in_order(
     alloc: Global,
-    over: &Setting<'_, C>,
+    over: &BlockContext<'_>,
     sort: Sort<'_>,
     content: &Content,
 ) -> Result<Outs, OutOfMemory>
-    ensures { IfOk result (λ outs. Tells content.now outs (elements_shown (world_over C.clock over.now) (sort_is sort.entry))) }
+    ensures { IfOk result (λ outs. Tells content.now outs (elements_shown (world_over gregorian over.now) (sort_is sort.entry))) }
 {
     let row = content.elements(alloc)?;
     values(alloc, over, sort, row.as_slice())
 }
 
 /// The elements of a set, ascending.
-fn keys_of<C: Clock>(
+fn keys_of(
     alloc: Global,
-    over: &Setting<'_, C>,
+    over: &BlockContext<'_>,
     sort: Sort<'_>,
     keys: &BTreeSet<Value>,
 ) -> Result<Outs, OutOfMemory>
-    ensures { IfOk result (λ outs. outs ≡ map (value_shown (world_over C.clock over.now) (sort_is sort.entry)) (distinct place (map val keys.now.keys))) }
+    ensures { IfOk result (λ outs. outs ≡ map (value_shown (world_over gregorian over.now) (sort_is sort.entry)) (distinct place (map val keys.now.keys))) }
 {
     let mut outs = List::new(alloc);
     for key in keys {
@@ -141,14 +142,14 @@ fn keys_of<C: Clock>(
 
 /// What a map holds, as members by the texts of their keys.
 #[cycle(contents)]
-fn entries<C: Clock>(
+fn entries(
     alloc: Global,
-    over: &Setting<'_, C>,
+    over: &BlockContext<'_>,
     kind: &Kind,
     content: &Content,
 ) -> Result<Members, OutOfMemory>
     requires { IsMap (accum_of kind.now) content.now }
-    ensures { IfOk result (λ members. members ≡ map_shown (world_over C.clock over.now) (accum_of kind.now) content.now) }
+    ensures { IfOk result (λ members. members ≡ map_shown (world_over gregorian over.now) (accum_of kind.now) content.now) }
 {
     match content {
         Content::Map(_, entries) => {
@@ -165,14 +166,14 @@ fn entries<C: Clock>(
 
 /// What a group holds, as an object for each key row.
 #[cycle(contents)]
-fn groups<C: Clock>(
+fn groups(
     alloc: Global,
-    over: &Setting<'_, C>,
+    over: &BlockContext<'_>,
     shape: &GroupShape,
     content: &Content,
 ) -> Result<Outs, OutOfMemory>
     requires { IsGroup (keys_are shape.now) (parts_are shape.now) content.now }
-    ensures { IfOk result (λ outs. outs ≡ groups_shown (world_over C.clock over.now) (keys_are shape.now) (parts_are shape.now) content.now) }
+    ensures { IfOk result (λ outs. outs ≡ groups_shown (world_over gregorian over.now) (keys_are shape.now) (parts_are shape.now) content.now) }
 {
     match content {
         Content::Group(_, groups) => {
@@ -198,15 +199,15 @@ fn lent<'a>(shape: &GroupShape, parts: &'a Parts) -> &'a [Content]
 
 /// A key row with its parts: the keys by their names, and then the parts by theirs.
 #[cycle(contents)]
-fn group<C: Clock>(
+fn group(
     alloc: Global,
-    over: &Setting<'_, C>,
+    over: &BlockContext<'_>,
     parts: &[Content],
     shape: &GroupShape,
     row: &[Value],
 ) -> Result<Out, OutOfMemory>
     requires { AreShown (parts_are shape.now) parts.now }
-    ensures { IfOk result (λ out. out ≡ json.Object (named_shown (world_over C.clock over.now) (keys_are shape.now) (map val row.now) ++ parts_shown (world_over C.clock over.now) (parts_are shape.now) parts.now)) }
+    ensures { IfOk result (λ out. out ≡ json.Object (named_shown (world_over gregorian over.now) (keys_are shape.now) (map val row.now) ++ parts_shown (world_over gregorian over.now) (parts_are shape.now) parts.now)) }
 {
     let mut members = List::new(alloc);
     put_keys(alloc, over, shape.keys.as_slice(), row, &mut members)?;
@@ -216,17 +217,17 @@ fn group<C: Clock>(
 
 /// The keys of a row by their names, behind other members.
 #[tactic(auto, using(crate::proofs::NamedLemmas::key_laws))]
-fn put_keys<C: Clock>(
+fn put_keys(
     alloc: Global,
-    over: &Setting<'_, C>,
+    over: &BlockContext<'_>,
     keys: &[(Txt, BaseType)],
     row: &[Value],
     members: &mut Members,
 ) -> Result<(), OutOfMemory>
-    ensures { OnOk result (members.new ≡ members.old ++ named_shown (world_over C.clock over.now) (key_fields keys.now) (map val row.now)) }
+    ensures { OnOk result (members.new ≡ members.old ++ named_shown (world_over gregorian over.now) (key_fields keys.now) (map val row.now)) }
 {
     for (place, key) in keys.iter().enumerate() {
-        match nth(row, place) {
+        match row.get(place) {
             None => return Err(OutOfMemory),
             Some(value) => put_value(alloc, over, &key.0, &key.1, value, members)?,
         }
@@ -237,15 +238,15 @@ fn put_keys<C: Clock>(
 /// Parts by their names, behind other members.
 #[cycle(contents)]
 #[tactic(auto, using(crate::proofs::ContentLemmas::part_laws))]
-fn put_parts<C: Clock>(
+fn put_parts(
     alloc: Global,
-    over: &Setting<'_, C>,
+    over: &BlockContext<'_>,
     parts: &[Content],
     kinds: &[(Txt, Kind)],
     members: &mut Members,
 ) -> Result<(), OutOfMemory>
     requires { AreShown (part_kinds kinds.now) parts.now }
-    ensures { OnOk result (members.new ≡ members.old ++ parts_shown (world_over C.clock over.now) (part_kinds kinds.now) parts.now) }
+    ensures { OnOk result (members.new ≡ members.old ++ parts_shown (world_over gregorian over.now) (part_kinds kinds.now) parts.now) }
 {
     for (place, part) in parts.iter().enumerate() {
         match kind_at(kinds, parts, place, part) {
@@ -272,5 +273,5 @@ fn kind_at<'a>(
     ensures kind { slice_get kinds.entry.now place ≡ option_copied result }
     ensures shown { IfSome result (λ kind. IsShown (accum_of kind.now.1) part.now) }
 {
-    nth(kinds, place)
+    kinds.get(place)
 }

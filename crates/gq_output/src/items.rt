@@ -1,5 +1,6 @@
 // Expressions with their keys.
 ghost use Rattle.std.specs.Prelude.{◌≡◌, ◌++◌, ◌∷◌, [], OnOk};
+ghost use Rattle.gq_rules_calendar.specs.Gregorian.{gregorian};
 ghost use Rattle.gq_plan_ir.specs.ExprView.{view};
 ghost use Rattle.gq_eval_operand.specs.Meant.{itself, Tells};
 ghost use Rattle.gq_frame.specs.Slots.{AreSound, slots_are};
@@ -9,7 +10,7 @@ ghost use Rattle.gq_output.specs.Items.{item_shown, members_shown};
 use crate::seen::out_seen;
 use gq_base::{List, OutOfMemory};
 use gq_eval::run;
-use gq_eval_context::{Clock, Setting};
+use gq_eval_context::BlockContext;
 use gq_eval_operand::{Halt, Sees};
 use gq_frame::Accums;
 use gq_json::{Members, Out};
@@ -19,13 +20,13 @@ use std::alloc::Global;
 
 /// What an expression is printed as, of whatever it looks at.
 #[tactic(auto, using(crate::proofs::ItemLemmas::item_laws))]
-pub(crate) fn item<V: Sees, C: Clock>(
+pub(crate) fn item<V: Sees>(
     expr: &Expr,
     alloc: Global,
-    over: &Setting<'_, C>,
+    over: &BlockContext<'_>,
     sight: &V,
 ) -> Result<Out, Halt>
-    ensures { Tells itself (item_shown (world_over C.clock over.now) (V.look sight.now) (slots_are over.now.frame.accums) (view expr.now)) result }
+    ensures { Tells itself (item_shown (world_over gregorian over.now) (V.look sight.now) (slots_are over.now.frame.accums) (view expr.now)) result }
 {
     match run(expr, alloc, sight) {
         Err(halt) => Err(halt),
@@ -38,13 +39,13 @@ pub(crate) fn item<V: Sees, C: Clock>(
 
 /// Expressions with their keys, as members in order.
 #[tactic(auto, using(crate::proofs::ItemLemmas::member_laws))]
-pub(crate) fn members<V: Sees, C: Clock>(
+pub(crate) fn members<V: Sees>(
     items: &[(Expr, Txt)],
     alloc: Global,
-    over: &Setting<'_, C>,
+    over: &BlockContext<'_>,
     sight: &V,
 ) -> Result<Members, Halt>
-    ensures { Tells itself (members_shown (world_over C.clock over.now) (V.look sight.now) (slots_are over.now.frame.accums) items.now) result }
+    ensures { Tells itself (members_shown (world_over gregorian over.now) (V.look sight.now) (slots_are over.now.frame.accums) items.now) result }
 {
     let mut members = List::new(alloc);
     for keyed in items {
@@ -60,7 +61,7 @@ pub(crate) fn members<V: Sees, C: Clock>(
 }
 
 /// The accumulators, which no content spoils.
-pub(crate) fn accums_of<'a, C>(over: &Setting<'a, C>) -> &'a Accums
+pub(crate) fn accums_of<'a>(over: &BlockContext<'a>) -> &'a Accums
     ensures value { result.now ≡ over.now.frame.accums }
     ensures sound { AreSound result.now }
 {

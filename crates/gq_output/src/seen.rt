@@ -4,6 +4,7 @@ ghost use Rattle.gq_value.specs.AccumViews.{accum_of};
 ghost use Rattle.gq_value.specs.Views.{val};
 ghost use Rattle.gq_accum_laws.specs.After.{fresh};
 ghost use Rattle.gq_rules_meaning.specs.Answers.{Gives, each};
+ghost use Rattle.gq_rules_calendar.specs.Gregorian.{gregorian};
 ghost use Rattle.gq_frame.specs.Slots.{slots_are};
 ghost use Rattle.gq_eval_operand.specs.Meant.{meant, sort_is, valued};
 ghost use Rattle.gq_eval_operand.specs.Sound.{Sound};
@@ -15,7 +16,7 @@ use crate::contents::out_content;
 use crate::values::out_value;
 use crate::vertices::out_whole_vertex;
 use gq_base::{List, OutOfMemory};
-use gq_eval_context::{Clock, Setting};
+use gq_eval_context::BlockContext;
 use gq_eval_operand::{Operand, Seen, Sort};
 use gq_json::{Out, Outs};
 use gq_nest::Content;
@@ -24,13 +25,9 @@ use std::alloc::Global;
 
 /// What an expression is: a value, an average, a collection or a set.
 #[tactic(auto, using(crate::proofs::SeenLemmas::seen_laws))]
-pub fn out_seen<C: Clock>(
-    alloc: Global,
-    over: &Setting<'_, C>,
-    seen: Seen<'_>,
-) -> Result<Out, OutOfMemory>
+pub fn out_seen(alloc: Global, over: &BlockContext<'_>, seen: Seen<'_>) -> Result<Out, OutOfMemory>
     requires { Sound seen }
-    ensures { IfOk result (λ out. meant_shown (world_over C.clock over.now) (slots_are over.now.frame.accums) (meant seen.entry) ≡ Gives out) }
+    ensures { IfOk result (λ out. meant_shown (world_over gregorian over.now) (slots_are over.now.frame.accums) (meant seen.entry) ≡ Gives out) }
 {
     match seen {
         Seen::Value(sort, operand) => out_operand(alloc, over, sort, operand),
@@ -45,13 +42,13 @@ pub fn out_seen<C: Clock>(
 
 /// What an accumulator reads as: a value, an average or a collection.
 #[tactic(auto, using(crate::proofs::SeenLemmas::seen_laws))]
-pub(crate) fn out_read<C: Clock>(
+pub(crate) fn out_read(
     alloc: Global,
-    over: &Setting<'_, C>,
+    over: &BlockContext<'_>,
     seen: Seen<'_>,
 ) -> Result<Out, OutOfMemory>
     requires { Sound seen }
-    ensures { IfOk result (λ out. meant_shown (world_over C.clock over.now) [] (meant seen.entry) ≡ Gives out) }
+    ensures { IfOk result (λ out. meant_shown (world_over gregorian over.now) [] (meant seen.entry) ≡ Gives out) }
 {
     match seen {
         Seen::Value(sort, operand) => out_operand(alloc, over, sort, operand),
@@ -65,13 +62,13 @@ pub(crate) fn out_read<C: Clock>(
 
 /// A value of a type. A text that was made for this is moved.
 #[tactic(auto, using(gq_value::specs::ViewLaws::view_laws, crate::proofs::ValueLemmas::value_laws))]
-fn out_operand<C: Clock>(
+fn out_operand(
     alloc: Global,
-    over: &Setting<'_, C>,
+    over: &BlockContext<'_>,
     sort: Sort<'_>,
     operand: Operand<'_>,
 ) -> Result<Out, OutOfMemory>
-    ensures { IfOk result (λ out. out ≡ value_shown (world_over C.clock over.now) (sort_is sort.entry) (valued operand.entry)) }
+    ensures { IfOk result (λ out. out ≡ value_shown (world_over gregorian over.now) (sort_is sort.entry) (valued operand.entry)) }
 {
     match operand {
         Operand::Lent(value) => out_value(alloc, over, sort, value),
@@ -81,13 +78,13 @@ fn out_operand<C: Clock>(
 }
 
 #[tactic(auto, using(gq_value::specs::ViewLaws::view_laws, crate::proofs::ValueLemmas::value_laws))]
-fn out_made<C: Clock>(
+fn out_made(
     alloc: Global,
-    over: &Setting<'_, C>,
+    over: &BlockContext<'_>,
     sort: Sort<'_>,
     value: Value,
 ) -> Result<Out, OutOfMemory>
-    ensures { IfOk result (λ out. out ≡ value_shown (world_over C.clock over.now) (sort_is sort.entry) (val value)) }
+    ensures { IfOk result (λ out. out ≡ value_shown (world_over gregorian over.now) (sort_is sort.entry) (val value)) }
 {
     match value {
         Value::Text(text) => Ok(Out::Text(text)),
@@ -97,12 +94,8 @@ fn out_made<C: Clock>(
 
 /// A collection before any input.
 #[tactic(auto, using(crate::proofs::SeenLemmas::opening_laws))]
-fn out_opening<C: Clock>(
-    alloc: Global,
-    over: &Setting<'_, C>,
-    kind: &Kind,
-) -> Result<Out, OutOfMemory>
-    ensures { IfOk result (λ out. out ≡ fresh_shown (world_over C.clock over.now) (accum_of kind.now)) }
+fn out_opening(alloc: Global, over: &BlockContext<'_>, kind: &Kind) -> Result<Out, OutOfMemory>
+    ensures { IfOk result (λ out. out ≡ fresh_shown (world_over gregorian over.now) (accum_of kind.now)) }
 {
     let opening = Content::fresh(alloc, kind)?;
     out_content(alloc, over, kind, &opening)
@@ -110,12 +103,12 @@ fn out_opening<C: Clock>(
 
 /// Whole vertices, in order.
 #[tactic(auto, using(crate::proofs::SeenLemmas::set_laws))]
-pub fn out_set<C: Clock>(
+pub fn out_set(
     alloc: Global,
-    over: &Setting<'_, C>,
+    over: &BlockContext<'_>,
     vertices: &[u32],
 ) -> Result<Outs, OutOfMemory>
-    ensures { IfOk result (λ outs. each (whole_shown (world_over C.clock over.now) (slots_are over.now.frame.accums)) vertices.now ≡ Gives outs) }
+    ensures { IfOk result (λ outs. each (whole_shown (world_over gregorian over.now) (slots_are over.now.frame.accums)) vertices.now ≡ Gives outs) }
 {
     let mut outs = List::new(alloc);
     for vertex in vertices {

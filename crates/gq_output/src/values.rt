@@ -5,6 +5,7 @@ ghost use Rattle.gq_json.specs.declared.out.Out.TheVariants as json;
 ghost use Rattle.gq_value.specs.Views.{val, vals};
 ghost use Rattle.gq_value.specs.Val.{Int, Tuple};
 ghost use Rattle.gq_value.specs.AccumViews.{base_of};
+ghost use Rattle.gq_rules_calendar.specs.Gregorian.{gregorian};
 ghost use Rattle.gq_eval_attributes.specs.Tuples.{fields_in};
 ghost use Rattle.gq_eval_operand.specs.Meant.{sort_is};
 ghost use Rattle.gq_eval_context.specs.Looks.{world_over};
@@ -13,7 +14,7 @@ ghost use Rattle.gq_output.specs.Printed.{named_shown, time_shown, value_shown};
 use crate::keys::id_of;
 use gq_base::{List, OutOfMemory};
 use gq_eval_attributes::TupleType;
-use gq_eval_context::{Clock, Setting};
+use gq_eval_context::BlockContext;
 use gq_eval_operand::Sort;
 use gq_json::{Members, Out, Outs};
 use gq_time::{in_range, write_time};
@@ -23,13 +24,13 @@ use std::alloc::Global;
 /// A value of a type: a vertex as its id, a DATETIME as its text, a tuple as an object.
 #[cycle(values)]
 #[tactic(auto, using(gq_value::specs::ViewLaws::view_laws, crate::proofs::ValueLemmas::value_laws))]
-pub fn out_value<C: Clock>(
+pub fn out_value(
     alloc: Global,
-    over: &Setting<'_, C>,
+    over: &BlockContext<'_>,
     sort: Sort<'_>,
     value: &Value,
 ) -> Result<Out, OutOfMemory>
-    ensures { IfOk result (λ out. out ≡ value_shown (world_over C.clock over.now) (sort_is sort.entry) (val value.now)) }
+    ensures { IfOk result (λ out. out ≡ value_shown (world_over gregorian over.now) (sort_is sort.entry) (val value.now)) }
 {
     match value {
         Value::Int(x) => whole(alloc, over, sort, *x),
@@ -44,13 +45,8 @@ pub fn out_value<C: Clock>(
 
 /// A whole number with a sign, or the DATETIME of so many seconds.
 #[tactic(auto, using(crate::proofs::ValueLemmas::whole_laws))]
-fn whole<C: Clock>(
-    alloc: Global,
-    over: &Setting<'_, C>,
-    sort: Sort<'_>,
-    x: i64,
-) -> Result<Out, OutOfMemory>
-    ensures { IfOk result (λ out. out ≡ value_shown (world_over C.clock over.now) (sort_is sort.entry) (Int x)) }
+fn whole(alloc: Global, over: &BlockContext<'_>, sort: Sort<'_>, x: i64) -> Result<Out, OutOfMemory>
+    ensures { IfOk result (λ out. out ≡ value_shown (world_over gregorian over.now) (sort_is sort.entry) (Int x)) }
 {
     match sort {
         Sort::Time => time(alloc, over, x),
@@ -61,8 +57,8 @@ fn whole<C: Clock>(
 
 /// The text of a DATETIME.
 #[tactic(auto, using(crate::proofs::ValueLemmas::time_laws))]
-fn time<C: Clock>(alloc: Global, _over: &Setting<'_, C>, seconds: i64) -> Result<Out, OutOfMemory>
-    ensures { IfOk result (λ out. out ≡ time_shown C.clock seconds) }
+fn time(alloc: Global, _over: &BlockContext<'_>, seconds: i64) -> Result<Out, OutOfMemory>
+    ensures { IfOk result (λ out. out ≡ time_shown gregorian seconds) }
 {
     if !in_range(seconds) {
         return Err(OutOfMemory);
@@ -74,13 +70,13 @@ fn time<C: Clock>(alloc: Global, _over: &Setting<'_, C>, seconds: i64) -> Result
 /// The fields of a tuple, as members.
 #[cycle(values)]
 #[tactic(auto, using(crate::proofs::ValueLemmas::tuple_laws))]
-fn tuple<C: Clock>(
+fn tuple(
     alloc: Global,
-    over: &Setting<'_, C>,
+    over: &BlockContext<'_>,
     sort: Sort<'_>,
     row: &[Value],
 ) -> Result<Members, OutOfMemory>
-    ensures { IfOk result (λ members. json.Object members ≡ value_shown (world_over C.clock over.now) (sort_is sort.entry) (Tuple (vals row.now))) }
+    ensures { IfOk result (λ members. json.Object members ≡ value_shown (world_over gregorian over.now) (sort_is sort.entry) (Tuple (vals row.now))) }
 {
     match sort {
         Sort::Tuple(number, _) => match tuple_type(over, number) {
@@ -93,7 +89,7 @@ fn tuple<C: Clock>(
 }
 
 /// A tuple type by its number, if there is one.
-fn tuple_type<'a, C>(over: &'a Setting<'_, C>, number: u32) -> Option<&'a TupleType>
+fn tuple_type<'a>(over: &'a BlockContext<'_>, number: u32) -> Option<&'a TupleType>
     ensures { slice_get over.now.tuples number ≡ option_copied result }
 {
     over.tuples.get(number as usize)
@@ -102,13 +98,13 @@ fn tuple_type<'a, C>(over: &'a Setting<'_, C>, number: u32) -> Option<&'a TupleT
 /// The fields of a tuple of a type, as members.
 #[cycle(values)]
 #[tactic(auto, using(crate::proofs::NamedLemmas::field_laws))]
-fn fields<C: Clock>(
+fn fields(
     alloc: Global,
-    over: &Setting<'_, C>,
+    over: &BlockContext<'_>,
     of: &TupleType,
     row: &[Value],
 ) -> Result<Members, OutOfMemory>
-    ensures { IfOk result (λ members. members ≡ named_shown (world_over C.clock over.now) (fields_in of.now) (map val row.now)) }
+    ensures { IfOk result (λ members. members ≡ named_shown (world_over gregorian over.now) (fields_in of.now) (map val row.now)) }
 {
     let mut members = List::new(alloc);
     for (place, value) in row.iter().enumerate() {
@@ -125,9 +121,9 @@ fn fields<C: Clock>(
 fn field_at(of: &TupleType, place: usize) -> Option<(&Txt, &BaseType)>
     ensures { IfSome result (λ field. slice_get (fields_in of.now) place ≡ Some (field.0.now, base_of field.1.now)) }
 {
-    match item(&of.names, place) {
+    match of.names.get(place) {
         None => None,
-        Some(name) => match item(&of.types, place) {
+        Some(name) => match of.types.get(place) {
             None => None,
             Some(base) => Some((name, base)),
         },
@@ -136,15 +132,15 @@ fn field_at(of: &TupleType, place: usize) -> Option<(&Txt, &BaseType)>
 
 /// A value of a type under its name, behind other members.
 #[cycle(values)]
-pub(crate) fn put_value<C: Clock>(
+pub(crate) fn put_value(
     alloc: Global,
-    over: &Setting<'_, C>,
+    over: &BlockContext<'_>,
     name: &Txt,
     base: &BaseType,
     value: &Value,
     members: &mut Members,
 ) -> Result<(), OutOfMemory>
-    ensures { OnOk result (members.new ≡ members.old ++ (name.now, value_shown (world_over C.clock over.now) (base_of base.now) (val value.now)) ∷ []) }
+    ensures { OnOk result (members.new ≡ members.old ++ (name.now, value_shown (world_over gregorian over.now) (base_of base.now) (val value.now)) ∷ []) }
 {
     let value = out_value(alloc, over, Sort::of(base), value)?;
     put(alloc, name.as_str(), value, members)
@@ -163,29 +159,15 @@ pub(crate) fn put(
     members.push((name, value))
 }
 
-/// The item at a place, if there is one.
-pub(crate) fn item<T>(items: &List<T>, at: usize) -> Option<&T>
-    ensures { slice_get items.now at ≡ option_copied result }
-{
-    items.as_slice().get(at)
-}
-
-/// The item at a place of a slice, if there is one.
-pub(crate) fn nth<T>(items: &[T], at: usize) -> Option<&T>
-    ensures { slice_get items.now at ≡ option_copied result }
-{
-    items.get(at)
-}
-
 /// Values of one type, in order.
 #[tactic(auto, using(crate::proofs::NamedLemmas::row_laws))]
-pub(crate) fn values<C: Clock>(
+pub(crate) fn values(
     alloc: Global,
-    over: &Setting<'_, C>,
+    over: &BlockContext<'_>,
     sort: Sort<'_>,
     row: &[Value],
 ) -> Result<Outs, OutOfMemory>
-    ensures { IfOk result (λ outs. outs ≡ map (λ v. value_shown (world_over C.clock over.now) (sort_is sort.entry) (val v)) row.now) }
+    ensures { IfOk result (λ outs. outs ≡ map (λ v. value_shown (world_over gregorian over.now) (sort_is sort.entry) (val v)) row.now) }
 {
     let mut outs = List::new(alloc);
     for value in row {

@@ -4,6 +4,7 @@ ghost use Rattle.std.specs.Option.{option_copied};
 ghost use Rattle.gq_json.specs.declared.out.Out.TheVariants as json;
 ghost use Rattle.gq_graph.specs.Vertices.{vertex_at};
 ghost use Rattle.gq_rules_meaning.specs.Answers.{Gives};
+ghost use Rattle.gq_rules_calendar.specs.Gregorian.{gregorian};
 ghost use Rattle.gq_frame.specs.Slots.{slots_are};
 ghost use Rattle.gq_eval_context.specs.Looks.{world_over};
 ghost use Rattle.gq_output.specs.Vertices.{HasType, described, vertex_shown, whole_shown};
@@ -12,22 +13,21 @@ use crate::attributes::{attributes, put_attached};
 use crate::keys::id_of;
 use crate::values::put;
 use gq_base::{List, OutOfMemory};
-use gq_eval_context::{Clock, Setting};
+use gq_eval_context::BlockContext;
 use gq_graph::VertexType;
 use gq_json::{Members, Out};
-use gq_schema::Catalog;
 use gq_value::Txt;
 use gq_vertex::Vertices;
 use std::alloc::Global;
 
 /// A vertex with all its attributes, and then its attached accumulators in order of declaration.
 #[tactic(auto, using(crate::proofs::VertexLemmas::whole_laws))]
-pub fn out_whole_vertex<C: Clock>(
+pub fn out_whole_vertex(
     alloc: Global,
-    over: &Setting<'_, C>,
+    over: &BlockContext<'_>,
     vertex: u32,
 ) -> Result<Out, OutOfMemory>
-    ensures { IfOk result (λ out. whole_shown (world_over C.clock over.now) (slots_are over.now.frame.accums) vertex ≡ Gives out) }
+    ensures { IfOk result (λ out. whole_shown (world_over gregorian over.now) (slots_are over.now.frame.accums) vertex ≡ Gives out) }
 {
     match type_of(over, vertex) {
         None => Err(OutOfMemory),
@@ -41,13 +41,13 @@ pub fn out_whole_vertex<C: Clock>(
 
 /// A vertex with these members as its attributes.
 #[tactic(auto, using(crate::proofs::VertexLemmas::vertex_laws))]
-pub fn out_vertex<C: Clock>(
+pub fn out_vertex(
     alloc: Global,
-    over: &Setting<'_, C>,
+    over: &BlockContext<'_>,
     vertex: u32,
     attributes: Members,
 ) -> Result<Out, OutOfMemory>
-    ensures { IfOk result (λ out. vertex_shown (world_over C.clock over.now) vertex attributes ≡ Gives out) }
+    ensures { IfOk result (λ out. vertex_shown (world_over gregorian over.now) vertex attributes ≡ Gives out) }
 {
     match type_of(over, vertex) {
         None => Err(OutOfMemory),
@@ -71,32 +71,19 @@ fn described(alloc: Global, id: Txt, kind: Txt, attributes: Members) -> Result<O
     Ok(Out::Object(members))
 }
 
-fn vertices_of<'a, C>(over: &Setting<'a, C>) -> &'a Vertices
+fn vertices_of<'a>(over: &BlockContext<'a>) -> &'a Vertices
     ensures { result.now ≡ over.now.vertices }
 {
     &over.graph.store.vertices
 }
 
 /// The type of a vertex, if there is one.
-fn type_of<'a, C>(over: &Setting<'a, C>, vertex: u32) -> Option<&'a VertexType>
+fn type_of<'a>(over: &BlockContext<'a>, vertex: u32) -> Option<&'a VertexType>
     ensures { IfSome result (λ of. HasType over.now vertex of.now) }
 {
     let vertices = &over.graph.store.vertices;
     if vertex >= vertices.len() {
         return None;
     }
-    vertex_type(over.graph.catalog, vertices.kind(vertex))
-}
-
-/// A vertex type by its number, if there is one.
-#[tactic(auto, using(gq_eval_attributes::proofs::VertexLemmas::type_laws))]
-fn vertex_type(catalog: &Catalog, kind: u32) -> Option<&VertexType>
-    ensures { slice_get catalog.now.vertex_types kind ≡ option_copied result }
-{
-    let count = catalog.type_count() - catalog.edge_types().len() as u32;
-    if kind < count {
-        Some(catalog.vertex_at(kind))
-    } else {
-        None
-    }
+    over.graph.catalog.vertex_by_number(vertices.kind(vertex))
 }

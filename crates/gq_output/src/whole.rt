@@ -3,6 +3,7 @@ ghost use Rattle.std.specs.Prelude.{◌≡◌, map};
 ghost use Rattle.gq_rules_meaning.specs.Answers.{each};
 ghost use Rattle.gq_rules_meaning.specs.Printing.{printed};
 ghost use Rattle.gq_rules_meaning.specs.States.{State};
+ghost use Rattle.gq_rules_calendar.specs.Gregorian.{gregorian};
 ghost use Rattle.gq_plan_ir.specs.ExprView.{view};
 ghost use Rattle.gq_plan_ir.specs.PlanView.{view_item};
 ghost use Rattle.gq_plan_ir.specs.Reference.{Reference};
@@ -18,7 +19,7 @@ ghost use Rattle.gq_output.specs.Prints.{Prints};
 use crate::columns::columns;
 use crate::items::{accums_of, item, put};
 use gq_base::List;
-use gq_eval_context::{Clock, Setting};
+use gq_eval_context::BlockContext;
 use gq_eval_operand::Halt;
 use gq_frame::Alias;
 use gq_json::{Members, Out, Printed};
@@ -30,12 +31,8 @@ use std::alloc::Global;
 ///
 /// Items are evaluated from left to right, and the first fault counts. An item that isn't well typed, of which nothing is promised,
 /// ends with `OutOfMemory` or as stuck.
-pub fn print<C: Clock>(
-    alloc: Global,
-    items: &[PrintItem],
-    over: &Setting<'_, C>,
-) -> Result<Printed, Halt>
-    ensures { (s : State Reference) → Shows over.now.plan.places over.now.frame s → Prints (each (printed (world_over C.clock over.now) s) (map view_item items.now)) result }
+pub fn print(alloc: Global, items: &[PrintItem], over: &BlockContext<'_>) -> Result<Printed, Halt>
+    ensures { (s : State Reference) → Shows over.now.plan.places over.now.frame s → Prints (each (printed (world_over gregorian over.now) s) (map view_item items.now)) result }
 {
     match members_of(items, alloc, over) {
         Ok(members) => Ok(Printed { members }),
@@ -45,12 +42,8 @@ pub fn print<C: Clock>(
 
 /// A member for each item, in order.
 #[tactic(auto, using(crate::proofs::WholeLemmas::member_laws))]
-fn members_of<C: Clock>(
-    items: &[PrintItem],
-    alloc: Global,
-    over: &Setting<'_, C>,
-) -> Result<Members, Halt>
-    ensures { Tells itself (each (keyed_shown C.clock over.now) items.now) result }
+fn members_of(items: &[PrintItem], alloc: Global, over: &BlockContext<'_>) -> Result<Members, Halt>
+    ensures { Tells itself (each (keyed_shown gregorian over.now) items.now) result }
 {
     let mut members = List::new(alloc);
     for item in items {
@@ -75,8 +68,8 @@ fn key_of(item: &PrintItem) -> &Txt
 }
 
 /// What an item is printed as.
-fn value_of<C: Clock>(item: &PrintItem, alloc: Global, over: &Setting<'_, C>) -> Result<Out, Halt>
-    ensures { Tells itself (value_at C.clock over.now item.now) result }
+fn value_of(item: &PrintItem, alloc: Global, over: &BlockContext<'_>) -> Result<Out, Halt>
+    ensures { Tells itself (value_at gregorian over.now item.now) result }
 {
     match item {
         PrintItem::Value(expr, _) => item_under(expr, alloc, over, &[]),
@@ -84,15 +77,15 @@ fn value_of<C: Clock>(item: &PrintItem, alloc: Global, over: &Setting<'_, C>) ->
     }
 }
 
-fn item_under<C: Clock>(
+fn item_under(
     expr: &Expr,
     alloc: Global,
-    over: &Setting<'_, C>,
+    over: &BlockContext<'_>,
     aliases: &[Alias<'_>],
 ) -> Result<Out, Halt>
-    ensures { Tells itself (item_shown (world_over C.clock over.now) (look_of C.clock (viewed over.now (map alias_of aliases.now) over.now.frame.accums over.now.frame.accums)) (slots_are over.now.frame.accums) (view expr.now)) result }
+    ensures { Tells itself (item_shown (world_over gregorian over.now) (look_of gregorian (viewed over.now (map alias_of aliases.now) over.now.frame.accums over.now.frame.accums)) (slots_are over.now.frame.accums) (view expr.now)) result }
 {
     let accums = accums_of(over);
-    let sight = over.view(aliases, accums, accums);
+    let sight = over.eval_context(aliases, accums, accums);
     item(expr, alloc, over, &sight)
 }

@@ -11,8 +11,8 @@ use Rattle.gq_check_from.specs.declared.fault.CheckFault.TheVariants as check
 use Rattle.gq_check_from.specs.Faults.{Judges}
 use Rattle.gq_plan_expr.specs.Resolved.{resolved}
 use Rattle.gq_plan_select.specs.Resolved.{if_there}
-use Rattle.gq_plan_stmt.specs.Globals.{known_in}
-use Rattle.gq_plan_laws.specs.Found.{TupleTypes, globals_of}
+use Rattle.gq_plan_expr.specs.Globals.{known_in}
+use Rattle.gq_plan_expr.specs.Found.{TupleTypes, globals_of}
 use Rattle.gq_plan.specs.Heading.{heads_of}
 use Rattle.gq_plan.specs.Unplanned.{Fails, NoAccum}
 

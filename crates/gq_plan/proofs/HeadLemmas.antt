@@ -18,7 +18,7 @@ use Rattle.gq_plan_ir.specs.declared.plan.Definition as definition_code
 use Rattle.gq_plan_ir.specs.declared.plan.Definition.TheVariants as definition
 use Rattle.gq_plan_select.specs.Resolved.{each_resolved}
 use Rattle.gq_scope.specs.Held.{Held, fields_of, sorts_in, scope_in}
-use Rattle.gq_plan_laws.specs.Found.{TupleTypes, globals_of}
+use Rattle.gq_plan_expr.specs.Found.{TupleTypes, globals_of}
 use Rattle.gq_plan_laws.specs.Planned.{Heads, AccumPlanned, AccumsPlanned, DefinitionsPlanned}
 use Rattle.gq_plan.specs.Heading.{IsScoped, heads_of, resolved_field}
 use Rattle.gq_plan.specs.Unplanned.{NoAccum, NoAccums, NoDefinition, NoDefinitions, DeclaredOnce, tuple_names}

@@ -1,8 +1,4 @@
 pub mod OpenedLemmas
-pub mod GlobalPlaceLemmas
-pub mod ListLemmas
-pub mod GlobalTupleLemmas
-pub mod TableLemmas
 pub mod PlaceLemmas
 pub mod FailLemmas
 pub mod ParameterLemmas

@@ -11,7 +11,7 @@ use Rattle.gq_plan_ir.specs.declared.plan.Parameter as code
 use Rattle.gq_plan_ir.specs.declared.plan.Declared.{Declared}
 use Rattle.gq_plan_stmt.specs.Parts.{resolved_base}
 use Rattle.gq_plan_stmt.specs.Steps.{new_name}
-use Rattle.gq_plan_laws.specs.Found.{globals_of}
+use Rattle.gq_plan_expr.specs.Found.{globals_of}
 use Rattle.gq_plan_laws.specs.PlannedLaws.{no_names, ParametersPlanned}
 use Rattle.gq_rules_meaning.proofs.AnswerLaws.{some_inj}
 use Rattle.gq_plan.specs.Unplanned.{NoParameters}

@@ -29,7 +29,7 @@ use Rattle.gq_rules_typing.specs.Scopes.{InStatement, entry}
 use Rattle.gq_scope.specs.Kept.{tuple_types}
 use Rattle.gq_scope.specs.Held.{Held, graph_in, sorts_in, setting_in, scope_in}
 use Rattle.gq_plan_stmt.specs.Steps.{resolved_stmts}
-use Rattle.gq_plan_laws.specs.Found.{TupleTypes, globals_of}
+use Rattle.gq_plan_expr.specs.Found.{TupleTypes, globals_of}
 use Rattle.gq_plan_laws.specs.Declared.{ground_of}
 use Rattle.gq_plan_laws.specs.Planned.{Heads, DefinitionsPlanned}
 use Rattle.gq_plan_laws.specs.PlannedLaws.{ParametersPlanned, IsPlanned, no_names}

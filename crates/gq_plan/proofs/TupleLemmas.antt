@@ -22,7 +22,7 @@ use Rattle.gq_plan_ir.specs.declared.plan.Definition as definition_code
 use Rattle.gq_plan_ir.specs.declared.plan.Definition.TheVariants as definition
 use Rattle.gq_plan_select.specs.Resolved.{each_resolved}
 use Rattle.gq_scope.specs.Held.{Held, sorts_in, scope_in}
-use Rattle.gq_plan_laws.specs.Found.{TupleTypes, plain_fields, globals_of}
+use Rattle.gq_plan_expr.specs.Found.{TupleTypes, plain_fields, globals_of}
 use Rattle.gq_plan_laws.specs.Planned.{Heads, setting_of, with_accum, with_tuple, AccumPlanned, AccumsPlanned, TuplePlanned, DefinitionsPlanned}
 use Rattle.gq_plan.specs.Heading.{IsScoped, heads_of, resolved_field}
 use Rattle.gq_plan.specs.Unplanned.{Fails, NoAccums, NoDefinition, DeclaredOnce, tuple_names, is_taken}

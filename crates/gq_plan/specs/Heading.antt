@@ -8,9 +8,9 @@ use Rattle.gq_scope.specs.Kept.{tuple_types}
 use Rattle.gq_scope.specs.Held.{Held, sorts_in, scope_in}
 use Rattle.gq_plan_ir.specs.declared.plan.Declared.{Declared}
 use Rattle.gq_plan_expr.specs.Resolved.{◌>>=◌}
-use Rattle.gq_plan_stmt.specs.Globals.{Globals}
+use Rattle.gq_plan_expr.specs.Globals.{Globals}
 use Rattle.gq_plan_stmt.specs.Parts.{resolved_base}
-use Rattle.gq_plan_laws.specs.Found.{TupleTypes}
+use Rattle.gq_plan_expr.specs.Found.{TupleTypes}
 use Rattle.gq_plan_laws.specs.Planned.{Heads}
 use Rattle.gq_plan.specs.Unplanned.{tuple_names, is_taken}
 

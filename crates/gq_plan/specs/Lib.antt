@@ -1,5 +1,4 @@
 pub mod Noted
-pub mod Parts
 pub mod Unplanned
 pub mod Heading
 pub mod Prints

@@ -13,7 +13,7 @@ use Rattle.gq_plan_ir.specs.declared.plan.Parameter as parameter_code
 use Rattle.gq_plan_ir.specs.declared.plan.Accum as accum_code
 use Rattle.gq_plan_ir.specs.declared.plan.Definition as definition_code
 use Rattle.gq_plan_ir.specs.declared.plan.Plan.{Plan}
-use Rattle.gq_plan_laws.specs.Found.{TupleTypes}
+use Rattle.gq_plan_expr.specs.Found.{TupleTypes}
 use Rattle.gq_plan_laws.specs.Planned.{Heads, AccumPlanned, AccumsPlanned, DefinitionsPlanned}
 use Rattle.gq_plan_laws.specs.PlannedLaws.{ParametersPlanned, IsPlanned}
 

@@ -11,12 +11,11 @@ ghost use Rattle.gq_plan_laws.specs.Planned.{AccumPlanned, AccumsPlanned};
 ghost use Rattle.gq_plan.specs.Heading.{heads_of};
 ghost use Rattle.gq_plan.specs.Unplanned.{Fails, NoAccum, NoAccums};
 
-use crate::found::{CatalogNames, NamedTupleType};
 use crate::names::add_slot;
 use gq_base::List;
 use gq_check_decls::kind_written;
 use gq_check_from::CheckFault;
-use gq_plan_expr::PlanFault;
+use gq_plan_expr::{CatalogNames, NamedTupleType, PlanFault};
 use gq_plan_ir::Accum;
 use gq_plan_stmt::plan_opening;
 use gq_scope::{Places, Scope};
@@ -51,7 +50,7 @@ pub(crate) fn kind(alloc: Global, scope: &Scope<'_>, tree: &KindTree) -> Result<
 }
 
 /// An accumulator; its opening sees what is declared before it.
-#[tactic(auto, using(crate::proofs::FailLemmas::accum_laws))]
+#[tactic(auto, using(crate::proofs::FailLemmas::accum_laws), unfolding(gq_plan_expr::specs::Names::globals_in))]
 fn accum(
     alloc: Global,
     scope: &Scope<'_>,

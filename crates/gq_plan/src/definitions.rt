@@ -9,10 +9,9 @@ ghost use Rattle.gq_plan.specs.Heading.{IsScoped, heads_of};
 ghost use Rattle.gq_plan.specs.Unplanned.{NoDefinition, NoDefinitions};
 
 use crate::accums::{accums, kind};
-use crate::found::NamedTupleType;
 use crate::tuples::tuple_type;
 use gq_base::List;
-use gq_plan_expr::PlanFault;
+use gq_plan_expr::{NamedTupleType, PlanFault};
 use gq_plan_ir::Definition;
 use gq_scope::{Places, Scope};
 use gq_tree::{AccumTree, KindTree};

@@ -6,8 +6,8 @@
 //!
 //! Read `PlannedLaws.antt` of `gq_plan_laws` first: when a plan is made of a query. Then read
 //! `specs/Prints.antt` (the plan prints what the query prints), `specs/Safe.antt` (the plan of a typed query
-//! is never stuck) and `specs/Unplanned.antt`. The code begins in `src/plans.rt`; `src/found.rt` resolves
-//! names and `src/notes.rt` notes types.
+//! is never stuck) and `specs/Unplanned.antt`. The code begins in `src/plans.rt`; names are resolved by
+//! `CatalogNames` of `gq_plan_expr`, and `src/notes.rt` notes types.
 #![tactic(auto)]
 
 /// What a rule of the checker gives. There is no memory for a query that isn't well typed.
@@ -22,10 +22,7 @@ macro_rules! passed {
 
 mod accums;
 mod aliases;
-mod attributes;
 mod definitions;
-mod found;
-mod functions;
 mod laws;
 mod looping;
 mod names;
@@ -34,9 +31,7 @@ mod parameters;
 mod places;
 mod plans;
 mod statements;
-mod tables;
 mod tuples;
 
-pub use found::{CatalogNames, NamedTupleType};
 pub use laws::{a_plan_of_a_typed_query_is_never_stuck, a_plan_prints_what_its_query_prints};
 pub use plans::plan;

@@ -2,23 +2,9 @@
 ghost use Rattle.std.specs.Prelude.{◌≡◌, ◌≢◌, IfOk, IfErr, None, is_some, true};
 ghost use Rattle.gq_scope.specs.Named.{seen_at, with_name};
 ghost use Rattle.gq_plan_expr.specs.declared.fault.PlanFault.TheVariants as fault;
-ghost use Rattle.gq_plan_stmt.specs.Steps.{AnswersIn, new_name};
 
 use gq_plan_expr::PlanFault;
 use gq_scope::Places;
-
-/// A parameter comes into view, if its name isn't in view yet. Its place.
-pub(crate) fn add_name(places: &mut Places, name: &str) -> Result<u32, PlanFault>
-    ensures { AnswersIn (new_name places.old name.now) places.new result }
-{
-    match places.find(name) {
-        Some(_) => Err(PlanFault::Unknown),
-        None => {
-            let place = places.add(name, false)?;
-            Ok(place)
-        }
-    }
-}
 
 /// An accumulator is declared, if its name isn't yet. Its slot.
 pub(crate) fn add_slot(slots: &mut Places, name: &str, attached: bool) -> Result<u32, PlanFault>

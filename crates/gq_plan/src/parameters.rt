@@ -5,16 +5,14 @@ ghost use Rattle.gq_scope.specs.Held.{sorts_in};
 ghost use Rattle.gq_plan_expr.specs.Resolved.{Answers};
 ghost use Rattle.gq_plan_expr.specs.declared.fault.PlanFault.TheVariants as fault;
 ghost use Rattle.gq_plan_stmt.specs.Parts.{resolved_base};
-ghost use Rattle.gq_plan_laws.specs.Found.{globals_of};
+ghost use Rattle.gq_plan_expr.specs.Found.{globals_of};
 ghost use Rattle.gq_plan_laws.specs.PlannedLaws.{no_names, ParametersPlanned};
 ghost use Rattle.gq_plan.specs.Unplanned.{NoParameters};
 
-use crate::found::CatalogNames;
-use crate::names::add_name;
 use gq_base::{List, OutOfMemory};
-use gq_plan_expr::PlanFault;
+use gq_plan_expr::{CatalogNames, PlanFault};
 use gq_plan_ir::{Declared, Parameter};
-use gq_plan_stmt::plan_base;
+use gq_plan_stmt::{add_name, plan_base};
 use gq_scope::{Places, Scope};
 use gq_tree::BaseTree;
 use std::alloc::Global;
@@ -28,6 +26,7 @@ fn turned(alloc: Global, parameters: &[Parameter]) -> Result<List<Parameter>, Ou
 }
 
 /// The type of a parameter, before anything else is declared.
+#[tactic(auto, unfolding(gq_plan_expr::specs::Names::globals_in))]
 fn base(alloc: Global, scope: &Scope<'_>, tree: &BaseTree) -> Result<Declared, PlanFault>
     ensures { Answers (resolved_base (globals_of (sorts_in scope.now) [] no_names) (view_base tree.now)) result }
 {

@@ -12,8 +12,8 @@ use gq_base::{List, OutOfMemory};
 use gq_check_decls::{definitions, parameters};
 use gq_plan_ir::PlaceType;
 use gq_schema::Catalog;
-use gq_scope::Scope;
-use gq_tree::{Mode, ParameterTree, QueryTree};
+use gq_scope::{Scope, allows_paths};
+use gq_tree::{ParameterTree, QueryTree};
 use std::alloc::Global;
 
 /// What stands at each place of the frame of a query's plan, made for a graph of the catalog: first its parameters, from the last one on,
@@ -82,21 +82,4 @@ fn note_all(
         note(alloc, scope, trees[at].name.as_str(), held)?;
     }
     Ok(())
-}
-
-/// Whether the query is in SYNTAX v2.
-fn allows_paths(modes: &[Mode]) -> bool {
-    for mode in modes {
-        if is_second(mode) {
-            return true;
-        }
-    }
-    false
-}
-
-fn is_second(mode: &Mode) -> bool {
-    match mode {
-        Mode::Api(_) => false,
-        Mode::Syntax(name) => name.as_str().eq_ignore_ascii_case("v2"),
-    }
 }

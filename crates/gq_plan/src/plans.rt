@@ -1,10 +1,9 @@
 // Whole queries.
 ghost use Rattle.std.specs.Prelude.{◌≡◌, ◌≢◌, ◌<◌, ◌≤◌, IfOk, IfErr, true, false, [], length};
 ghost use Rattle.std.specs.Option.{ForSome};
-ghost use Rattle.std.specs.List.{list_any};
 ghost use Rattle.gq_graph.specs.Catalog.{most_types};
 ghost use Rattle.gq_rules_typing.specs.Sorts.{sorts_of};
-ghost use Rattle.gq_rules_typing.specs.StatementViews.{is_v2, view_query};
+ghost use Rattle.gq_rules_typing.specs.StatementViews.{view_query};
 ghost use Rattle.gq_scope.specs.Held.{graph_in, sorts_in};
 ghost use Rattle.gq_plan_laws.specs.PlannedLaws.{IsPlanned};
 ghost use Rattle.gq_plan.specs.Heading.{IsScoped};
@@ -14,38 +13,16 @@ ghost use Rattle.gq_plan.specs.Safe.{NeverStuck};
 ghost use Rattle.gq_plan.specs.Unplanned.{NoPlan, NotTyped};
 
 use crate::definitions::definitions;
-use crate::found::CatalogNames;
 use crate::parameters::parameters;
 use crate::places::places_of;
 use gq_base::List;
-use gq_plan_expr::PlanFault;
+use gq_plan_expr::{CatalogNames, PlanFault};
 use gq_plan_ir::Plan;
 use gq_plan_stmt::plan_steps;
 use gq_schema::Catalog;
-use gq_scope::{Places, Scope};
-use gq_tree::{Mode, QueryTree};
+use gq_scope::{Places, Scope, allows_paths};
+use gq_tree::QueryTree;
 use std::alloc::Global;
-
-/// Whether the query is in SYNTAX v2.
-fn allows_paths(modes: &[Mode]) -> bool
-    ensures { result ≡ list_any is_v2 modes.now }
-{
-    for mode in modes {
-        if is_second(mode) {
-            return true;
-        }
-    }
-    false
-}
-
-fn is_second(mode: &Mode) -> bool
-    ensures { result ≡ is_v2 mode.now }
-{
-    match mode {
-        Mode::Api(_) => false,
-        Mode::Syntax(name) => name.as_str().eq_ignore_ascii_case("v2"),
-    }
-}
 
 /// The plan of a query, where nothing is declared yet, and without what stands at its places.
 ///

@@ -10,16 +10,15 @@ ghost use Rattle.gq_plan_expr.specs.Resolved.{Answers};
 ghost use Rattle.gq_plan_expr.specs.declared.fault.PlanFault.TheVariants as fault;
 ghost use Rattle.gq_plan_select.specs.Resolved.{each_resolved};
 ghost use Rattle.gq_scope.specs.Named.{Named};
-ghost use Rattle.gq_plan_laws.specs.Found.{globals_of};
+ghost use Rattle.gq_plan_expr.specs.Names.{globals_in};
 ghost use Rattle.gq_plan_laws.specs.Planned.{DefinitionsPlanned};
 ghost use Rattle.gq_plan.specs.Heading.{IsScoped, heads_of, resolved_field};
 ghost use Rattle.gq_plan.specs.Unplanned.{Fails, NoDefinition, is_taken, tuple_names};
 
 use crate::accums::fault_of;
-use crate::found::{CatalogNames, NamedTupleType};
 use gq_base::{List, OutOfMemory};
 use gq_check_decls::base_written;
-use gq_plan_expr::PlanFault;
+use gq_plan_expr::{CatalogNames, NamedTupleType, PlanFault};
 use gq_plan_ir::{Declared, Definition};
 use gq_plan_stmt::plan_base;
 use gq_scope::{Entry, Places, Scope};
@@ -32,10 +31,10 @@ use std::alloc::Global;
 /// A field as the plan has it.
 fn planned_field(
     alloc: Global,
-    found: &CatalogNames<'_, '_>,
+    found: &CatalogNames<'_>,
     tree: &(BaseTree, Txt),
 ) -> Result<(Declared, Txt), PlanFault>
-    ensures { Answers (resolved_field (globals_of (sorts_in found.now.scope.now) found.now.tuples.now found.now.slots.now) (view_base tree.now.0, tree.now.1)) result }
+    ensures { Answers (resolved_field (globals_in found.now) (view_base tree.now.0, tree.now.1)) result }
 {
     let base = plan_base(found, &tree.0)?;
     let name = Txt::of(alloc, tree.1.as_str())?;
@@ -45,10 +44,10 @@ fn planned_field(
 #[tactic(auto, using(gq_plan_expr::proofs::ListLemmas::list_laws))]
 fn planned_fields(
     alloc: Global,
-    found: &CatalogNames<'_, '_>,
+    found: &CatalogNames<'_>,
     trees: &[(BaseTree, Txt)],
 ) -> Result<List<(Declared, Txt)>, PlanFault>
-    ensures { Answers (each_resolved (resolved_field (globals_of (sorts_in found.now.scope.now) found.now.tuples.now found.now.slots.now)) (view_fields trees.now)) result }
+    ensures { Answers (each_resolved (resolved_field (globals_in found.now)) (view_fields trees.now)) result }
 {
     let mut planned = List::new(alloc);
     for tree in trees {

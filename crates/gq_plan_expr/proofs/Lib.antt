@@ -1,5 +1,9 @@
 pub mod ListLemmas
 pub mod MethodLemmas
+pub mod PlaceLemmas
 pub mod PlanLaws
+pub mod RowLemmas
 pub mod SettledLaws
+pub mod TableLemmas
+pub mod TupleLemmas
 pub mod TypedLaws

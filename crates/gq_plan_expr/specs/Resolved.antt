@@ -5,6 +5,7 @@ use Rattle.gq_tree.specs.declared.expr.MulSign.{MulSign}
 use Rattle.gq_tree.specs.declared.expr.CmpSign.{CmpSign}
 use Rattle.gq_tree.specs.Tree.{Tree, Behind, Trees, Parts, Factors, Terms, Number, Text, Truth, Global, Name, Call, Post, Neg, Mul, Sum, Cmp, Not, And, Or, Field, Method, Attached, Before, no_tree, tree, no_part, part, no_factor, factor, no_term, term}
 use Rattle.gq_rules_typing.specs.Words as words
+use Rattle.gq_scope.specs.Parts.{text_in}
 use Rattle.gq_plan_ir.specs.declared.expr.Expr.{Expr}
 use Rattle.gq_plan_ir.specs.declared.expr.Expr.TheVariants as expr
 use Rattle.gq_plan_ir.specs.declared.expr.Behind as code
@@ -19,11 +20,6 @@ infixl 10 ◌>>=◌
 abbrev pub ◌>>=◌ : {A B : Type 0} → Option A → (A → Option B) → Option B
 None >>= f = None
 (Some a) >>= f = f a
-
--- what a text in quotes says
-abbrev pub text_in : Tree (List ℕ) → Option (List ℕ)
-text_in (Text s) = Some s
-text_in t = None
 
 -- of all edge types, or of the one of a text
 abbrev pub degree_of_all : Known → Option code.Behind

@@ -3,15 +3,17 @@ ghost use Rattle.std.specs.Prelude.{◌≡◌, Some};
 ghost use Rattle.std.specs.Option.{option_copied};
 ghost use Rattle.gq_tree.specs.Tree as plain;
 ghost use Rattle.gq_tree.specs.View.{view, views, view_part, view_parts, view_factors, view_terms};
-ghost use Rattle.gq_plan_expr.specs.Resolved.{Answers, text_in, degree, posted, multiplied, added, compared, all_of, any_of};
+ghost use Rattle.gq_plan_expr.specs.Resolved.{Answers, degree, posted, multiplied, added, compared, all_of, any_of};
+ghost use Rattle.gq_plan_expr.specs.Names.{known_of};
 ghost use Rattle.gq_plan_expr.specs.Resolved as spec;
 ghost use Rattle.gq_plan_expr.specs.Resolved.{resolved, resolved_all, resolved_part, resolved_parts, resolved_factors, resolved_terms};
 
 use crate::fault::PlanFault;
 use crate::methods::{Called, method_named};
-use crate::resolves::Resolves;
+use crate::names::NameResolver;
 use gq_base::{Boxed, List};
 use gq_plan_ir::{Behind, Expr, Method};
+use gq_scope::text_of;
 use gq_tree::{AddSign, CmpSign, MulSign, Node, Part};
 use gq_value::Txt;
 use std::alloc::Global;
@@ -20,16 +22,16 @@ use std::alloc::Global;
 /// stack for each level of the tree, and none for the length of a chain.
 ///
 /// Unknown where something stands for nothing, which no well typed query has. OutOfMemory may come at any time.
-pub fn plan_expr<R: Resolves>(alloc: Global, names: &R, node: &Node) -> Result<Expr, PlanFault>
-    ensures { Answers (resolved (R.known names.now) (view node.now)) result }
+pub fn plan_expr(alloc: Global, names: &NameResolver<'_>, node: &Node) -> Result<Expr, PlanFault>
+    ensures { Answers (resolved (known_of names.now) (view node.now)) result }
 {
     expr(node, alloc, names)
 }
 
 #[cycle(plans)]
 #[tactic(auto, using(gq_tree::proofs::ViewLemmas::view_laws))]
-fn expr<R: Resolves>(node: &Node, alloc: Global, names: &R) -> Result<Expr, PlanFault>
-    ensures { Answers (resolved (R.known names.now) (view node.now)) result }
+fn expr(node: &Node, alloc: Global, names: &NameResolver<'_>) -> Result<Expr, PlanFault>
+    ensures { Answers (resolved (known_of names.now) (view node.now)) result }
 {
     match node {
         Node::Number(number) => Ok(Expr::Number(*number)),
@@ -79,8 +81,8 @@ fn copied(alloc: Global, text: &Txt) -> Result<Txt, PlanFault>
     Ok(Txt::of(alloc, text.as_str())?)
 }
 
-fn global<R: Resolves>(names: &R, name: &str) -> Result<Expr, PlanFault>
-    ensures { Answers (resolved (R.known names.now) (plain.Global name.now)) result }
+fn global(names: &NameResolver<'_>, name: &str) -> Result<Expr, PlanFault>
+    ensures { Answers (resolved (known_of names.now) (plain.Global name.now)) result }
 {
     match names.slot(name) {
         None => Err(PlanFault::Unknown),
@@ -88,8 +90,8 @@ fn global<R: Resolves>(names: &R, name: &str) -> Result<Expr, PlanFault>
     }
 }
 
-fn variable<R: Resolves>(names: &R, name: &str) -> Result<Expr, PlanFault>
-    ensures { Answers (resolved (R.known names.now) (plain.Name name.now)) result }
+fn variable(names: &NameResolver<'_>, name: &str) -> Result<Expr, PlanFault>
+    ensures { Answers (resolved (known_of names.now) (plain.Name name.now)) result }
 {
     match names.place(name) {
         None => Err(PlanFault::Unknown),
@@ -98,21 +100,21 @@ fn variable<R: Resolves>(names: &R, name: &str) -> Result<Expr, PlanFault>
 }
 
 #[cycle(plans)]
-fn boxed<R: Resolves>(node: &Node, alloc: Global, names: &R) -> Result<Boxed<Expr>, PlanFault>
-    ensures { Answers (resolved (R.known names.now) (view node.now)) result }
+fn boxed(node: &Node, alloc: Global, names: &NameResolver<'_>) -> Result<Boxed<Expr>, PlanFault>
+    ensures { Answers (resolved (known_of names.now) (view node.now)) result }
 {
     let planned = expr(node, alloc, names)?;
     Ok(Boxed::new(alloc, planned)?)
 }
 
 #[cycle(plans)]
-fn call<R: Resolves>(
+fn call(
     arguments: &[Node],
     alloc: Global,
-    names: &R,
+    names: &NameResolver<'_>,
     name: &str,
 ) -> Result<Expr, PlanFault>
-    ensures { Answers (resolved (R.known names.now) (plain.Call name.now (views arguments.now))) result }
+    ensures { Answers (resolved (known_of names.now) (plain.Call name.now (views arguments.now))) result }
 {
     match names.function(alloc, name)? {
         None => Err(PlanFault::Unknown),
@@ -124,79 +126,79 @@ fn call<R: Resolves>(
 }
 
 #[cycle(plans)]
-fn post<R: Resolves>(
+fn post(
     parts: &[Part],
     alloc: Global,
-    names: &R,
+    names: &NameResolver<'_>,
     first: Boxed<Expr>,
 ) -> Result<Expr, PlanFault>
-    ensures { Answers (posted first (resolved_parts (R.known names.now) (view_parts parts.now))) result }
+    ensures { Answers (posted first (resolved_parts (known_of names.now) (view_parts parts.now))) result }
 {
     let planned = behinds(parts, alloc, names)?;
     Ok(Expr::Post(first, planned))
 }
 
 #[cycle(plans)]
-fn mul<R: Resolves>(
+fn mul(
     others: &[(MulSign, Node)],
     alloc: Global,
-    names: &R,
+    names: &NameResolver<'_>,
     first: Boxed<Expr>,
 ) -> Result<Expr, PlanFault>
-    ensures { Answers (multiplied first (resolved_factors (R.known names.now) (view_factors others.now))) result }
+    ensures { Answers (multiplied first (resolved_factors (known_of names.now) (view_factors others.now))) result }
 {
     let planned = factors(others, alloc, names)?;
     Ok(Expr::Mul(first, planned))
 }
 
 #[cycle(plans)]
-fn sum<R: Resolves>(
+fn sum(
     others: &[(AddSign, Node)],
     alloc: Global,
-    names: &R,
+    names: &NameResolver<'_>,
     first: Boxed<Expr>,
 ) -> Result<Expr, PlanFault>
-    ensures { Answers (added first (resolved_terms (R.known names.now) (view_terms others.now))) result }
+    ensures { Answers (added first (resolved_terms (known_of names.now) (view_terms others.now))) result }
 {
     let planned = terms(others, alloc, names)?;
     Ok(Expr::Sum(first, planned))
 }
 
 #[cycle(plans)]
-fn cmp<R: Resolves>(
+fn cmp(
     right: &Node,
     alloc: Global,
-    names: &R,
+    names: &NameResolver<'_>,
     left: Boxed<Expr>,
     sign: CmpSign,
 ) -> Result<Expr, PlanFault>
-    ensures { Answers (compared left sign (resolved (R.known names.now) (view right.now))) result }
+    ensures { Answers (compared left sign (resolved (known_of names.now) (view right.now))) result }
 {
     let planned = boxed(right, alloc, names)?;
     Ok(Expr::Cmp(left, sign, planned))
 }
 
 #[cycle(plans)]
-fn and<R: Resolves>(
+fn and(
     others: &[Node],
     alloc: Global,
-    names: &R,
+    names: &NameResolver<'_>,
     first: Boxed<Expr>,
 ) -> Result<Expr, PlanFault>
-    ensures { Answers (all_of first (resolved_all (R.known names.now) (views others.now))) result }
+    ensures { Answers (all_of first (resolved_all (known_of names.now) (views others.now))) result }
 {
     let planned = exprs(others, alloc, names)?;
     Ok(Expr::And(first, planned))
 }
 
 #[cycle(plans)]
-fn or<R: Resolves>(
+fn or(
     others: &[Node],
     alloc: Global,
-    names: &R,
+    names: &NameResolver<'_>,
     first: Boxed<Expr>,
 ) -> Result<Expr, PlanFault>
-    ensures { Answers (any_of first (resolved_all (R.known names.now) (views others.now))) result }
+    ensures { Answers (any_of first (resolved_all (known_of names.now) (views others.now))) result }
 {
     let planned = exprs(others, alloc, names)?;
     Ok(Expr::Or(first, planned))
@@ -204,8 +206,8 @@ fn or<R: Resolves>(
 
 #[cycle(plans)]
 #[tactic(auto, using(gq_tree::proofs::ViewLemmas::view_laws))]
-fn behind<R: Resolves>(part: &Part, alloc: Global, names: &R) -> Result<Behind, PlanFault>
-    ensures { Answers (resolved_part (R.known names.now) (view_part part.now)) result }
+fn behind(part: &Part, alloc: Global, names: &NameResolver<'_>) -> Result<Behind, PlanFault>
+    ensures { Answers (resolved_part (known_of names.now) (view_part part.now)) result }
 {
     match part {
         Part::Field(name) => Ok(Behind::Field(names.field(alloc, name.as_str())?)),
@@ -225,13 +227,13 @@ fn behind<R: Resolves>(part: &Part, alloc: Global, names: &R) -> Result<Behind, 
 
 #[cycle(plans)]
 #[tactic(auto, using(crate::proofs::MethodLemmas::method_laws))]
-fn method<R: Resolves>(
+fn method(
     arguments: &[Node],
     alloc: Global,
-    names: &R,
+    names: &NameResolver<'_>,
     name: &str,
 ) -> Result<Behind, PlanFault>
-    ensures { Answers (resolved_part (R.known names.now) (plain.Method name.now (views arguments.now))) result }
+    ensures { Answers (resolved_part (known_of names.now) (plain.Method name.now (views arguments.now))) result }
 {
     match method_named(name) {
         None => Err(PlanFault::Unknown),
@@ -244,8 +246,12 @@ fn method<R: Resolves>(
 }
 
 /// `outdegree()`, or of an edge type that is named by a text.
-fn outdegree<R: Resolves>(alloc: Global, names: &R, arguments: &[Node]) -> Result<Behind, PlanFault>
-    ensures { Answers (degree (R.known names.now) (views arguments.now)) result }
+fn outdegree(
+    alloc: Global,
+    names: &NameResolver<'_>,
+    arguments: &[Node],
+) -> Result<Behind, PlanFault>
+    ensures { Answers (degree (known_of names.now) (views arguments.now)) result }
 {
     if arguments.is_empty() {
         return degree_of_all(alloc, names);
@@ -256,22 +262,8 @@ fn outdegree<R: Resolves>(alloc: Global, names: &R, arguments: &[Node]) -> Resul
     degree_of(alloc, names, text_of(&arguments[0]))
 }
 
-/// What a text in quotes says.
-#[tactic(auto, using(gq_tree::proofs::ViewLemmas::view_laws))]
-fn text_of(node: &Node) -> Option<&str>
-    ensures { option_copied result ≡ text_in (view node.now) }
-{
-    match node {
-        Node::Text(said) => Some(said.as_str()),
-        Node::Number(_) | Node::Truth(_) | Node::Global(_) | Node::Name(_) => None,
-        Node::Call(_, _) | Node::Post(_, _) | Node::Neg(_, _) | Node::Mul(_, _) => None,
-        Node::Sum(_, _) | Node::Cmp(_, _, _) | Node::Not(_, _) => None,
-        Node::And(_, _) | Node::Or(_, _) => None,
-    }
-}
-
-fn degree_of_all<R: Resolves>(alloc: Global, names: &R) -> Result<Behind, PlanFault>
-    ensures { Answers (spec.degree_of_all (R.known names.now)) result }
+fn degree_of_all(alloc: Global, names: &NameResolver<'_>) -> Result<Behind, PlanFault>
+    ensures { Answers (spec.degree_of_all (known_of names.now)) result }
 {
     match names.counted(alloc, None)? {
         None => Err(PlanFault::Unknown),
@@ -279,8 +271,12 @@ fn degree_of_all<R: Resolves>(alloc: Global, names: &R) -> Result<Behind, PlanFa
     }
 }
 
-fn degree_of<R: Resolves>(alloc: Global, names: &R, edge: Option<&str>) -> Result<Behind, PlanFault>
-    ensures { Answers (spec.degree_of (R.known names.now) (option_copied edge.entry)) result }
+fn degree_of(
+    alloc: Global,
+    names: &NameResolver<'_>,
+    edge: Option<&str>,
+) -> Result<Behind, PlanFault>
+    ensures { Answers (spec.degree_of (known_of names.now) (option_copied edge.entry)) result }
 {
     match edge {
         None => Err(PlanFault::Unknown),
@@ -288,8 +284,8 @@ fn degree_of<R: Resolves>(alloc: Global, names: &R, edge: Option<&str>) -> Resul
     }
 }
 
-fn degree_under<R: Resolves>(alloc: Global, names: &R, edge: &str) -> Result<Behind, PlanFault>
-    ensures { Answers (spec.degree_of (R.known names.now) (Some edge.now)) result }
+fn degree_under(alloc: Global, names: &NameResolver<'_>, edge: &str) -> Result<Behind, PlanFault>
+    ensures { Answers (spec.degree_of (known_of names.now) (Some edge.now)) result }
 {
     match names.counted(alloc, Some(edge))? {
         None => Err(PlanFault::Unknown),
@@ -302,8 +298,8 @@ fn degree_under<R: Resolves>(alloc: Global, names: &R, edge: &str) -> Result<Beh
 
 #[cycle(plans)]
 #[tactic(auto, using(crate::proofs::ListLemmas::list_laws))]
-fn exprs<R: Resolves>(nodes: &[Node], alloc: Global, names: &R) -> Result<List<Expr>, PlanFault>
-    ensures { Answers (resolved_all (R.known names.now) (views nodes.now)) result }
+fn exprs(nodes: &[Node], alloc: Global, names: &NameResolver<'_>) -> Result<List<Expr>, PlanFault>
+    ensures { Answers (resolved_all (known_of names.now) (views nodes.now)) result }
 {
     let mut planned = List::new(alloc);
     for node in nodes {
@@ -315,8 +311,12 @@ fn exprs<R: Resolves>(nodes: &[Node], alloc: Global, names: &R) -> Result<List<E
 
 #[cycle(plans)]
 #[tactic(auto, using(crate::proofs::ListLemmas::list_laws))]
-fn behinds<R: Resolves>(parts: &[Part], alloc: Global, names: &R) -> Result<List<Behind>, PlanFault>
-    ensures { Answers (resolved_parts (R.known names.now) (view_parts parts.now)) result }
+fn behinds(
+    parts: &[Part],
+    alloc: Global,
+    names: &NameResolver<'_>,
+) -> Result<List<Behind>, PlanFault>
+    ensures { Answers (resolved_parts (known_of names.now) (view_parts parts.now)) result }
 {
     let mut planned = List::new(alloc);
     for part in parts {
@@ -328,12 +328,12 @@ fn behinds<R: Resolves>(parts: &[Part], alloc: Global, names: &R) -> Result<List
 
 #[cycle(plans)]
 #[tactic(auto, using(crate::proofs::ListLemmas::list_laws))]
-fn factors<R: Resolves>(
+fn factors(
     factors: &[(MulSign, Node)],
     alloc: Global,
-    names: &R,
+    names: &NameResolver<'_>,
 ) -> Result<List<(MulSign, Expr)>, PlanFault>
-    ensures { Answers (resolved_factors (R.known names.now) (view_factors factors.now)) result }
+    ensures { Answers (resolved_factors (known_of names.now) (view_factors factors.now)) result }
 {
     let mut planned = List::new(alloc);
     for factor in factors {
@@ -345,12 +345,12 @@ fn factors<R: Resolves>(
 
 #[cycle(plans)]
 #[tactic(auto, using(crate::proofs::ListLemmas::list_laws))]
-fn terms<R: Resolves>(
+fn terms(
     terms: &[(AddSign, Node)],
     alloc: Global,
-    names: &R,
+    names: &NameResolver<'_>,
 ) -> Result<List<(AddSign, Expr)>, PlanFault>
-    ensures { Answers (resolved_terms (R.known names.now) (view_terms terms.now)) result }
+    ensures { Answers (resolved_terms (known_of names.now) (view_terms terms.now)) result }
 {
     let mut planned = List::new(alloc);
     for term in terms {

@@ -5,6 +5,7 @@ use Rattle.gq_rules_meaning.specs.MulSign.{MulSign}
 use Rattle.gq_rules_meaning.specs.Tree.{Tree, Behind, Trees, Parts, Factors, Terms, Number, Text, Truth, Global, Name, Call, Post, Neg, Mul, Sum, Cmp, Not, And, Or, Field, Method, Attached, Before, no_tree, tree}
 use Rattle.gq_rules_meaning.specs.View.{trees_of, parts_of, factors_of, terms_of}
 use Rattle.gq_rules_meaning.specs.Words as words
+use Rattle.gq_rules_typing.specs.Builtins.{builtin_is}
 use Rattle.gq_plan_ir.specs.declared.expr.Expr.{Expr, Expr-F, fold-Expr}
 use Rattle.gq_plan_ir.specs.declared.expr.Behind.{Behind-F, fold-Behind}
 use Rattle.gq_plan_ir.specs.declared.expr.Behind as code
@@ -31,19 +32,7 @@ method_of a_method.Get = words.Get
 -- the types of a tuple's fields follow from its number
 abbrev pub function_of : code_function.Function → Reference
 function_of (a_function.Tuple n fields) = TupleType n
-function_of a_function.Abs = Calls words.Abs
-function_of a_function.ToString = Calls words.ToString
-function_of a_function.ToDatetime = Calls words.ToDatetime
-function_of a_function.EpochToDatetime = Calls words.EpochToDatetime
-function_of a_function.DatetimeToEpoch = Calls words.DatetimeToEpoch
-function_of a_function.DatetimeDiff = Calls words.DatetimeDiff
-function_of a_function.DatetimeAdd = Calls words.DatetimeAdd
-function_of a_function.Year = Calls (words.PartOf words.Year)
-function_of a_function.Month = Calls (words.PartOf words.Month)
-function_of a_function.Day = Calls (words.PartOf words.Day)
-function_of a_function.Hour = Calls (words.PartOf words.Hour)
-function_of a_function.Minute = Calls (words.PartOf words.Minute)
-function_of a_function.Second = Calls (words.PartOf words.Second)
+function_of (a_function.Own builtin) = Calls (builtin_is builtin)
 
 -- the edge type in the parentheses of `outdegree`; which types are counted follows from it
 abbrev pub quoted : Option (List ℕ) → Trees Reference

@@ -1,5 +1,6 @@
 // Expressions of a plan.
 use gq_base::{Boxed, List};
+use gq_rules_typing::Builtin;
 use gq_tree::{AddSign, CmpSign, MulSign};
 use gq_value::{Fields, Txt};
 
@@ -78,21 +79,9 @@ pub enum Method {
     Get,
 }
 
-/// A function, or a tuple type by its number with the types of its fields.
+/// What a call stands for: a tuple type by its number with the types of its fields, or a function of the language's own.
 #[derive(Drop)]
 pub enum Function {
     Tuple(u32, Fields),
-    Abs,
-    ToString,
-    ToDatetime,
-    EpochToDatetime,
-    DatetimeToEpoch,
-    DatetimeDiff,
-    DatetimeAdd,
-    Year,
-    Month,
-    Day,
-    Hour,
-    Minute,
-    Second,
+    Own(Builtin),
 }

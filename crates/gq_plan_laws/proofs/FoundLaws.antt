@@ -20,7 +20,8 @@ use Rattle.gq_plan_ir.specs.References.{same, in_table, by_reference}
 use Rattle.gq_plan_ir.specs.ExprView.{field_of, function_of}
 use Rattle.gq_plan_ir.specs.Alike.{WordsAlike}
 use Rattle.gq_plan_expr.specs.Known.{or_nothing, method_at}
-use Rattle.gq_plan_laws.specs.Found.{TupleTypes, plain_fields, plain_tuples, in_vertex, in_edge, in_tuple, places_of, field_at, field_types, tuple_from, own_function, own_if, language, or_language, function_at, part_of_time, numbered, sides_of}
+use Rattle.gq_plan_expr.specs.Found.{TupleTypes, plain_fields, plain_tuples, in_vertex, in_edge, in_tuple, places_of, field_at, field_types, tuple_from, own_function, own_if, language, or_language, function_at, part_of_time}
+use Rattle.gq_plan_laws.specs.Sides.{numbered, sides_of}
 use Rattle.gq_plan_laws.specs.FoundLaws.{FoundLaw}
 
 some_inj : {A : Type 0} {a b : A} → ◌≡◌ {A = Option A} (Some a) (Some b) → a ≡ b

@@ -9,7 +9,7 @@ use Rattle.gq_rules_typing.specs.Words.{by_name, under, methods, functions, func
 use Rattle.gq_rules_meaning.specs.StateFits.{AllOf}
 use Rattle.gq_plan_ir.specs.declared.expr.Function.TheVariants as function
 use Rattle.gq_plan_expr.specs.Known.{method_at}
-use Rattle.gq_plan_laws.specs.Found.{TupleTypes, plain_fields, plain_tuples, field_types, tuple_from, own_function, own_if, language, or_language, globals_of}
+use Rattle.gq_plan_expr.specs.Found.{TupleTypes, plain_fields, plain_tuples, field_types, tuple_from, own_function, own_if, language, or_language, globals_of}
 use Rattle.gq_plan_laws.specs.Planned.{setting_of}
 use Rattle.gq_plan_laws.specs.Shown.{FindsWords}
 use Rattle.gq_plan_laws.proofs.HasLemmas.{Has}

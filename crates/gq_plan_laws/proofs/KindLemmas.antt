@@ -21,7 +21,7 @@ use Rattle.gq_rules_typing.specs.FieldTypes.{tuple_fields}
 use Rattle.gq_rules_typing.specs.Scopes.{Scope, unknown}
 use Rattle.gq_rules_typing.specs.KindTypes.{fields_written, tuple_named, elem_written, optional_elem, over_number, over_elem, over_bits, is_key, sort_fields, part_name, level_left, kind_within, parts_within}
 use Rattle.gq_rules_meaning.proofs.AnswerLaws.{then_ok, after_ok, ok_inj}
-use Rattle.gq_plan_laws.specs.Found.{plain_fields}
+use Rattle.gq_plan_expr.specs.Found.{plain_fields}
 
 -- ---- types
 

@@ -2,7 +2,7 @@
 use Rattle.std.proofs.Common.{◌≡◌, ℕ, Bool, true, false, List, [], ◌∷◌, Option, Some, None, Ok, refl, sym, ap, subst, ◌∙◌}
 use Rattle.std.specs.Prelude.{if◌then◌else◌, bytes_eq}
 use Rattle.gq_value.specs.Accums.{Base}
-use Rattle.gq_scope.specs.declared.place_table.NameBinding.{NameBinding}
+use Rattle.gq_scope.specs.declared.places.NameBinding.{NameBinding}
 use Rattle.gq_scope.specs.Named.{Named, seen_at, with_name}
 use Rattle.gq_rules_typing.specs.Statements.{Bytes, BaseTree, Ints, UInts, Bools, Strings, AnyVertex, VertexOf, Parameter}
 use Rattle.gq_rules_typing.specs.Sorts.{Sorts}
@@ -15,7 +15,7 @@ use Rattle.gq_plan_ir.specs.declared.plan.Declared.TheVariants as declared
 use Rattle.gq_plan_ir.specs.declared.plan.Parameter as code
 use Rattle.gq_plan_stmt.specs.Parts.{resolved_base}
 use Rattle.gq_plan_stmt.specs.Steps.{when_new}
-use Rattle.gq_plan_laws.specs.Found.{TupleTypes, globals_of}
+use Rattle.gq_plan_expr.specs.Found.{TupleTypes, globals_of}
 use Rattle.gq_plan_laws.specs.Planned.{setting_of}
 use Rattle.gq_plan_laws.specs.PlannedLaws.{no_names, ParametersPlanned}
 use Rattle.gq_plan_laws.specs.Shown.{InView, IsShown, FindsWords, Shows}

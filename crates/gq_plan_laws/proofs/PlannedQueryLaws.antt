@@ -7,7 +7,7 @@ use Rattle.std.proofs.lemmas.List.{length_push}
 use Rattle.gq_tree.specs.Tree.{Tree}
 use Rattle.gq_value.specs.declared.kind.BaseType.{BaseType}
 use Rattle.gq_value.specs.declared.value.Wrong.{Wrong}
-use Rattle.gq_scope.specs.declared.place_table.NameBinding.{NameBinding}
+use Rattle.gq_scope.specs.declared.places.NameBinding.{NameBinding}
 use Rattle.gq_scope.specs.Named.{Named, seen_at, with_name}
 use Rattle.gq_rules_typing.specs.Statements.{Bytes, BaseTree, Ints, UInts, Bools, Strings, AnyVertex, VertexOf, KindTree, Definition, TupleType, Accums, Parameter}
 use Rattle.gq_rules_typing.specs.Sorts.{Fields}
@@ -32,12 +32,14 @@ use Rattle.gq_plan_ir.specs.Plans.{Declared, WithAccum, WithTuple, ParametersSta
 use Rattle.gq_plan_expr.specs.Resolved.{◌>>=◌}
 use Rattle.gq_plan_expr.proofs.PlanLaws.{then_some, some_inj}
 use Rattle.gq_plan_select.proofs.BlockLaws.{each_planned, found_is, if_planned}
-use Rattle.gq_plan_stmt.specs.Globals.{known_in, view_of}
+use Rattle.gq_plan_expr.specs.Globals.{known_in}
+use Rattle.gq_plan_stmt.specs.References.{view_of}
 use Rattle.gq_plan_stmt.specs.Parts.{resolved_base}
 use Rattle.gq_plan_stmt.specs.Steps.{Behind, when_new, new_name}
 use Rattle.gq_plan_stmt.specs.Laws.{IsBounded}
 use Rattle.gq_plan_stmt.proofs.StepLaws.{bounded_name, inside_is, is_new, steps_law}
-use Rattle.gq_plan_laws.specs.Found.{TupleTypes, plain_fields, plain_tuples, numbered, globals_of}
+use Rattle.gq_plan_expr.specs.Found.{TupleTypes, plain_fields, plain_tuples, globals_of}
+use Rattle.gq_plan_laws.specs.Sides.{numbered}
 use Rattle.gq_plan_laws.specs.Declared.{ground_of, declared_of, SlotsAre}
 use Rattle.gq_plan_laws.specs.Planned.{Heads, with_accum, with_tuple, AccumsPlanned, DefinitionsPlanned}
 use Rattle.gq_plan_laws.specs.PlannedLaws.{no_names, no_heads, ParametersPlanned, PlanLaw}

@@ -4,7 +4,7 @@ use Rattle.std.specs.Prelude.{if◌then◌else◌, bytes_eq, filter, nat_lt}
 use Rattle.gq_tree.specs.Tree.{Tree}
 use Rattle.gq_value.specs.declared.kind.BaseType.{BaseType}
 use Rattle.gq_value.specs.Accums.{Accum}
-use Rattle.gq_scope.specs.declared.place_table.NameBinding.{NameBinding}
+use Rattle.gq_scope.specs.declared.places.NameBinding.{NameBinding}
 use Rattle.gq_scope.specs.Named.{Named, seen_at, with_name}
 use Rattle.gq_rules_typing.specs.Statements.{Bytes, BaseTree, KindTree, Definition, TupleType, Accums}
 use Rattle.gq_rules_typing.specs.Sorts.{Fields, Sorts}
@@ -26,9 +26,9 @@ use Rattle.gq_plan_ir.specs.declared.plan.Definition.TheVariants as definition
 use Rattle.gq_plan_expr.specs.Resolved as plans
 use Rattle.gq_plan_expr.specs.Resolved.{resolved}
 use Rattle.gq_plan_select.specs.Resolved.{if_there, each_resolved}
-use Rattle.gq_plan_stmt.specs.Globals.{Globals, known_in}
+use Rattle.gq_plan_expr.specs.Globals.{Globals, known_in}
 use Rattle.gq_plan_stmt.specs.Parts.{resolved_base}
-use Rattle.gq_plan_laws.specs.Found.{TupleTypes, plain_fields, plain_tuples, globals_of}
+use Rattle.gq_plan_expr.specs.Found.{TupleTypes, plain_fields, plain_tuples, globals_of}
 use Rattle.gq_plan_laws.specs.Planned.{Heads, setting_of, with_accum, with_tuple, AccumsPlanned, DefinitionsPlanned}
 use Rattle.gq_plan_laws.specs.PlannedLaws.{no_heads}
 use Rattle.gq_plan_laws.specs.Shown.{IsShown, FindsWords, Shows}

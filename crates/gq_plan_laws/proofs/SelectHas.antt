@@ -4,7 +4,7 @@ use Rattle.std.specs.Prelude.{not, is_some, ◌||◌, if◌then◌else◌, bytes
 use Rattle.gq_tree.specs.Tree.{Tree}
 use Rattle.gq_tree.specs.declared.select.Way.{Way}
 use Rattle.gq_value.specs.Accums.{Base, Accum}
-use Rattle.gq_scope.specs.declared.place_table.NameBinding.{NameBinding}
+use Rattle.gq_scope.specs.declared.places.NameBinding.{NameBinding}
 use Rattle.gq_scope.specs.Named.{Named, seen_at, place_at, marked_in, is_marked, with_name}
 use Rattle.gq_rules_typing.specs.Statements.{Bytes}
 use Rattle.gq_rules_typing.specs.Selecting as plain
@@ -28,8 +28,8 @@ use Rattle.gq_plan_expr.specs.Known.{Known}
 use Rattle.gq_plan_expr.specs.Resolved as plans
 use Rattle.gq_plan_expr.specs.Resolved.{resolved}
 use Rattle.gq_plan_select.specs.Resolved.{if_there, each_resolved, resolved_types, resolved_input, resolved_change, else_of, if_of, branch_and, resolved_act, resolved_acts, resolved_choices, resolved_hop, resolved_way, resolved_step, resolved_walk, resolved_source, resolved_key, resolved_from, resolved_clauses, resolved_tail, resolved_select, block_of}
-use Rattle.gq_plan_select.specs.Sees.{Sees}
-use Rattle.gq_plan_stmt.specs.Globals.{Globals, known_in, sees_in}
+use Rattle.gq_plan_expr.specs.Globals.{Sees}
+use Rattle.gq_plan_expr.specs.Globals.{Globals, known_in, sees_in}
 use Rattle.gq_plan_stmt.specs.Steps.{Behind, ended, with_aliases, resolved_block}
 use Rattle.gq_plan_stmt.specs.Steps as steps
 use Rattle.gq_plan_laws.specs.Shown.{IsShown, Shows}

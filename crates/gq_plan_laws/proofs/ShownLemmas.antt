@@ -4,7 +4,7 @@ use Rattle.std.specs.Prelude.{not, is_some, if◌then◌else◌, bytes_eq}
 use Rattle.std.specs.Option.{option_map}
 use Rattle.std.proofs.lemmas.Slice.Eq.{bytes_eq-Decides}
 use Rattle.gq_value.specs.Accums.{Accum}
-use Rattle.gq_scope.specs.declared.place_table.NameBinding.{NameBinding}
+use Rattle.gq_scope.specs.declared.places.NameBinding.{NameBinding}
 use Rattle.gq_scope.specs.Named.{Named, found_in, seen_at, place_at, marked_in, with_name}
 use Rattle.gq_rules_typing.specs.Statements.{Bytes}
 use Rattle.gq_rules_typing.specs.Judging.{Typed, Mismatch, NotAllowedHere, NameTwice, Judged, ◌>>◌, unless}
@@ -13,7 +13,7 @@ use Rattle.gq_rules_typing.specs.ActTypes.{vertex_alias}
 use Rattle.gq_rules_typing.specs.SetTypes.{is_set, set_types}
 use Rattle.gq_rules_meaning.proofs.AnswerLaws.{then_ok, unless_ok, or_fault_ok}
 use Rattle.gq_plan_expr.specs.Known.{KnowsAll}
-use Rattle.gq_plan_stmt.specs.Globals.{Globals, known_in}
+use Rattle.gq_plan_expr.specs.Globals.{Globals, known_in}
 use Rattle.gq_plan_stmt.specs.Steps.{Behind, when_new}
 use Rattle.gq_plan_stmt.specs.Steps as steps
 use Rattle.gq_plan_laws.specs.Shown.{InView, IsShown, Shows}

@@ -3,7 +3,7 @@ use Rattle.std.proofs.Common.{◌≡◌, ℕ, Bool, true, false, List, [], ◌�
 use Rattle.std.proofs.lemmas.Slice.Eq.{bytes_eq-Decides}
 use Rattle.std.specs.Prelude.{if◌then◌else◌, bytes_eq, slice_get, unwrap_or}
 use Rattle.std.specs.Option.{option_map}
-use Rattle.gq_scope.specs.declared.place_table.NameBinding.{NameBinding}
+use Rattle.gq_scope.specs.declared.places.NameBinding.{NameBinding}
 use Rattle.gq_scope.specs.Named.{Named, found_in, seen_at, place_at, with_name}
 use Rattle.gq_rules_typing.specs.Statements.{Bytes}
 use Rattle.gq_rules_meaning.specs.Calendars.{Calendar}
@@ -13,7 +13,7 @@ use Rattle.gq_plan_ir.specs.Reference.{Reference, Slot}
 use Rattle.gq_plan_ir.specs.References.{same}
 use Rattle.gq_plan_ir.specs.Plans.{AccumTold, IsSound}
 use Rattle.gq_plan_expr.specs.Known.{or_nothing}
-use Rattle.gq_plan_laws.specs.Found.{TupleTypes}
+use Rattle.gq_plan_expr.specs.Found.{TupleTypes}
 use Rattle.gq_plan_laws.proofs.FoundLaws.{found_law}
 use Rattle.gq_plan_laws.specs.Declared.{ground_of, slotted, accums_in, declared_of, SlotsAre}
 

@@ -32,7 +32,7 @@ use Rattle.gq_plan_expr.specs.Known.{Known}
 use Rattle.gq_plan_expr.specs.Resolved as plans
 use Rattle.gq_plan_expr.specs.Resolved.{resolved}
 use Rattle.gq_plan_select.specs.Resolved.{if_there, each_resolved, resolved_input, resolved_change}
-use Rattle.gq_plan_stmt.specs.Globals.{Globals, known_in}
+use Rattle.gq_plan_expr.specs.Globals.{Globals, known_in}
 use Rattle.gq_plan_stmt.specs.Parts.{resolved_base, resolved_seed, resolved_term, resolved_operand, resolved_sets, resolved_set_types, is_set_right, resolved_over, resolved_keyed, resolved_item}
 use Rattle.gq_plan_stmt.specs.Steps as steps
 use Rattle.gq_plan_stmt.specs.Steps.{Behind, ended, resolved_right, if_same, same_mark, target_seen, resolved_target, resolved_assign, local_and, resolved_locals, Parts, if_of, else_of, branch_and, body_of, step_and, resolved_stmt, resolved_stmts, resolved_branches}

@@ -1,6 +1,6 @@
 -- Declared: what is declared so far in a query, and what stands for each name then.
 use Rattle.std.specs.Prelude.{◌≡◌, List, [], ◌∷◌, ◌++◌, Some, slice_get}
-use Rattle.gq_scope.specs.declared.place_table.NameBinding.{NameBinding}
+use Rattle.gq_scope.specs.declared.places.NameBinding.{NameBinding}
 use Rattle.gq_scope.specs.Named.{Named, seen_at}
 use Rattle.gq_rules_typing.specs.Statements.{Bytes}
 use Rattle.gq_rules_typing.specs.Words.{by_name}
@@ -10,8 +10,9 @@ use Rattle.gq_rules_meaning.specs.StateFits.{AllOf}
 use Rattle.gq_plan_ir.specs.Reference.{Reference, Slot}
 use Rattle.gq_plan_ir.specs.References.{by_reference}
 use Rattle.gq_plan_ir.specs.Plans.{Ground, Declared}
-use Rattle.gq_plan_stmt.specs.Globals.{fixed_in}
-use Rattle.gq_plan_laws.specs.Found.{TupleTypes, plain_tuples, numbered, globals_of}
+use Rattle.gq_plan_stmt.specs.References.{fixed_in}
+use Rattle.gq_plan_expr.specs.Found.{TupleTypes, plain_tuples, globals_of}
+use Rattle.gq_plan_laws.specs.Sides.{numbered}
 
 -- a run over a graph, by names and by references; a plan has these names of accumulators
 abbrev pub ground_of : Graph → Calendar → List Bytes → Ground Bytes Reference

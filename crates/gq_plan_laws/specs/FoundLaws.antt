@@ -5,7 +5,8 @@ use Rattle.gq_rules_typing.specs.Statements.{Bytes}
 use Rattle.gq_rules_meaning.specs.Calendars.{Calendar}
 use Rattle.gq_rules_meaning.specs.Graphs.{Graph}
 use Rattle.gq_plan_ir.specs.Alike.{WordsAlike}
-use Rattle.gq_plan_laws.specs.Found.{TupleTypes, sides_of}
+use Rattle.gq_plan_expr.specs.Found.{TupleTypes}
+use Rattle.gq_plan_laws.specs.Sides.{sides_of}
 
 -- references stand for what names do
 abbrev pub FoundLaw : Type 0

@@ -8,7 +8,7 @@ use Rattle.gq_rules_typing.specs.StatementTypes.{typing_stmts}
 use Rattle.gq_rules_typing.specs.QueryTypes.{typing_query}
 use Rattle.gq_plan_ir.specs.declared.step.Step.{Step}
 use Rattle.gq_plan_ir.specs.declared.plan.Plan.{Plan}
-use Rattle.gq_plan_stmt.specs.Globals.{Globals}
+use Rattle.gq_plan_expr.specs.Globals.{Globals}
 use Rattle.gq_plan_stmt.specs.Steps.{resolved_stmts}
 use Rattle.gq_plan_laws.specs.PlannedLaws.{IsPlanned}
 use Rattle.gq_plan_laws.specs.Shown.{Shows}

@@ -1,5 +1,5 @@
 pub mod RefinementLaws
-pub mod Found
+pub mod Sides
 pub mod FoundLaws
 pub mod Declared
 pub mod Planned

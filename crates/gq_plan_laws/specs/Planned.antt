@@ -15,9 +15,9 @@ use Rattle.gq_plan_ir.specs.declared.plan.Definition as definition_code
 use Rattle.gq_plan_ir.specs.declared.plan.Definition.TheVariants as definition
 use Rattle.gq_plan_expr.specs.Resolved.{◌>>=◌, resolved}
 use Rattle.gq_plan_select.specs.Resolved.{if_there, each_resolved}
-use Rattle.gq_plan_stmt.specs.Globals.{known_in}
+use Rattle.gq_plan_expr.specs.Globals.{known_in}
 use Rattle.gq_plan_stmt.specs.Parts.{resolved_base}
-use Rattle.gq_plan_laws.specs.Found.{TupleTypes, plain_fields, plain_tuples, globals_of}
+use Rattle.gq_plan_expr.specs.Found.{TupleTypes, plain_fields, plain_tuples, globals_of}
 
 -- what is declared so far: tuple types and accumulators
 pub record Heads : Type 0 where

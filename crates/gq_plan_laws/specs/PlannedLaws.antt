@@ -12,7 +12,7 @@ use Rattle.gq_plan_ir.specs.PlanView.{view_plan, accum_names}
 use Rattle.gq_plan_ir.specs.Plans.{QueryStands}
 use Rattle.gq_plan_stmt.specs.Steps.{new_name, resolved_stmts}
 use Rattle.gq_plan_stmt.specs.Parts.{resolved_base}
-use Rattle.gq_plan_laws.specs.Found.{globals_of}
+use Rattle.gq_plan_expr.specs.Found.{globals_of}
 use Rattle.gq_plan_laws.specs.Declared.{ground_of}
 use Rattle.gq_plan_laws.specs.Planned.{Heads, DefinitionsPlanned}
 

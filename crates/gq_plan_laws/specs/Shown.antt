@@ -1,6 +1,6 @@
 -- Shown: when visible names with their places, and what is found for other names, are those of a scope.
 use Rattle.std.specs.Prelude.{◌≡◌, ℕ, Bool, true, false, List, Option, Some, None, bytes_eq}
-use Rattle.gq_scope.specs.declared.place_table.NameBinding.{NameBinding}
+use Rattle.gq_scope.specs.declared.places.NameBinding.{NameBinding}
 use Rattle.gq_scope.specs.Named.{Named, seen_at}
 use Rattle.gq_rules_typing.specs.Statements.{Bytes}
 use Rattle.gq_rules_typing.specs.Words as words
@@ -8,7 +8,7 @@ use Rattle.gq_rules_typing.specs.Words.{Setting, function_named, edge_quoted}
 use Rattle.gq_rules_typing.specs.Scopes.{Entry, Variable, SetVariable, Alias, EdgeAlias, Accumulator, TupleName, Scope, entry}
 use Rattle.gq_plan_ir.specs.declared.expr.Function.{Function}
 use Rattle.gq_plan_expr.specs.Known.{method_at}
-use Rattle.gq_plan_stmt.specs.Globals.{Globals}
+use Rattle.gq_plan_expr.specs.Globals.{Globals}
 
 -- a name is in view, marked or not
 abbrev pub InView : Option NameBinding → Bool → Type 0

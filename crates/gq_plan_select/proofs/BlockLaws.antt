@@ -34,7 +34,8 @@ use Rattle.gq_plan_ir.specs.RenamedBlocks.{renamed_input, renamed_inputs, rename
 use Rattle.gq_plan_expr.specs.Known.{Known, or_nothing, references}
 use Rattle.gq_plan_expr.specs.Resolved.{◌>>=◌, resolved, resolved_all}
 use Rattle.gq_plan_expr.proofs.PlanLaws.{then_some, some_inj, planned}
-use Rattle.gq_plan_select.specs.Sees.{Sees, naming_of, source_reference, vertex_reference, edge_reference}
+use Rattle.gq_plan_expr.specs.Globals.{Sees}
+use Rattle.gq_plan_select.specs.References.{naming_of, source_reference, vertex_reference, edge_reference}
 use Rattle.gq_plan_select.specs.declared.selects.Walked.{Walked}
 use Rattle.gq_plan_select.specs.declared.selects.Clauses.{Clauses}
 use Rattle.gq_plan_select.specs.declared.selects.Tail.{Tail}

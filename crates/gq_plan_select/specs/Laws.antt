@@ -7,7 +7,8 @@ use Rattle.gq_plan_ir.specs.declared.block.Block.{Block}
 use Rattle.gq_plan_ir.specs.BlockView.{view_change, view_block}
 use Rattle.gq_plan_ir.specs.RenamedBlocks.{renamed_change, renamed_select}
 use Rattle.gq_plan_expr.specs.Known.{Known, references}
-use Rattle.gq_plan_select.specs.Sees.{Sees, naming_of}
+use Rattle.gq_plan_expr.specs.Globals.{Sees}
+use Rattle.gq_plan_select.specs.References.{naming_of}
 use Rattle.gq_plan_select.specs.Resolved.{resolved_change, resolved_select}
 
 abbrev pub ChangeLaw : Type 0

@@ -1,3 +1,3 @@
-pub mod Sees
+pub mod References
 pub mod Resolved
 pub mod Laws

@@ -33,7 +33,7 @@ use Rattle.gq_plan_expr.specs.Resolved.{◌>>=◌, resolved, resolved_all}
 use Rattle.gq_plan_select.specs.declared.selects.Walked.{Walked}
 use Rattle.gq_plan_select.specs.declared.selects.Clauses.{Clauses}
 use Rattle.gq_plan_select.specs.declared.selects.Tail.{Tail}
-use Rattle.gq_plan_select.specs.Sees.{Sees}
+use Rattle.gq_plan_expr.specs.Globals.{Sees}
 
 -- ---- parts that may be left out, and lists
 

@@ -2,24 +2,25 @@
 ghost use Rattle.gq_tree.specs.View.{view};
 ghost use Rattle.gq_rules_typing.specs.Selecting as plain;
 ghost use Rattle.gq_rules_typing.specs.SelectViews.{view_change, view_act, view_acts, view_acts_if};
+ghost use Rattle.gq_plan_expr.specs.Names.{known_of};
 ghost use Rattle.gq_plan_expr.specs.Resolved.{Answers};
 ghost use Rattle.gq_plan_select.specs.Resolved.{resolved_act, resolved_acts, else_of};
 
 use crate::inputs::plan_change;
 use crate::walks::plan_place;
 use gq_base::List;
-use gq_plan_expr::{PlanFault, Resolves, plan_expr};
+use gq_plan_expr::{NameResolver, PlanFault, plan_expr};
 use gq_plan_ir::Act;
 use gq_tree::ChangeTree;
 use std::alloc::Global;
 
 /// The acts of a clause, where there is one.
-pub(crate) fn acts_if<R: Resolves>(
+pub(crate) fn acts_if(
     alloc: Global,
-    names: &R,
+    names: &NameResolver<'_>,
     list: &Option<List<gq_tree::ActTree>>,
 ) -> Result<List<Act>, PlanFault>
-    ensures { Answers (resolved_acts (R.known names.now) (view_acts_if list.now)) result }
+    ensures { Answers (resolved_acts (known_of names.now) (view_acts_if list.now)) result }
 {
     match list {
         None => Ok(List::new(alloc)),
@@ -28,14 +29,14 @@ pub(crate) fn acts_if<R: Resolves>(
 }
 
 /// A change of the accumulator of a name, at the alias of a name.
-fn at_alias<R: Resolves>(
+fn at_alias(
     alloc: Global,
-    names: &R,
+    names: &NameResolver<'_>,
     alias: &str,
     name: &str,
     change: &ChangeTree,
 ) -> Result<Act, PlanFault>
-    ensures { Answers (resolved_act (R.known names.now) (plain.AtAlias alias.now name.now (view_change change.now))) result }
+    ensures { Answers (resolved_act (known_of names.now) (plain.AtAlias alias.now name.now (view_change change.now))) result }
 {
     let place = plan_place(names, alias)?;
     let slot = plan_slot(names, name)?;
@@ -44,13 +45,13 @@ fn at_alias<R: Resolves>(
 }
 
 /// A change of the global accumulator of a name.
-fn at_global<R: Resolves>(
+fn at_global(
     alloc: Global,
-    names: &R,
+    names: &NameResolver<'_>,
     name: &str,
     change: &ChangeTree,
 ) -> Result<Act, PlanFault>
-    ensures { Answers (resolved_act (R.known names.now) (plain.AtGlobal name.now (view_change change.now))) result }
+    ensures { Answers (resolved_act (known_of names.now) (plain.AtGlobal name.now (view_change change.now))) result }
 {
     let slot = plan_slot(names, name)?;
     let planned = plan_change(alloc, names, change)?;
@@ -58,8 +59,8 @@ fn at_global<R: Resolves>(
 }
 
 /// The slot of an accumulator.
-pub(crate) fn plan_slot<R: Resolves>(names: &R, name: &str) -> Result<u32, PlanFault>
-    ensures { Answers ((R.known names.now).slot name.now) result }
+pub(crate) fn plan_slot(names: &NameResolver<'_>, name: &str) -> Result<u32, PlanFault>
+    ensures { Answers ((known_of names.now).slot name.now) result }
 {
     match names.slot(name) {
         None => Err(PlanFault::Unknown),
@@ -69,12 +70,12 @@ pub(crate) fn plan_slot<R: Resolves>(names: &R, name: &str) -> Result<u32, PlanF
 
 #[cycle(acts)]
 #[tactic(auto, using(gq_plan_expr::proofs::ListLemmas::list_laws))]
-fn acts<R: Resolves>(
+fn acts(
     list: &[gq_tree::ActTree],
     alloc: Global,
-    names: &R,
+    names: &NameResolver<'_>,
 ) -> Result<List<Act>, PlanFault>
-    ensures { Answers (resolved_acts (R.known names.now) (view_acts list.now)) result }
+    ensures { Answers (resolved_acts (known_of names.now) (view_acts list.now)) result }
 {
     let mut planned = List::new(alloc);
     for item in list {
@@ -86,8 +87,8 @@ fn acts<R: Resolves>(
 
 #[cycle(acts)]
 #[tactic(auto, using(gq_rules_typing::proofs::ViewLaws::statement_laws, crate::proofs::ActLemmas::act_laws))]
-fn act<R: Resolves>(item: &gq_tree::ActTree, alloc: Global, names: &R) -> Result<Act, PlanFault>
-    ensures { Answers (resolved_act (R.known names.now) (view_act item.now)) result }
+fn act(item: &gq_tree::ActTree, alloc: Global, names: &NameResolver<'_>) -> Result<Act, PlanFault>
+    ensures { Answers (resolved_act (known_of names.now) (view_act item.now)) result }
 {
     match item {
         gq_tree::ActTree::Attached(alias, name, change) => {
@@ -114,12 +115,12 @@ fn act<R: Resolves>(item: &gq_tree::ActTree, alloc: Global, names: &R) -> Result
 
 /// The acts behind ELSE; none is as no ELSE.
 #[cycle(acts)]
-fn else_acts<R: Resolves>(
+fn else_acts(
     list: &[gq_tree::ActTree],
     alloc: Global,
-    names: &R,
+    names: &NameResolver<'_>,
 ) -> Result<Option<List<Act>>, PlanFault>
-    ensures { Answers (else_of (view_acts list.now) (resolved_acts (R.known names.now) (view_acts list.now))) result }
+    ensures { Answers (else_of (view_acts list.now) (resolved_acts (known_of names.now) (view_acts list.now))) result }
 {
     if list.len() > 0 {
         let body = acts(list, alloc, names)?;

@@ -2,22 +2,23 @@
 ghost use Rattle.std.specs.Option.{option_map, option_copied};
 ghost use Rattle.gq_tree.specs.View.{view, views};
 ghost use Rattle.gq_rules_typing.specs.SelectViews.{view_order};
+ghost use Rattle.gq_plan_expr.specs.Names.{known_of};
 ghost use Rattle.gq_plan_expr.specs.Resolved.{Answers, resolved, resolved_all};
 ghost use Rattle.gq_plan_select.specs.Resolved.{if_there, each_resolved, resolved_key, view_keys};
 
 use gq_base::List;
-use gq_plan_expr::{PlanFault, Resolves, plan_expr};
+use gq_plan_expr::{NameResolver, PlanFault, plan_expr};
 use gq_plan_ir::Expr;
 use gq_tree::Node;
 use std::alloc::Global;
 
 /// The expression of a plan, where there is one.
-pub fn plan_if<R: Resolves>(
+pub fn plan_if(
     alloc: Global,
-    names: &R,
+    names: &NameResolver<'_>,
     node: Option<&Node>,
 ) -> Result<Option<Expr>, PlanFault>
-    ensures { Answers (if_there (resolved (R.known names.now)) (option_map view (option_copied node.entry))) result }
+    ensures { Answers (if_there (resolved (known_of names.now)) (option_map view (option_copied node.entry))) result }
 {
     match node {
         None => Ok(None),
@@ -30,12 +31,12 @@ pub fn plan_if<R: Resolves>(
 
 /// Expressions, one after the other.
 #[tactic(auto, using(gq_plan_expr::proofs::ListLemmas::list_laws))]
-pub(crate) fn exprs<R: Resolves>(
+pub(crate) fn exprs(
     alloc: Global,
-    names: &R,
+    names: &NameResolver<'_>,
     nodes: &[Node],
 ) -> Result<List<Expr>, PlanFault>
-    ensures { Answers (resolved_all (R.known names.now) (views nodes.now)) result }
+    ensures { Answers (resolved_all (known_of names.now) (views nodes.now)) result }
 {
     let mut planned = List::new(alloc);
     for node in nodes {
@@ -47,12 +48,12 @@ pub(crate) fn exprs<R: Resolves>(
 
 /// Keys of ORDER BY, each with whether it descends.
 #[tactic(auto, using(gq_plan_expr::proofs::ListLemmas::list_laws))]
-fn keys<R: Resolves>(
+fn keys(
     alloc: Global,
-    names: &R,
+    names: &NameResolver<'_>,
     keys: &[(Node, bool)],
 ) -> Result<List<(Expr, bool)>, PlanFault>
-    ensures { Answers (each_resolved (resolved_key (R.known names.now)) (view_keys keys.now)) result }
+    ensures { Answers (each_resolved (resolved_key (known_of names.now)) (view_keys keys.now)) result }
 {
     let mut planned = List::new(alloc);
     for key in keys {
@@ -63,12 +64,12 @@ fn keys<R: Resolves>(
 }
 
 /// ORDER BY, where there is one.
-pub(crate) fn order<R: Resolves>(
+pub(crate) fn order(
     alloc: Global,
-    names: &R,
+    names: &NameResolver<'_>,
     order: &Option<List<(Node, bool)>>,
 ) -> Result<List<(Expr, bool)>, PlanFault>
-    ensures { Answers (each_resolved (resolved_key (R.known names.now)) (view_order order.now)) result }
+    ensures { Answers (each_resolved (resolved_key (known_of names.now)) (view_order order.now)) result }
 {
     match order {
         None => Ok(List::new(alloc)),

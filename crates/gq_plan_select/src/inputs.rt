@@ -1,11 +1,12 @@
 // What accumulators are fed, and changes of them.
 ghost use Rattle.gq_rules_typing.specs.SelectViews.{inputs_of, view_input, view_change};
+ghost use Rattle.gq_plan_expr.specs.Names.{known_of};
 ghost use Rattle.gq_plan_expr.specs.Resolved.{Answers};
 ghost use Rattle.gq_plan_select.specs.Resolved.{resolved_input, resolved_inputs, resolved_change, view_inputs};
 
 use crate::exprs::exprs;
 use gq_base::List;
-use gq_plan_expr::{PlanFault, Resolves, plan_expr};
+use gq_plan_expr::{NameResolver, PlanFault, plan_expr};
 use gq_plan_ir::{Change, Feed};
 use gq_tree::InputTree;
 use std::alloc::Global;
@@ -13,12 +14,12 @@ use std::alloc::Global;
 /// The change of an accumulator in a plan. It takes some frames of the stack for each level of the tree.
 ///
 /// Unknown where something stands for nothing, which no well typed query has. OutOfMemory may come at any time.
-pub fn plan_change<R: Resolves>(
+pub fn plan_change(
     alloc: Global,
-    names: &R,
+    names: &NameResolver<'_>,
     change: &gq_tree::ChangeTree,
 ) -> Result<Change, PlanFault>
-    ensures { Answers (resolved_change (R.known names.now) (view_change change.now)) result }
+    ensures { Answers (resolved_change (known_of names.now) (view_change change.now)) result }
 {
     match change {
         gq_tree::ChangeTree::Feed(tree) => {
@@ -34,8 +35,8 @@ pub fn plan_change<R: Resolves>(
 
 #[cycle(inputs)]
 #[tactic(auto, using(gq_rules_typing::proofs::ViewLaws::statement_laws))]
-fn input<R: Resolves>(tree: &InputTree, alloc: Global, names: &R) -> Result<Feed, PlanFault>
-    ensures { Answers (resolved_input (R.known names.now) (view_input tree.now)) result }
+fn input(tree: &InputTree, alloc: Global, names: &NameResolver<'_>) -> Result<Feed, PlanFault>
+    ensures { Answers (resolved_input (known_of names.now) (view_input tree.now)) result }
 {
     match tree {
         InputTree::One(node) => {
@@ -52,12 +53,12 @@ fn input<R: Resolves>(tree: &InputTree, alloc: Global, names: &R) -> Result<Feed
 
 #[cycle(inputs)]
 #[tactic(auto, using(gq_plan_expr::proofs::ListLemmas::list_laws))]
-fn inputs<R: Resolves>(
+fn inputs(
     trees: &[InputTree],
     alloc: Global,
-    names: &R,
+    names: &NameResolver<'_>,
 ) -> Result<List<Feed>, PlanFault>
-    ensures { Answers (resolved_inputs (R.known names.now) (view_inputs trees.now)) result }
+    ensures { Answers (resolved_inputs (known_of names.now) (view_inputs trees.now)) result }
 {
     let mut planned = List::new(alloc);
     for tree in trees {

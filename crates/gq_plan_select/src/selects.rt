@@ -1,14 +1,14 @@
 // SELECT.
 ghost use Rattle.gq_rules_typing.specs.SelectViews.{view_select};
+ghost use Rattle.gq_plan_expr.specs.Names.{known_of, sees_of};
 ghost use Rattle.gq_plan_expr.specs.Resolved.{Answers};
 ghost use Rattle.gq_plan_select.specs.Resolved.{resolved_source, resolved_from, resolved_clauses, resolved_tail, resolved_select};
 
 use crate::acts::acts_if;
 use crate::exprs::{order, plan_if};
-use crate::sees::SeesTypes;
 use crate::walks::{alias, plan_place, vertex_type, walk};
 use gq_base::List;
-use gq_plan_expr::{PlanFault, Resolves};
+use gq_plan_expr::{NameResolver, PlanFault};
 use gq_plan_ir::{Act, Block, Expr, SelectSource, Walk};
 use gq_tree::SelectTree;
 use std::alloc::Global;
@@ -42,12 +42,12 @@ pub(crate) struct Tail {
 /// takes some frames of the stack for each level of the tree, and none for the length of a list.
 ///
 /// Unknown where something stands for nothing, which no well typed query has. OutOfMemory may come at any time.
-pub fn plan_block<R: Resolves + SeesTypes>(
+pub fn plan_block(
     alloc: Global,
-    names: &R,
+    names: &NameResolver<'_>,
     tree: &SelectTree,
 ) -> Result<Block, PlanFault>
-    ensures { Answers (resolved_select (R.known names.now) (R.sees names.now) (view_select tree.now)) result }
+    ensures { Answers (resolved_select (known_of names.now) (sees_of names.now) (view_select tree.now)) result }
 {
     let walked = plan_from(alloc, names, tree)?;
     let clauses = plan_clauses(alloc, names, tree)?;
@@ -67,8 +67,8 @@ pub fn plan_block<R: Resolves + SeesTypes>(
 }
 
 /// The set variable or the vertex type that a SELECT begins from.
-fn source<R: Resolves + SeesTypes>(names: &R, name: &str) -> Result<SelectSource, PlanFault>
-    ensures { Answers (resolved_source (R.known names.now) (R.sees names.now) name.now) result }
+fn source(names: &NameResolver<'_>, name: &str) -> Result<SelectSource, PlanFault>
+    ensures { Answers (resolved_source (known_of names.now) (sees_of names.now) name.now) result }
 {
     match names.is_set(name) {
         true => {
@@ -82,12 +82,12 @@ fn source<R: Resolves + SeesTypes>(names: &R, name: &str) -> Result<SelectSource
     }
 }
 
-fn plan_from<R: Resolves + SeesTypes>(
+fn plan_from(
     alloc: Global,
-    names: &R,
+    names: &NameResolver<'_>,
     tree: &SelectTree,
 ) -> Result<Walked, PlanFault>
-    ensures { Answers (resolved_from (R.known names.now) (R.sees names.now) (view_select tree.now)) result }
+    ensures { Answers (resolved_from (known_of names.now) (sees_of names.now) (view_select tree.now)) result }
 {
     let selected = plan_place(names, tree.selected.as_str())?;
     let source = source(names, tree.source.as_str())?;
@@ -101,12 +101,12 @@ fn plan_from<R: Resolves + SeesTypes>(
     })
 }
 
-fn plan_clauses<R: Resolves>(
+fn plan_clauses(
     alloc: Global,
-    names: &R,
+    names: &NameResolver<'_>,
     tree: &SelectTree,
 ) -> Result<Clauses, PlanFault>
-    ensures { Answers (resolved_clauses (R.known names.now) (view_select tree.now)) result }
+    ensures { Answers (resolved_clauses (known_of names.now) (view_select tree.now)) result }
 {
     let filter = plan_if(alloc, names, tree.filter.as_ref())?;
     let accum = acts_if(alloc, names, &tree.accum)?;
@@ -118,8 +118,8 @@ fn plan_clauses<R: Resolves>(
     })
 }
 
-fn plan_tail<R: Resolves>(alloc: Global, names: &R, tree: &SelectTree) -> Result<Tail, PlanFault>
-    ensures { Answers (resolved_tail (R.known names.now) (view_select tree.now)) result }
+fn plan_tail(alloc: Global, names: &NameResolver<'_>, tree: &SelectTree) -> Result<Tail, PlanFault>
+    ensures { Answers (resolved_tail (known_of names.now) (view_select tree.now)) result }
 {
     let having = plan_if(alloc, names, tree.having.as_ref())?;
     let order = order(alloc, names, &tree.order)?;

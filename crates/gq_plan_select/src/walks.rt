@@ -1,19 +1,19 @@
 // Patterns: edges and where they lead.
 ghost use Rattle.gq_rules_typing.specs.SelectViews.{view_types, view_types_if, view_hop, view_step, view_walk};
+ghost use Rattle.gq_plan_expr.specs.Names.{known_of, sees_of};
 ghost use Rattle.gq_plan_expr.specs.Resolved.{Answers};
 ghost use Rattle.gq_plan_select.specs.Resolved.{if_there, each_resolved, resolved_types, resolved_hop, resolved_way, resolved_step, resolved_walk, view_steps};
 
-use crate::sees::SeesTypes;
 use gq_base::List;
-use gq_plan_expr::{PlanFault, Resolves};
+use gq_plan_expr::{NameResolver, PlanFault};
 use gq_plan_ir::{Hop, PathStep, Types, Walk};
 use gq_tree::{HopTree, StepTree, Way};
 use gq_value::Txt;
 use std::alloc::Global;
 
 /// The place of a variable, a set or an alias. Unknown where it isn't visible.
-pub fn plan_place<R: Resolves>(names: &R, name: &str) -> Result<u32, PlanFault>
-    ensures { Answers ((R.known names.now).place name.now) result }
+pub fn plan_place(names: &NameResolver<'_>, name: &str) -> Result<u32, PlanFault>
+    ensures { Answers ((known_of names.now).place name.now) result }
 {
     match names.place(name) {
         None => Err(PlanFault::Unknown),
@@ -22,8 +22,8 @@ pub fn plan_place<R: Resolves>(names: &R, name: &str) -> Result<u32, PlanFault>
 }
 
 /// The place of an alias, where there is one.
-pub(crate) fn alias<R: Resolves>(names: &R, name: &Option<Txt>) -> Result<Option<u32>, PlanFault>
-    ensures { Answers (if_there (R.known names.now).place name.now) result }
+pub(crate) fn alias(names: &NameResolver<'_>, name: &Option<Txt>) -> Result<Option<u32>, PlanFault>
+    ensures { Answers (if_there (known_of names.now).place name.now) result }
 {
     match name {
         None => Ok(None),
@@ -35,8 +35,8 @@ pub(crate) fn alias<R: Resolves>(names: &R, name: &Option<Txt>) -> Result<Option
 }
 
 /// The vertex type of a name.
-pub(crate) fn vertex_type<R: SeesTypes>(names: &R, name: &str) -> Result<u32, PlanFault>
-    ensures { Answers ((R.sees names.now).vertex_type name.now) result }
+pub(crate) fn vertex_type(names: &NameResolver<'_>, name: &str) -> Result<u32, PlanFault>
+    ensures { Answers ((sees_of names.now).vertex_type name.now) result }
 {
     match names.vertex_type(name) {
         None => Err(PlanFault::Unknown),
@@ -45,8 +45,8 @@ pub(crate) fn vertex_type<R: SeesTypes>(names: &R, name: &str) -> Result<u32, Pl
 }
 
 /// The edge type of a name.
-fn edge_type<R: SeesTypes>(names: &R, name: &str) -> Result<u32, PlanFault>
-    ensures { Answers ((R.sees names.now).edge_type name.now) result }
+fn edge_type(names: &NameResolver<'_>, name: &str) -> Result<u32, PlanFault>
+    ensures { Answers ((sees_of names.now).edge_type name.now) result }
 {
     match names.edge_type(name) {
         None => Err(PlanFault::Unknown),
@@ -55,12 +55,12 @@ fn edge_type<R: SeesTypes>(names: &R, name: &str) -> Result<u32, PlanFault>
 }
 
 #[tactic(auto, using(gq_plan_expr::proofs::ListLemmas::list_laws))]
-fn all_vertex_types<R: SeesTypes>(
+fn all_vertex_types(
     alloc: Global,
-    names: &R,
+    names: &NameResolver<'_>,
     listed: &[Txt],
 ) -> Result<List<u32>, PlanFault>
-    ensures { Answers (each_resolved (R.sees names.now).vertex_type listed.now) result }
+    ensures { Answers (each_resolved (sees_of names.now).vertex_type listed.now) result }
 {
     let mut planned = List::new(alloc);
     for name in listed {
@@ -71,12 +71,12 @@ fn all_vertex_types<R: SeesTypes>(
 }
 
 #[tactic(auto, using(gq_plan_expr::proofs::ListLemmas::list_laws))]
-fn all_edge_types<R: SeesTypes>(
+fn all_edge_types(
     alloc: Global,
-    names: &R,
+    names: &NameResolver<'_>,
     listed: &[Txt],
 ) -> Result<List<u32>, PlanFault>
-    ensures { Answers (each_resolved (R.sees names.now).edge_type listed.now) result }
+    ensures { Answers (each_resolved (sees_of names.now).edge_type listed.now) result }
 {
     let mut planned = List::new(alloc);
     for name in listed {
@@ -86,12 +86,12 @@ fn all_edge_types<R: SeesTypes>(
     Ok(planned)
 }
 
-fn targets<R: SeesTypes>(
+fn targets(
     alloc: Global,
-    names: &R,
+    names: &NameResolver<'_>,
     types: &gq_tree::TypesTree,
 ) -> Result<Types, PlanFault>
-    ensures { Answers (resolved_types (R.sees names.now).vertex_type (view_types types.now)) result }
+    ensures { Answers (resolved_types (sees_of names.now).vertex_type (view_types types.now)) result }
 {
     match types {
         gq_tree::TypesTree::Any => Ok(Types::Every),
@@ -102,12 +102,12 @@ fn targets<R: SeesTypes>(
     }
 }
 
-fn targets_if<R: SeesTypes>(
+fn targets_if(
     alloc: Global,
-    names: &R,
+    names: &NameResolver<'_>,
     types: &Option<gq_tree::TypesTree>,
 ) -> Result<Types, PlanFault>
-    ensures { Answers (resolved_types (R.sees names.now).vertex_type (view_types_if types.now)) result }
+    ensures { Answers (resolved_types (sees_of names.now).vertex_type (view_types_if types.now)) result }
 {
     match types {
         None => Ok(Types::Every),
@@ -115,12 +115,12 @@ fn targets_if<R: SeesTypes>(
     }
 }
 
-fn edges_if<R: SeesTypes>(
+fn edges_if(
     alloc: Global,
-    names: &R,
+    names: &NameResolver<'_>,
     types: &Option<gq_tree::TypesTree>,
 ) -> Result<Types, PlanFault>
-    ensures { Answers (resolved_types (R.sees names.now).edge_type (view_types_if types.now)) result }
+    ensures { Answers (resolved_types (sees_of names.now).edge_type (view_types_if types.now)) result }
 {
     match types {
         None => Ok(Types::Every),
@@ -132,8 +132,8 @@ fn edges_if<R: SeesTypes>(
     }
 }
 
-fn hop<R: Resolves + SeesTypes>(alloc: Global, names: &R, tree: &HopTree) -> Result<Hop, PlanFault>
-    ensures { Answers (resolved_hop (R.known names.now) (R.sees names.now) (view_hop tree.now)) result }
+fn hop(alloc: Global, names: &NameResolver<'_>, tree: &HopTree) -> Result<Hop, PlanFault>
+    ensures { Answers (resolved_hop (known_of names.now) (sees_of names.now) (view_hop tree.now)) result }
 {
     let edges = edges_if(alloc, names, &tree.edges)?;
     let edge_alias = alias(names, &tree.edge_alias)?;
@@ -148,12 +148,12 @@ fn hop<R: Resolves + SeesTypes>(alloc: Global, names: &R, tree: &HopTree) -> Res
 }
 
 #[tactic(auto, using(gq_plan_expr::proofs::ListLemmas::list_laws))]
-fn ways<R: SeesTypes>(
+fn ways(
     alloc: Global,
-    names: &R,
+    names: &NameResolver<'_>,
     ways: &[(Way, Txt)],
 ) -> Result<List<(Way, u32)>, PlanFault>
-    ensures { Answers (each_resolved (resolved_way (R.sees names.now)) ways.now) result }
+    ensures { Answers (each_resolved (resolved_way (sees_of names.now)) ways.now) result }
 {
     let mut planned = List::new(alloc);
     for way in ways {
@@ -163,12 +163,8 @@ fn ways<R: SeesTypes>(
     Ok(planned)
 }
 
-fn step<R: Resolves + SeesTypes>(
-    alloc: Global,
-    names: &R,
-    tree: &StepTree,
-) -> Result<PathStep, PlanFault>
-    ensures { Answers (resolved_step (R.known names.now) (R.sees names.now) (view_step tree.now)) result }
+fn step(alloc: Global, names: &NameResolver<'_>, tree: &StepTree) -> Result<PathStep, PlanFault>
+    ensures { Answers (resolved_step (known_of names.now) (sees_of names.now) (view_step tree.now)) result }
 {
     let ways = ways(alloc, names, tree.ways.as_slice())?;
     let edge_alias = alias(names, &tree.edge_alias)?;
@@ -183,12 +179,12 @@ fn step<R: Resolves + SeesTypes>(
 }
 
 #[tactic(auto, using(gq_plan_expr::proofs::ListLemmas::list_laws))]
-fn steps<R: Resolves + SeesTypes>(
+fn steps(
     alloc: Global,
-    names: &R,
+    names: &NameResolver<'_>,
     trees: &[StepTree],
 ) -> Result<List<PathStep>, PlanFault>
-    ensures { Answers (each_resolved (resolved_step (R.known names.now) (R.sees names.now)) (view_steps trees.now)) result }
+    ensures { Answers (each_resolved (resolved_step (known_of names.now) (sees_of names.now)) (view_steps trees.now)) result }
 {
     let mut planned = List::new(alloc);
     for tree in trees {
@@ -199,12 +195,12 @@ fn steps<R: Resolves + SeesTypes>(
 }
 
 /// What stands behind the source.
-pub(crate) fn walk<R: Resolves + SeesTypes>(
+pub(crate) fn walk(
     alloc: Global,
-    names: &R,
+    names: &NameResolver<'_>,
     tree: &Option<gq_tree::PatternTree>,
 ) -> Result<Walk, PlanFault>
-    ensures { Answers (resolved_walk (R.known names.now) (R.sees names.now) (view_walk tree.now)) result }
+    ensures { Answers (resolved_walk (known_of names.now) (sees_of names.now) (view_walk tree.now)) result }
 {
     match tree {
         None => Ok(Walk::Nowhere),

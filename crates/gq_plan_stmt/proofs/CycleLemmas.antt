@@ -19,7 +19,7 @@ use Rattle.gq_plan_ir.specs.declared.step.Step.TheVariants as step
 use Rattle.gq_plan_expr.specs.declared.fault.PlanFault.{PlanFault}
 use Rattle.gq_plan_expr.specs.declared.fault.PlanFault.TheVariants as fault
 use Rattle.gq_plan_expr.specs.Resolved.{◌>>=◌, resolved}
-use Rattle.gq_plan_stmt.specs.Globals.{Globals, known_in}
+use Rattle.gq_plan_expr.specs.Globals.{Globals, known_in}
 use Rattle.gq_plan_stmt.specs.Parts.{resolved_over}
 use Rattle.gq_plan_stmt.specs.Steps.{Behind, Parts, AnswersIn, resolved_stmt, resolved_stmts, resolved_branches, new_name, step_and, branch_and, if_of, else_of, body_of}
 use Rattle.gq_plan_stmt.proofs.ListLemmas.{after_in, in_all, in_step, after_branches, branches_none, branches_one, branches_all}

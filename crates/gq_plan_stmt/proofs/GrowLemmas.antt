@@ -2,7 +2,7 @@
 use Rattle.std.proofs.Common.{◌≡◌, ◌≤◌, ◌-◌, ℕ, Bool, true, false, List, [], ◌∷◌, ◌++◌, length, drop, arith, Option, Some, None, refl, sym, ap, ◌∙◌}
 use Rattle.std.proofs.Math.Seq.{drop-append_seam}
 use Rattle.std.proofs.lemmas.List.{length-append}
-use Rattle.gq_scope.specs.declared.place_table.NameBinding.{NameBinding}
+use Rattle.gq_scope.specs.declared.places.NameBinding.{NameBinding}
 use Rattle.gq_scope.specs.Named.{Named, seen_at, with_name, kept}
 use Rattle.gq_rules_typing.specs.Statements as plain
 use Rattle.gq_rules_typing.specs.Statements.{Bytes, Stmt, Local, Assign, ChangeGlobal, If, While, Foreach, Print, Stmts, no_stmt, stmt_and, Branches, else_, if_}
@@ -14,7 +14,7 @@ use Rattle.gq_plan_ir.specs.declared.step.Step.{Step}
 use Rattle.gq_plan_expr.specs.Resolved.{◌>>=◌, resolved}
 use Rattle.gq_plan_expr.proofs.PlanLaws.{then_some, some_inj}
 use Rattle.gq_plan_select.specs.Resolved.{if_there, each_resolved, resolved_change, resolved_select}
-use Rattle.gq_plan_stmt.specs.Globals.{Globals, known_in, sees_in}
+use Rattle.gq_plan_expr.specs.Globals.{Globals, known_in, sees_in}
 use Rattle.gq_plan_stmt.specs.Parts.{resolved_base, resolved_sets, resolved_set_types, is_set_right, resolved_over, resolved_item}
 use Rattle.gq_plan_stmt.specs.Steps.{Behind, Parts, when_new, new_name, ended, with_alias, with_aliases, resolved_block, resolved_right, same_mark, if_same, target_seen, resolved_target, resolved_locals, resolved_stmt, resolved_stmts, resolved_branches, else_of, body_of}
 use Rattle.gq_plan_stmt.specs.Laws.{Grows}

@@ -7,7 +7,7 @@ use Rattle.std.proofs.lemmas.Slice.Eq.{bytes_eq-Decides}
 use mathlib.Core.Path.{fun_ext}
 use Rattle.gq_tree.specs.Tree.{Tree, Number, Text, Truth, Global, Name, Call, Post, Neg, Mul, Sum, Cmp, Not, And, Or}
 use Rattle.gq_tree.specs.declared.body.SetOp.{SetOp}
-use Rattle.gq_scope.specs.declared.place_table.NameBinding.{NameBinding}
+use Rattle.gq_scope.specs.declared.places.NameBinding.{NameBinding}
 use Rattle.gq_scope.specs.Named.{Named, found_in, seen_at, place_at, marked_in, is_marked, with_name}
 use Rattle.gq_rules_typing.specs.Statements as plain
 use Rattle.gq_rules_typing.specs.Statements.{Bytes, Stmt, Local, Assign, ChangeGlobal, If, While, Foreach, Print, Stmts, no_stmt, stmt_and, Branches, else_, if_}
@@ -45,10 +45,11 @@ use Rattle.gq_plan_ir.specs.StandsFor.{AliasIsNew, SelectStands, RightStands, Ta
 use Rattle.gq_plan_expr.specs.Known.{Known, or_nothing, references}
 use Rattle.gq_plan_expr.specs.Resolved.{resolved}
 use Rattle.gq_plan_expr.proofs.PlanLaws.{then_some, some_inj, planned}
-use Rattle.gq_plan_select.specs.Sees.{naming_of, source_reference}
+use Rattle.gq_plan_select.specs.References.{naming_of, source_reference}
 use Rattle.gq_plan_select.specs.Resolved.{if_there, each_resolved, resolved_change, resolved_select}
 use Rattle.gq_plan_select.proofs.BlockLaws.{two, there_planned, each_planned, found_is, change_planned, if_planned, block_planned}
-use Rattle.gq_plan_stmt.specs.Globals.{Globals, known_in, sees_in, visible_of, view_of, fixed_in}
+use Rattle.gq_plan_expr.specs.Globals.{Globals, known_in, sees_in}
+use Rattle.gq_plan_stmt.specs.References.{visible_of, view_of, fixed_in}
 use Rattle.gq_plan_stmt.specs.Parts.{resolved_base, resolved_seed, resolved_term, resolved_operand, resolved_sets, resolved_set_types, is_set_right, resolved_over, resolved_keyed, resolved_item}
 use Rattle.gq_plan_stmt.specs.Steps.{Behind, Parts, when_new, new_name, ended, with_alias, with_aliases, resolved_block, resolved_right, same_mark, if_same, target_seen, resolved_target, resolved_locals, local_and, if_of, else_of, body_of, resolved_stmt, resolved_stmts, resolved_branches}
 use Rattle.gq_plan_stmt.specs.Laws.{IsBounded, Grows, StepsStand, StepsLaw}

@@ -1,6 +1,6 @@
 -- Laws: the statements of a plan stand for those of the query.
 use Rattle.std.specs.Prelude.{◌≡◌, ◌<◌, List, ◌++◌, Some}
-use Rattle.gq_scope.specs.declared.place_table.NameBinding.{NameBinding}
+use Rattle.gq_scope.specs.declared.places.NameBinding.{NameBinding}
 use Rattle.gq_scope.specs.Named.{Named}
 use Rattle.gq_rules_typing.specs.Statements.{Bytes, Stmts}
 use Rattle.gq_rules_typing.specs.Sorts.{Sorts}
@@ -8,7 +8,8 @@ use Rattle.gq_rules_meaning.specs.StateFits.{AllOf}
 use Rattle.gq_plan_ir.specs.declared.step.Step.{Step}
 use Rattle.gq_plan_ir.specs.PlanView.{view_steps}
 use Rattle.gq_plan_ir.specs.StandsFor.{AllStand, behind_all}
-use Rattle.gq_plan_stmt.specs.Globals.{Globals, view_of, fixed_in}
+use Rattle.gq_plan_expr.specs.Globals.{Globals}
+use Rattle.gq_plan_stmt.specs.References.{view_of, fixed_in}
 use Rattle.gq_plan_stmt.specs.Steps.{resolved_stmts}
 
 -- places in view lie before the next one

@@ -1,4 +1,4 @@
-pub mod Globals
+pub mod References
 pub mod Parts
 pub mod Steps
 pub mod Laws

@@ -33,7 +33,7 @@ use Rattle.gq_plan_ir.specs.declared.step.PrintItem.TheVariants as item
 use Rattle.gq_plan_expr.specs.Known.{Known}
 use Rattle.gq_plan_expr.specs.Resolved.{◌>>=◌, resolved}
 use Rattle.gq_plan_select.specs.Resolved.{each_resolved}
-use Rattle.gq_plan_stmt.specs.Globals.{Globals}
+use Rattle.gq_plan_expr.specs.Globals.{Globals}
 
 -- ---- the code's lists as plain data
 

@@ -2,7 +2,7 @@
 -- for nothing. Each name that comes into view takes the next place.
 use Rattle.std.specs.Prelude.{◌≡◌, ◌≢◌, ℕ, Bool, true, false, List, [], ◌∷◌, Option, Some, None, Result, Ok, Err}
 use Rattle.gq_tree.specs.Tree.{Tree}
-use Rattle.gq_scope.specs.declared.place_table.NameBinding.{NameBinding}
+use Rattle.gq_scope.specs.declared.places.NameBinding.{NameBinding}
 use Rattle.gq_scope.specs.Named.{Named, seen_at, with_name}
 use Rattle.gq_rules_typing.specs.Statements as plain
 use Rattle.gq_rules_typing.specs.Statements.{Bytes, Stmt, Local, Assign, ChangeGlobal, If, While, Foreach, Print, Stmts, no_stmt, stmt_and, Branches, else_, if_}
@@ -18,7 +18,7 @@ use Rattle.gq_plan_expr.specs.declared.fault.PlanFault.{PlanFault}
 use Rattle.gq_plan_expr.specs.declared.fault.PlanFault.TheVariants as fault
 use Rattle.gq_plan_expr.specs.Resolved.{◌>>=◌, resolved}
 use Rattle.gq_plan_select.specs.Resolved.{if_there, each_resolved, resolved_change, resolved_select}
-use Rattle.gq_plan_stmt.specs.Globals.{Globals, known_in, sees_in}
+use Rattle.gq_plan_expr.specs.Globals.{Globals, known_in, sees_in}
 use Rattle.gq_plan_stmt.specs.Parts.{resolved_base, resolved_sets, resolved_set_types, is_set_right, resolved_over, resolved_item}
 
 -- what is planned, and what is in view behind it

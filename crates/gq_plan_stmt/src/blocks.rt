@@ -5,19 +5,19 @@ ghost use Rattle.gq_tree.specs.View.{view};
 ghost use Rattle.gq_rules_typing.specs.SelectViews.{view_select, view_walk};
 ghost use Rattle.gq_rules_typing.specs.StatementViews.{view_right};
 ghost use Rattle.gq_rules_typing.specs.Patterns as patterns;
+ghost use Rattle.gq_plan_expr.specs.Names.{globals_in};
 ghost use Rattle.gq_plan_expr.specs.Resolved.{Answers};
 ghost use Rattle.gq_plan_select.specs.Resolved.{resolved_select};
-ghost use Rattle.gq_plan_stmt.specs.Globals.{known_in, sees_in};
+ghost use Rattle.gq_plan_expr.specs.Globals.{known_in, sees_in};
 ghost use Rattle.gq_plan_stmt.specs.Parts as parts;
 ghost use Rattle.gq_plan_stmt.specs.Parts.{view_path};
 ghost use Rattle.gq_plan_stmt.specs.Steps as steps;
 ghost use Rattle.gq_plan_stmt.specs.Steps.{AnswersIn, DoneIn, resolved_block, resolved_right};
 
-use crate::globals::{KnowsGlobals, NameResolver};
 use crate::names::add_name;
 use crate::sets::plan_sets;
 use crate::values::value;
-use gq_plan_expr::PlanFault;
+use gq_plan_expr::{CatalogNames, NameResolver, PlanFault};
 use gq_plan_ir::{Block, Right};
 use gq_plan_select::plan_block;
 use gq_scope::Places;
@@ -100,13 +100,13 @@ fn with_aliases(places: &mut Places, tree: &SelectTree) -> Result<(), PlanFault>
     with_alias(places, target_alias(&tree.walk))
 }
 
-fn within<G: KnowsGlobals>(
+fn within(
     alloc: Global,
-    globals: &G,
+    globals: &CatalogNames<'_>,
     places: &Places,
     tree: &SelectTree,
 ) -> Result<Block, PlanFault>
-    ensures { Answers (resolved_select (known_in (G.globals globals.now) places.now) (sees_in (G.globals globals.now) places.now) (view_select tree.now)) result }
+    ensures { Answers (resolved_select (known_in (globals_in globals.now) places.now) (sees_in (globals_in globals.now) places.now) (view_select tree.now)) result }
 {
     let names = NameResolver { globals, places };
     plan_block(alloc, &names, tree)
@@ -114,13 +114,13 @@ fn within<G: KnowsGlobals>(
 
 /// A SELECT. Its aliases end with it.
 #[tactic(auto, using(crate::proofs::GrowLemmas::block_cuts))]
-fn block<G: KnowsGlobals>(
+fn block(
     alloc: Global,
-    globals: &G,
+    globals: &CatalogNames<'_>,
     places: &mut Places,
     tree: &SelectTree,
 ) -> Result<Block, PlanFault>
-    ensures { AnswersIn (resolved_block (G.globals globals.now) places.old (view_select tree.now)) places.new result }
+    ensures { AnswersIn (resolved_block (globals_in globals.now) places.old (view_select tree.now)) places.new result }
 {
     let before = places.len();
     with_aliases(places, tree)?;
@@ -130,13 +130,13 @@ fn block<G: KnowsGlobals>(
 }
 
 /// What is assigned.
-pub(crate) fn right<G: KnowsGlobals>(
+pub(crate) fn right(
     alloc: Global,
-    globals: &G,
+    globals: &CatalogNames<'_>,
     places: &mut Places,
     tree: &gq_tree::RightTree,
 ) -> Result<Right, PlanFault>
-    ensures { AnswersIn (resolved_right (G.globals globals.now) places.old (view_right tree.now)) places.new result }
+    ensures { AnswersIn (resolved_right (globals_in globals.now) places.old (view_right tree.now)) places.new result }
 {
     match tree {
         gq_tree::RightTree::Select(tree) => {

@@ -1,34 +1,21 @@
 // What PRINT prints.
 ghost use Rattle.std.specs.Prelude.{◌≡◌, IfOk};
 ghost use Rattle.gq_rules_typing.specs.StatementViews.{key_of, view_item};
+ghost use Rattle.gq_plan_expr.specs.Names.{globals_in};
 ghost use Rattle.gq_plan_expr.specs.Resolved.{Answers};
 ghost use Rattle.gq_plan_select.specs.Resolved.{each_resolved};
-ghost use Rattle.gq_plan_stmt.specs.Globals.{known_in};
+ghost use Rattle.gq_plan_expr.specs.Globals.{known_in};
 ghost use Rattle.gq_plan_stmt.specs.Parts.{resolved_keyed, resolved_item, view_columns, view_items, selection_key};
 
-use crate::globals::{KnowsGlobals, NameResolver};
 use crate::values::value;
 use gq_base::{List, OutOfMemory};
-use gq_plan_expr::PlanFault;
+use gq_plan_expr::{CatalogNames, NameResolver, PlanFault};
 use gq_plan_ir::{Expr, PrintItem};
 use gq_plan_select::plan_place;
-use gq_scope::Places;
+use gq_scope::{Places, key_text};
 use gq_tree::{Label, Node};
 use gq_value::Txt;
 use std::alloc::Global;
-
-/// The key of a label. OutOfMemory comes too where a spelling isn't UTF-8; tokens of a script spell texts alone.
-fn key_text(label: &Label) -> Result<&str, OutOfMemory>
-    ensures { IfOk result (λ key. key.now ≡ key_of label.now) }
-{
-    match label {
-        Label::Named(name) => Ok(name.as_str()),
-        Label::Spelled(spelling) => match std::str::from_utf8(spelling.as_slice()) {
-            Ok(key) => Ok(key),
-            Err(_) => Err(OutOfMemory),
-        },
-    }
-}
 
 fn key(alloc: Global, label: &Label) -> Result<Txt, OutOfMemory>
     ensures { IfOk result (λ key. key ≡ key_of label.now) }
@@ -48,13 +35,13 @@ fn columns_key(alloc: Global, set: &Txt, name: &Option<Txt>) -> Result<Txt, OutO
 }
 
 #[tactic(auto, using(gq_plan_expr::proofs::ListLemmas::list_laws))]
-fn columns<G: KnowsGlobals>(
+fn columns(
     alloc: Global,
-    globals: &G,
+    globals: &CatalogNames<'_>,
     places: &Places,
     trees: &[(Node, Label)],
 ) -> Result<List<(Expr, Txt)>, PlanFault>
-    ensures { Answers (each_resolved (resolved_keyed (known_in (G.globals globals.now) places.now)) (view_columns trees.now)) result }
+    ensures { Answers (each_resolved (resolved_keyed (known_in (globals_in globals.now) places.now)) (view_columns trees.now)) result }
 {
     let mut planned = List::new(alloc);
     for tree in trees {
@@ -65,20 +52,20 @@ fn columns<G: KnowsGlobals>(
     Ok(planned)
 }
 
-fn selection<G: KnowsGlobals>(globals: &G, places: &Places, set: &str) -> Result<u32, PlanFault>
-    ensures { Answers ((known_in (G.globals globals.now) places.now).place set.now) result }
+fn selection(globals: &CatalogNames<'_>, places: &Places, set: &str) -> Result<u32, PlanFault>
+    ensures { Answers ((known_in (globals_in globals.now) places.now).place set.now) result }
 {
     let names = NameResolver { globals, places };
     plan_place(&names, set)
 }
 
-fn item<G: KnowsGlobals>(
+fn item(
     alloc: Global,
-    globals: &G,
+    globals: &CatalogNames<'_>,
     places: &Places,
     tree: &gq_tree::ItemTree,
 ) -> Result<PrintItem, PlanFault>
-    ensures { Answers (resolved_item (known_in (G.globals globals.now) places.now) (view_item tree.now)) result }
+    ensures { Answers (resolved_item (known_in (globals_in globals.now) places.now) (view_item tree.now)) result }
 {
     match tree {
         gq_tree::ItemTree::Value(node, label) => {
@@ -97,13 +84,13 @@ fn item<G: KnowsGlobals>(
 
 /// The items of a PRINT.
 #[tactic(auto, using(gq_plan_expr::proofs::ListLemmas::list_laws))]
-pub(crate) fn items<G: KnowsGlobals>(
+pub(crate) fn items(
     alloc: Global,
-    globals: &G,
+    globals: &CatalogNames<'_>,
     places: &Places,
     trees: &[gq_tree::ItemTree],
 ) -> Result<List<PrintItem>, PlanFault>
-    ensures { Answers (each_resolved (resolved_item (known_in (G.globals globals.now) places.now)) (view_items trees.now)) result }
+    ensures { Answers (each_resolved (resolved_item (known_in (globals_in globals.now) places.now)) (view_items trees.now)) result }
 {
     let mut planned = List::new(alloc);
     for tree in trees {

@@ -1,15 +1,15 @@
 //! Plans statements: `plan_steps` takes statements and returns those of the plan, with names resolved.
 //!
 //! A name that comes into view takes the next of the `Places`. Names that don't depend on the position, such
-//! as types and accumulators, are resolved by any type with the trait `KnowsGlobals`.
+//! as types and accumulators, are resolved by `CatalogNames` of `gq_plan_expr`.
 //!
-//! Read `specs/Globals.antt` first, what names resolve to, then `specs/Parts.antt` and `specs/Steps.antt`,
-//! the statements of the plan, and `specs/Laws.antt`: they represent the statements of the query. The code
-//! begins in `src/steps.rt`; `src/blocks.rt` plans SELECT and assignments, `src/names.rt` declares names.
+//! Read `specs/Parts.antt` and `specs/Steps.antt` first, the statements of the plan, then
+//! `specs/References.antt`, what stands for names, and `specs/Laws.antt`: they represent the statements of
+//! the query. The code begins in `src/steps.rt`; `src/blocks.rt` plans SELECT and assignments,
+//! `src/names.rt` declares names.
 #![tactic(auto)]
 
 mod blocks;
-mod globals;
 mod items;
 mod laws;
 mod names;
@@ -17,8 +17,7 @@ mod sets;
 mod steps;
 mod values;
 
-pub use globals::KnowsGlobals;
 pub use laws::what_is_planned_stands_for_it;
-pub use names::plan_base;
+pub use names::{add_name, plan_base};
 pub use steps::plan_steps;
 pub use values::plan_opening;

@@ -1,19 +1,19 @@
 // Names that come into view, and types that are declared.
 ghost use Rattle.std.specs.Option.{option_map, option_copied};
 ghost use Rattle.gq_rules_typing.specs.StatementViews.{view_base, view_set_types};
+ghost use Rattle.gq_plan_expr.specs.Names.{globals_in};
 ghost use Rattle.gq_plan_expr.specs.Resolved.{Answers};
 ghost use Rattle.gq_plan_select.specs.Resolved.{if_there};
 ghost use Rattle.gq_plan_stmt.specs.Parts.{resolved_base, resolved_set_types};
 ghost use Rattle.gq_plan_stmt.specs.Steps.{AnswersIn, new_name, resolved_target};
 
-use crate::globals::KnowsGlobals;
-use gq_plan_expr::PlanFault;
+use gq_plan_expr::{CatalogNames, PlanFault};
 use gq_plan_ir::{Declared, SetTypes};
 use gq_scope::Places;
 use gq_tree::BaseTree;
 
 /// A name comes into view, if it isn't in view yet. Its place.
-pub(crate) fn add_name(places: &mut Places, name: &str) -> Result<u32, PlanFault>
+pub fn add_name(places: &mut Places, name: &str) -> Result<u32, PlanFault>
     ensures { AnswersIn (new_name places.old name.now) places.new result }
 {
     match places.find(name) {
@@ -49,8 +49,8 @@ pub(crate) fn target(places: &mut Places, name: &str, set: bool) -> Result<u32, 
 }
 
 /// The graph's vertex type of a name.
-pub(crate) fn vertex_type<G: KnowsGlobals>(globals: &G, name: &str) -> Result<u32, PlanFault>
-    ensures { Answers ((G.globals globals.now).vertex_type name.now) result }
+pub(crate) fn vertex_type(globals: &CatalogNames<'_>, name: &str) -> Result<u32, PlanFault>
+    ensures { Answers ((globals_in globals.now).vertex_type name.now) result }
 {
     match globals.vertex_type(name) {
         None => Err(PlanFault::Unknown),
@@ -59,8 +59,8 @@ pub(crate) fn vertex_type<G: KnowsGlobals>(globals: &G, name: &str) -> Result<u3
 }
 
 /// The slot of an accumulator.
-pub(crate) fn slot<G: KnowsGlobals>(globals: &G, name: &str) -> Result<u32, PlanFault>
-    ensures { Answers ((G.globals globals.now).slot name.now) result }
+pub(crate) fn slot(globals: &CatalogNames<'_>, name: &str) -> Result<u32, PlanFault>
+    ensures { Answers ((globals_in globals.now).slot name.now) result }
 {
     match globals.slot(name) {
         None => Err(PlanFault::Unknown),
@@ -69,8 +69,8 @@ pub(crate) fn slot<G: KnowsGlobals>(globals: &G, name: &str) -> Result<u32, Plan
 }
 
 /// A type that something is declared with. Unknown where it isn't one of the graph.
-pub fn plan_base<G: KnowsGlobals>(globals: &G, tree: &BaseTree) -> Result<Declared, PlanFault>
-    ensures { Answers (resolved_base (G.globals globals.now) (view_base tree.now)) result }
+pub fn plan_base(globals: &CatalogNames<'_>, tree: &BaseTree) -> Result<Declared, PlanFault>
+    ensures { Answers (resolved_base (globals_in globals.now) (view_base tree.now)) result }
 {
     match tree {
         BaseTree::Int => Ok(Declared::Int),
@@ -85,11 +85,11 @@ pub fn plan_base<G: KnowsGlobals>(globals: &G, tree: &BaseTree) -> Result<Declar
     }
 }
 
-fn set_types<G: KnowsGlobals>(
-    globals: &G,
+fn set_types(
+    globals: &CatalogNames<'_>,
     types: &gq_tree::SetTypesTree,
 ) -> Result<SetTypes, PlanFault>
-    ensures { Answers (resolved_set_types (G.globals globals.now) (view_set_types types.now)) result }
+    ensures { Answers (resolved_set_types (globals_in globals.now) (view_set_types types.now)) result }
 {
     match types {
         gq_tree::SetTypesTree::Any => Ok(SetTypes::Every),
@@ -101,11 +101,11 @@ fn set_types<G: KnowsGlobals>(
 }
 
 /// The types that a set variable is declared with, where there are some.
-pub(crate) fn set_types_if<G: KnowsGlobals>(
-    globals: &G,
+pub(crate) fn set_types_if(
+    globals: &CatalogNames<'_>,
     types: Option<&gq_tree::SetTypesTree>,
 ) -> Result<Option<SetTypes>, PlanFault>
-    ensures { Answers (if_there (resolved_set_types (G.globals globals.now)) (option_map view_set_types (option_copied types.entry))) result }
+    ensures { Answers (if_there (resolved_set_types (globals_in globals.now)) (option_map view_set_types (option_copied types.entry))) result }
 {
     match types {
         None => Ok(None),

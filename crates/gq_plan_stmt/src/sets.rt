@@ -1,14 +1,14 @@
 // Written sets.
 ghost use Rattle.gq_rules_typing.specs.StatementViews.{view_seed, view_term};
 ghost use Rattle.gq_scope.specs.Named.{place_at};
+ghost use Rattle.gq_plan_expr.specs.Names.{globals_in};
 ghost use Rattle.gq_plan_expr.specs.Resolved.{Answers};
 ghost use Rattle.gq_plan_select.specs.Resolved.{each_resolved};
 ghost use Rattle.gq_plan_stmt.specs.Parts.{resolved_seed, resolved_term, resolved_operand, resolved_sets, view_seeds, view_operands};
 
-use crate::globals::KnowsGlobals;
 use crate::names::{slot, vertex_type};
 use gq_base::List;
-use gq_plan_expr::PlanFault;
+use gq_plan_expr::{CatalogNames, PlanFault};
 use gq_plan_ir::{Seed, SetTerm, Sets};
 use gq_scope::Places;
 use gq_tree::SetOp;
@@ -23,12 +23,12 @@ fn place(places: &Places, name: &str) -> Result<u32, PlanFault>
     }
 }
 
-fn seed<G: KnowsGlobals>(
-    globals: &G,
+fn seed(
+    globals: &CatalogNames<'_>,
     places: &Places,
     tree: &gq_tree::SeedTree,
 ) -> Result<Seed, PlanFault>
-    ensures { Answers (resolved_seed (G.globals globals.now) places.now (view_seed tree.now)) result }
+    ensures { Answers (resolved_seed (globals_in globals.now) places.now (view_seed tree.now)) result }
 {
     match tree {
         gq_tree::SeedTree::Type(name) => {
@@ -48,13 +48,13 @@ fn seed<G: KnowsGlobals>(
 }
 
 #[tactic(auto, using(gq_plan_expr::proofs::ListLemmas::list_laws))]
-fn seeds<G: KnowsGlobals>(
+fn seeds(
     alloc: Global,
-    globals: &G,
+    globals: &CatalogNames<'_>,
     places: &Places,
     trees: &[gq_tree::SeedTree],
 ) -> Result<List<Seed>, PlanFault>
-    ensures { Answers (each_resolved (resolved_seed (G.globals globals.now) places.now) (view_seeds trees.now)) result }
+    ensures { Answers (each_resolved (resolved_seed (globals_in globals.now) places.now) (view_seeds trees.now)) result }
 {
     let mut planned = List::new(alloc);
     for tree in trees {
@@ -64,13 +64,13 @@ fn seeds<G: KnowsGlobals>(
     Ok(planned)
 }
 
-fn term<G: KnowsGlobals>(
+fn term(
     alloc: Global,
-    globals: &G,
+    globals: &CatalogNames<'_>,
     places: &Places,
     tree: &gq_tree::SetTermTree,
 ) -> Result<SetTerm, PlanFault>
-    ensures { Answers (resolved_term (G.globals globals.now) places.now (view_term tree.now)) result }
+    ensures { Answers (resolved_term (globals_in globals.now) places.now (view_term tree.now)) result }
 {
     match tree {
         gq_tree::SetTermTree::Name(name) => {
@@ -85,13 +85,13 @@ fn term<G: KnowsGlobals>(
 }
 
 #[tactic(auto, using(gq_plan_expr::proofs::ListLemmas::list_laws))]
-fn operands<G: KnowsGlobals>(
+fn operands(
     alloc: Global,
-    globals: &G,
+    globals: &CatalogNames<'_>,
     places: &Places,
     trees: &[(SetOp, gq_tree::SetTermTree)],
 ) -> Result<List<(SetOp, SetTerm)>, PlanFault>
-    ensures { Answers (each_resolved (resolved_operand (G.globals globals.now) places.now) (view_operands trees.now)) result }
+    ensures { Answers (each_resolved (resolved_operand (globals_in globals.now) places.now) (view_operands trees.now)) result }
 {
     let mut planned = List::new(alloc);
     for tree in trees {
@@ -102,13 +102,13 @@ fn operands<G: KnowsGlobals>(
 }
 
 /// A written set, or several in a chain.
-pub(crate) fn plan_sets<G: KnowsGlobals>(
+pub(crate) fn plan_sets(
     alloc: Global,
-    globals: &G,
+    globals: &CatalogNames<'_>,
     places: &Places,
     tree: &gq_tree::SetsTree,
 ) -> Result<Sets, PlanFault>
-    ensures { Answers (resolved_sets (G.globals globals.now) places.now (view_term tree.now.first) (view_operands tree.now.others)) result }
+    ensures { Answers (resolved_sets (globals_in globals.now) places.now (view_term tree.now.first) (view_operands tree.now.others)) result }
 {
     let first = term(alloc, globals, places, &tree.first)?;
     let others = operands(alloc, globals, places, tree.others.as_slice())?;

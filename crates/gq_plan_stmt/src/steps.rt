@@ -4,16 +4,16 @@ ghost use Rattle.gq_tree.specs.View.{view};
 ghost use Rattle.gq_rules_typing.specs.SelectViews.{view_change};
 ghost use Rattle.gq_rules_typing.specs.Statements.{Local, ChangeGlobal, While, Foreach, Print};
 ghost use Rattle.gq_rules_typing.specs.StatementViews.{view_base, view_over, view_right, view_locals, view_set_types, view_stmt, view_stmts};
+ghost use Rattle.gq_plan_expr.specs.Names.{globals_in};
 ghost use Rattle.gq_plan_stmt.specs.Parts.{view_items};
 ghost use Rattle.gq_plan_stmt.specs.Steps.{AnswersIn, resolved_assign, resolved_locals, resolved_stmt, resolved_stmts, else_of, body_of};
 
 use crate::blocks::{is_set_right, right};
-use crate::globals::KnowsGlobals;
 use crate::items::items;
 use crate::names::{add_name, plan_base, set_types_if, slot, target};
 use crate::values::{change, over, plan_opening, value};
 use gq_base::List;
-use gq_plan_expr::PlanFault;
+use gq_plan_expr::{CatalogNames, PlanFault};
 use gq_plan_ir::{Expr, Step};
 use gq_scope::Places;
 use gq_tree::{BaseTree, ChangeTree, ItemTree, Node, OverTree, RightTree, SetTypesTree, Stmt};
@@ -24,26 +24,26 @@ use std::alloc::Global;
 /// frames of the stack for each level of the trees, and none for the length of a list.
 ///
 /// Unknown where something stands for nothing, which no well typed query has. OutOfMemory may come at any time.
-pub fn plan_steps<G: KnowsGlobals>(
+pub fn plan_steps(
     alloc: Global,
-    globals: &G,
+    globals: &CatalogNames<'_>,
     places: &mut Places,
     trees: &[Stmt],
 ) -> Result<List<Step>, PlanFault>
-    ensures { AnswersIn (resolved_stmts (G.globals globals.now) places.old (view_stmts trees.now)) places.new result }
+    ensures { AnswersIn (resolved_stmts (globals_in globals.now) places.old (view_stmts trees.now)) places.new result }
 {
     steps(trees, alloc, globals, places)
 }
 
 /// New variables, each with its value where one is given.
 #[tactic(auto, using(crate::proofs::ListLemmas::in_laws))]
-fn locals<G: KnowsGlobals>(
+fn locals(
     alloc: Global,
-    globals: &G,
+    globals: &CatalogNames<'_>,
     places: &mut Places,
     trees: &[(Txt, Option<Node>)],
 ) -> Result<List<(u32, Option<Expr>)>, PlanFault>
-    ensures { AnswersIn (resolved_locals (G.globals globals.now) places.old (view_locals trees.now)) places.new result }
+    ensures { AnswersIn (resolved_locals (globals_in globals.now) places.old (view_locals trees.now)) places.new result }
 {
     let mut planned = List::new(alloc);
     for tree in trees {
@@ -54,14 +54,14 @@ fn locals<G: KnowsGlobals>(
     Ok(planned)
 }
 
-fn local_step<G: KnowsGlobals>(
+fn local_step(
     alloc: Global,
-    globals: &G,
+    globals: &CatalogNames<'_>,
     places: &mut Places,
     base: &BaseTree,
     trees: &[(Txt, Option<Node>)],
 ) -> Result<Step, PlanFault>
-    ensures { AnswersIn (resolved_stmt (G.globals globals.now) places.old (Local (view_base base.now) (view_locals trees.now))) places.new result }
+    ensures { AnswersIn (resolved_stmt (globals_in globals.now) places.old (Local (view_base base.now) (view_locals trees.now))) places.new result }
 {
     let declared = plan_base(globals, base)?;
     let planned = locals(alloc, globals, places, trees)?;
@@ -69,41 +69,41 @@ fn local_step<G: KnowsGlobals>(
 }
 
 /// A change of the global accumulator of a name.
-fn global_step<G: KnowsGlobals>(
+fn global_step(
     alloc: Global,
-    globals: &G,
+    globals: &CatalogNames<'_>,
     places: &Places,
     name: &str,
     tree: &ChangeTree,
 ) -> Result<Step, PlanFault>
-    ensures { AnswersIn (resolved_stmt (G.globals globals.now) places.now (ChangeGlobal name.now (view_change tree.now))) places.now result }
+    ensures { AnswersIn (resolved_stmt (globals_in globals.now) places.now (ChangeGlobal name.now (view_change tree.now))) places.now result }
 {
     let number = slot(globals, name)?;
     let planned = change(alloc, globals, places, tree)?;
     Ok(Step::Global(number, planned))
 }
 
-fn print_step<G: KnowsGlobals>(
+fn print_step(
     alloc: Global,
-    globals: &G,
+    globals: &CatalogNames<'_>,
     places: &Places,
     trees: &[ItemTree],
 ) -> Result<Step, PlanFault>
-    ensures { AnswersIn (resolved_stmt (G.globals globals.now) places.now (Print (view_items trees.now))) places.now result }
+    ensures { AnswersIn (resolved_stmt (globals_in globals.now) places.now (Print (view_items trees.now))) places.now result }
 {
     let planned = items(alloc, globals, places, trees)?;
     Ok(Step::Print(planned))
 }
 
-fn assign<G: KnowsGlobals>(
+fn assign(
     alloc: Global,
-    globals: &G,
+    globals: &CatalogNames<'_>,
     places: &mut Places,
     name: &str,
     types: Option<&SetTypesTree>,
     tree: &RightTree,
 ) -> Result<Step, PlanFault>
-    ensures { AnswersIn (resolved_assign (G.globals globals.now) places.old name.now (option_map view_set_types (option_copied types.entry)) (view_right tree.now)) places.new result }
+    ensures { AnswersIn (resolved_assign (globals_in globals.now) places.old name.now (option_map view_set_types (option_copied types.entry)) (view_right tree.now)) places.new result }
 {
     let types = set_types_if(globals, types)?;
     let is_set = is_set_right(places, tree);
@@ -113,13 +113,13 @@ fn assign<G: KnowsGlobals>(
 }
 
 #[cycle(steps)]
-fn steps<G: KnowsGlobals>(
+fn steps(
     trees: &[Stmt],
     alloc: Global,
-    globals: &G,
+    globals: &CatalogNames<'_>,
     places: &mut Places,
 ) -> Result<List<Step>, PlanFault>
-    ensures { AnswersIn (resolved_stmts (G.globals globals.now) places.old (view_stmts trees.now)) places.new result }
+    ensures { AnswersIn (resolved_stmts (globals_in globals.now) places.old (view_stmts trees.now)) places.new result }
 {
     let mut planned = List::new(alloc);
     for tree in trees {
@@ -132,13 +132,13 @@ fn steps<G: KnowsGlobals>(
 /// A body, whose names end with it.
 #[cycle(steps)]
 #[tactic(auto, using(crate::proofs::GrowLemmas::body_cuts))]
-fn body<G: KnowsGlobals>(
+fn body(
     trees: &[Stmt],
     alloc: Global,
-    globals: &G,
+    globals: &CatalogNames<'_>,
     places: &mut Places,
 ) -> Result<List<Step>, PlanFault>
-    ensures { AnswersIn (body_of places.old (resolved_stmts (G.globals globals.now) places.old (view_stmts trees.now))) places.new result }
+    ensures { AnswersIn (body_of places.old (resolved_stmts (globals_in globals.now) places.old (view_stmts trees.now))) places.new result }
 {
     let before = places.len();
     let planned = steps(trees, alloc, globals, places)?;
@@ -148,13 +148,13 @@ fn body<G: KnowsGlobals>(
 
 /// What stands behind ELSE; no statement is as no ELSE.
 #[cycle(steps)]
-fn else_body<G: KnowsGlobals>(
+fn else_body(
     trees: &[Stmt],
     alloc: Global,
-    globals: &G,
+    globals: &CatalogNames<'_>,
     places: &mut Places,
 ) -> Result<Option<List<Step>>, PlanFault>
-    ensures { AnswersIn (else_of places.old (view_stmts trees.now) (body_of places.old (resolved_stmts (G.globals globals.now) places.old (view_stmts trees.now)))) places.new result }
+    ensures { AnswersIn (else_of places.old (view_stmts trees.now) (body_of places.old (resolved_stmts (globals_in globals.now) places.old (view_stmts trees.now)))) places.new result }
 {
     if trees.len() > 0 {
         let planned = body(trees, alloc, globals, places)?;
@@ -164,18 +164,18 @@ fn else_body<G: KnowsGlobals>(
 }
 
 #[cycle(steps)]
-fn while_step<G: KnowsGlobals>(
+fn while_step(
     trees: &[Stmt],
     alloc: Global,
-    globals: &G,
+    globals: &CatalogNames<'_>,
     places: &mut Places,
     test: &Node,
-    limit: Option<&Node>,
+    limit: &Option<Node>,
 ) -> Result<Step, PlanFault>
-    ensures { AnswersIn (resolved_stmt (G.globals globals.now) places.old (While (view test.now) (option_map view (option_copied limit.entry)) (view_stmts trees.now))) places.new result }
+    ensures { AnswersIn (resolved_stmt (globals_in globals.now) places.old (While (view test.now) (option_map view limit.now) (view_stmts trees.now))) places.new result }
 {
     let test = value(alloc, globals, places, test)?;
-    let limit = plan_opening(alloc, globals, places, limit)?;
+    let limit = plan_opening(alloc, globals, places, limit.as_ref())?;
     let planned = body(trees, alloc, globals, places)?;
     Ok(Step::While(test, limit, planned))
 }
@@ -183,15 +183,15 @@ fn while_step<G: KnowsGlobals>(
 /// The variable of a FOREACH ends with its body.
 #[cycle(steps)]
 #[tactic(auto, using(crate::proofs::GrowLemmas::loop_cuts))]
-fn foreach_step<G: KnowsGlobals>(
+fn foreach_step(
     trees: &[Stmt],
     alloc: Global,
-    globals: &G,
+    globals: &CatalogNames<'_>,
     places: &mut Places,
     name: &str,
     tree: &OverTree,
 ) -> Result<Step, PlanFault>
-    ensures { AnswersIn (resolved_stmt (G.globals globals.now) places.old (Foreach name.now (view_over tree.now) (view_stmts trees.now))) places.new result }
+    ensures { AnswersIn (resolved_stmt (globals_in globals.now) places.old (Foreach name.now (view_over tree.now) (view_stmts trees.now))) places.new result }
 {
     let over = over(alloc, globals, places, tree)?;
     let before = places.len();
@@ -202,13 +202,13 @@ fn foreach_step<G: KnowsGlobals>(
 }
 
 #[cycle(steps)]
-fn step<G: KnowsGlobals>(
+fn step(
     tree: &Stmt,
     alloc: Global,
-    globals: &G,
+    globals: &CatalogNames<'_>,
     places: &mut Places,
 ) -> Result<Step, PlanFault>
-    ensures { AnswersIn (resolved_stmt (G.globals globals.now) places.old (view_stmt tree.now)) places.new result }
+    ensures { AnswersIn (resolved_stmt (globals_in globals.now) places.old (view_stmt tree.now)) places.new result }
 {
     match tree {
         Stmt::Local(base, trees) => local_step(alloc, globals, places, base, trees.as_slice()),
@@ -232,14 +232,7 @@ fn step<G: KnowsGlobals>(
             }
         }
         Stmt::While(test, limit, trees) => {
-            while_step(
-                trees.as_slice(),
-                alloc,
-                globals,
-                places,
-                test,
-                limit.as_ref(),
-            )
+            while_step(trees.as_slice(), alloc, globals, places, test, limit)
         }
         Stmt::Foreach(name, over, trees) => {
             foreach_step(

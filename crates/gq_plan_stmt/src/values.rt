@@ -3,13 +3,13 @@ ghost use Rattle.std.specs.Option.{option_map, option_copied};
 ghost use Rattle.gq_tree.specs.View.{view};
 ghost use Rattle.gq_rules_typing.specs.SelectViews.{view_change};
 ghost use Rattle.gq_rules_typing.specs.StatementViews.{view_over};
+ghost use Rattle.gq_plan_expr.specs.Names.{globals_in};
 ghost use Rattle.gq_plan_expr.specs.Resolved.{Answers, resolved};
 ghost use Rattle.gq_plan_select.specs.Resolved.{if_there, resolved_change};
-ghost use Rattle.gq_plan_stmt.specs.Globals.{known_in};
+ghost use Rattle.gq_plan_expr.specs.Globals.{known_in};
 ghost use Rattle.gq_plan_stmt.specs.Parts.{resolved_over};
 
-use crate::globals::{KnowsGlobals, NameResolver};
-use gq_plan_expr::{PlanFault, plan_expr};
+use gq_plan_expr::{CatalogNames, NameResolver, PlanFault, plan_expr};
 use gq_plan_ir::{Change, Expr, Over};
 use gq_plan_select::{plan_change, plan_if};
 use gq_scope::Places;
@@ -17,52 +17,52 @@ use gq_tree::Node;
 use std::alloc::Global;
 
 /// An expression.
-pub(crate) fn value<G: KnowsGlobals>(
+pub(crate) fn value(
     alloc: Global,
-    globals: &G,
+    globals: &CatalogNames<'_>,
     places: &Places,
     node: &Node,
 ) -> Result<Expr, PlanFault>
-    ensures { Answers (resolved (known_in (G.globals globals.now) places.now) (view node.now)) result }
+    ensures { Answers (resolved (known_in (globals_in globals.now) places.now) (view node.now)) result }
 {
     let names = NameResolver { globals, places };
     plan_expr(alloc, &names, node)
 }
 
 /// An expression that may be left out, as what a local or an accumulator opens with.
-pub fn plan_opening<G: KnowsGlobals>(
+pub fn plan_opening(
     alloc: Global,
-    globals: &G,
+    globals: &CatalogNames<'_>,
     places: &Places,
     node: Option<&Node>,
 ) -> Result<Option<Expr>, PlanFault>
-    ensures { Answers (if_there (resolved (known_in (G.globals globals.now) places.now)) (option_map view (option_copied node.entry))) result }
+    ensures { Answers (if_there (resolved (known_in (globals_in globals.now) places.now)) (option_map view (option_copied node.entry))) result }
 {
     let names = NameResolver { globals, places };
     plan_if(alloc, &names, node)
 }
 
 /// The change of a global accumulator.
-pub(crate) fn change<G: KnowsGlobals>(
+pub(crate) fn change(
     alloc: Global,
-    globals: &G,
+    globals: &CatalogNames<'_>,
     places: &Places,
     tree: &gq_tree::ChangeTree,
 ) -> Result<Change, PlanFault>
-    ensures { Answers (resolved_change (known_in (G.globals globals.now) places.now) (view_change tree.now)) result }
+    ensures { Answers (resolved_change (known_in (globals_in globals.now) places.now) (view_change tree.now)) result }
 {
     let names = NameResolver { globals, places };
     plan_change(alloc, &names, tree)
 }
 
 /// What FOREACH goes over.
-pub(crate) fn over<G: KnowsGlobals>(
+pub(crate) fn over(
     alloc: Global,
-    globals: &G,
+    globals: &CatalogNames<'_>,
     places: &Places,
     tree: &gq_tree::OverTree,
 ) -> Result<Over, PlanFault>
-    ensures { Answers (resolved_over (known_in (G.globals globals.now) places.now) (view_over tree.now)) result }
+    ensures { Answers (resolved_over (known_in (globals_in globals.now) places.now) (view_over tree.now)) result }
 {
     match tree {
         gq_tree::OverTree::Elements(node) => {

@@ -20,6 +20,7 @@ writes x h =
     }
 
 shows : (x : ℤ) → IsDatetime x → HasParts x (parts_of gregorian x)
+unfolding gregorian
 shows x h =
     let has = has_moment x h in (
       has.moment,
@@ -35,9 +36,11 @@ shows x h =
     )
 
 pub gregorian_is : IsCalendar gregorian
+unfolding gregorian
 gregorian_is = record { reads = reads_exactly; writes = writes; shows = shows; adds = adds_exactly }
 
 pub gregorian_stays : StaysInRange gregorian
+unfolding gregorian
 gregorian_stays = record {
   reads = λ text x e. is-in_calendar x (tells_in_range _ x ((reads_exactly text x).0 e));
   adds = λ u n x y at e. is-in_calendar y (added_in_range u n x y ((adds_exactly u n x y (in_calendar-is x at)).0 e));

@@ -20,5 +20,5 @@ part Hour x = pos (hour x)
 part Minute x = pos (minute x)
 part Second x = pos (second x)
 
-abbrev pub gregorian : Calendar
+unfoldable pub gregorian : Calendar
 gregorian = record { read = read; write = write; part = part; add = add }

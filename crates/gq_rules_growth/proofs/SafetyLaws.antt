@@ -4,7 +4,7 @@ use Rattle.std.proofs.lemmas.Bool.{ltb-true, lt-ltb}
 use Rattle.std.proofs.lemmas.List.{length-take, take-append-drop}
 use Rattle.std.specs.Prelude.{◌&&◌, nat_lt, slice_get}
 use Rattle.std.specs.List.{list_all}
-use Rattle.gq_load_plan.specs.GrowthLaws.{grows_on}
+use Rattle.gq_load_check.specs.GrowthLaws.{grows_on}
 use Rattle.gq_rules_typing.specs.Sorts.{sorts_of}
 use Rattle.gq_rules_meaning.specs.Graphs.{graph_of}
 use Rattle.gq_rules_safety.proofs.KindLaws.{query_law}

@@ -13,7 +13,7 @@ use Rattle.gq_graph.specs.Catalog.{Schema}
 use Rattle.gq_graph.specs.declared.types.GraphType.{GraphType}
 use Rattle.gq_graph.specs.declared.types.VertexType.{VertexType}
 use Rattle.gq_graph.specs.declared.types.EdgeType.{EdgeType}
-use Rattle.gq_load_plan.specs.Fits.{HasGrown}
+use Rattle.gq_load_check.specs.Fits.{HasGrown}
 use Rattle.gq_rules_typing.specs.Statements.{Bytes, Query}
 use Rattle.gq_rules_typing.specs.Sorts.{Fields, VertexSort, EdgeSort, Sorts, names_of, bases_of, vertex_fields, edge_fields, vertex_sort, edge_sort, sorts_of}
 use Rattle.gq_rules_typing.specs.Words.{Words, Owner, OfVertexType, OfEdgeType, place_of, if_own, by_name, edge_quoted}

@@ -3,7 +3,7 @@ use Rattle.std.specs.Prelude.{◌≡◌, ℕ, ◌<◌, true, length, nat_lt, Opt
 use Rattle.std.specs.List.{list_all}
 use Rattle.gq_graph.specs.Catalog.{Schema}
 use Rattle.gq_graph.specs.declared.types.GraphType.{GraphType}
-use Rattle.gq_load_plan.specs.Fits.{HasGrown}
+use Rattle.gq_load_check.specs.Fits.{HasGrown}
 use Rattle.gq_rules_typing.specs.Statements.{Bytes, Query}
 use Rattle.gq_rules_typing.specs.Sorts.{Sorts, sorts_of}
 use Rattle.gq_rules_typing.specs.Words.{by_name}

@@ -5,7 +5,7 @@ use Rattle.gq_graph.specs.Catalog.{Schema}
 use Rattle.gq_graph.specs.declared.types.GraphType.{GraphType}
 use Rattle.gq_graph.specs.declared.rows.VertexRow.{VertexRow}
 use Rattle.gq_graph.specs.declared.rows.EdgeRow.{EdgeRow}
-use Rattle.gq_load_plan.specs.Fits.{HasGrown}
+use Rattle.gq_load_check.specs.Fits.{HasGrown}
 use Rattle.gq_rules_typing.specs.Statements.{Bytes, Query}
 use Rattle.gq_rules_typing.specs.Sorts.{Fields, sorts_of}
 use Rattle.gq_rules_typing.specs.Scopes.{Scope}

@@ -9,7 +9,7 @@ use Rattle.gq_graph.specs.Vertices.{vertex_number}
 use Rattle.gq_rules_typing.specs.Statements.{Bytes, BaseTree, Ints, UInts, Bools, Strings, AnyVertex, VertexOf, Literal, Signed, Quoted, Truthful, Parameter}
 use Rattle.gq_rules_typing.specs.Sorts.{Sorts}
 use Rattle.gq_rules_typing.specs.Words.{by_name, under}
-use Rattle.gq_rules_typing.specs.QueryTypes.{signed}
+use Rattle.gq_rules_typing.specs.Signed.{signed}
 
 -- what stands for a parameter: a literal, the id and type of a vertex, or, in the file, something else
 pub data Argument : Type 0 where

@@ -16,7 +16,7 @@ use Rattle.gq_graph.specs.declared.types.Attribute.{Attribute}
 use Rattle.gq_graph.specs.declared.types.VertexType.{VertexType}
 use Rattle.gq_graph.specs.declared.types.EdgeType.{EdgeType}
 use Rattle.gq_graph.specs.declared.types.GraphType.{GraphType}
-use Rattle.gq_load_plan.specs.Targets.{edge_type_at, no_edge_type}
+use Rattle.gq_load_check.specs.Targets.{edge_type_at, no_edge_type}
 use Rattle.gq_schema.specs.declared.fault.SchemaFault.{SchemaFault}
 use Rattle.gq_schema.specs.declared.fault.SchemaFault.TheVariants as fault
 use Rattle.gq_schema.specs.Members.{below, is_number, is_listed, has_vertex, names_edge, has_edge, has_ends, fits, misfit, graph_with}

@@ -24,7 +24,7 @@ use Rattle.gq_graph.specs.declared.types.GraphType.{GraphType}
 use Rattle.gq_graph.specs.declared.rows.VertexRow.{VertexRow}
 use Rattle.gq_graph.specs.declared.rows.EdgeRow.{EdgeRow}
 use Rattle.gq_value.specs.declared.value.Value.{Value}
-use Rattle.gq_load_plan.specs.Targets.{no_vertex_type, no_edge_type, vertex_type_at, edge_type_at}
+use Rattle.gq_load_check.specs.Targets.{no_vertex_type, no_edge_type, vertex_type_at, edge_type_at}
 use Rattle.gq_insert.specs.Fits.{row_fits}
 use Rattle.gq_insert.specs.Fits as inserted
 use Rattle.gq_rules_typing.specs.Statements.{Bytes}

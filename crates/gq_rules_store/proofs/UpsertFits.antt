@@ -14,8 +14,8 @@ use Rattle.gq_graph.specs.declared.rows.Naming.{Naming}
 use Rattle.gq_graph.specs.declared.rows.VertexRow.{VertexRow}
 use Rattle.gq_graph.specs.declared.rows.EdgeRow.{EdgeRow}
 use Rattle.gq_index.specs.declared.store.Store.{Store}
-use Rattle.gq_load_plan.specs.GrowthLaws.{vertex_type_stays, edge_type_stays}
-use Rattle.gq_load_plan.specs.Targets.{edge_type_at}
+use Rattle.gq_load_check.specs.GrowthLaws.{vertex_type_stays, edge_type_stays}
+use Rattle.gq_load_check.specs.Targets.{edge_type_at}
 use Rattle.gq_insert.specs.Fits.{row_fits}
 use Rattle.gq_index.specs.Steps.{Step, Vertex, End, Edge, name_of, has_vertex, edge_between, after, after_all}
 use Rattle.gq_rules_store.specs.Stores.{VertexRowFits, EdgeRowFits}

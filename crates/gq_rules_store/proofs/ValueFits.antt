@@ -18,7 +18,7 @@ use Rattle.gq_graph.specs.declared.rows.EdgeRow.{EdgeRow}
 use Rattle.gq_rules_typing.specs.Statements.{Bytes, BaseTree, Ints, UInts, Bools, Strings, AnyVertex, VertexOf, Literal, Signed, Quoted, Truthful, Parameter}
 use Rattle.gq_rules_typing.specs.Sorts.{Sorts, sorts_of}
 use Rattle.gq_rules_typing.specs.Words.{if_own, by_name}
-use Rattle.gq_rules_typing.specs.QueryTypes.{signed}
+use Rattle.gq_rules_typing.specs.Signed.{signed}
 use Rattle.gq_value.specs.declared.value.Wrong.{Wrong}
 use Rattle.gq_rules_meaning.specs.Answers.{Answer, Gives, ◌>>=◌, found}
 use Rattle.gq_rules_meaning.specs.Calendars.{Calendar}

@@ -2,8 +2,8 @@
 use Rattle.std.specs.Prelude.{◌≡◌, ◌<◌, true, List, [], ◌∷◌, length}
 use Rattle.gq_graph.specs.Catalog.{Schema}
 use Rattle.gq_index.specs.declared.store.Store.{Store}
-use Rattle.gq_load_plan.specs.Fits.{HasGrown}
-use Rattle.gq_load_plan.specs.Targets.{edge_type_at}
+use Rattle.gq_load_check.specs.Fits.{HasGrown}
+use Rattle.gq_load_check.specs.Targets.{edge_type_at}
 use Rattle.gq_insert.specs.Fits.{row_fits}
 use Rattle.gq_index.specs.Steps.{Step, Vertex, End, Edge, Begun}
 use Rattle.gq_load.specs.Keeping.{no_rows}

@@ -2,6 +2,7 @@ pub mod Selecting
 pub mod Statements
 pub mod Sorts
 pub mod Words
+pub mod Builtins
 pub mod Judging
 pub mod Types
 pub mod Kinds
@@ -19,6 +20,7 @@ pub mod KindTypes
 pub mod QueryTypes
 pub mod SelectViews
 pub mod StatementViews
+pub use Rattle.gq_tree.specs.Signed
 pub use Rattle.gq_tree.specs.Tree
 pub use Rattle.gq_tree.specs.View
 pub use Rattle.gq_tree.specs.declared.body.SetOp

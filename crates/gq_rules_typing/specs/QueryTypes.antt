@@ -1,5 +1,6 @@
 -- QueryTypes: the typing rules of parameters, declarations and whole queries, in order of text.
-use Rattle.std.specs.Prelude.{ℕ, Bool, true, false, if◌then◌else◌, nat_lt, List, [], ◌∷◌, ◌++◌, filter, length, ℤ, pos, neg_ℤ, Option, Some, None, Ok}
+use Rattle.std.specs.Prelude.{ℕ, Bool, true, false, nat_lt, List, [], ◌∷◌, ◌++◌, filter, length, Option, Some, None, Ok}
+use Rattle.gq_tree.specs.Signed.{signed}
 use Rattle.gq_tree.specs.Tree.{Tree}
 use Rattle.gq_tree.specs.Number.TheVariants as number
 use Rattle.gq_tree.specs.Arithmetic.{is_within}
@@ -15,9 +16,6 @@ use Rattle.gq_rules_typing.specs.StatementTypes.{typing_stmts}
 use Rattle.gq_rules_typing.specs.KindTypes.{fields_written, kind_written}
 
 -- ---- parameters
-
-abbrev pub signed : Bool → ℕ → ℤ
-signed minus n = if minus then neg_ℤ (pos n) else pos n
 
 -- whether a literal may stand for a type; a vertex's is its id
 abbrev pub stands_for : Base → Literal → Bool

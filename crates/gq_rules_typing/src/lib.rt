@@ -5,5 +5,10 @@
 //!
 //! Read `specs/Judging.antt` first, then `specs/Scopes.antt` and `specs/ExpressionTypes.antt`,
 //! `specs/SelectTypes.antt`, `specs/StatementTypes.antt` and `specs/QueryTypes.antt`. `specs/Words.antt` is
-//! the only place where queries and plans differ. Nothing here runs; the checker is `gq_check`.
+//! the only place where queries and plans differ. All that runs here is the look-up of the language's own
+//! names (`src/words.rt`), which the checker and the planner share; the checker is `gq_check`.
 #![tactic(auto)]
+
+mod words;
+
+pub use words::{Builtin, builtin_named, unit_named};

@@ -96,6 +96,20 @@ impl Catalog {
         &self.edge_types[kind as usize]
     }
 
+    /// The vertex type of a number, if there is one.
+    pub fn vertex_by_number(&self, kind: u32) -> Option<&VertexType>
+        ensures { slice_get self.now.vertex_types kind ≡ option_copied result }
+    {
+        self.vertex_types.as_slice().get(kind as usize)
+    }
+
+    /// The edge type of a number, if there is one.
+    pub fn edge_by_number(&self, kind: u32) -> Option<&EdgeType>
+        ensures { slice_get self.now.edge_types kind ≡ option_copied result }
+    {
+        self.edge_types.as_slice().get(kind as usize)
+    }
+
     /// All edge types, by their numbers.
     pub fn edge_types(&self) -> &[EdgeType]
         ensures types { result.now ≡ self.now.edge_types }

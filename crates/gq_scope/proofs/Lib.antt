@@ -1,8 +1,7 @@
-mod NewestLemmas
+mod NameTableLemmas
 mod TupleLemmas
 mod KeptLemmas
 mod WordLemmas
-pub mod NewestPlaceLemmas
-pub mod KeptPlaceLemmas
 pub mod TurnLemmas
 pub mod BaseLemmas
+mod FieldLemmas

@@ -1,8 +1,6 @@
--- Kept: names with what they are, in the order in which they were added; and what the code keeps beside them.
-use Rattle.std.specs.Prelude.{ℕ, suc, ◌<◌, ◌≡◌, Bool, true, false, List, [], ◌∷◌, length, map, filter_map, slice_index_or, Option, Some, None}
+-- Kept: the tuple types among names, in the order in which they were added; and what the code keeps of them.
+use Rattle.std.specs.Prelude.{ℕ, suc, ◌<◌, ◌≡◌, Bool, List, [], ◌∷◌, length, filter_map, slice_index_or, Option, Some, None}
 use Rattle.std.specs.Option.{is_some, option_map}
-use Rattle.std.specs.Str.{bytes_eq}
-use Rattle.gq_base.specs.Hash.{hash_from}
 use Rattle.gq_value.specs.declared.kind.BaseType.{BaseType}
 use Rattle.gq_rules_typing.specs.Statements.{Bytes}
 use Rattle.gq_scope.specs.declared.entry.Entry.{Entry}
@@ -32,34 +30,12 @@ tuple_types names = filter_map named_tuple names
 
 -- ---- what the code keeps
 
--- the hash of a name
-abbrev pub name_hash : Bytes → ℕ
-name_hash name = hash_from 0 name
-
-abbrev pub plain_names : List (Bytes × Entry) → List Bytes
-plain_names names = map (λ e. e.0) names
-
--- each name has its hash
-abbrev pub IsHashed : List (Bytes × Entry) → List ℕ → Type 0
-IsHashed names hashes = hashes ≡ map name_hash (plain_names names)
-
--- whether it has the name
-abbrev pub is_named : Bytes → Bytes × Entry → Bool
-is_named name e = bytes_eq e.0 name
-
 -- what stands at no place
 abbrev pub nothing : Bytes × Entry
 nothing = ([], entry.TupleType [])
 
 abbrev pub name_at : List (Bytes × Entry) → ℕ → Bytes × Entry
 name_at names n = slice_index_or names n nothing
-
--- the last of a name is at this place
-abbrev pub IsNewest : List (Bytes × Entry) → Bytes → Option ℕ → Type 0
-IsNewest names name None = (k : ℕ) → k < length names → is_named name (name_at names k) ≡ false
-IsNewest names name (Some n) =
-    (n < length names) × (is_named name (name_at names n) ≡ true)
-    × ((k : ℕ) → n < k → k < length names → is_named name (name_at names k) ≡ false)
 
 -- a place before others, where a tuple type stands there
 abbrev pub noted : {A : Type 0} → Option A → ℕ → List ℕ → List ℕ
@@ -71,7 +47,7 @@ abbrev pub tuple_places : ℕ → List (Bytes × Entry) → List ℕ
 tuple_places n [] = []
 tuple_places n (e ∷ es) = noted (tuple_in e.1) n (tuple_places (suc n) es)
 
-pub record IsKept (names : List (Bytes × Entry)) (hashes tuples : List ℕ) : Type 0 where
-  pub hashed : IsHashed names hashes
+-- the code has these places at hand, and there aren't too many
+pub record IsNumbered (names : List (Bytes × Entry)) (tuples : List ℕ) : Type 0 where
   pub numbered : tuples ≡ tuple_places 0 names
   pub few : length names < 4294967296

@@ -1,6 +1,6 @@
 pub mod Kept
 pub mod Held
 pub mod Named
-pub mod KeptPlaces
+pub mod NameTables
 pub mod Views
 pub mod Parts

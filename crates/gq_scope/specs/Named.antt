@@ -1,8 +1,9 @@
 -- Named: the names that are visible, each with its place, and the next place.
-use Rattle.std.specs.Prelude.{ℕ, suc, ◌-◌, Bool, false, if◌then◌else◌, List, [], ◌∷◌, length, drop, Option, Some, None}
+use Rattle.std.specs.Prelude.{ℕ, suc, ◌-◌, Bool, false, List, ◌∷◌, length, drop, Option, Some, None}
 use Rattle.std.specs.Option.{option_map}
 use Rattle.std.specs.Str.{bytes_eq}
-use Rattle.gq_scope.specs.declared.place_table.NameBinding.{NameBinding}
+use Rattle.gq_rules_typing.specs.Words.{under}
+use Rattle.gq_scope.specs.declared.places.NameBinding.{NameBinding}
 
 -- the last one that came into view comes first
 pub record Named : Type 0 where
@@ -10,8 +11,7 @@ pub record Named : Type 0 where
   pub next : ℕ
 
 abbrev pub found_in : List (List ℕ × NameBinding) → List ℕ → Option NameBinding
-found_in [] x = None
-found_in (e ∷ es) x = if bytes_eq e.0 x then Some e.1 else found_in es x
+found_in es x = under bytes_eq x es
 
 abbrev pub seen_at : Named → List ℕ → Option NameBinding
 seen_at n x = found_in n.visible x

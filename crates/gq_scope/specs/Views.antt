@@ -72,6 +72,10 @@ IsValue j (Some b) = j ≡ Ok (base_is b)
 abbrev pub matched : Bool → judging.Judged Bool
 matched test = judging.unless judging.Mismatch test
 
+-- where a test fails, not allowed here
+abbrev pub allowed : Bool → judging.Judged Bool
+allowed test = judging.unless judging.NotAllowedHere test
+
 -- a rule on a value, of an expression's type
 abbrev pub on_value : (plain.Base → judging.Judged judging.Typed) → judging.Typed → judging.Judged judging.Typed
 on_value rule x = as_base x >>= rule

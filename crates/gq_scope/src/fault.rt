@@ -1,7 +1,8 @@
 // Faults.
-ghost use Rattle.std.specs.Prelude.{◌≡◌, ◌≢◌, ⊤};
+ghost use Rattle.std.specs.Prelude.{◌≡◌, ◌≢◌, true};
 ghost use Rattle.gq_rules_typing.specs.Judging as judging;
-ghost use Rattle.gq_scope.specs.Views.{fault_is};
+ghost use Rattle.gq_scope.specs.Views.{fault_is, Judges};
+ghost use Rattle.gq_scope.specs.Views as spec;
 
 use gq_base::OutOfMemory;
 use gq_value::Txt;
@@ -62,5 +63,25 @@ pub fn no_attribute(alloc: Global, name: &str) -> TypeFault
     match Txt::of(alloc, name) {
         Ok(name) => TypeFault::NoAttribute(name),
         Err(OutOfMemory) => TypeFault::OutOfMemory,
+    }
+}
+
+/// Type mismatch, where a test fails.
+pub fn matched(test: bool) -> Result<(), TypeFault>
+    ensures { Judges (λ _. true) (spec.matched test) result }
+{
+    match test {
+        true => Ok(()),
+        false => Err(TypeFault::Mismatch),
+    }
+}
+
+/// Not allowed here, where a test fails.
+pub fn allowed(test: bool) -> Result<(), TypeFault>
+    ensures { Judges (λ _. true) (spec.allowed test) result }
+{
+    match test {
+        true => Ok(()),
+        false => Err(TypeFault::NotAllowedHere),
     }
 }

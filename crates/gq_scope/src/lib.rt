@@ -12,8 +12,9 @@
 
 mod entry;
 mod fault;
+mod fields;
 mod kinds;
-mod place_table;
+mod names;
 mod places;
 mod scope;
 mod table;
@@ -21,12 +22,12 @@ mod trees;
 mod typed;
 
 pub use entry::{Entry, Place};
-pub use fault::{TypeFault, no_attribute, unknown};
+pub use fault::{TypeFault, allowed, matched, no_attribute, unknown};
+pub use fields::field_place;
 pub use kinds::{
     contained_type, element_type, input_type, is_list, key_types, read_type, set_type,
 };
-pub use place_table::NameBinding;
-pub use places::Places;
+pub use places::{NameBinding, Places};
 pub use scope::Scope;
-pub use trees::{name_of, text_of};
+pub use trees::{allows_paths, key_text, name_of, text_of};
 pub use typed::{Base, TupleFieldTypes, Typed};

@@ -3,15 +3,22 @@ ghost use Rattle.std.specs.Prelude.{◌≡◌, ◌≤◌, [], length, MatchResul
 ghost use Rattle.std.specs.Option.{is_some};
 ghost use Rattle.gq_scope.specs.Named.{seen_at, place_at, is_marked, with_name, kept};
 
-use crate::place_table::{NameBinding, PlaceTable};
+use crate::names::NameTable;
 use gq_base::OutOfMemory;
 use std::alloc::Global;
 use std::marker::Model;
 
+/// Where a visible name stands, and whether it is marked; a set variable is.
+#[derive(Clone, Copy, Debug, PartialEq, Eq)]
+pub struct NameBinding {
+    pub place: u32,
+    pub marked: bool,
+}
+
 /// The visible names with their places, and the next place. Contracts see the names with the last one first.
 #[derive(Drop)]
 pub struct Places {
-    table: PlaceTable,
+    table: NameTable<NameBinding>,
     next: u32,
 }
 
@@ -30,7 +37,7 @@ impl Places {
         ensures { result ≡ record { visible = []; next = 0 } }
     {
         Places {
-            table: PlaceTable::new(alloc),
+            table: NameTable::new(alloc),
             next: 0,
         }
     }
@@ -47,7 +54,10 @@ impl Places {
     pub fn find(&self, name: &str) -> Option<NameBinding>
         ensures { result ≡ seen_at self.now name.now }
     {
-        self.table.find(name)
+        match self.table.find(name) {
+            None => None,
+            Some(seen) => Some(*seen),
+        }
     }
 
     /// The place of a name.

@@ -1,14 +1,15 @@
 // Names with what they are, found fast.
-ghost use Rattle.std.specs.Prelude.{◌≡◌, ◌≤◌, ◌<◌, ◌-◌, ◌++◌, [], ◌∷◌, length, take, drop};
+ghost use Rattle.std.specs.Prelude.{◌≡◌, ◌≤◌, ◌<◌, ◌-◌, ◌++◌, [], ◌∷◌, if◌then◌else◌, length, take};
 ghost use Rattle.std.specs.Prelude.{vec_len, vec_capacity, map, reverse, Some, None, MatchResult, slice_get, filter_map, position};
 ghost use Rattle.std.specs.Option.{option_copied, option_map};
 ghost use Rattle.gq_rules_typing.specs.Words.{under};
 ghost use Rattle.std.specs.Str.{bytes_eq};
-ghost use Rattle.gq_scope.specs.Kept.{IsHashed, IsNewest, tuple_places, tuple_in, noted, tuple_types};
+ghost use Rattle.gq_scope.specs.Kept.{tuple_places, tuple_in, tuple_types};
 ghost use Rattle.gq_scope.specs.Kept as spec;
 
 use crate::entry::{Entry, TupleFields};
-use gq_base::{Hashes, OutOfMemory, text_hash};
+use crate::names::NameTable;
+use gq_base::OutOfMemory;
 use gq_value::Txt;
 use std::alloc::Global;
 use std::marker::Model;
@@ -16,8 +17,7 @@ use std::marker::Model;
 /// Names with what they are, in the order in which they were added.
 #[derive(Drop)]
 pub(crate) struct EntryTable {
-    names: Vec<(Txt, Entry)>,
-    hashes: Hashes,
+    names: NameTable<Entry>,
 
     /// The places of tuple types.
     tuples: Vec<u32>,
@@ -34,11 +34,11 @@ impl Model for EntryTable {
 
     ghost coded = { Prim.hlevel (codes, kind.the_row.coded, base.the_row.coded) };
 
-    ghost use Rattle.gq_scope.specs.Kept.{IsKept};
+    ghost use Rattle.gq_scope.specs.Kept.{IsNumbered};
 
-    ghost view = { λ t. t.names.items };
+    ghost view = { λ t. t.names };
 
-    ghost invariant = { λ t. IsKept t.names.items t.hashes t.tuples.items };
+    ghost invariant = { λ t. IsNumbered t.names t.tuples.items };
 }
 
 impl EntryTable {
@@ -46,8 +46,7 @@ impl EntryTable {
         ensures { result ≡ [] }
     {
         EntryTable {
-            names: Vec::new(alloc),
-            hashes: Hashes::new(alloc),
+            names: NameTable::new(alloc),
             tuples: Vec::new(alloc),
         }
     }
@@ -55,47 +54,39 @@ impl EntryTable {
     pub(crate) fn len(&self) -> u32
         ensures { result ≡ length self.now }
     {
-        self.names.len() as u32
+        self.names.len()
     }
 
     /// What the last one of a name is.
     pub(crate) fn find(&self, name: &str) -> Option<&Entry>
         ensures { option_copied result ≡ under bytes_eq name.now (reverse self.now) }
     {
-        match find(&self.names, &self.hashes, name) {
-            None => None,
-            Some(number) => Some(&self.names[number as usize].1),
-        }
+        self.names.find(name)
     }
 
     /// The number of the first tuple type of a name.
     pub(crate) fn tuple_named(&self, name: &str) -> Option<u32>
         ensures { result ≡ position (λ t. bytes_eq t.0 name.now) (tuple_types self.now) }
     {
-        tuple_named(&self.names, &self.tuples, name)
+        tuple_named(self.names.rows(), &self.tuples, name)
     }
 
     /// The fields of the tuple type with a number.
     pub(crate) fn tuple_at(&self, number: u32) -> Option<&TupleFields>
         ensures { option_copied result ≡ option_map (λ t. t.1) (slice_get (tuple_types self.now) number) }
     {
-        tuple_at(&self.names, &self.tuples, number)
+        tuple_at(self.names.rows(), &self.tuples, number)
     }
 
     /// Puts a name last. Unchanged after OutOfMemory, which comes too where there are some four thousand million names.
     pub(crate) fn push(&mut self, name: &str, what: Entry) -> Result<(), OutOfMemory>
         ensures { MatchResult result (λ _. self.new ≡ self.old ++ (name.now, what) ∷ []) (λ _. self.new ≡ self.old) }
     {
-        if self.names.len() >= u32::MAX as usize {
-            return Err(OutOfMemory);
-        }
-        let copy = Txt::of(*self.names.allocator(), name)?;
-        self.names.reserve(1)?;
+        let number = self.names.len();
+        let tuple = is_tuple(&what);
         self.tuples.reserve(1)?;
-        self.hashes.push(text_hash(0, name))?;
-        let number = self.names.len() as u32;
-        note(&mut self.tuples, &what, number);
-        put(&mut self.names, copy, what);
+        self.names.push(name, what)?;
+        note(&mut self.tuples, tuple, number);
         Ok(())
     }
 
@@ -104,26 +95,11 @@ impl EntryTable {
         requires { len ≤ length self.old }
         ensures { self.new ≡ take len self.old }
     {
-        let gone = tuple_count(&self.names[len as usize..]);
+        let gone = tuple_count(&self.names.rows()[len as usize..]);
         let kept = self.tuples.len() - gone;
         self.tuples.truncate(kept);
-        self.names.truncate(len as usize);
-        self.hashes.cut(len as usize);
+        self.names.cut(len);
     }
-}
-
-fn find(names: &[(Txt, Entry)], hashes: &Hashes, name: &str) -> Option<u32>
-    requires { IsHashed names.now hashes.now }
-    ensures { IsNewest names.now name.now result }
-{
-    let mut next = hashes.last(text_hash(0, name));
-    while let Some(number) = next {
-        if names[number as usize].0.as_str() == name {
-            return Some(number);
-        }
-        next = hashes.before(number);
-    }
-    None
 }
 
 fn tuple_named(names: &[(Txt, Entry)], tuples: &[u32], name: &str) -> Option<u32>
@@ -183,25 +159,14 @@ fn is_tuple(what: &Entry) -> bool
 }
 
 /// Puts the place of a tuple type last, and no other, where there is room for it.
-fn note(tuples: &mut Vec<u32>, what: &Entry, number: u32)
+fn note(tuples: &mut Vec<u32>, is_tuple: bool, place: u32)
     requires { vec_len tuples.old < vec_capacity tuples.old }
-    ensures { tuples.new.items ≡ tuples.old.items ++ noted (tuple_in what.now) number [] }
+    ensures { tuples.new.items ≡ tuples.old.items ++ (if is_tuple then place ∷ [] else []) }
 {
-    if !is_tuple(what) {
+    if !is_tuple {
         return;
     }
-    match tuples.push(number) {
-        Ok(()) => {}
-        Err(_) => unreachable!(),
-    }
-}
-
-/// Puts a name last where there is room for it.
-fn put(names: &mut Vec<(Txt, Entry)>, name: Txt, what: Entry)
-    requires { vec_len names.old < vec_capacity names.old }
-    ensures { names.new.items ≡ names.old.items ++ (name, what) ∷ [] }
-{
-    match names.push((name, what)) {
+    match tuples.push(place) {
         Ok(()) => {}
         Err(_) => unreachable!(),
     }

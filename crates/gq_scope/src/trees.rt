@@ -1,10 +1,13 @@
 // What a rule asks of the form of a tree.
-ghost use Rattle.std.specs.Prelude.{◌≡◌};
+ghost use Rattle.std.specs.Prelude.{◌≡◌, IfOk};
+ghost use Rattle.std.specs.List.{list_any};
 ghost use Rattle.std.specs.Option.{option_copied};
 ghost use Rattle.gq_tree.specs.View.{view};
+ghost use Rattle.gq_rules_typing.specs.StatementViews.{is_v2, key_of};
 ghost use Rattle.gq_scope.specs.Parts.{text_in, name_in};
 
-use gq_tree::Node;
+use gq_base::OutOfMemory;
+use gq_tree::{Label, Mode, Node};
 
 /// What a text in quotes says.
 #[tactic(auto, using(gq_tree::proofs::ViewLemmas::view_laws))]
@@ -31,5 +34,39 @@ pub fn name_of(node: &Node) -> Option<&str>
         Node::Call(_, _) | Node::Post(_, _) | Node::Neg(_, _) | Node::Mul(_, _) => None,
         Node::Sum(_, _) | Node::Cmp(_, _, _) | Node::Not(_, _) => None,
         Node::And(_, _) | Node::Or(_, _) => None,
+    }
+}
+
+/// The key of a label. OutOfMemory comes too where a spelling isn't UTF-8; tokens of a script spell texts alone.
+pub fn key_text(label: &Label) -> Result<&str, OutOfMemory>
+    ensures { IfOk result (λ key. key.now ≡ key_of label.now) }
+{
+    match label {
+        Label::Named(name) => Ok(name.as_str()),
+        Label::Spelled(spelling) => match std::str::from_utf8(spelling.as_slice()) {
+            Ok(key) => Ok(key),
+            Err(_) => Err(OutOfMemory),
+        },
+    }
+}
+
+/// Whether a query of these modes is in SYNTAX v2, where patterns may be paths.
+pub fn allows_paths(modes: &[Mode]) -> bool
+    ensures { result ≡ list_any is_v2 modes.now }
+{
+    for mode in modes {
+        if is_second(mode) {
+            return true;
+        }
+    }
+    false
+}
+
+fn is_second(mode: &Mode) -> bool
+    ensures { result ≡ is_v2 mode.now }
+{
+    match mode {
+        Mode::Api(_) => false,
+        Mode::Syntax(name) => name.as_str().eq_ignore_ascii_case("v2"),
     }
 }

@@ -24,8 +24,8 @@ use Rattle.gq_tree.specs.declared.schema.EdgeTree.TheVariants as edge
 use Rattle.gq_tree.specs.declared.schema.GraphTree.{GraphTree}
 use Rattle.gq_ddl.specs.Attributes.{kind_of, attribute_of, discriminator_of, id_of}
 use Rattle.gq_ddl.specs.Declarations.{unless_refused, vertex_created, ends_created, edge_created, graph_created, members_of}
-use Rattle.gq_load_plan.specs.Fits.{HasGrown}
-use Rattle.gq_load_plan.specs.GrowthLaws.{grows_not, grows_by_vertex_type, grows_by_edge_types, grows_by_graph}
+use Rattle.gq_load_check.specs.Fits.{HasGrown}
+use Rattle.gq_load_check.specs.GrowthLaws.{grows_not, grows_by_vertex_type, grows_by_edge_types, grows_by_graph}
 use Rattle.gq_insert.specs.Fits.{IsSound}
 use Rattle.gq_insert.specs.SoundLaws.{sound_with_graph, sound_with_vertex_type, sound_with_edge_type}
 

@@ -11,7 +11,7 @@ use Rattle.gq_diagnostics.specs.declared.refusal.StatementFault.TheVariants as f
 use Rattle.gq_diagnostics.specs.Answers.{Answers, Denies}
 use Rattle.gq_insert.specs.Fits.{IsSound}
 use Rattle.gq_load.specs.Records.{AllHaveEnds}
-use Rattle.gq_load_plan.specs.Targets.{no_edge_type}
+use Rattle.gq_load_check.specs.Targets.{no_edge_type}
 use Rattle.gq_ddl.specs.declared.named.NamedJob.{NamedJob}
 use Rattle.gq_ddl.specs.FittingLaws.{jobs_stay}
 use Rattle.gq_load.specs.KeepingLaws.{growth_fits}

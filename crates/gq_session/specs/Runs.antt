@@ -1,22 +1,22 @@
 -- Runs: what the statements of a script print, one after another, by what each of them does.
 use Rattle.std.specs.Prelude.{◌≡◌, ℕ, ◌+◌, List, [], ◌∷◌}
 use Rattle.gq_token.specs.Lines.{line_of}
-use Rattle.gq_tree.specs.declared.statement.Statement.{Statement}
 use Rattle.gq_tree.specs.declared.statement.Placed.{Placed}
 use Rattle.gq_diagnostics.specs.Messages.{refusal_text}
 use Rattle.gq_diagnostics.specs.Outcome.{Outcome, done, ended_by, lines_then}
 use Rattle.gq_io.specs.Known.{Known}
 use Rattle.gq_diagnostics.specs.Effects.{Effect, Becomes, Refused}
+use Rattle.gq_session.specs.Statements.{State, Does}
 
 -- what comes of a statement that begins on this line: its refusal is the last line, or its lines stand before those of the rest
-abbrev pub Follows : {S : Type 0} → ℕ → Effect S → (S → Outcome → Type 0) → Outcome → Type 0
+abbrev pub Follows : ℕ → Effect State → (State → Outcome → Type 0) → Outcome → Type 0
 Follows line (Refused message) Rest outcome = outcome ≡ ended_by (refusal_text line message)
 Follows line (Becomes t lines) Rest outcome = (others : Outcome) × Rest t others × (outcome ≡ lines_then lines others)
 
-module _ {S : Type 0} (Does : Known → S → ℕ → Statement → Effect S → Type 0) (bytes : List ℕ) (known : Known) where
+module _ (bytes : List ℕ) (known : Known) where
   -- from a state, these statements of the script with these bytes, the first of which has this number, print and answer so
-  abbrev pub Runs : S → ℕ → List Placed → Outcome → Type 0
+  abbrev pub Runs : State → ℕ → List Placed → Outcome → Type 0
   Runs s number [] outcome = outcome ≡ done
   Runs s number (p ∷ others) outcome =
-      (effect : Effect S) × Does known s number p.statement effect
+      (effect : Effect State) × Does known s number p.statement effect
       × Follows (line_of bytes p.from) effect (λ t. Runs t (number + 1) others) outcome

@@ -6,17 +6,16 @@
 //!
 //! Read `specs/Statements.antt` first, what each statement does to a session, then `specs/Runs.antt`, what a
 //! script prints, and `specs/Keeping.antt`, the invariant of a session. `src/session.rt` has the session and
-//! `src/run.rt` the loop over statements, which works with any `Machine` (`src/machine.rt`). Queries run
-//! through the trait `RunsQueries` of `gq_query_run`.
+//! `src/run.rt` the loop over statements. Queries run through the trait `RunsQueries` of `gq_query_run`.
 #![tactic(auto)]
 
 mod file;
-mod machine;
+mod laws;
 mod path;
 mod run;
 mod session;
 
 pub use file::ArgsFile;
-pub use machine::Machine;
+pub use laws::statements_do_one_thing;
 pub use run::run_statements;
 pub use session::Session;

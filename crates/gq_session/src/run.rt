@@ -9,23 +9,25 @@ ghost use Rattle.gq_diagnostics.specs.Outcome.{Outcome, KeepsTo, OnlyRuns, IsFin
 ghost use Rattle.gq_io.specs.Known.{Told, known_of};
 ghost use Rattle.gq_diagnostics.specs.Effects.{Becomes, lines_of};
 ghost use Rattle.gq_session.specs.Runs.{Runs};
+ghost use Rattle.gq_session.specs.Statements.{Does};
 
-use crate::machine::Machine;
+use crate::session::Session;
 use gq_diagnostics::{StatementFault, Status, refuse_statement};
 use gq_io::{Files, Sink, SinkFault, write_all};
+use gq_query_run::RunsQueries;
 use gq_token::line_of;
 use gq_tree::Placed;
 use std::alloc::Global;
 use std::thread::Threads;
 
-/// Runs the statements of the script with these bytes, from the machine's state on, and writes the line of each before the next
+/// Runs the statements of the script with these bytes, from the session's state on, and writes the line of each before the next
 /// begins. A refusal is the last line.
-pub fn run_statements<'s, R: Threads + Sync, M: Machine<'s>, F: Files, K: Sink>(
+pub fn run_statements<'s, R: Threads + Sync, M: RunsQueries, F: Files, K: Sink>(
     rt: &R,
     alloc: Global,
     bytes: &[u8],
     statements: &'s [Placed],
-    machine: &mut M,
+    session: &mut Session<'s, M>,
     files: &mut F,
     out: &mut K,
 ) -> Status
@@ -33,12 +35,12 @@ pub fn run_statements<'s, R: Threads + Sync, M: Machine<'s>, F: Files, K: Sink>(
 
     // Over files that are told: the lines and the answer are the script's, or a counted fault or `OutOfMemory` ended it sooner.
     ensures keeps { (pairs : Listing) → F.held files.old ≡ Some pairs → (outcome : Outcome)
-        → Runs M.does bytes.now (Told pairs) machine.old 1 statements.now outcome
+        → Runs bytes.now (Told pairs) session.old 1 statements.now outcome
         → KeepsTo outcome result (K.written out.old) (K.written out.new) (Rose (F.faults files.old) (F.faults files.new)) (Rose (K.faults out.old) (K.faults out.new)) }
 
     // A run that comes to its end is one that the statements may have, over all files.
     ensures is_meant { IsFinal result → (before : ℕ) → before ≤ F.absences files.old → (outcome : Outcome)
-        × Runs M.does bytes.now (known_of (F.held files.old) before (F.absences files.new) (F.length_met files.new)) machine.old 1 statements.now outcome
+        × Runs bytes.now (known_of (F.held files.old) before (F.absences files.new) (F.length_met files.new)) session.old 1 statements.now outcome
         × Ends outcome result (K.written out.old) (K.written out.new) }
     ensures only_runs { OnlyRuns result (Rose (F.faults files.old) (F.faults files.new)) (Rose (K.faults out.old) (K.faults out.new)) }
 {
@@ -49,7 +51,7 @@ pub fn run_statements<'s, R: Threads + Sync, M: Machine<'s>, F: Files, K: Sink>(
             bytes,
             index as u64 + 1,
             placed,
-            machine,
+            session,
             files,
             out,
         ) {
@@ -61,33 +63,33 @@ pub fn run_statements<'s, R: Threads + Sync, M: Machine<'s>, F: Files, K: Sink>(
 }
 
 // Runs the statement of this number, and tells how the run ends, if it ends there.
-fn run_one<'s, R: Threads + Sync, M: Machine<'s>, F: Files, K: Sink>(
+fn run_one<'s, R: Threads + Sync, M: RunsQueries, F: Files, K: Sink>(
     rt: &R,
     alloc: Global,
     bytes: &[u8],
     number: u64,
     placed: &'s Placed,
-    machine: &mut M,
+    session: &mut Session<'s, M>,
     files: &mut F,
     out: &mut K,
 ) -> Option<Status>
     requires { placed.now.from ≤ length bytes.now }
     ensures keeps { IfSome result (λ status. (pairs : Listing) → F.held files.old ≡ Some pairs → (others : List Placed) (outcome : Outcome)
-        → Runs M.does bytes.now (Told pairs) machine.old number (placed.now ∷ others) outcome
+        → Runs bytes.now (Told pairs) session.old number (placed.now ∷ others) outcome
         → KeepsTo outcome status (K.written out.old) (K.written out.new) (Rose (F.faults files.old) (F.faults files.new)) (Rose (K.faults out.old) (K.faults out.new))) }
     ensures is_meant { IfSome result (λ status. IsFinal status → (before : ℕ) → before ≤ F.absences files.old → (others : List Placed) → (outcome : Outcome)
-        × Runs M.does bytes.now (known_of (F.held files.old) before (F.absences files.new) (F.length_met files.new)) machine.old number (placed.now ∷ others) outcome
+        × Runs bytes.now (known_of (F.held files.old) before (F.absences files.new) (F.length_met files.new)) session.old number (placed.now ∷ others) outcome
         × Ends outcome status (K.written out.old) (K.written out.new)) }
     ensures only_runs { IfSome result (λ status. OnlyRuns status (Rose (F.faults files.old) (F.faults files.new)) (Rose (K.faults out.old) (K.faults out.new))) }
     ensures goes_on { IfNone result ((lines : List (List ℕ))
-        × ((before now met : ℕ) → M.does (known_of (F.held files.old) before now met) machine.old number placed.now.statement (Becomes machine.new lines))
+        × ((before now met : ℕ) → Does (known_of (F.held files.old) before now met) session.old number placed.now.statement (Becomes session.new lines))
         × Appends (K.written out.old) (K.written out.new) (concat lines)) }
     ensures held { F.held files.new ≡ F.held files.old }
     ensures faults_stay { F.faults files.old ≤ F.faults files.new }
     ensures absences_stay { F.absences files.old ≤ F.absences files.new }
     ensures sink_stays { IfNone result (K.faults out.old ≤ K.faults out.new) }
 {
-    match machine.run_statement(rt, files, number, &placed.statement) {
+    match session.run(rt, files, number, &placed.statement) {
         Ok(line) => match print(&line, out) {
             Ok(()) => None,
             Err(SinkFault::Failed) => Some(Status::WriteFault),

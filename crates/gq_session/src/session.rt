@@ -11,7 +11,6 @@ ghost use Rattle.gq_load.specs.Keeping.{no_rows as rows_of_none};
 ghost use Rattle.gq_session.specs.Statements.{Does, JobLeft, Leaves, Prints, RunsJob, State, edge_made, effect_of, graph_made, graph_used, install_made, job_made, opening, query_interpreted, query_made, query_ran, row_made, unless_due, unsupported as not_yet, vertex_made};
 
 use crate::file::ArgsFile;
-use crate::machine::Machine;
 use crate::path::{has_path, walks_path};
 use gq_base::{List, OutOfMemory};
 use gq_ddl::{NamedJob, create_edge, create_graph, create_job, create_vertex};
@@ -283,25 +282,6 @@ impl<'s, M: RunsQueries> Session<'s, M> {
             tree,
         ))
     }
-}
-
-impl<'s, M: RunsQueries> Machine<'s> for Session<'s, M> {
-    ghost use Rattle.gq_session.specs.Statements.{Does};
-    ghost use Rattle.gq_session.specs.StatementLaws.{does_one};
-
-    ghost does = { Does };
-
-    fn run_statement<R: Threads + Sync, F: Files>(
-        &mut self,
-        rt: &R,
-        files: &mut F,
-        number: u64,
-        statement: &'s Statement,
-    ) -> Result<Option<Vec<u8>>, StatementFault> {
-        self.run(rt, files, number, statement)
-    }
-
-    ghost determined = { does_one };
 }
 
 fn no_rows(alloc: Global) -> Store

@@ -3,14 +3,12 @@ use Rattle.std.proofs.Common.{ℕ, [], ◌∷◌, refl}
 use Rattle.gq_tree.specs.declared.query.Mode.TheVariants as mode
 use Rattle.gq_tree.specs.declared.query.Installed.TheVariants as installed
 use Rattle.gq_tree.specs.declared.query.Argument.TheVariants as argument
-use Rattle.gq_tree.specs.declared.body.Body.{Body}
 use Rattle.gq_grammar.specs.Literals.{is_there}
 use Rattle.gq_grammar.specs.Queries.{parameter_of, query_of, interpret_of, vertex_argument, run_of}
 use Rattle.gq_grammar.specs.Queries as g
 use Rattle.gq_grammar.specs.Lexemes.{Name, Number, Text, sign, word, spelling, said}
 use Rattle.gq_grammar.specs.Reserved.{is_reserved}
 use Rattle.gq_grammar.specs.Signs.{After, One}
-use Rattle.gq_grammar.specs.Parsers.{Parser}
 use Rattle.gq_grammar.proofs.Claims.{Reads}
 use Rattle.gq_grammar.proofs.TokenLemmas.{token_reads}
 use Rattle.gq_grammar.proofs.ThenLemmas.{then_reads, tail_reads, lead_reads}
@@ -21,9 +19,8 @@ use Rattle.gq_grammar.proofs.SeriesLemmas.{ended_takes}
 use Rattle.gq_parse_common.proofs.Steps.{more}
 use Rattle.gq_parse_common.proofs.LiteralReads.{literal_reads, names_reads, of_graph_reads}
 use Rattle.gq_parse_common.proofs.KindReads.{base_reads}
-use Rattle.gq_stmt_read.specs.Bodies.{ReadsBodies}
+use Rattle.gq_parse_query.proofs.BodyReads.{body_reads}
 use Rattle.gq_stmt_read.specs.Queries as d
-use Rattle.gq_stmt_read.proofs.BodyReads.{body_reads}
 
 pub default_reads : (n : ℕ) → Reads n g.DefaultValue g.DefaultValue d.default_parser (sign "=" ∷ []) ([])
 unfolding g.DefaultValue d.default_parser is_reserved
@@ -70,28 +67,27 @@ unfolding g.RunOf d.run_parser is_reserved
 run_reads n =
     made_reads run_of (tail_reads (after_reads (word "QUERY") (token_reads n Name spelling)) (maybe_takes (enclosed_takes (separated_takes (argument_reads n) refl) (more n) refl)) refl)
 
-module _ (b : Parser Body) (bodies : ReadsBodies b) where
-  pub modes_and_body_reads : (n : ℕ) → Reads n g.ModesAndBody g.ModesAndBody (d.modes_and_body_parser b) (word "API" ∷ word "SYNTAX" ∷ sign "{" ∷ []) ([])
-  unfolding g.ModesAndBody d.modes_and_body_parser is_reserved
-  modes_and_body_reads n =
-      lead_reads (many_takes (mode_reads n) refl) (body_reads b bodies n) refl
+pub modes_and_body_reads : (n : ℕ) → Reads n g.ModesAndBody g.ModesAndBody d.modes_and_body_parser (word "API" ∷ word "SYNTAX" ∷ sign "{" ∷ []) ([])
+unfolding g.ModesAndBody d.modes_and_body_parser is_reserved
+modes_and_body_reads n =
+    lead_reads (many_takes (mode_reads n) refl) (body_reads n) refl
 
-  pub query_rest_reads : (n : ℕ) → Reads n g.QueryRest g.QueryRest (d.query_rest_parser b) (word "FOR" ∷ word "API" ∷ word "SYNTAX" ∷ sign "{" ∷ []) ([])
-  unfolding g.QueryRest d.query_rest_parser is_reserved
-  query_rest_reads n =
-      lead_reads (maybe_takes (for_graph_reads n)) (modes_and_body_reads n) refl
+pub query_rest_reads : (n : ℕ) → Reads n g.QueryRest g.QueryRest d.query_rest_parser (word "FOR" ∷ word "API" ∷ word "SYNTAX" ∷ sign "{" ∷ []) ([])
+unfolding g.QueryRest d.query_rest_parser is_reserved
+query_rest_reads n =
+    lead_reads (maybe_takes (for_graph_reads n)) (modes_and_body_reads n) refl
 
-  pub query_reads : (n : ℕ) → Reads n g.QueryOf g.QueryOf (d.query_parser b) (sign "(" ∷ []) ([])
-  unfolding g.QueryOf d.query_parser is_reserved
-  query_reads n =
-      made_reads query_of (then_reads (enclosed_takes (separated_takes (parameter_reads n) refl) (more n) refl) (query_rest_reads n) (more n) refl)
+pub query_reads : (n : ℕ) → Reads n g.QueryOf g.QueryOf d.query_parser (sign "(" ∷ []) ([])
+unfolding g.QueryOf d.query_parser is_reserved
+query_reads n =
+    made_reads query_of (then_reads (enclosed_takes (separated_takes (parameter_reads n) refl) (more n) refl) (query_rest_reads n) (more n) refl)
 
-  pub created_query_reads : (n : ℕ) → Reads n g.CreatedQuery g.CreatedQuery (d.created_query_parser b) (word "OR" ∷ word "QUERY" ∷ []) ([])
-  unfolding g.CreatedQuery d.created_query_parser is_reserved
-  created_query_reads n =
-      then_reads (query_head_reads n) (then_reads (token_reads n Name spelling) (query_reads n) (more n) refl) (more n) refl
+pub created_query_reads : (n : ℕ) → Reads n g.CreatedQuery g.CreatedQuery d.created_query_parser (word "OR" ∷ word "QUERY" ∷ []) ([])
+unfolding g.CreatedQuery d.created_query_parser is_reserved
+created_query_reads n =
+    then_reads (query_head_reads n) (then_reads (token_reads n Name spelling) (query_reads n) (more n) refl) (more n) refl
 
-  pub interpret_reads : (n : ℕ) → Reads n g.InterpretOf g.InterpretOf (d.interpret_parser b) (word "INTERPRET" ∷ []) ([])
-  unfolding g.InterpretOf d.interpret_parser is_reserved
-  interpret_reads n =
-      made_reads interpret_of (after_reads (word "INTERPRET") (after_reads (word "QUERY") (then_reads (one_reads n (sign "(")) (then_reads (one_reads n (sign ")")) (query_rest_reads n) (more n) refl) (more n) refl)))
+pub interpret_reads : (n : ℕ) → Reads n g.InterpretOf g.InterpretOf d.interpret_parser (word "INTERPRET" ∷ []) ([])
+unfolding g.InterpretOf d.interpret_parser is_reserved
+interpret_reads n =
+    made_reads interpret_of (after_reads (word "INTERPRET") (after_reads (word "QUERY") (then_reads (one_reads n (sign "(")) (then_reads (one_reads n (sign ")")) (query_rest_reads n) (more n) refl) (more n) refl)))

@@ -1,6 +1,5 @@
 -- StatementReads: Statements are read as the grammar says, a lemma for each production.
 use Rattle.std.proofs.Common.{ℕ, List, [], ◌∷◌, Some, None, refl}
-use Rattle.gq_tree.specs.declared.body.Body.{Body}
 use Rattle.gq_tree.specs.declared.statement.Statement.{Statement}
 use Rattle.gq_tree.specs.declared.statement.Statement.TheVariants as top
 use Rattle.gq_grammar.specs.Scripts.{created_query}
@@ -13,7 +12,7 @@ use Rattle.gq_grammar.specs.Lexemes.{Lexemes, Terminal, sign, word}
 use Rattle.gq_grammar.specs.Reserved.{is_reserved}
 use Rattle.gq_grammar.specs.Languages.{Made, ◌∣◌}
 use Rattle.gq_grammar.specs.Signs.{After}
-use Rattle.gq_grammar.specs.Parsers.{Parser, Found}
+use Rattle.gq_grammar.specs.Parsers.{Found}
 use Rattle.gq_grammar.specs.Reading.{IsLongest, HasNone, HasOneTree}
 use Rattle.gq_grammar.proofs.Sets.{Starts}
 use Rattle.gq_grammar.proofs.Claims.{Reads}
@@ -25,7 +24,6 @@ use Rattle.gq_parse_common.proofs.ExactReads.{exact}
 use Rattle.gq_parse_common.proofs.LiteralReads.{of_graph_reads}
 use Rattle.gq_parse_ddl.proofs.SchemaReads.{vertex_reads, edge_reads, graph_reads, insert_reads}
 use Rattle.gq_parse_ddl.proofs.JobReads.{job_reads, run_job_reads}
-use Rattle.gq_stmt_read.specs.Bodies.{ReadsBodies}
 use Rattle.gq_stmt_read.proofs.QueryReads.{created_query_reads, interpret_reads, install_reads, run_reads}
 use Rattle.gq_stmt_read.specs.Statements as d
 
@@ -54,30 +52,29 @@ unfolding d.run_statement_parser is_reserved
 run_statement_reads n =
     either_reads (made_reads top.RunJob (run_job_reads n)) (made_reads top.Run (run_reads n)) refl
 
-module _ (b : Parser Body) (bodies : ReadsBodies b) where
-  pub created_reads : (n : ℕ) → Reads n g.Created g.Created (d.created_parser b) (word "VERTEX" ∷ word "DIRECTED" ∷ word "UNDIRECTED" ∷ word "GRAPH" ∷ word "LOADING" ∷ word "OR" ∷ word "QUERY" ∷ []) (word "WITH" ∷ sign "," ∷ word "WITH" ∷ [])
-  unfolding g.Created d.created_parser is_reserved
-  created_reads n =
-      either_reads (declared_reads n) (made_reads created_query (created_query_reads b bodies n)) refl
+pub created_reads : (n : ℕ) → Reads n g.Created g.Created d.created_parser (word "VERTEX" ∷ word "DIRECTED" ∷ word "UNDIRECTED" ∷ word "GRAPH" ∷ word "LOADING" ∷ word "OR" ∷ word "QUERY" ∷ []) (word "WITH" ∷ sign "," ∷ word "WITH" ∷ [])
+unfolding g.Created d.created_parser is_reserved
+created_reads n =
+    either_reads (declared_reads n) (made_reads created_query (created_query_reads n)) refl
 
-  pub statement_reads : (n : ℕ) → Reads n g.StatementOf g.StatementOf (d.statement_parser b) firsts goes
-  unfolding g.StatementOf d.statement_parser d.plain_parser is_reserved
-  statement_reads n =
-      either_reads (either_reads (either_reads (either_reads
-      (either_reads (either_reads (either_reads (after_reads (word "CREATE") (created_reads n)) (use_reads n) refl) (after_reads (word "RUN") (run_statement_reads n)) refl) (made_reads top.Install (install_reads n)) refl)
-      (made_reads top.Interpret (interpret_reads b bodies n)) refl) (made_reads top.Insert (insert_reads n)) refl) (stands_reads n top.Begin (word "BEGIN")) refl) (stands_reads n top.End (word "END")) refl
+pub statement_reads : (n : ℕ) → Reads n g.StatementOf g.StatementOf d.statement_parser firsts goes
+unfolding g.StatementOf d.statement_parser d.plain_parser is_reserved
+statement_reads n =
+    either_reads (either_reads (either_reads (either_reads
+    (either_reads (either_reads (either_reads (after_reads (word "CREATE") (created_reads n)) (use_reads n) refl) (after_reads (word "RUN") (run_statement_reads n)) refl) (made_reads top.Install (install_reads n)) refl)
+    (made_reads top.Interpret (interpret_reads n)) refl) (made_reads top.Insert (insert_reads n)) refl) (stands_reads n top.Begin (word "BEGIN")) refl) (stands_reads n top.End (word "END")) refl
 
-  pub statement_exact : IsExact g.StatementOf (d.statement_parser b)
-  statement_exact = exact g.StatementOf (d.statement_parser b) firsts goes statement_reads
+pub statement_exact : IsExact g.StatementOf d.statement_parser
+statement_exact = exact g.StatementOf d.statement_parser firsts goes statement_reads
 
-  pub statement_longest : (all : Lexemes) (at : ℕ) (s : Statement) (end : ℕ) → Found (d.statement_parser b) all at (Some (s, end)) → IsLongest g.StatementOf all at s end
-  statement_longest all at s end f = statement_exact all at (Some (s, end)) f
+pub statement_longest : (all : Lexemes) (at : ℕ) (s : Statement) (end : ℕ) → Found d.statement_parser all at (Some (s, end)) → IsLongest g.StatementOf all at s end
+statement_longest all at s end f = statement_exact all at (Some (s, end)) f
 
-  pub statement_none : (all : Lexemes) (at : ℕ) → Found (d.statement_parser b) all at None → HasNone g.StatementOf all at
-  statement_none all at f = statement_exact all at None f
+pub statement_none : (all : Lexemes) (at : ℕ) → Found d.statement_parser all at None → HasNone g.StatementOf all at
+statement_none all at f = statement_exact all at None f
 
-  pub statement_one : HasOneTree g.StatementOf
-  statement_one = one_value {p = λ n. d.statement_parser b} statement_reads
+pub statement_one : HasOneTree g.StatementOf
+statement_one = one_value {p = λ n. d.statement_parser} statement_reads
 
-  pub statement_begins : (s : Statement) (x : Lexemes) → g.StatementOf s x → Starts firsts x
-  statement_begins = (statement_reads 0).begins
+pub statement_begins : (s : Statement) (x : Lexemes) → g.StatementOf s x → Starts firsts x
+statement_begins = (statement_reads 0).begins

@@ -5,14 +5,12 @@ use Rattle.std.proofs.lemmas.Option.{slice_get-get_or}
 use Rattle.gq_token.specs.declared.token.Token.{Token}
 use Rattle.gq_token.specs.Nesting.{IsTooDeepAt, IsShallow}
 use Rattle.gq_grammar.specs.Lexemes.{Lexemes, lexemes_of, sign}
-use Rattle.gq_grammar.specs.Parsers.{Parser, Found, one}
+use Rattle.gq_grammar.specs.Parsers.{Found, one}
 use Rattle.gq_grammar.specs.Reading.{between}
 use Rattle.gq_grammar.proofs.Sets.{starts_some}
-use Rattle.gq_tree.specs.declared.body.Body.{Body}
 use Rattle.gq_tree.specs.declared.statement.Statement.{Statement}
 use Rattle.gq_tree.specs.declared.statement.Placed.{Placed}
 use Rattle.gq_grammar.specs.Cutting.{IsScript, FailsAt}
-use Rattle.gq_stmt_read.specs.Bodies.{ReadsBodies}
 use Rattle.gq_stmt_read.specs.declared.fault.ScriptFault.{ScriptFault}
 use Rattle.gq_stmt_read.specs.declared.fault.ScriptFault.TheVariants.{Syntax, TooDeep, OutOfMemory}
 use Rattle.gq_stmt_read.specs.Outcomes.{IsRead, HasFault, IsSyntaxFault}
@@ -35,8 +33,8 @@ pub record Stepped (bytes : List ℕ) (tokens : List Token) (found : List Placed
   pub before : CutBefore bytes tokens found next
   pub further : at < next
 
-pub known : (b : Parser Body) → ReadsBodies b → Known
-known b bodies = record { begins = statement_begins b bodies; one = statement_one b bodies }
+pub known : Known
+known = record { begins = statement_begins; one = statement_one }
 
 module _ (bytes : List ℕ) (tokens : List Token) (all : Lexemes) (is : all ≡ lexemes_of bytes tokens) where
   many : length all ≡ length tokens
@@ -53,31 +51,30 @@ module _ (bytes : List ℕ) (tokens : List Token) (all : Lexemes) (is : all ≡ 
         further = omega arith;
       }
 
-  module _ (b : Parser Body) (bodies : ReadsBodies b) where
-    pub statement_step : (found after : List Placed) (at next : ℕ) (s : Statement) (o : Option (Statement × ℕ)) (d : Token) → length found ≤ at → CutBefore bytes tokens found at → at < length tokens
-        → Found (statement_parser b) all at o → o ≡ Some (s, next) → after ≡ found ++ (record { statement = s; from = (get_or tokens at d).from }) ∷ [] → Stepped bytes tokens after at next
-    statement_step found after at next s o d counted c lt f e pushed =
-        let script = lexemes_of bytes tokens in
-        let p : Placed = record { statement = s; from = (get_or tokens at d).from } in
-        let g : Found (statement_parser b) script at (Some (s, next)) = subst (λ l. Found (statement_parser b) l at (Some (s, next))) is (subst (Found (statement_parser b) all at) e f) in
-        let l = statement_longest b bodies script at s next g in
-        let some = starts_some firsts (between script at next) (statement_begins b bodies s (between script at next) l.derives) in
-        let further : at < next = omega (arith, some, length_between script at next l.from_le l.to_le) in
-        let cut = cut_statement bytes tokens found at next p (get_or tokens at d) c l (slice_get-get_or tokens at d lt) refl in
-        record {
-          within = omega (arith, l.to_le, as_many bytes tokens);
-          counted = omega (arith, ap length pushed, length-append found (p ∷ []));
-          before = subst (λ z. CutBefore bytes tokens z next) (sym pushed) cut;
-          further = further;
-        }
+  pub statement_step : (found after : List Placed) (at next : ℕ) (s : Statement) (o : Option (Statement × ℕ)) (d : Token) → length found ≤ at → CutBefore bytes tokens found at → at < length tokens
+      → Found statement_parser all at o → o ≡ Some (s, next) → after ≡ found ++ (record { statement = s; from = (get_or tokens at d).from }) ∷ [] → Stepped bytes tokens after at next
+  statement_step found after at next s o d counted c lt f e pushed =
+      let script = lexemes_of bytes tokens in
+      let p : Placed = record { statement = s; from = (get_or tokens at d).from } in
+      let g : Found statement_parser script at (Some (s, next)) = subst (λ l. Found statement_parser l at (Some (s, next))) is (subst (Found statement_parser all at) e f) in
+      let l = statement_longest script at s next g in
+      let some = starts_some firsts (between script at next) (statement_begins s (between script at next) l.derives) in
+      let further : at < next = omega (arith, some, length_between script at next l.from_le l.to_le) in
+      let cut = cut_statement bytes tokens found at next p (get_or tokens at d) c l (slice_get-get_or tokens at d lt) refl in
+      record {
+        within = omega (arith, l.to_le, as_many bytes tokens);
+        counted = omega (arith, ap length pushed, length-append found (p ∷ []));
+        before = subst (λ z. CutBefore bytes tokens z next) (sym pushed) cut;
+        further = further;
+      }
 
-    pub fault_step : (found : List Placed) (at count : ℕ) (o : Option (Statement × ℕ)) (d : Token) → CutBefore bytes tokens found at → at < length tokens → Found (one (sign ";")) all at None
-        → Found (statement_parser b) all at o → o ≡ None → count ≡ length found → FailsAt bytes tokens (count + 1) (get_or tokens at d).from
-    fault_step found at count o d c lt f g e n =
-        let script = lexemes_of bytes tokens in
-        let none = statement_none b bodies script at (subst (λ l. Found (statement_parser b) l at None) is (subst (Found (statement_parser b) all at) e g)) in
-        cut_fault bytes tokens found at (count + 1) (get_or tokens at d).from (get_or tokens at d) c (slice_get-get_or tokens at d lt)
-        (subst (λ l. Found (one (sign ";")) l at None) is f) none (ap (λ z. z + 1) n) refl
+  pub fault_step : (found : List Placed) (at count : ℕ) (o : Option (Statement × ℕ)) (d : Token) → CutBefore bytes tokens found at → at < length tokens → Found (one (sign ";")) all at None
+      → Found statement_parser all at o → o ≡ None → count ≡ length found → FailsAt bytes tokens (count + 1) (get_or tokens at d).from
+  fault_step found at count o d c lt f g e n =
+      let script = lexemes_of bytes tokens in
+      let none = statement_none script at (subst (λ l. Found statement_parser l at None) is (subst (Found statement_parser all at) e g)) in
+      cut_fault bytes tokens found at (count + 1) (get_or tokens at d).from (get_or tokens at d) c (slice_get-get_or tokens at d lt)
+      (subst (λ l. Found (one (sign ";")) l at None) is f) none (ap (λ z. z + 1) n) refl
 
 -- ---- what no other answer can be
 

@@ -1,4 +1,3 @@
 pub mod Queries
-pub mod Bodies
 pub mod Statements
 pub mod Outcomes

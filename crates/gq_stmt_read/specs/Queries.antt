@@ -1,5 +1,4 @@
 -- Queries: what each function of the reader of queries computes, a definition for each production. `queries_are_exact` says that it is the grammar.
--- A body is whatever the given parser reads.
 use Rattle.std.specs.Prelude.{ℕ, List, Option, Bool}
 use Rattle.gq_tree.specs.declared.schema.Literal.{Literal}
 use Rattle.gq_tree.specs.declared.query.ParameterTree.{ParameterTree}
@@ -19,6 +18,7 @@ use Rattle.gq_grammar.specs.Parsers.{Parser, token, both, made, ◌or◌, maybe,
 use Rattle.gq_grammar.specs.Series.{ended}
 use Rattle.gq_parse_common.specs.Literals.{literal_parser, names_parser, of_graph_parser}
 use Rattle.gq_parse_common.specs.Kinds.{base_parser}
+use Rattle.gq_parse_select.specs.Bodies.{body_parser}
 
 unfoldable pub default_parser : Parser Literal
 default_parser = after (sign "=") literal_parser
@@ -33,14 +33,14 @@ mode_parser =
 unfoldable pub for_graph_parser : Parser (List ℕ)
 for_graph_parser = after (word "FOR") of_graph_parser
 
-unfoldable pub modes_and_body_parser : Parser Body → Parser (List Mode × Body)
-modes_and_body_parser b = both (many mode_parser) b
+unfoldable pub modes_and_body_parser : Parser (List Mode × Body)
+modes_and_body_parser = both (many mode_parser) body_parser
 
-unfoldable pub query_rest_parser : Parser Body → Parser (Option (List ℕ) × (List Mode × Body))
-query_rest_parser b = both (maybe for_graph_parser) (modes_and_body_parser b)
+unfoldable pub query_rest_parser : Parser (Option (List ℕ) × (List Mode × Body))
+query_rest_parser = both (maybe for_graph_parser) modes_and_body_parser
 
-unfoldable pub query_parser : Parser Body → Parser QueryTree
-query_parser b = made query_of (both (enclosed (separated parameter_parser)) (query_rest_parser b))
+unfoldable pub query_parser : Parser QueryTree
+query_parser = made query_of (both (enclosed (separated parameter_parser)) query_rest_parser)
 
 unfoldable pub replace_parser : Parser (Unit {0})
 replace_parser = after (word "OR") (one (word "REPLACE"))
@@ -48,12 +48,12 @@ replace_parser = after (word "OR") (one (word "REPLACE"))
 unfoldable pub query_head_parser : Parser Bool
 query_head_parser = made is_there (ended (word "QUERY") (maybe replace_parser))
 
-unfoldable pub created_query_parser : Parser Body → Parser (Bool × (List ℕ × QueryTree))
-created_query_parser b = both query_head_parser (both (token Name spelling) (query_parser b))
+unfoldable pub created_query_parser : Parser (Bool × (List ℕ × QueryTree))
+created_query_parser = both query_head_parser (both (token Name spelling) query_parser)
 
-unfoldable pub interpret_parser : Parser Body → Parser QueryTree
-interpret_parser b =
-    made interpret_of (after (word "INTERPRET") (after (word "QUERY") (both (one (sign "(")) (both (one (sign ")")) (query_rest_parser b)))))
+unfoldable pub interpret_parser : Parser QueryTree
+interpret_parser =
+    made interpret_of (after (word "INTERPRET") (after (word "QUERY") (both (one (sign "(")) (both (one (sign ")")) query_rest_parser))))
 
 unfoldable pub installed_parser : Parser Installed
 installed_parser =

@@ -1,27 +1,24 @@
 // What is true of scripts and of what is read.
 ghost use Rattle.std.specs.Prelude.{◌≡◌, ℕ, List};
 ghost use Rattle.gq_token.specs.declared.token.Token.{Token};
-ghost use Rattle.gq_tree.specs.declared.body.Body.{Body};
 ghost use Rattle.gq_tree.specs.declared.statement.Placed.{Placed};
 ghost use Rattle.gq_grammar.specs.Scripts.{StatementOf};
 ghost use Rattle.gq_grammar.specs.Cutting.{IsScript, FailsAt};
-ghost use Rattle.gq_grammar.specs.Parsers.{Parser};
 ghost use Rattle.gq_grammar.specs.Reading.{HasOneTree};
 ghost use Rattle.gq_parse_common.specs.Exact.{IsExact};
-ghost use Rattle.gq_stmt_read.specs.Bodies.{ReadsBodies};
 ghost use Rattle.gq_stmt_read.specs.Statements.{statement_parser};
 
-/// Does nothing. Its contract is a law: with every reader that reads bodies, what `statement` finds is the longest prefix that the
-/// grammar derives, and it finds nothing only where it derives none. A list of lexemes spells one statement at most.
+/// Does nothing. Its contract is a law: what `statement` finds is the longest prefix that the grammar derives, and it finds nothing
+/// only where it derives none. A list of lexemes spells one statement at most.
 pub fn statements_are_exact()
-    ensures exact { (bodies : Parser Body) → ReadsBodies bodies → IsExact StatementOf (statement_parser bodies) }
-    ensures one_tree { (bodies : Parser Body) → ReadsBodies bodies → HasOneTree StatementOf }
+    ensures exact { IsExact StatementOf statement_parser }
+    ensures one_tree { HasOneTree StatementOf }
 {}
 
 /// Does nothing. Its contract is a law: a script consists of one list of statements at most; one that fails at a statement fails at
 /// no other and at no other place, and is no script.
 pub fn one_script()
-    ensures one { (b : Parser Body) → ReadsBodies b → (bytes : List ℕ) (tokens : List Token) (statements others : List Placed) → IsScript bytes tokens statements → IsScript bytes tokens others → statements ≡ others }
-    ensures one_fault { (b : Parser Body) → ReadsBodies b → (bytes : List ℕ) (tokens : List Token) (number at other place : ℕ) → FailsAt bytes tokens number at → FailsAt bytes tokens other place → (number ≡ other) × (at ≡ place) }
-    ensures apart { (b : Parser Body) → ReadsBodies b → (bytes : List ℕ) (tokens : List Token) (statements : List Placed) (number at : ℕ) → IsScript bytes tokens statements → FailsAt bytes tokens number at → ⊥ }
+    ensures one { (bytes : List ℕ) (tokens : List Token) (statements others : List Placed) → IsScript bytes tokens statements → IsScript bytes tokens others → statements ≡ others }
+    ensures one_fault { (bytes : List ℕ) (tokens : List Token) (number at other place : ℕ) → FailsAt bytes tokens number at → FailsAt bytes tokens other place → (number ≡ other) × (at ≡ place) }
+    ensures apart { (bytes : List ℕ) (tokens : List Token) (statements : List Placed) (number at : ℕ) → IsScript bytes tokens statements → FailsAt bytes tokens number at → ⊥ }
 {}

@@ -2,17 +2,14 @@
 //! read begins.
 //!
 //! A script is cut from the left, each statement being the longest prefix of the rest that is one. Types and
-//! jobs are parsed by `gq_parse_ddl`, query bodies by any type with the trait `Bodies`; here that is
-//! `gq_parse_query`.
+//! jobs are parsed by `gq_parse_ddl`, query bodies by `gq_parse_query`.
 //!
 //! Read `Scripts.antt` and `Cutting.antt` of `gq_grammar` first, then `specs/Outcomes.antt`: what a script is
 //! read as, and why it isn't read. `specs/Statements.antt` and `specs/Queries.antt` say what each function
-//! computes. The code begins in `src/scripts.rt`; `src/queries.rt`, `src/installs.rt` and `src/runs.rt` read
+//! computes. The code begins in `src/script.rt`; `src/queries.rt`, `src/installs.rt` and `src/runs.rt` read
 //! statements on queries.
 #![tactic(auto)]
 
-mod bodies;
-mod body_reader;
 mod fault;
 mod installs;
 mod laws;
@@ -21,13 +18,10 @@ mod queries;
 mod query_laws;
 mod runs;
 mod script;
-mod scripts;
 mod series;
 mod statements;
 
-pub use bodies::Bodies;
-pub use body_reader::QueryBodies;
 pub use fault::ScriptFault;
 pub use laws::{one_script, statements_are_exact};
 pub use query_laws::queries_are_exact;
-pub use script::read_with;
+pub use script::read_script;

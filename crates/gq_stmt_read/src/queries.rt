@@ -4,12 +4,12 @@ ghost use Rattle.gq_grammar.specs.Lexemes as lexemes;
 ghost use Rattle.gq_grammar.specs.Parsers.{Found, many, maybe, after, enclosed, token};
 ghost use Rattle.gq_stmt_read.specs.Queries as spec;
 
-use crate::bodies::Bodies;
 use crate::parameters::parameters;
 use gq_base::{List, OutOfMemory};
 use gq_expr_read::Read;
 use gq_grammar::Source;
 use gq_parse_common::{name, need, of_graph, run, text};
+use gq_parse_query::body;
 use gq_tree::{Body, Mode, QueryTree};
 use gq_value::Txt;
 use std::alloc::Global;
@@ -72,26 +72,26 @@ fn modes(alloc: Global, source: &Source<'_>, at: usize) -> Result<(List<Mode>, u
 
 // [ FOR GRAPH Name ] { Mode } Body
 #[tactic(auto, unfolding(crate::specs::Queries::query_rest_parser, crate::specs::Queries::modes_and_body_parser))]
-fn query_rest<B: Bodies>(alloc: Global, source: &Source<'_>, at: usize) -> Read<QueryRest>
+fn query_rest(alloc: Global, source: &Source<'_>, at: usize) -> Read<QueryRest>
     requires { at ≤ length source.now }
-    ensures { IfOk result (Found (spec.query_rest_parser B.parser) source.now at) }
+    ensures { IfOk result (Found spec.query_rest_parser source.now at) }
 {
     let (graph, at) = for_graph(alloc, source, at)?;
     let (modes, at) = modes(alloc, source, at)?;
-    let (body, at) = need!(B::body(alloc, source, at)?);
+    let (body, at) = need!(body(alloc, source, at)?);
     Ok(Some(((graph, (modes, body)), at)))
 }
 
 // "(" [ Param { "," Param } ] ")" [ FOR GRAPH Name ] { Mode } Body
 #[tactic(auto, unfolding(crate::specs::Queries::query_parser, gq_grammar::specs::Parsers::enclosed))]
-fn query<B: Bodies>(alloc: Global, source: &Source<'_>, at: usize) -> Read<QueryTree>
+fn query(alloc: Global, source: &Source<'_>, at: usize) -> Read<QueryTree>
     requires { at ≤ length source.now }
-    ensures { IfOk result (Found (spec.query_parser B.parser) source.now at) }
+    ensures { IfOk result (Found spec.query_parser source.now at) }
 {
     let at = need!(source.sign(at, "("));
     let (parameters, at) = parameters(alloc, source, at)?;
     let at = need!(source.sign(at, ")"));
-    let ((graph, (modes, body)), at) = need!(query_rest::<B>(alloc, source, at)?);
+    let ((graph, (modes, body)), at) = need!(query_rest(alloc, source, at)?);
     Ok(Some((
         QueryTree {
             parameters,
@@ -134,31 +134,31 @@ fn query_head(source: &Source<'_>, at: usize) -> Option<(bool, usize)>
 /// `[ OR REPLACE ] QUERY Name "(" [ Param { "," Param } ] ")" [ FOR GRAPH Name ] { Mode } Body`, which stands behind CREATE: whether
 /// OR REPLACE stands there, the name, and the rest.
 #[tactic(auto, unfolding(crate::specs::Queries::created_query_parser))]
-pub fn created_query<B: Bodies>(
+pub fn created_query(
     alloc: Global,
     source: &Source<'_>,
     at: usize,
 ) -> Read<(bool, (Txt, QueryTree))>
     requires { at ≤ length source.now }
-    ensures { IfOk result (Found (spec.created_query_parser B.parser) source.now at) }
+    ensures { IfOk result (Found spec.created_query_parser source.now at) }
 {
     let (replace, at) = need!(query_head(source, at));
     let (name, at) = need!(name(alloc, source, at)?);
-    let (query, at) = need!(query::<B>(alloc, source, at)?);
+    let (query, at) = need!(query(alloc, source, at)?);
     Ok(Some(((replace, (name, query)), at)))
 }
 
 /// `INTERPRET QUERY "(" ")" [ FOR GRAPH Name ] { Mode } Body`.
 #[tactic(auto, unfolding(crate::specs::Queries::interpret_parser, gq_grammar::specs::Parsers::after))]
-pub fn interpret<B: Bodies>(alloc: Global, source: &Source<'_>, at: usize) -> Read<QueryTree>
+pub fn interpret(alloc: Global, source: &Source<'_>, at: usize) -> Read<QueryTree>
     requires { at ≤ length source.now }
-    ensures { IfOk result (Found (spec.interpret_parser B.parser) source.now at) }
+    ensures { IfOk result (Found spec.interpret_parser source.now at) }
 {
     let at = need!(source.keyword(at, "INTERPRET"));
     let at = need!(source.keyword(at, "QUERY"));
     let at = need!(source.sign(at, "("));
     let at = need!(source.sign(at, ")"));
-    let ((graph, (modes, body)), at) = need!(query_rest::<B>(alloc, source, at)?);
+    let ((graph, (modes, body)), at) = need!(query_rest(alloc, source, at)?);
     Ok(Some((
         QueryTree {
             parameters: List::new(alloc),

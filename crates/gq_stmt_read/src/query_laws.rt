@@ -1,16 +1,13 @@
 // What is true of what is read.
-ghost use Rattle.gq_tree.specs.declared.body.Body.{Body};
 ghost use Rattle.gq_grammar.specs.Queries.{CreatedQuery, InterpretOf, InstallOf, RunOf};
-ghost use Rattle.gq_grammar.specs.Parsers.{Parser};
 ghost use Rattle.gq_parse_common.specs.Exact.{IsExact};
-ghost use Rattle.gq_stmt_read.specs.Bodies.{ReadsBodies};
 ghost use Rattle.gq_stmt_read.specs.Queries.{created_query_parser, interpret_parser, install_parser, run_parser};
 
 /// Does nothing. Its contract is a law: what the functions of this crate find is the longest prefix that the grammar derives, and
-/// they find nothing only where it derives none. Queries are read so with every reader that reads bodies.
+/// they find nothing only where it derives none.
 pub fn queries_are_exact()
-    ensures created { (bodies : Parser Body) → ReadsBodies bodies → IsExact CreatedQuery (created_query_parser bodies) }
-    ensures interpret { (bodies : Parser Body) → ReadsBodies bodies → IsExact InterpretOf (interpret_parser bodies) }
+    ensures created { IsExact CreatedQuery created_query_parser }
+    ensures interpret { IsExact InterpretOf interpret_parser }
     ensures install { IsExact InstallOf install_parser }
     ensures run { IsExact RunOf run_parser }
 {}

@@ -4,12 +4,10 @@ ghost use Rattle.gq_token.specs.Cut.{IsSpelledIn};
 ghost use Rattle.gq_token.specs.Nesting.{IsTooDeepAt};
 ghost use Rattle.gq_tree.specs.declared.statement.Placed.{Placed};
 ghost use Rattle.gq_grammar.specs.Cutting.{IsScript};
-ghost use Rattle.gq_stmt_read.specs.Bodies.{ReadsBodies};
 ghost use Rattle.gq_stmt_read.specs.declared.fault.ScriptFault.{ScriptFault};
 ghost use Rattle.gq_stmt_read.specs.declared.fault.ScriptFault.TheVariants.{TooDeep, OutOfMemory};
 ghost use Rattle.gq_stmt_read.specs.Outcomes.{IsRead, HasFault, IsSyntaxFault};
 
-use crate::bodies::Bodies;
 use crate::fault::ScriptFault;
 use crate::statements::statement;
 use gq_grammar::Source;
@@ -17,18 +15,16 @@ use gq_token::{Token, too_deep};
 use gq_tree::Placed;
 use std::alloc::Global;
 
-/// The statements of a script, each with the byte place of its first token.
+/// The statements of a script, each with the byte place of its first token, or why it isn't read.
 ///
-/// The tokens are those of the script `bytes`, and `B` reads bodies. A script that nests too deep is refused for that alone. Each
-/// statement is the longest prefix of the rest that is one; a lone `;` stands for nothing and isn't counted. Time is linear in the
-/// tokens.
-pub fn read_with<B: Bodies>(
+/// The tokens are those of the script `bytes`. A script that nests too deep is refused for that alone. Each statement is the longest
+/// prefix of the rest that is one; a lone `;` stands for nothing and isn't counted. Time is linear in the tokens.
+pub fn read_script(
     alloc: Global,
     bytes: &[u8],
     tokens: &[Token],
 ) -> Result<Vec<Placed>, ScriptFault>
-    requires tokens { All (IsSpelledIn bytes.now) tokens.now }
-    requires bodies { ReadsBodies B.parser }
+    requires { All (IsSpelledIn bytes.now) tokens.now }
     ensures script { IfOk result (λ found. IsRead bytes.now tokens.now found.items) }
     ensures only { IfOk result (λ found. (statements : List Placed) → IsRead bytes.now tokens.now statements → statements ≡ found.items) }
     ensures fault { IfErr result (λ fault. fault ≢ OutOfMemory → HasFault bytes.now tokens.now fault) }
@@ -43,18 +39,13 @@ pub fn read_with<B: Bodies>(
 {
     match too_deep(bytes, tokens) {
         Some(at) => Err(ScriptFault::TooDeep { at }),
-        None => statements::<B>(alloc, bytes, tokens),
+        None => statements(alloc, bytes, tokens),
     }
 }
 
 // The statements, however deep they nest.
-fn statements<B: Bodies>(
-    alloc: Global,
-    bytes: &[u8],
-    tokens: &[Token],
-) -> Result<Vec<Placed>, ScriptFault>
-    requires tokens { All (IsSpelledIn bytes.now) tokens.now }
-    requires bodies { ReadsBodies B.parser }
+fn statements(alloc: Global, bytes: &[u8], tokens: &[Token]) -> Result<Vec<Placed>, ScriptFault>
+    requires { All (IsSpelledIn bytes.now) tokens.now }
     ensures script { IfOk result (λ found. IsScript bytes.now tokens.now found.items) }
     ensures fault { IfErr result (IsSyntaxFault bytes.now tokens.now) }
 {
@@ -64,7 +55,7 @@ fn statements<B: Bodies>(
     while at < tokens.len() {
         match source.sign(at, ";") {
             Some(next) => at = next,
-            None => match statement::<B>(alloc, &source, at)? {
+            None => match statement(alloc, &source, at)? {
                 None => {
                     return Err(ScriptFault::Syntax {
                         statement: found.len() as u64 + 1,

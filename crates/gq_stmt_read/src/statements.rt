@@ -4,7 +4,6 @@ ghost use Rattle.gq_grammar.specs.Lexemes as lexemes;
 ghost use Rattle.gq_grammar.specs.Parsers.{Found, after};
 ghost use Rattle.gq_stmt_read.specs.Statements as spec;
 
-use crate::bodies::Bodies;
 use crate::installs::install;
 use crate::queries::{created_query, interpret};
 use crate::runs::run_query;
@@ -39,14 +38,14 @@ fn declared(alloc: Global, source: &Source<'_>, at: usize) -> Read<Statement>
 
 // What stands behind CREATE.
 #[tactic(auto, unfolding(crate::specs::Statements::created_parser))]
-fn created<B: Bodies>(alloc: Global, source: &Source<'_>, at: usize) -> Read<Statement>
+fn created(alloc: Global, source: &Source<'_>, at: usize) -> Read<Statement>
     requires { at ≤ length source.now }
-    ensures { IfOk result (Found (spec.created_parser B.parser) source.now at) }
+    ensures { IfOk result (Found spec.created_parser source.now at) }
 {
     match declared(alloc, source, at)? {
         Some(read) => Ok(Some(read)),
         None => {
-            let ((replace, (name, query)), next) = need!(created_query::<B>(alloc, source, at)?);
+            let ((replace, (name, query)), next) = need!(created_query(alloc, source, at)?);
             Ok(Some((Statement::Query(replace, name, query), next)))
         }
     }
@@ -54,12 +53,12 @@ fn created<B: Bodies>(alloc: Global, source: &Source<'_>, at: usize) -> Read<Sta
 
 // CREATE and what stands behind it
 #[tactic(auto, unfolding(gq_grammar::specs::Parsers::after))]
-fn create<B: Bodies>(alloc: Global, source: &Source<'_>, at: usize) -> Read<Statement>
+fn create(alloc: Global, source: &Source<'_>, at: usize) -> Read<Statement>
     requires { at ≤ length source.now }
-    ensures { IfOk result (Found (after (lexemes.word "CREATE") (spec.created_parser B.parser)) source.now at) }
+    ensures { IfOk result (Found (after (lexemes.word "CREATE") spec.created_parser) source.now at) }
 {
     let at = need!(source.keyword(at, "CREATE"));
-    created::<B>(alloc, source, at)
+    created(alloc, source, at)
 }
 
 // USE GRAPH Name
@@ -100,11 +99,11 @@ fn run(alloc: Global, source: &Source<'_>, at: usize) -> Read<Statement>
 
 // CREATE .. | USE .. | RUN .. | INSTALL ..
 #[tactic(auto, unfolding(crate::specs::Statements::plain_parser))]
-fn plain<B: Bodies>(alloc: Global, source: &Source<'_>, at: usize) -> Read<Statement>
+fn plain(alloc: Global, source: &Source<'_>, at: usize) -> Read<Statement>
     requires { at ≤ length source.now }
-    ensures { IfOk result (Found (spec.plain_parser B.parser) source.now at) }
+    ensures { IfOk result (Found spec.plain_parser source.now at) }
 {
-    match create::<B>(alloc, source, at)? {
+    match create(alloc, source, at)? {
         Some(read) => return Ok(Some(read)),
         None => {}
     }
@@ -124,15 +123,15 @@ fn plain<B: Bodies>(alloc: Global, source: &Source<'_>, at: usize) -> Read<State
 ///
 /// Each level of a body takes some frames of the stack.
 #[tactic(auto, unfolding(crate::specs::Statements::statement_parser, gq_grammar::specs::Parsers::stands))]
-pub fn statement<B: Bodies>(alloc: Global, source: &Source<'_>, at: usize) -> Read<Statement>
+pub fn statement(alloc: Global, source: &Source<'_>, at: usize) -> Read<Statement>
     requires { at ≤ length source.now }
-    ensures { IfOk result (Found (spec.statement_parser B.parser) source.now at) }
+    ensures { IfOk result (Found spec.statement_parser source.now at) }
 {
-    match plain::<B>(alloc, source, at)? {
+    match plain(alloc, source, at)? {
         Some(read) => return Ok(Some(read)),
         None => {}
     }
-    match interpret::<B>(alloc, source, at)? {
+    match interpret(alloc, source, at)? {
         Some((tree, next)) => return Ok(Some((Statement::Interpret(tree), next))),
         None => {}
     }

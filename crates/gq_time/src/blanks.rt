@@ -2,7 +2,7 @@
 ghost use Rattle.std.specs.Prelude.{◌≡◌, reverse};
 ghost use Rattle.gq_time.specs.Reading.{trimmed, without_first_blanks};
 
-// A text without the blanks and tabs at its ends.
+/// A text without the blanks and tabs at its ends.
 pub fn trimmed(text: &[u8]) -> &[u8]
     ensures { result.now ≡ trimmed text.now }
 {

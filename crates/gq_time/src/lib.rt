@@ -21,6 +21,7 @@ mod shown;
 mod writing;
 
 pub use adding::{Unit, add};
+pub use blanks::trimmed;
 pub use laws::written_texts;
 pub use moment::{in_range, parts};
 pub use reading::read_time;

@@ -1,5 +1,6 @@
 pub mod Tree
 pub mod View
+pub mod Signed
 pub use Rattle.gq_value.specs.AccumViews
 pub use Rattle.gq_value.specs.Accums
 pub use Rattle.gq_value.specs.Arithmetic

@@ -14,6 +14,7 @@ mod copy;
 mod expr;
 mod job;
 mod kind;
+mod number;
 mod query;
 mod schema;
 mod select;
@@ -28,6 +29,7 @@ pub use job::{
     Column, Destination, FileTree, JobLine, JobTree, LoadOption, LoadTree, RunJobTree, Table,
 };
 pub use kind::{AccumTree, Bits, DefinitionTree, Elem, EntryTree, KindTree, Plain};
+pub use number::signed;
 pub use query::{Argument, BaseTree, Installed, Mode, ParameterTree, QueryTree, RunTree};
 pub use schema::{
     AttributeKind, AttributeTree, EdgeTree, EndsTree, GraphTree, InsertTree, Literal, MembersTree,

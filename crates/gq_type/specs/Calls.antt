@@ -1,5 +1,5 @@
 -- Calls: what the code's functions and methods are, and rules on their arguments by how many there are.
-use Rattle.std.specs.Prelude.{ℕ, Bool, true, false, ◌&&◌, List, [], ◌∷◌, map, codes, Option, Some, None, Ok, Err}
+use Rattle.std.specs.Prelude.{ℕ, Bool, true, false, ◌&&◌, List, [], ◌∷◌, map, Option, Some, None, Ok, Err}
 use Rattle.gq_tree.specs.Tree.{Trees, no_tree, tree}
 use Rattle.gq_scope.specs.Parts.{text_in}
 use Rattle.gq_value.specs.Accums.{Base, INT, BOOL, STRING, DATETIME, TUPLE}
@@ -7,7 +7,8 @@ use Rattle.gq_value.specs.AccumViews.{base_of, bases}
 use Rattle.gq_rules_typing.specs.Statements.{Bytes}
 use Rattle.gq_rules_typing.specs.Sorts.{Sorts}
 use Rattle.gq_rules_typing.specs.Words as words
-use Rattle.gq_rules_typing.specs.Words.{PartOf, Year, Month, Day, Hour, Minute, Second, edge_quoted, unit_named}
+use Rattle.gq_rules_typing.specs.Words.{edge_quoted, unit_named}
+use Rattle.gq_rules_typing.specs.Builtins.{builtin_is}
 use Rattle.gq_rules_typing.specs.Judging.{Typed, Of, Mismatch, UnknownName, Judged, ◌>>=◌, ◌>>◌, unless, or_fault}
 use Rattle.gq_rules_typing.specs.Types.{is_number, stands_for_vertex, convert_all}
 use Rattle.gq_rules_typing.specs.CallTypes.{has_text}
@@ -25,25 +26,7 @@ method_is method.Outdegree = words.Outdegree
 
 abbrev pub function_is : CheckedFunction → words.Function
 function_is (function.Makes n fields) = words.Makes n (map (λ f. base_of f.1) fields.now)
-function_is function.Abs = words.Abs
-function_is function.ToString = words.ToString
-function_is function.ToDatetime = words.ToDatetime
-function_is function.EpochToDatetime = words.EpochToDatetime
-function_is function.DatetimeToEpoch = words.DatetimeToEpoch
-function_is function.DatetimeDiff = words.DatetimeDiff
-function_is function.DatetimeAdd = words.DatetimeAdd
-function_is function.Year = PartOf Year
-function_is function.Month = PartOf Month
-function_is function.Day = PartOf Day
-function_is function.Hour = PartOf Hour
-function_is function.Minute = PartOf Minute
-function_is function.Second = PartOf Second
-
--- the functions that give a part of a time
-abbrev pub part_functions : List (Bytes × words.Function)
-part_functions =
-    (codes "year", PartOf Year) ∷ (codes "month", PartOf Month) ∷ (codes "day", PartOf Day) ∷
-    (codes "hour", PartOf Hour) ∷ (codes "minute", PartOf Minute) ∷ (codes "second", PartOf Second) ∷ []
+function_is (function.Own builtin) = builtin_is builtin
 
 -- one type alone
 abbrev pub only : {A : Type 0} → List A → Option A

@@ -1,5 +1,5 @@
 // Calls of functions and methods once their arguments have types, and what stands behind a dot.
-ghost use Rattle.std.specs.Prelude.{◌≡◌, ◌≢◌, map, true, Ok, Err, MatchResult};
+ghost use Rattle.std.specs.Prelude.{◌≡◌, ◌≢◌, map, Ok, Err, MatchResult};
 ghost use Rattle.std.specs.Option.{option_map};
 ghost use Rattle.gq_tree.specs.View.{views};
 ghost use Rattle.gq_rules_typing.specs.FieldTypes as dots;
@@ -13,7 +13,7 @@ use crate::fields::behind_dot;
 use crate::functions::function_type;
 use crate::names::{attached, before};
 use crate::rules::{as_base, has_accums};
-use gq_scope::{Base, Scope, TypeFault, Typed, read_type, unknown};
+use gq_scope::{Base, Scope, TypeFault, Typed, allowed, read_type, unknown};
 use gq_tree::Node;
 use std::alloc::Global;
 
@@ -103,16 +103,6 @@ pub(crate) fn field<'s>(
     ensures { Judges typed_is (dots.behind_dot (names_in scope.now).setting (typed_is x.entry) name.now) result }
 {
     behind_dot(alloc, scope, x, name)
-}
-
-/// Not allowed here, where a test fails.
-fn allowed(test: bool) -> Result<(), TypeFault>
-    ensures { Judges (λ _. true) (spec.allowed test) result }
-{
-    match test {
-        true => Ok(()),
-        false => Err(TypeFault::NotAllowedHere),
-    }
 }
 
 /// `x.@a`.

@@ -12,11 +12,11 @@ ghost use Rattle.gq_scope.specs.Views.{base_is, typed_is, parts_are, Judges};
 ghost use Rattle.gq_type.specs.Calls as calls;
 ghost use Rattle.gq_type.specs.Calls.{function_is, method_is};
 
-use crate::operators::matched;
 use crate::rules::{convert_all, converts, is_number, stands_for_vertex};
+use gq_rules_typing::{Builtin, builtin_named};
 use gq_scope::{
-    Base, Scope, TupleFieldTypes, TypeFault, Typed, contained_type, key_types, read_type, text_of,
-    unknown,
+    Base, Scope, TupleFieldTypes, TypeFault, Typed, contained_type, key_types, matched, read_type,
+    text_of, unknown,
 };
 use gq_tree::Node;
 use gq_value::{BaseType, Kind, Txt};
@@ -36,19 +36,7 @@ pub(crate) enum CheckedMethod {
 #[derive(Clone, Copy)]
 pub(crate) enum CheckedFunction<'a> {
     Makes(u32, &'a [(Txt, BaseType)]),
-    Abs,
-    ToString,
-    ToDatetime,
-    EpochToDatetime,
-    DatetimeToEpoch,
-    DatetimeDiff,
-    DatetimeAdd,
-    Year,
-    Month,
-    Day,
-    Hour,
-    Minute,
-    Second,
+    Own(Builtin),
 }
 
 /// The method of a name.
@@ -74,42 +62,9 @@ pub(crate) fn method_named(name: &str) -> Option<CheckedMethod>
 fn own_function<'a>(name: &str) -> Option<CheckedFunction<'a>>
     ensures { option_map function_is result ≡ words.under bytes_eq name.now words.functions }
 {
-    if "abs" == name {
-        Some(CheckedFunction::Abs)
-    } else if "to_string" == name {
-        Some(CheckedFunction::ToString)
-    } else if "to_datetime" == name {
-        Some(CheckedFunction::ToDatetime)
-    } else if "epoch_to_datetime" == name {
-        Some(CheckedFunction::EpochToDatetime)
-    } else if "datetime_to_epoch" == name {
-        Some(CheckedFunction::DatetimeToEpoch)
-    } else if "datetime_diff" == name {
-        Some(CheckedFunction::DatetimeDiff)
-    } else if "datetime_add" == name {
-        Some(CheckedFunction::DatetimeAdd)
-    } else {
-        part_function(name)
-    }
-}
-
-fn part_function<'a>(name: &str) -> Option<CheckedFunction<'a>>
-    ensures { option_map function_is result ≡ words.under bytes_eq name.now calls.part_functions }
-{
-    if "year" == name {
-        Some(CheckedFunction::Year)
-    } else if "month" == name {
-        Some(CheckedFunction::Month)
-    } else if "day" == name {
-        Some(CheckedFunction::Day)
-    } else if "hour" == name {
-        Some(CheckedFunction::Hour)
-    } else if "minute" == name {
-        Some(CheckedFunction::Minute)
-    } else if "second" == name {
-        Some(CheckedFunction::Second)
-    } else {
-        None
+    match builtin_named(name) {
+        None => None,
+        Some(builtin) => Some(CheckedFunction::Own(builtin)),
     }
 }
 

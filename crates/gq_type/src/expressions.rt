@@ -1,12 +1,13 @@
 // The types of expressions, a function for each list of operands. A rule is judged at the end of its form, what is within first,
 // from left to right; in a chain each operation is judged behind its right operand.
-ghost use Rattle.std.specs.Prelude.{◌≡◌, ◌≢◌, map, Ok, Err, MatchResult};
+ghost use Rattle.std.specs.Prelude.{◌≡◌, ◌≢◌, true, map, Ok, Err, MatchResult};
 ghost use Rattle.std.specs.Option.{option_map};
 ghost use Rattle.gq_tree.specs.View.{view, views, view_part, view_parts, view_factors, view_terms};
 ghost use Rattle.gq_rules_typing.specs.ExpressionTypes.{literal_type, typing, typing_all, typing_parts, typing_part};
 ghost use Rattle.gq_rules_typing.specs.ExpressionTypes.{typing_factors, typing_terms, typing_bools};
 ghost use Rattle.gq_scope.specs.Held.{names_in};
 ghost use Rattle.gq_scope.specs.Views.{base_is, typed_is, fault_is, Judges};
+ghost use Rattle.gq_type.specs.Arguments.{is_operation};
 
 use crate::arguments::{called, field, method_called, read_attached, read_before};
 use crate::names::{global, named};
@@ -66,6 +67,20 @@ fn typed<'s>(node: &Node, alloc: Global, scope: &'s Scope<'_>) -> Result<Typed<'
                 typed_parts(parts.as_slice(), alloc, scope, x)
             }
         },
+        Node::Neg(_, _) | Node::Mul(_, _) | Node::Sum(_, _) => operated(node, alloc, scope),
+        Node::Cmp(_, _, _) | Node::Not(_, _) => operated(node, alloc, scope),
+        Node::And(_, _) | Node::Or(_, _) => operated(node, alloc, scope),
+    }
+}
+
+/// The type of an operation on operands.
+#[cycle(typing)]
+#[tactic(auto, using(gq_tree::proofs::ViewLemmas::view_laws))]
+fn operated<'s>(node: &Node, alloc: Global, scope: &'s Scope<'_>) -> Result<Typed<'s>, TypeFault>
+    requires { is_operation (view node.now) ≡ true }
+    ensures { Judges typed_is (typing (names_in scope.now) (view node.now)) result }
+{
+    match node {
         Node::Neg(minuses, operand) => {
             let x = typed(operand.get(), alloc, scope)?;
             negated(*minuses, x)
@@ -87,14 +102,13 @@ fn typed<'s>(node: &Node, alloc: Global, scope: &'s Scope<'_>) -> Result<Typed<'
             let x = typed(operand.get(), alloc, scope)?;
             truth(x)
         }
-        Node::And(first, others) => {
+        Node::And(first, others) | Node::Or(first, others) => {
             let x = typed(first.get(), alloc, scope)?;
             typed_bools(others.as_slice(), alloc, scope, x)
         }
-        Node::Or(first, others) => {
-            let x = typed(first.get(), alloc, scope)?;
-            typed_bools(others.as_slice(), alloc, scope, x)
-        }
+        Node::Number(_) | Node::Text(_) | Node::Truth(_) => unreachable!(),
+        Node::Global(_) | Node::Name(_) => unreachable!(),
+        Node::Call(_, _) | Node::Post(_, _) => unreachable!(),
     }
 }
 

@@ -11,10 +11,9 @@ ghost use Rattle.gq_scope.specs.Views.{base_is, typed_is, parts_are, Judges};
 ghost use Rattle.gq_scope.specs.Views as views;
 ghost use Rattle.gq_scope.specs.Parts.{first_named, type_field, chained};
 
-use crate::operators::matched;
 use crate::rules::{same, stands_for_vertex};
 use gq_graph::{Attribute, IdKind, IdShape};
-use gq_scope::{Base, Scope, TypeFault, Typed, no_attribute, read_type};
+use gq_scope::{Base, Scope, TypeFault, Typed, matched, no_attribute, read_type};
 use gq_value::{BaseType, Kind, Txt};
 use std::alloc::Global;
 

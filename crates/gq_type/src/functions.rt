@@ -4,16 +4,15 @@ ghost use Rattle.gq_value.specs.AccumViews.{base_of};
 ghost use Rattle.std.specs.Option.{option_copied, option_map};
 ghost use Rattle.gq_tree.specs.View.{views};
 ghost use Rattle.gq_rules_typing.specs.CallTypes as spec;
-ghost use Rattle.gq_rules_typing.specs.Words as words;
+ghost use Rattle.gq_rules_typing.specs.Builtins.{builtin_is};
 ghost use Rattle.gq_scope.specs.Views.{base_is, typed_is, Judges};
 ghost use Rattle.gq_type.specs.Calls as calls;
 ghost use Rattle.gq_type.specs.Calls.{function_is};
 
 use crate::calls::{CheckedFunction, only};
-use crate::operators::matched;
 use crate::rules::{convert_all, is_number};
-use gq_scope::{Base, TupleFieldTypes, TypeFault, Typed, text_of, unknown};
-use gq_time::Unit;
+use gq_rules_typing::{Builtin, unit_named};
+use gq_scope::{Base, TupleFieldTypes, TypeFault, Typed, matched, text_of, unknown};
 use gq_tree::Node;
 use gq_value::{BaseType, Txt};
 use std::alloc::Global;
@@ -180,29 +179,7 @@ fn unit_known<'s>(alloc: Global, unit: Option<&str>) -> Result<Typed<'s>, TypeFa
     }
 }
 
-/// A unit of time by its text, in any case.
-pub fn unit_named(text: &str) -> Option<Unit>
-    ensures { result ≡ words.unit_named text.now }
-{
-    if "YEAR".eq_ignore_ascii_case(text) {
-        Some(Unit::Year)
-    } else if "MONTH".eq_ignore_ascii_case(text) {
-        Some(Unit::Month)
-    } else if "DAY".eq_ignore_ascii_case(text) {
-        Some(Unit::Day)
-    } else if "HOUR".eq_ignore_ascii_case(text) {
-        Some(Unit::Hour)
-    } else if "MINUTE".eq_ignore_ascii_case(text) {
-        Some(Unit::Minute)
-    } else if "SECOND".eq_ignore_ascii_case(text) {
-        Some(Unit::Second)
-    } else {
-        None
-    }
-}
-
 /// What a function gives, for arguments of these types.
-#[tactic(auto, using(crate::proofs::CallLemmas::function_laws))]
 pub(crate) fn function_type<'s>(
     alloc: Global,
     function: CheckedFunction<'s>,
@@ -213,18 +190,27 @@ pub(crate) fn function_type<'s>(
 {
     match function {
         CheckedFunction::Makes(number, fields) => made(number, fields, types),
-        CheckedFunction::Abs => absolute(types),
-        CheckedFunction::ToString => said(types),
-        CheckedFunction::ToDatetime => time_of_text(types),
-        CheckedFunction::EpochToDatetime => time_of_number(types),
-        CheckedFunction::DatetimeToEpoch => number_of_time(types),
-        CheckedFunction::DatetimeDiff => difference(types),
-        CheckedFunction::DatetimeAdd => later(alloc, arguments, types),
-        CheckedFunction::Year | CheckedFunction::Month | CheckedFunction::Day => number_of_time(
-            types,
-        ),
-        CheckedFunction::Hour | CheckedFunction::Minute | CheckedFunction::Second => number_of_time(
-            types,
-        ),
+        CheckedFunction::Own(builtin) => builtin_type(alloc, builtin, arguments, types),
+    }
+}
+
+/// What a function of the language's own gives.
+#[tactic(auto, using(crate::proofs::CallLemmas::function_laws))]
+fn builtin_type<'s>(
+    alloc: Global,
+    builtin: Builtin,
+    arguments: &[Node],
+    types: &[Base<'s>],
+) -> Result<Typed<'s>, TypeFault>
+    ensures { Judges typed_is (spec.function_type (builtin_is builtin) (views arguments.now) (map base_is types.now)) result }
+{
+    match builtin {
+        Builtin::Abs => absolute(types),
+        Builtin::ToString => said(types),
+        Builtin::ToDatetime => time_of_text(types),
+        Builtin::EpochToDatetime => time_of_number(types),
+        Builtin::DatetimeToEpoch | Builtin::Part(_) => number_of_time(types),
+        Builtin::DatetimeDiff => difference(types),
+        Builtin::DatetimeAdd => later(alloc, arguments, types),
     }
 }

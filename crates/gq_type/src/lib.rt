@@ -21,7 +21,7 @@ mod wanted;
 
 pub use expressions::type_of;
 pub use names::declared_kind;
-pub use operators::matched;
+pub use operators::number_of_both;
 pub use rules::{
     as_base, convert_all, converts, is_number, is_numeric, is_vertex, printable, vertex_of,
 };

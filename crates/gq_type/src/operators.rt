@@ -1,5 +1,5 @@
 // What operators take and give.
-ghost use Rattle.std.specs.Prelude.{◌≡◌, true};
+ghost use Rattle.std.specs.Prelude.{◌≡◌};
 ghost use Rattle.gq_value.specs.Accums.{UINT, BOOL, STRING, DATETIME};
 ghost use Rattle.gq_rules_typing.specs.Types as spec;
 ghost use Rattle.gq_rules_typing.specs.ExpressionTypes as forms;
@@ -7,23 +7,13 @@ ghost use Rattle.gq_scope.specs.Views.{base_is, typed_is, Judges, on_value};
 ghost use Rattle.gq_scope.specs.Views as views;
 
 use crate::rules::{as_base, is_bool, is_number, is_numeric, is_vertex, value};
-use gq_scope::{Base, TypeFault, Typed};
+use gq_scope::{Base, TypeFault, Typed, matched};
 use gq_tree::{AddSign, CmpSign};
-
-/// Type mismatch, where a test fails.
-pub fn matched(test: bool) -> Result<(), TypeFault>
-    ensures { Judges (λ _. true) (views.matched test) result }
-{
-    match test {
-        true => Ok(()),
-        false => Err(TypeFault::Mismatch),
-    }
-}
 
 // ---- numbers and texts
 
 /// Two UINT give UINT, other numbers INT.
-fn number_of_both<'a>(b: Base<'_>, c: Base<'_>) -> Base<'a>
+pub fn number_of_both<'a>(b: Base<'_>, c: Base<'_>) -> Base<'a>
     ensures { base_is result ≡ spec.number_of_both (base_is b.entry) (base_is c.entry) }
 {
     match b {

@@ -6,9 +6,8 @@ ghost use Rattle.gq_scope.specs.Held.{names_in};
 ghost use Rattle.gq_scope.specs.Views.{base_is, Judges};
 
 use crate::expressions::type_of;
-use crate::operators::matched;
 use crate::rules::{as_base, converts, is_bool, is_number};
-use gq_scope::{Base, Scope, TypeFault};
+use gq_scope::{Base, Scope, TypeFault, matched};
 use gq_tree::Node;
 use std::alloc::Global;
 

@@ -21,5 +21,6 @@ mod value;
 pub use arithmetic::{absolute, add, convert, div, mul, negate, rem, sub};
 pub use kind::{BaseType, Fields, GroupShape, HeapShape, Input, Inputs, Kind, Number, Slot};
 pub use order::{compare, same};
+pub use order_laws::{order_is_total, orders_agree, places_are_apart};
 pub use txt::Txt;
 pub use value::{EvalFault, Fraction, Row, Value, Wrong, duplicate_row};

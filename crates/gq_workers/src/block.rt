@@ -1,5 +1,6 @@
 // The run of a block.
 ghost use Rattle.std.specs.Prelude.{◌<◌, length, IfOk};
+ghost use Rattle.gq_rules_calendar.specs.Gregorian.{gregorian};
 ghost use Rattle.gq_exec_source.specs.Ends.{HasEnds};
 ghost use Rattle.gq_workers.specs.Results.{Answers, IsWorkOf, Leaves, RanTo};
 ghost use Rattle.gq_workers.specs.Running.{IsWork, HasRun, Steps};
@@ -11,7 +12,7 @@ use crate::run::{BlockProgress, feed, judged};
 use crate::work::Work;
 use crate::workers::next_round;
 use gq_base::OutOfMemory;
-use gq_eval_context::{After, BlockFault, Clock, Setting};
+use gq_eval_context::{After, BlockContext, BlockFault};
 use gq_exec_source::{Ends, candidates_of};
 use gq_io::{Gate, Shape};
 use gq_plan_ir::Block;
@@ -36,17 +37,17 @@ pub(crate) enum Ran {
 /// after it has drawn a chunk. Along a path it answers OutOfMemory. More than 2^60 inputs are `OutOfMemory` too. The frame is lent, and stays
 /// as it is.
 #[tactic(auto, using(crate::proofs::RunLemmas::end_laws))]
-pub fn run_block<R: Threads + Sync, C: Clock + Sync, G: Gate>(
+pub fn run_block<R: Threads + Sync, G: Gate>(
     rt: &R,
     alloc: Global,
     block: &Block,
-    over: &Setting<'_, C>,
+    over: &BlockContext<'_>,
     ends: &Ends,
     shape: &Shape,
     gate: &G,
 ) -> Result<After, BlockFault>
     requires { HasEnds over.now.schema over.now.plan over.now.frame.things block.now ends.now }
-    ensures answered { Answers C.clock over.now block.now result }
+    ensures answered { Answers gregorian over.now block.now result }
     ensures left { IfOk result (Leaves over.now) }
 {
     match run_all(rt, alloc, block, over, ends, shape, gate) {
@@ -57,27 +58,27 @@ pub fn run_block<R: Threads + Sync, C: Clock + Sync, G: Gate>(
 }
 
 /// Finds the candidates, and goes through them.
-fn run_all<R: Threads + Sync, C: Clock + Sync, G: Gate>(
+fn run_all<R: Threads + Sync, G: Gate>(
     rt: &R,
     alloc: Global,
     block: &Block,
-    over: &Setting<'_, C>,
+    over: &BlockContext<'_>,
     ends: &Ends,
     shape: &Shape,
     gate: &G,
 ) -> Result<Ran, OutOfMemory>
     requires { HasEnds over.now.schema over.now.plan over.now.frame.things block.now ends.now }
-    ensures { IfOk result (RanTo C.clock over.now block.now) }
+    ensures { IfOk result (RanTo gregorian over.now block.now) }
 {
     let work = work_of(alloc, block, over, ends, shape)?;
     through(rt, alloc, &work, over, shape.workers, gate)
 }
 
 /// The candidates of a block, and what they are tried by.
-fn work_of<'b, C: Clock>(
+fn work_of<'b>(
     alloc: Global,
     block: &'b Block,
-    over: &Setting<'_, C>,
+    over: &BlockContext<'_>,
     ends: &'b Ends,
     shape: &Shape,
 ) -> Result<Work<'b>, OutOfMemory>
@@ -98,16 +99,16 @@ fn work_of<'b, C: Clock>(
 }
 
 /// Goes through the candidates, chunk by chunk on this thread or round by round with several workers, up to the first that faults.
-fn through<R: Threads + Sync, C: Clock + Sync, G: Gate>(
+fn through<R: Threads + Sync, G: Gate>(
     rt: &R,
     alloc: Global,
     work: &Work<'_>,
-    over: &Setting<'_, C>,
+    over: &BlockContext<'_>,
     workers: u32,
     gate: &G,
 ) -> Result<Ran, OutOfMemory>
     requires { IsWork over.now work.now }
-    ensures { IfOk result (RanTo C.clock over.now work.now.block.now) }
+    ensures { IfOk result (RanTo gregorian over.now work.now.block.now) }
 {
     let mut run = BlockProgress::open(alloc, over)?;
     while run.at < work.candidates.count() {
@@ -121,19 +122,19 @@ fn through<R: Threads + Sync, C: Clock + Sync, G: Gate>(
 
 /// The next chunk on this thread, or the next round of several workers: all chunks of it are gone through and fed, or a candidate of it
 /// is the first that faults.
-fn go_on<R: Threads + Sync, C: Clock + Sync, G: Gate>(
+fn go_on<R: Threads + Sync, G: Gate>(
     rt: &R,
     alloc: Global,
     work: &Work<'_>,
-    over: &Setting<'_, C>,
+    over: &BlockContext<'_>,
     workers: u32,
     gate: &G,
     run: &mut BlockProgress,
 ) -> Result<Option<(u64, Wrong)>, OutOfMemory>
     requires work { IsWork over.now work.now }
-    requires run { HasRun C.clock over.now work.now run.old }
+    requires run { HasRun gregorian over.now work.now run.old }
     requires more { run.old.at < length work.now.candidates }
-    ensures { IfOk result (Steps C.clock over.now work.now run.old run.new) }
+    ensures { IfOk result (Steps gregorian over.now work.now run.old run.new) }
 {
     if workers <= 1 || work.size >= work.candidates.count() {
         return next_chunk(alloc, work, over, gate, run);
@@ -142,17 +143,17 @@ fn go_on<R: Threads + Sync, C: Clock + Sync, G: Gate>(
 }
 
 /// Goes through the next chunk on this thread, and feeds what it contributes. The gate is passed as worker 0.
-fn next_chunk<C: Clock, G: Gate>(
+fn next_chunk<G: Gate>(
     alloc: Global,
     work: &Work<'_>,
-    over: &Setting<'_, C>,
+    over: &BlockContext<'_>,
     gate: &G,
     run: &mut BlockProgress,
 ) -> Result<Option<(u64, Wrong)>, OutOfMemory>
     requires work { IsWork over.now work.now }
-    requires run { HasRun C.clock over.now work.now run.old }
+    requires run { HasRun gregorian over.now work.now run.old }
     requires more { run.old.at < length work.now.candidates }
-    ensures { IfOk result (Steps C.clock over.now work.now run.old run.new) }
+    ensures { IfOk result (Steps gregorian over.now work.now run.old run.new) }
 {
     let start = run.at;
     let end = start.saturating_add(work.size).min(work.candidates.count());

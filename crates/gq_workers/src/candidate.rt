@@ -1,5 +1,6 @@
 // What a candidate leaves.
 ghost use Rattle.std.specs.Prelude.{◌≡◌, ◌||◌, ◌*◌, ℕ, [], Some, length, map, IfOk};
+ghost use Rattle.gq_rules_calendar.specs.Gregorian.{gregorian};
 ghost use Rattle.gq_exec_contribute.specs.Passing.{Comes};
 ghost use Rattle.gq_exec_source.specs.Marks.{is_marked};
 ghost use Rattle.gq_exec_source.specs.Starts.{IsBelow, IsWithin};
@@ -13,7 +14,7 @@ use crate::gather::gather;
 use crate::work::Work;
 use gq_base::{List, OutOfMemory};
 use gq_core::Batches;
-use gq_eval_context::{Clock, Setting};
+use gq_eval_context::BlockContext;
 use gq_exec_contribute::{Outcome, Room, contribute};
 use gq_exec_source::{Ends, mark};
 use gq_frame::Alias;
@@ -24,10 +25,10 @@ use std::alloc::Global;
 
 /// Tries a candidate: what a match contributes waits, and its ends are marked; the fault of one that faults is told. Where acts stand for
 /// the block's, what they read is all that it contributes; they are asked where INTs are at hand.
-pub(crate) fn try_one<C: Clock>(
+pub(crate) fn try_one(
     alloc: Global,
     work: &Work<'_>,
-    over: &Setting<'_, C>,
+    over: &BlockContext<'_>,
     at_hand: bool,
     candidate: Candidate,
     found: &mut MatchBuffer,
@@ -35,7 +36,7 @@ pub(crate) fn try_one<C: Clock>(
     requires within { IsWithin (length over.now.vertices) candidate }
     requires shaped { IsShaped (length over.now.vertices) found.old }
     requires direct { AreDirect work.now.ends.now work.now.edge over.now.frame.accums.slots work.now.block.now work.now.direct }
-    ensures tried { IfOk result (Tried over.now (come C.clock over.now work.now candidate) found.old found.new) }
+    ensures tried { IfOk result (Tried over.now (come gregorian over.now work.now candidate) found.old found.new) }
     ensures shaped { IfOk result (λ _. IsShaped (length over.now.vertices) found.new) }
 {
     if is_done(&work.direct, at_hand, over, candidate, found)? {
@@ -48,16 +49,16 @@ pub(crate) fn try_one<C: Clock>(
 }
 
 /// Whether acts feed INTs that are at hand: then the candidate is done, and else nothing has changed.
-fn is_done<C: Clock>(
+fn is_done(
     direct: &Option<List<Simple<'_>>>,
     at_hand: bool,
-    over: &Setting<'_, C>,
+    over: &BlockContext<'_>,
     candidate: Candidate,
     found: &mut MatchBuffer,
 ) -> Result<bool, OutOfMemory>
     requires within { IsWithin (length over.now.vertices) candidate }
     requires shaped { IsShaped (length over.now.vertices) found.old }
-    ensures { IfOk result (Done C.clock over.now candidate direct.now found.old found.new) }
+    ensures { IfOk result (Done gregorian over.now candidate direct.now found.old found.new) }
 {
     match direct {
         Some(simple) => {
@@ -71,15 +72,15 @@ fn is_done<C: Clock>(
 }
 
 /// Gathers the INTs that acts feed, and marks the ends; or changes nothing, where one of them feeds something else.
-fn by_ints<C: Clock>(
+fn by_ints(
     simple: &[Simple<'_>],
-    over: &Setting<'_, C>,
+    over: &BlockContext<'_>,
     candidate: Candidate,
     found: &mut MatchBuffer,
 ) -> Result<bool, OutOfMemory>
     requires within { IsWithin (length over.now.vertices) candidate }
     requires shaped { IsShaped (length over.now.vertices) found.old }
-    ensures { IfOk result (Done C.clock over.now candidate (Some simple.now) found.old found.new) }
+    ensures { IfOk result (Done gregorian over.now candidate (Some simple.now) found.old found.new) }
 {
     if !gather(simple, over.graph, candidate, &mut found.ints)? {
         return Ok(false);
@@ -92,10 +93,10 @@ fn by_ints<C: Clock>(
 /// Tries a candidate by evaluating its acts. What a match contributes waits in the batch, and its ends are marked; the fault of one that
 /// faults is told.
 #[tactic(auto, using(crate::proofs::FoundLemmas::tried_laws))]
-fn try_candidate<C: Clock>(
+fn try_candidate(
     alloc: Global,
     block: &Block,
-    over: &Setting<'_, C>,
+    over: &BlockContext<'_>,
     ends: &Ends,
     edge: Option<u32>,
     candidate: Candidate,
@@ -104,7 +105,7 @@ fn try_candidate<C: Clock>(
     requires settled { found.old.ints ≡ [] }
     requires within { IsWithin (length over.now.vertices) candidate }
     requires shaped { IsShaped (length over.now.vertices) found.old }
-    ensures tried { IfOk result (Tried over.now (comes C.clock over.now block.now ends.now edge candidate) found.old found.new) }
+    ensures tried { IfOk result (Tried over.now (comes gregorian over.now block.now ends.now edge candidate) found.old found.new) }
     ensures shaped { IfOk result (λ _. IsShaped (length over.now.vertices) found.new) }
 {
     let room = &mut found.room;
@@ -130,17 +131,17 @@ fn try_candidate<C: Clock>(
 }
 
 /// What comes of a candidate: it sees its aliases, and the accumulators of the frame.
-fn outcome_of<C: Clock>(
+fn outcome_of(
     alloc: Global,
     block: &Block,
-    over: &Setting<'_, C>,
+    over: &BlockContext<'_>,
     ends: &Ends,
     edge: Option<u32>,
     candidate: Candidate,
     room: &mut Room,
     into: &mut Batches,
 ) -> Result<Outcome, OutOfMemory>
-    ensures { IfOk result (Comes over.now.frame.accums.slots candidate (comes C.clock over.now block.now ends.now edge candidate) into.old into.new) }
+    ensures { IfOk result (Comes over.now.frame.accums.slots candidate (comes gregorian over.now block.now ends.now edge candidate) into.old into.new) }
 {
     let mut row = [no_alias(); 3];
     let count = bind(&mut row, ends, edge, candidate);
@@ -148,18 +149,18 @@ fn outcome_of<C: Clock>(
 }
 
 /// What comes of a candidate with these aliases.
-fn outcome_under<C: Clock>(
+fn outcome_under(
     alloc: Global,
     block: &Block,
-    over: &Setting<'_, C>,
+    over: &BlockContext<'_>,
     aliases: &[Alias<'_>],
     room: &mut Room,
     into: &mut Batches,
 ) -> Result<Outcome, OutOfMemory>
-    ensures { IfOk result (ComesUnder C.clock over.now block.now (map alias_of aliases.now) into.old into.new) }
+    ensures { IfOk result (ComesUnder gregorian over.now block.now (map alias_of aliases.now) into.old into.new) }
 {
     let accums = &over.frame.accums;
-    let view = over.view(aliases, accums, accums);
+    let view = over.eval_context(aliases, accums, accums);
     contribute(alloc, block, &view, accums, room, into)
 }
 

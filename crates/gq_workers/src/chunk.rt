@@ -1,5 +1,6 @@
 // Chunks of candidates, and the rows of their edges read ahead.
 ghost use Rattle.std.specs.Prelude.{◌≤◌, length, IfOk};
+ghost use Rattle.gq_rules_calendar.specs.Gregorian.{gregorian};
 ghost use Rattle.gq_workers.specs.Running.{GoneThrough, IsEmpty, IsShaped, IsWork, come};
 
 use crate::candidate::try_one;
@@ -7,7 +8,7 @@ use crate::direct::{AliasRole, Leaf, Simple};
 use crate::found::MatchBuffer;
 use crate::work::Work;
 use gq_base::{List, OutOfMemory};
-use gq_eval_context::{Clock, Setting};
+use gq_eval_context::BlockContext;
 use gq_graph::EdgeRow;
 use gq_index::{Candidates, Cursor, Graph};
 use gq_plan_ir::Field;
@@ -16,10 +17,10 @@ use std::alloc::Global;
 
 /// Tries the candidates from `start` up to `end` in order, or up to the first that faults, whose place and fault are told. What they
 /// contribute waits.
-pub(crate) fn try_chunk<C: Clock>(
+pub(crate) fn try_chunk(
     alloc: Global,
     work: &Work<'_>,
-    over: &Setting<'_, C>,
+    over: &BlockContext<'_>,
     start: u64,
     end: u64,
     found: &mut MatchBuffer,
@@ -29,7 +30,7 @@ pub(crate) fn try_chunk<C: Clock>(
     requires work { IsWork over.now work.now }
     requires empty { IsEmpty found.old }
     requires shaped { IsShaped (length over.now.vertices) found.old }
-    ensures { IfOk result (GoneThrough (come C.clock over.now work.now) work.now.candidates over.now start end found.old found.new) }
+    ensures { IfOk result (GoneThrough (come gregorian over.now work.now) work.now.candidates over.now start end found.old found.new) }
 {
     let at_hand = has_ints_at_hand(work, over.graph, start, end, &mut found.edges)?;
     let mut cursor = Cursor::new();

@@ -1,9 +1,7 @@
 // Acts that feed an INT which is at hand, so that nothing has to be evaluated for a candidate.
-ghost use Rattle.std.specs.Prelude.{◌≡◌, ℕ, Option, IfOk, IfSome, true, slice_get};
-ghost use Rattle.std.specs.Option.{option_copied};
+ghost use Rattle.std.specs.Prelude.{◌≡◌, ℕ, Option, IfOk, IfSome, true};
 ghost use Rattle.gq_value.specs.declared.kind.Number.TheVariants as numbers;
 ghost use Rattle.gq_value.specs.AccumViews.{accum_of};
-ghost use Rattle.gq_frame.specs.Targets.{targets_of};
 ghost use Rattle.gq_rules_typing.specs.Selecting.{Adds, Plain};
 ghost use Rattle.gq_rules_meaning.specs.Tree as tree;
 ghost use Rattle.gq_rules_meaning.specs.Tree.{Post};
@@ -16,7 +14,7 @@ use gq_base::{List, OutOfMemory};
 use gq_exec_source::Ends;
 use gq_frame::Slots;
 use gq_plan_ir::{Act, Behind, Block, Change, Expr, Feed, Field};
-use gq_value::{Kind, Number, Slot};
+use gq_value::{Kind, Number};
 use std::alloc::Global;
 
 /// What of a candidate a name stands for.
@@ -139,7 +137,7 @@ fn int_feed<'b>(
 {
     match added(change) {
         None => None,
-        Some(expr) => match item(&slots.declared, slot as usize) {
+        Some(expr) => match slots.declared.get(slot as usize) {
             None => None,
             Some(declared) => {
                 if !takes_ints(&declared.kind) {
@@ -150,7 +148,7 @@ fn int_feed<'b>(
                     Some(from) => Some(IntFeed {
                         slot,
                         first: slots.target(slot, 0),
-                        targets: targets(slots, declared),
+                        targets: slots.targets(declared),
                         from,
                     }),
                 }
@@ -283,18 +281,4 @@ fn is_at(alias: Option<u32>, place: u32) -> bool
         Some(other) => other == place,
         None => false,
     }
-}
-
-/// The item at a place, if there is one.
-fn item<T>(items: &List<T>, at: usize) -> Option<&T>
-    ensures { slice_get items.now at ≡ option_copied result }
-{
-    items.as_slice().get(at)
-}
-
-/// How many targets a slot has.
-fn targets(slots: &Slots, slot: &Slot) -> u32
-    ensures { result ≡ targets_of slots.now.vertices slot.now }
-{
-    if slot.attached { slots.vertices } else { 1 }
 }

@@ -6,8 +6,8 @@ ghost use Rattle.gq_workers.specs.Results.{AreListed, IsJudged, IsBegun};
 use crate::found::MatchBuffer;
 use gq_base::OutOfMemory;
 use gq_core::Batches;
-use gq_eval_context::{After, BlockFault, Setting};
-use gq_exec_feed::{feed_all, feed_ints, first_unfit};
+use gq_eval_context::{After, BlockContext, BlockFault};
+use gq_exec_feed::{feed_all, feed_ints, first_unfit, slot_number};
 use gq_exec_source::listed;
 use gq_frame::Accums;
 use gq_index::VertexList;
@@ -28,7 +28,7 @@ pub(crate) struct BlockProgress {
 
 impl BlockProgress {
     /// Before the first candidate, over a copy of the frame's accumulators.
-    pub fn open<C>(alloc: Global, over: &Setting<'_, C>) -> Result<BlockProgress, OutOfMemory>
+    pub fn open(alloc: Global, over: &BlockContext<'_>) -> Result<BlockProgress, OutOfMemory>
         ensures { IfOk result (IsBegun over.now) }
     {
         Ok(BlockProgress {
@@ -103,14 +103,4 @@ fn lists(alloc: Global, found: &MatchBuffer) -> Result<(VertexList, VertexList),
     let sources = listed(alloc, found.sources.as_slice())?;
     let targets = listed(alloc, found.targets.as_slice())?;
     Ok((sources, targets))
-}
-
-/// A number of a slot, in 32 bits.
-fn slot_number(number: usize) -> Option<u32>
-    ensures { IfSome result (λ slot. slot ≡ number) }
-{
-    if number > u32::MAX as usize {
-        return None;
-    }
-    Some(number as u32)
 }

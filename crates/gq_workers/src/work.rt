@@ -26,7 +26,7 @@ pub(crate) struct Work<'b> {
     pub size: u64,
 }
 
-/// What the workers of a round share: the candidates from `first` up to `last`, and what a setting is made of.
+/// What the workers of a round share: the candidates from `first` up to `last`, and what a `BlockContext` is made of.
 #[derive(Drop)]
 pub(crate) struct Round<'a> {
     pub graph: Graph<'a>,

@@ -1,5 +1,6 @@
 // Several workers.
 ghost use Rattle.std.specs.Prelude.{◌<◌, ◌≤◌, length, All, IfOk};
+ghost use Rattle.gq_rules_calendar.specs.Gregorian.{gregorian};
 ghost use Rattle.gq_workers.specs.Running.{HasRun, IsEmpty, IsShaped, IsWork, Steps};
 ghost use Rattle.gq_workers.specs.Rounds.{CanWork, IsPart, IsRoundPart, LeavesChunk};
 
@@ -11,11 +12,10 @@ use crate::run::BlockProgress;
 use crate::work::{ChunkOutput, Round, Work, WorkerOutput};
 use gq_base::{List, OutOfMemory};
 use gq_core::Batches;
-use gq_eval_context::{Clock, Setting};
+use gq_eval_context::BlockContext;
 use gq_io::Gate;
 use gq_value::Wrong;
 use std::alloc::Global;
-use std::marker::PhantomData;
 use std::sync::atomic::{AtomicU64, Ordering};
 use std::thread::Threads;
 use std::{mem, thread};
@@ -24,19 +24,19 @@ use std::{mem, thread};
 const WAITING: u64 = 1 << 18;
 
 /// Goes through the next chunks with several workers, at most 64 of them, and then feeds what they found, in order.
-pub(crate) fn next_round<R: Threads + Sync, C: Clock + Sync, G: Gate>(
+pub(crate) fn next_round<R: Threads + Sync, G: Gate>(
     rt: &R,
     alloc: Global,
     work: &Work<'_>,
-    over: &Setting<'_, C>,
+    over: &BlockContext<'_>,
     workers: u32,
     gate: &G,
     run: &mut BlockProgress,
 ) -> Result<Option<(u64, Wrong)>, OutOfMemory>
     requires work { IsWork over.now work.now }
-    requires run { HasRun C.clock over.now work.now run.old }
+    requires run { HasRun gregorian over.now work.now run.old }
     requires more { run.old.at < length work.now.candidates }
-    ensures { IfOk result (Steps C.clock over.now work.now run.old run.new) }
+    ensures { IfOk result (Steps gregorian over.now work.now run.old run.new) }
 {
     let first = run.at;
     // A chunk for each worker at least, also where chunks are large.
@@ -54,7 +54,7 @@ pub(crate) fn next_round<R: Threads + Sync, C: Clock + Sync, G: Gate>(
     };
     let chunks = last.saturating_sub(first).div_ceil(work.size);
     let workers = u64::from(workers).min(chunks);
-    let parts = gathered::<R, C, G>(rt, alloc, &shared, workers, gate)?;
+    let parts = gathered::<R, G>(rt, alloc, &shared, workers, gate)?;
     let order = in_order(alloc, parts.as_slice(), first, last, work.size)?;
     mark_parts(parts.as_slice(), &mut run.found)?;
     match feed_parts(alloc, parts.as_slice(), order.as_slice(), run)? {
@@ -68,7 +68,7 @@ pub(crate) fn next_round<R: Threads + Sync, C: Clock + Sync, G: Gate>(
 }
 
 /// What workers leave of a round: each draws chunk after chunk.
-fn gathered<R: Threads + Sync, C: Clock + Sync, G: Gate>(
+fn gathered<R: Threads + Sync, G: Gate>(
     rt: &R,
     alloc: Global,
     round: &Round<'_>,
@@ -76,20 +76,20 @@ fn gathered<R: Threads + Sync, C: Clock + Sync, G: Gate>(
     gate: &G,
 ) -> Result<Vec<Result<WorkerOutput, OutOfMemory>>, OutOfMemory>
     requires { CanWork round.now }
-    ensures { IfOk result (λ parts. All (λ part. IfOk part (IsRoundPart C.clock round.now)) parts.items) }
+    ensures { IfOk result (λ parts. All (λ part. IfOk part (IsRoundPart gregorian round.now)) parts.items) }
 {
     let next = AtomicU64::new(0);
     let draws = &next;
     let part = |worker: usize| -> Result<WorkerOutput, OutOfMemory>
         requires { CanWork round.now }
-        ensures { IfOk result (IsRoundPart C.clock round.entry.now) }
-    { part_of_round::<C, G>(alloc, round, draws, worker, gate) };
+        ensures { IfOk result (IsRoundPart gregorian round.entry.now) }
+    { part_of_round::<G>(alloc, round, draws, worker, gate) };
     let parts = thread::map_indices(rt, alloc, workers as usize, &part)?;
     Ok(parts)
 }
 
 /// What a worker leaves of a round.
-fn part_of_round<C: Clock, G: Gate>(
+fn part_of_round<G: Gate>(
     alloc: Global,
     round: &Round<'_>,
     draws: &AtomicU64,
@@ -97,14 +97,13 @@ fn part_of_round<C: Clock, G: Gate>(
     gate: &G,
 ) -> Result<WorkerOutput, OutOfMemory>
     requires { CanWork round.now }
-    ensures { IfOk result (IsRoundPart C.clock round.now) }
+    ensures { IfOk result (IsRoundPart gregorian round.now) }
 {
-    let over: Setting<'_, C> = Setting {
+    let over: BlockContext<'_> = BlockContext {
         graph: round.graph,
         plan: round.plan,
         tuples: round.tuples,
         frame: round.frame,
-        clock: PhantomData,
     };
     work_part(
         alloc,
@@ -119,10 +118,10 @@ fn part_of_round<C: Clock, G: Gate>(
 }
 
 /// What a worker leaves: it draws one chunk after another, passes the gate, and tries the chunk's candidates.
-fn work_part<C: Clock, G: Gate>(
+fn work_part<G: Gate>(
     alloc: Global,
     work: &Work<'_>,
-    over: &Setting<'_, C>,
+    over: &BlockContext<'_>,
     first: u64,
     last: u64,
     draws: &AtomicU64,
@@ -131,7 +130,7 @@ fn work_part<C: Clock, G: Gate>(
 ) -> Result<WorkerOutput, OutOfMemory>
     requires work { IsWork over.now work.now }
     requires within { last ≤ length work.now.candidates }
-    ensures { IfOk result (IsPart C.clock over.now work.now first last) }
+    ensures { IfOk result (IsPart gregorian over.now work.now first last) }
 {
     let mut found = MatchBuffer::open(alloc, over.graph.store.vertices.len())?;
     let mut lefts = List::new(alloc);
@@ -155,10 +154,10 @@ fn work_part<C: Clock, G: Gate>(
 }
 
 /// What a chunk leaves. Its matches are marked, and then nothing waits.
-fn work_chunk<C: Clock>(
+fn work_chunk(
     alloc: Global,
     work: &Work<'_>,
-    over: &Setting<'_, C>,
+    over: &BlockContext<'_>,
     start: u64,
     end: u64,
     found: &mut MatchBuffer,
@@ -168,7 +167,7 @@ fn work_chunk<C: Clock>(
     requires work { IsWork over.now work.now }
     requires empty { IsEmpty found.old }
     requires shaped { IsShaped (length over.now.vertices) found.old }
-    ensures { IfOk result (LeavesChunk C.clock over.now work.now start end found.old found.new) }
+    ensures { IfOk result (LeavesChunk gregorian over.now work.now start end found.old found.new) }
 {
     let fault = try_chunk(alloc, work, over, start, end, found)?;
     let none = Batches::new(alloc, 1)?;

@@ -1,6 +1,7 @@
 use Rattle.std.proofs.Common.{ℕ, Bool, Option, subst}
 use Rattle.std.specs.Option.{option_map}
 use Rattle.gq_rules_meaning.specs.Blocks.{passes}
+use Rattle.gq_rules_calendar.specs.Gregorian.{gregorian}
 use Rattle.gq_plan_ir.specs.ExprView.{view}
 use Rattle.gq_eval_operand.specs.Meant.{itself, Tells}
 use Rattle.gq_frame.specs.Names.{Placed}
@@ -10,11 +11,11 @@ use Rattle.gq_after.specs.Sights.{one_alias}
 use Rattle.gq_after.proofs.having.passes_at.Goals as goal
 
 pub returns-in-Some : goal.returns-in-Some
-returns-in-Some g c =
-    subst (λ (o : Option (ℕ × Placed)). Tells (itself {A = Bool}) (passes (look_of g.C.Clock.clock (viewed c.args.over.now (one_alias o) c.args.accums.now c.args.accums.now)) (option_map view c.args.having.now)) c.passes_under.result)
+returns-in-Some c =
+    subst (λ (o : Option (ℕ × Placed)). Tells (itself {A = Bool}) (passes (look_of gregorian (viewed c.args.over.now (one_alias o) c.args.accums.now c.args.accums.now)) (option_map view c.args.having.now)) c.passes_under.result)
     c.in-Some.ensures c.passes_under.ensures
 
 pub returns-in-None : goal.returns-in-None
-returns-in-None g c =
-    subst (λ (o : Option (ℕ × Placed)). Tells (itself {A = Bool}) (passes (look_of g.C.Clock.clock (viewed c.args.over.now (one_alias o) c.args.accums.now c.args.accums.now)) (option_map view c.args.having.now)) c.passes_under-in-None.result)
+returns-in-None c =
+    subst (λ (o : Option (ℕ × Placed)). Tells (itself {A = Bool}) (passes (look_of gregorian (viewed c.args.over.now (one_alias o) c.args.accums.now c.args.accums.now)) (option_map view c.args.having.now)) c.passes_under-in-None.result)
     c.in-None.ensures c.passes_under-in-None.ensures

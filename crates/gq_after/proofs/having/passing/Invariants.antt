@@ -1,6 +1,7 @@
 use Rattle.std.proofs.Common.{◌≡◌, drop, map}
 use Rattle.std.specs.Option.{option_map}
 use Rattle.gq_rules_meaning.specs.Tails.{passing}
+use Rattle.gq_rules_calendar.specs.Gregorian.{gregorian}
 use Rattle.gq_plan_ir.specs.ExprView.{view}
 use Rattle.gq_after.specs.Sights.{vertex_look}
 use Rattle.gq_after.proofs.EachSteps.{and_more}
@@ -8,5 +9,5 @@ use Rattle.gq_after.proofs.having.passing.Given as goal
 
 -- what was kept, and what the vertices that are left give
 abbrev pub invariant-loop-vertex : goal.invariant-loop-vertex
-invariant-loop-vertex g l =
-    passing (vertex_look g.C.Clock.clock l.over l.accums l.end) (option_map view l.having) l.vertices ≡ and_more l.kept (passing (vertex_look g.C.Clock.clock l.over l.accums l.end) (option_map view l.having) (drop l.vertex-index l.vertices))
+invariant-loop-vertex l =
+    passing (vertex_look gregorian l.over l.accums l.end) (option_map view l.having) l.vertices ≡ and_more l.kept (passing (vertex_look gregorian l.over l.accums l.end) (option_map view l.having) (drop l.vertex-index l.vertices))

@@ -1,6 +1,7 @@
 use Rattle.std.proofs.Common.{◌≡◌, drop, map}
 use Rattle.gq_rules_meaning.specs.Answers.{each}
 use Rattle.gq_rules_meaning.specs.Tails as plain
+use Rattle.gq_rules_calendar.specs.Gregorian.{gregorian}
 use Rattle.gq_after.specs.Ranks.{order_of, ranked}
 use Rattle.gq_after.specs.Sights.{vertex_look}
 use Rattle.gq_after.proofs.EachSteps.{and_more}
@@ -8,5 +9,5 @@ use Rattle.gq_after.proofs.keys.with_keys.Given as goal
 
 -- the rows that are there, and what the vertices that are left give
 abbrev pub invariant-loop-vertex : goal.invariant-loop-vertex
-invariant-loop-vertex g l =
-    each (plain.ranked (vertex_look g.C.Clock.clock l.over l.accums l.end) (order_of l.order)) l.vertices ≡ and_more (map ranked l.rows) (each (plain.ranked (vertex_look g.C.Clock.clock l.over l.accums l.end) (order_of l.order)) (drop l.vertex-index l.vertices))
+invariant-loop-vertex l =
+    each (plain.ranked (vertex_look gregorian l.over l.accums l.end) (order_of l.order)) l.vertices ≡ and_more (map ranked l.rows) (each (plain.ranked (vertex_look gregorian l.over l.accums l.end) (order_of l.order)) (drop l.vertex-index l.vertices))

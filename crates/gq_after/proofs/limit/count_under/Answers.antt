@@ -1,5 +1,6 @@
 use Rattle.std.proofs.Common.{ℕ, subst}
 use Rattle.gq_rules_meaning.specs.Expressions.{number_of}
+use Rattle.gq_rules_calendar.specs.Gregorian.{gregorian}
 use Rattle.gq_plan_ir.specs.ExprView.{view}
 use Rattle.gq_eval_operand.specs.Meant.{itself, Tells}
 use Rattle.gq_eval_context.specs.Viewed.{Viewed}
@@ -8,4 +9,4 @@ use Rattle.gq_eval_context.specs.Limits.{most_of}
 use Rattle.gq_after.proofs.limit.count_under.Goals as goal
 
 pub returns : goal.returns
-returns g c = subst (λ (v : Viewed). Tells (itself {A = ℕ}) (most_of (number_of (look_of g.C.Clock.clock v) (view c.args.expr.now))) c.count_seen.result) c.view-sight.ensures c.count_seen.ensures
+returns c = subst (λ (v : Viewed). Tells (itself {A = ℕ}) (most_of (number_of (look_of gregorian v) (view c.args.expr.now))) c.count_seen.result) c.eval_context-sight.ensures c.count_seen.ensures

@@ -1,6 +1,6 @@
 use Rattle.std.proofs.Common.{refl, sym, subst}
-use Rattle.gq_load_plan.specs.Lines.{job_of}
-use Rattle.gq_load_plan.specs.Refusals.{job_refusal}
+use Rattle.gq_load_check.specs.Lines.{job_of}
+use Rattle.gq_load_check.specs.Refusals.{job_refusal}
 use Rattle.gq_ddl.specs.Fitting.{JobsFit}
 use Rattle.gq_ddl.specs.FittingLaws.{jobs_and}
 use Rattle.gq_ddl.specs.Jobs.{with_job}

@@ -1,11 +1,7 @@
-use Rattle.std.proofs.Common.{Some, sym, ◌∙◌, ap, rules, subst}
+use Rattle.std.proofs.Common.{Some, sym, ◌∙◌, ap, subst}
 use Rattle.gq_io.specs.Known.{Told, known_of}
-use Rattle.gq_stmt_read.proofs.BodyLemmas.{reads_bodies}
 use Rattle.gq_driver.specs.CommandLine.{BytesMean}
 use Rattle.gq_driver.proofs.file.run_bytes.Goals as goal
-
-pub run_script-requires : goal.run_script-requires
-run_script-requires g c = (search rules, reads_bodies)
 
 pub returns-in-None-clause-keeps : goal.returns-in-None-clause-keeps
 returns-in-None-clause-keeps g c = λ pairs told outcome mean.

@@ -1,13 +1,9 @@
-use Rattle.std.proofs.Common.{◌≤◌, Some, ap, ◌∙◌, rules, subst, arith}
+use Rattle.std.proofs.Common.{◌≤◌, Some, ap, ◌∙◌, subst, arith}
 use Rattle.gq_diagnostics.specs.Outcome.{Ends}
 use Rattle.gq_io.specs.Known.{Told, known_of}
 use Rattle.gq_driver.specs.Scripts.{ScriptMeans}
-use Rattle.gq_stmt_read.proofs.BodyLemmas.{reads_bodies}
 use Rattle.gq_driver.proofs.CommandLemmas.{asks_never, asks_on, asks_whatever, keeps_on, rest_of}
 use Rattle.gq_driver.proofs.file.run_with_arguments.Goals as goal
-
-pub run_script-requires : goal.run_script-requires
-run_script-requires g c = (search rules, reads_bodies)
 
 pub returns-in-Ok-clause-keeps : goal.returns-in-Ok-clause-keeps
 returns-in-Ok-clause-keeps g c = λ pairs told outcome asks.

@@ -1,15 +1,11 @@
-use Rattle.std.proofs.Common.{◌≤◌, None, Some, ap, sym, ◌∙◌, rules, subst, arith}
+use Rattle.std.proofs.Common.{◌≤◌, None, Some, ap, sym, ◌∙◌, subst, arith}
 use Rattle.gq_io.specs.Counts.{Rose}
 use Rattle.gq_diagnostics.proofs.OutcomeLemmas.{keeps_more}
 use Rattle.gq_command.specs.Script.{script_text}
 use Rattle.gq_io.specs.Known.{Told}
 use Rattle.gq_driver.specs.Scripts.{ScriptMeans}
-use Rattle.gq_stmt_read.proofs.BodyLemmas.{reads_bodies}
 use Rattle.gq_driver.specs.CommandLine.{sample_files}
 use Rattle.gq_driver.proofs.sample.run_sample.Goals as goal
-
-pub run_script-requires : goal.run_script-requires
-run_script-requires g c = (search rules, reads_bodies)
 
 pub returns-in-Ok-files_of-clause-keeps : goal.returns-in-Ok-files_of-clause-keeps
 returns-in-Ok-files_of-clause-keeps g c = λ outcome mean.

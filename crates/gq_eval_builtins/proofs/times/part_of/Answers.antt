@@ -6,7 +6,7 @@ use Rattle.gq_value.specs.Val.{Int}
 use Rattle.gq_value.specs.ViewLaws.{val-Int}
 use Rattle.gq_rules_meaning.specs.Meanings.{numbered}
 use Rattle.gq_eval_operand.specs.Meant.{valued}
-use Rattle.gq_eval_builtins.specs.Clock.{part_is}
+use Rattle.gq_rules_typing.specs.Builtins.{part_is}
 use Rattle.gq_eval_builtins.proofs.TimeLemmas.{part_told}
 use Rattle.gq_eval_builtins.proofs.times.part_of.Goals as goal
 

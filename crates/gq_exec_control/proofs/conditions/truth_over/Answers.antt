@@ -1,5 +1,6 @@
 use Rattle.std.proofs.Common.{Bool, subst}
 use Rattle.gq_rules_meaning.specs.Expressions.{truth_of}
+use Rattle.gq_rules_calendar.specs.Gregorian.{gregorian}
 use Rattle.gq_plan_ir.specs.ExprView.{view}
 use Rattle.gq_eval_operand.specs.Meant.{Tells, itself}
 use Rattle.gq_eval_context.specs.Viewed.{Viewed}
@@ -7,4 +8,4 @@ use Rattle.gq_eval_context.specs.Looks.{look_of}
 use Rattle.gq_exec_control.proofs.conditions.truth_over.Goals as goal
 
 pub returns : goal.returns
-returns g c = subst (λ (v : Viewed). Tells (itself {A = Bool}) (truth_of (look_of g.C.Clock.clock v) (view c.args.condition.now)) c.run_truth.result) c.sight-sight.ensures c.run_truth.ensures
+returns c = subst (λ (v : Viewed). Tells (itself {A = Bool}) (truth_of (look_of gregorian v) (view c.args.condition.now)) c.run_truth.result) c.eval_context-sight.ensures c.run_truth.ensures

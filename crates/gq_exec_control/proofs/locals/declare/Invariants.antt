@@ -1,11 +1,12 @@
 use Rattle.std.proofs.Common.{◌≡◌, drop}
-use Rattle.gq_exec_control.specs.Grounds.{world_on}
+use Rattle.gq_rules_calendar.specs.Gregorian.{gregorian}
+use Rattle.gq_exec_control.specs.Contexts.{world_on}
 use Rattle.gq_exec_control.specs.Locals.{base_declared}
 use Rattle.gq_exec_control.proofs.LocalLemmas.{Declares}
 use Rattle.gq_exec_control.proofs.locals.declare.Given as goal
 
 abbrev pub invariant-loop-local : goal.invariant-loop-local
-invariant-loop-local g l = record {
-  declares : Declares l.ground.plan.places (world_on g.C.Clock.clock l.ground) (base_declared l.declared) l.locals (drop l.local-index l.locals) l.fn.live l.live;
+invariant-loop-local l = record {
+  declares : Declares l.context.plan.places (world_on gregorian l.context) (base_declared l.declared) l.locals (drop l.local-index l.locals) l.fn.live l.live;
   accums : l.live.frame.accums ≡ l.fn.live.frame.accums;
 }

@@ -2,9 +2,10 @@ use Rattle.std.specs.Option.{option_map}
 use Rattle.gq_value.specs.AccumViews.{base_of}
 use Rattle.gq_value.specs.Views.{val}
 use Rattle.gq_rules_meaning.specs.Statements.{local_value}
+use Rattle.gq_rules_calendar.specs.Gregorian.{gregorian}
 use Rattle.gq_plan_ir.specs.ExprView.{view}
-use Rattle.gq_exec_control.proofs.GroundLemmas.{reads_on}
+use Rattle.gq_exec_control.proofs.ContextLemmas.{reads_on}
 use Rattle.gq_exec_control.proofs.value.first_value.Goals as goal
 
 pub returns : goal.returns
-returns g c = reads_on g.C.Clock.clock c.args.ground.now c.args.frame.now val (λ look. local_value look (base_of c.args.base.now) (option_map view c.args.local.now)) c.value_over.result c.or_fault.result c.value_over.ensures c.or_fault.ensures
+returns c = reads_on gregorian c.args.context.now c.args.frame.now val (λ look. local_value look (base_of c.args.base.now) (option_map view c.args.local.now)) c.value_over.result c.or_fault.result c.value_over.ensures c.or_fault.ensures

@@ -1,18 +1,19 @@
 use Rattle.std.proofs.Common.{◌+◌, ◌*◌, map}
+use Rattle.gq_rules_calendar.specs.Gregorian.{gregorian}
 use Rattle.gq_frame.specs.Names.{alias_of}
 use Rattle.gq_exec_post.proofs.ActLemmas.{ActsTo, ChosenTo}
 use Rattle.gq_exec_post.proofs.acts.+act.Given as goal
 
 abbrev pub invariant-run_acts-loop-act : goal.invariant-run_acts-loop-act
-invariant-run_acts-loop-act g l = ActsTo g.C.Clock.clock l.over (map alias_of l.aliases) l.vertex l.acts l.fn.before l.act-index l.writing
+invariant-run_acts-loop-act l = ActsTo gregorian l.over (map alias_of l.aliases) l.vertex l.acts l.fn.before l.act-index l.writing
 
 abbrev pub invariant-run_act-loop-branch : goal.invariant-run_act-loop-branch
-invariant-run_act-loop-branch g l = ChosenTo g.C.Clock.clock l.over (map alias_of l.aliases) l.vertex l.branch-items l.others l.before l.branch-index
+invariant-run_act-loop-branch l = ChosenTo gregorian l.over (map alias_of l.aliases) l.vertex l.branch-items l.others l.before l.branch-index
 
 -- ---- what is still to be gone down; a list counts for more than each of its items
 
 abbrev pub decreases-run_acts : goal.decreases-run_acts
-decreases-run_acts g l = 8 * goal.size-run_acts g l + 1
+decreases-run_acts l = 8 * goal.size-run_acts l + 1
 
 abbrev pub decreases-run_act : goal.decreases-run_act
-decreases-run_act g l = 8 * goal.size-run_act g l
+decreases-run_act l = 8 * goal.size-run_act l

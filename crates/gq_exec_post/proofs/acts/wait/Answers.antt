@@ -1,13 +1,14 @@
 use Rattle.std.proofs.Common.{map}
+use Rattle.gq_rules_calendar.specs.Gregorian.{gregorian}
 use Rattle.gq_plan_ir.specs.BlockView.{view_change}
 use Rattle.gq_frame.specs.Names.{alias_of}
 use Rattle.gq_exec_post.proofs.WaitLemmas.{wait_more, wait_stops}
 use Rattle.gq_exec_post.proofs.acts.wait.Goals as goal
 
 pub returns-in-Err-clause-told : goal.returns-in-Err-clause-told
-returns-in-Err-clause-told g c =
-    wait_stops g.C.Clock.clock c.args.over.now (map alias_of c.args.aliases.now) c.args.to.0 c.args.to.1 (view_change c.args.change.now) c.args.before c.in-Err.halt c.fault_at.result c.in-Err.ensures c.fault_at.ensures
+returns-in-Err-clause-told c =
+    wait_stops gregorian c.args.over.now (map alias_of c.args.aliases.now) c.args.to.0 c.args.to.1 (view_change c.args.change.now) c.args.before c.in-Err.halt c.fault_at.result c.in-Err.ensures c.fault_at.ensures
 
 pub returns-in-Ok-with_one-clause-told : goal.returns-in-Ok-with_one-clause-told
-returns-in-Ok-with_one-clause-told g c =
-    wait_more g.C.Clock.clock c.args.over.now (map alias_of c.args.aliases.now) c.args.to.0 c.args.to.1 (view_change c.args.change.now) c.args.before c.in-Ok.input c.in-Ok-with_one.waiting c.in-Ok.ensures c.in-Ok-with_one.ensures
+returns-in-Ok-with_one-clause-told c =
+    wait_more gregorian c.args.over.now (map alias_of c.args.aliases.now) c.args.to.0 c.args.to.1 (view_change c.args.change.now) c.args.before c.in-Ok.input c.in-Ok-with_one.waiting c.in-Ok.ensures c.in-Ok-with_one.ensures

@@ -1,14 +1,15 @@
 use Rattle.std.proofs.Common.{ℕ, Option, subst}
 use Rattle.gq_rules_meaning.specs.Posts.{post_acts}
+use Rattle.gq_rules_calendar.specs.Gregorian.{gregorian}
 use Rattle.gq_plan_ir.specs.BlockView.{view_acts}
 use Rattle.gq_frame.specs.Names.{Placed}
 use Rattle.gq_exec_post.specs.Sights.{DoesSo, one_alias}
 use Rattle.gq_exec_post.proofs.vertices.run_vertex.Goals as goal
 
 pub returns-in-Some-clause-told : goal.returns-in-Some-clause-told
-returns-in-Some-clause-told g c =
-    subst (λ (o : Option (ℕ × Placed)). DoesSo g.C.Clock.clock c.args.over.now (one_alias o) c.args.vertex (λ p. post_acts p (view_acts c.args.acts.now)) c.args.before c.run_acts.result) c.in-Some.ensures c.run_acts.ensures.told
+returns-in-Some-clause-told c =
+    subst (λ (o : Option (ℕ × Placed)). DoesSo gregorian c.args.over.now (one_alias o) c.args.vertex (λ p. post_acts p (view_acts c.args.acts.now)) c.args.before c.run_acts.result) c.in-Some.ensures c.run_acts.ensures.told
 
 pub returns-in-None-clause-told : goal.returns-in-None-clause-told
-returns-in-None-clause-told g c =
-    subst (λ (o : Option (ℕ × Placed)). DoesSo g.C.Clock.clock c.args.over.now (one_alias o) c.args.vertex (λ p. post_acts p (view_acts c.args.acts.now)) c.args.before c.run_acts-in-None.result) c.in-None.ensures c.run_acts-in-None.ensures.told
+returns-in-None-clause-told c =
+    subst (λ (o : Option (ℕ × Placed)). DoesSo gregorian c.args.over.now (one_alias o) c.args.vertex (λ p. post_acts p (view_acts c.args.acts.now)) c.args.before c.run_acts-in-None.result) c.in-None.ensures c.run_acts-in-None.ensures.told

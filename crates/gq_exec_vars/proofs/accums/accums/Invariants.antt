@@ -1,12 +1,13 @@
 use Rattle.std.proofs.Common.{length}
 use Rattle.gq_value.specs.AccumViews.{accum_of}
+use Rattle.gq_rules_calendar.specs.Gregorian.{gregorian}
 use Rattle.gq_exec_vars.specs.Begun.{AreReady, world_with}
 use Rattle.gq_exec_vars.proofs.OpenLemmas.{GoesAccums}
 use Rattle.gq_exec_vars.proofs.accums.accums.Given as goal
 
 -- as many accumulators as were gone over stand
 abbrev pub invariant-loop-tree : goal.invariant-loop-tree
-invariant-loop-tree g l = record {
-  goes : GoesAccums l.plan.places (world_with g.C.Clock.clock l.graph l.plan l.tuples) (accum_of l.kind) l.trees l.tree-index l.fn.live l.live;
+invariant-loop-tree l = record {
+  goes : GoesAccums l.plan.places (world_with gregorian l.graph l.plan l.tuples) (accum_of l.kind) l.trees l.tree-index l.fn.live l.live;
   ready : AreReady (length l.graph.store.now.vertices) l.live.frame.accums;
 }

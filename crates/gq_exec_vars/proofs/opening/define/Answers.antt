@@ -1,11 +1,12 @@
 use Rattle.std.proofs.Common.{refl}
+use Rattle.gq_rules_calendar.specs.Gregorian.{gregorian}
 use Rattle.gq_exec_vars.proofs.OpenLemmas.{tuple_defined, accums_defined}
 use Rattle.gq_exec_vars.proofs.opening.define.Goals as goal
 
 pub returns-in_ok-add_tuple-in-Tuple-clause-leads : goal.returns-in_ok-add_tuple-in-Tuple-clause-leads
-returns-in_ok-add_tuple-in-Tuple-clause-leads g c =
-    tuple_defined g.C.Clock.clock c.args.graph c.args.plan.now c.args.definition.now c.in-Tuple.fields c.in-Tuple.number c.args.opened.now _ c.in-Tuple.is c.in_ok-add_tuple-in-Tuple.ensures refl
+returns-in_ok-add_tuple-in-Tuple-clause-leads c =
+    tuple_defined gregorian c.args.graph c.args.plan.now c.args.definition.now c.in-Tuple.fields c.in-Tuple.number c.args.opened.now _ c.in-Tuple.is c.in_ok-add_tuple-in-Tuple.ensures refl
 
 pub returns-in-Accums-clause-leads : goal.returns-in-Accums-clause-leads
-returns-in-Accums-clause-leads g c =
-    accums_defined g.C.Clock.clock c.args.graph c.args.plan.now c.args.definition.now c.in-Accums.kind c.in-Accums.trees c.args.opened.now _ c.accums.result c.in-Accums.is refl c.accums.ensures.leads
+returns-in-Accums-clause-leads c =
+    accums_defined gregorian c.args.graph c.args.plan.now c.args.definition.now c.in-Accums.kind c.in-Accums.trees c.args.opened.now _ c.accums.result c.in-Accums.is refl c.accums.ensures.leads

@@ -1,11 +1,12 @@
 use Rattle.std.proofs.Common.{length}
+use Rattle.gq_rules_calendar.specs.Gregorian.{gregorian}
 use Rattle.gq_exec_vars.specs.Begun.{AreReady}
 use Rattle.gq_exec_vars.proofs.OpenLemmas.{GoesDefinitions}
 use Rattle.gq_exec_vars.proofs.opening.definitions.Given as goal
 
 -- as many definitions as were gone over stand
 abbrev pub invariant-loop-definition : goal.invariant-loop-definition
-invariant-loop-definition g l = record {
-  goes : GoesDefinitions g.C.Clock.clock l.graph l.plan l.definition-index l.fn.opened l.opened;
+invariant-loop-definition l = record {
+  goes : GoesDefinitions gregorian l.graph l.plan l.definition-index l.fn.opened l.opened;
   ready : AreReady (length l.graph.store.now.vertices) l.opened.live.frame.accums;
 }

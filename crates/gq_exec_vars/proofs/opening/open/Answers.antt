@@ -1,13 +1,14 @@
 use Rattle.std.proofs.Common.{Ok, Err, refl}
+use Rattle.gq_rules_calendar.specs.Gregorian.{gregorian}
 use Rattle.gq_exec_vars.proofs.OpenLemmas.{begins_ok, begins_err}
 use Rattle.gq_exec_vars.proofs.opening.open.Goals as goal
 
 pub returns-in_err-definitions-clause-begins : goal.returns-in_err-definitions-clause-begins
-returns-in_err-definitions-clause-begins g c =
-    begins_err g.C.Clock.clock c.args.graph c.args.plan.now c.args.arguments.now c.in_ok-bound.field-0 (record { live = c.in_ok-bound.field-0; tuples = c.new.result }) c.definitions.new.opened (Err c.in_err-definitions.field-0.0) c.in_ok-bound.ensures.bound refl c.new.ensures
+returns-in_err-definitions-clause-begins c =
+    begins_err gregorian c.args.graph c.args.plan.now c.args.arguments.now c.in_ok-bound.field-0 (record { live = c.in_ok-bound.field-0; tuples = c.new.result }) c.definitions.new.opened (Err c.in_err-definitions.field-0.0) c.in_ok-bound.ensures.bound refl c.new.ensures
     c.in_err-definitions.ensures.leads c.in_err-definitions.field-0.0 c.from_residual-in_err-definitions.result c.from_residual-in_err-definitions.ensures.1 refl
 
 pub returns-clause-begins : goal.returns-clause-begins
-returns-clause-begins g c =
-    begins_ok g.C.Clock.clock c.args.graph c.args.plan.now c.args.arguments.now c.in_ok-bound.field-0 (record { live = c.in_ok-bound.field-0; tuples = c.new.result }) c.definitions.new.opened (Ok tt) c.in_ok-bound.ensures.bound refl c.new.ensures
+returns-clause-begins c =
+    begins_ok gregorian c.args.graph c.args.plan.now c.args.arguments.now c.in_ok-bound.field-0 (record { live = c.in_ok-bound.field-0; tuples = c.new.result }) c.definitions.new.opened (Ok tt) c.in_ok-bound.ensures.bound refl c.new.ensures
     c.in_ok-definitions.ensures.leads refl

@@ -2,6 +2,7 @@ use Rattle.std.proofs.Common.{subst}
 use Rattle.gq_value.specs.AccumViews.{base_of}
 use Rattle.gq_value.specs.Views.{val}
 use Rattle.gq_rules_meaning.specs.Expressions.{value_as}
+use Rattle.gq_rules_calendar.specs.Gregorian.{gregorian}
 use Rattle.gq_plan_ir.specs.ExprView.{view}
 use Rattle.gq_eval_operand.specs.Meant.{Tells}
 use Rattle.gq_eval_context.specs.Viewed.{Viewed}
@@ -9,4 +10,4 @@ use Rattle.gq_eval_context.specs.Looks.{look_of}
 use Rattle.gq_flow.proofs.value.value_over.Goals as goal
 
 pub returns : goal.returns
-returns g c = subst (λ (v : Viewed). Tells val (value_as (look_of g.C.Clock.clock v) (base_of c.args.base.now) (view c.args.expr.now)) c.value_as.result) c.sight-sight.ensures c.value_as.ensures
+returns c = subst (λ (v : Viewed). Tells val (value_as (look_of gregorian v) (base_of c.args.base.now) (view c.args.expr.now)) c.value_as.result) c.eval_context-sight.ensures c.value_as.ensures

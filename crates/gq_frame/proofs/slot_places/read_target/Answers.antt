@@ -6,9 +6,9 @@ use Rattle.gq_frame.proofs.slot_places.read_target.Goals as goal
 pub read-requires : goal.read-requires
 read-requires c =
     let within : c.args.vertex < targets_of c.args.accums.now.slots.vertices c.in-Some.declared.now = omega (arith, c.targets.ensures) in
-    sound_there c.args.accums.now c.args.slot c.args.vertex c.target-target.result c.in-Some.declared.now c.in-Some-item.content.now c.requires c.in-Some.ensures within c.target-target.ensures c.in-Some-item.ensures
+    sound_there c.args.accums.now c.args.slot c.args.vertex c.target-target.result c.in-Some.declared.now c.in-Some-get.content.now c.requires c.in-Some.ensures within c.target-target.ensures c.in-Some-get.ensures
 
-pub returns-in-Some-item-clause-read : goal.returns-in-Some-item-clause-read
-returns-in-Some-item-clause-read c =
+pub returns-in-Some-get-clause-read : goal.returns-in-Some-get-clause-read
+returns-in-Some-get-clause-read c =
     let within : c.args.vertex < targets_of c.args.accums.now.slots.vertices c.in-Some.declared.now = omega (arith, c.targets.ensures) in
-    content_read c.args.accums.now c.args.slot c.args.vertex c.target-target.result c.in-Some.declared.now c.in-Some-item.content.now c.read.result c.in-Some.ensures within c.target-target.ensures c.in-Some-item.ensures c.read.ensures.read
+    content_read c.args.accums.now c.args.slot c.args.vertex c.target-target.result c.in-Some.declared.now c.in-Some-get.content.now c.read.result c.in-Some.ensures within c.target-target.ensures c.in-Some-get.ensures c.read.ensures.read

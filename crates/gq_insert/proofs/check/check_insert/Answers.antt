@@ -1,5 +1,5 @@
 use Rattle.std.proofs.Common.{Option, subst, ap, ◌∙◌}
-use Rattle.gq_load_plan.specs.declared.job.Target.{Target}
+use Rattle.gq_load_check.specs.declared.job.Target.{Target}
 use Rattle.gq_insert.specs.Inserts as spec
 use Rattle.gq_insert.proofs.check.check_insert.Goals as goal
 

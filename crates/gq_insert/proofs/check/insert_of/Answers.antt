@@ -1,5 +1,5 @@
 use Rattle.std.proofs.Common.{◌≡◌, Option, IfOk, subst}
-use Rattle.gq_load_plan.specs.declared.insert.Insert.{Insert}
+use Rattle.gq_load_check.specs.declared.insert.Insert.{Insert}
 use Rattle.gq_insert.proofs.RowLemmas.{edge_is}
 use Rattle.gq_insert.proofs.check.insert_of.Goals as goal
 

@@ -1,5 +1,5 @@
 use Rattle.std.proofs.Common.{◌≡◌, length}
-use Rattle.gq_load_plan.specs.Targets.{edge_type_at}
+use Rattle.gq_load_check.specs.Targets.{edge_type_at}
 use Rattle.gq_index.specs.Namings.{AreNamedBy}
 use Rattle.gq_load.proofs.LoadLemmas.{IsUnderWay}
 use Rattle.gq_load.proofs.loading.load_records.Given as goal

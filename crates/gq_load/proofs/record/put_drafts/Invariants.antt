@@ -1,5 +1,5 @@
 use Rattle.std.proofs.Common.{◌≡◌, drop}
-use Rattle.gq_load_plan.specs.Targets.{edge_type_at}
+use Rattle.gq_load_check.specs.Targets.{edge_type_at}
 use Rattle.gq_index.specs.Steps.{Done}
 use Rattle.gq_index.specs.Namings.{AreNamedBy}
 use Rattle.gq_load.proofs.DraftLemmas.{drafted_to}

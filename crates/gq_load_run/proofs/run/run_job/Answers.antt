@@ -1,6 +1,6 @@
 use Rattle.std.proofs.Common.{[], ◌∷◌, ◌∙◌, ap, subst, Option, IfOk}
 use Rattle.std.specs.Prelude.{IfErr}
-use Rattle.gq_load_plan.specs.declared.job.Job.{Job}
+use Rattle.gq_load_check.specs.declared.job.Job.{Job}
 use Rattle.gq_diagnostics.specs.Effects.{Becomes}
 use Rattle.gq_io.specs.Known.{known_of}
 use Rattle.gq_ddl.specs.Jobs.{job_named}

@@ -1,9 +1,10 @@
-use Rattle.std.proofs.Common.{◌<◌, length, arith}
+use Rattle.std.proofs.Common.{◌<◌, length, sym, ltb-true, arith}
+use Rattle.gq_rules_calendar.specs.Gregorian.{gregorian}
 use Rattle.gq_eval_context.specs.Looks.{world_over}
 use Rattle.gq_output.proofs.NamedLemmas.{key_next}
 use Rattle.gq_output.proofs.contents.put_keys.Goals as goal
 
 pub loop-place-preserved : goal.loop-place-preserved
-loop-place-preserved g c =
+loop-place-preserved c =
     let n : c.loop-place.place < length c.args.keys.now = omega arith in
-    key_next (world_over g.C.Clock.clock c.args.over.now) c.args.keys.now c.args.row.now _ c.loop-place.members _ c.loop-place.place _ c.in-Some.value.now c.loop-place.invariant n c.index-keys-place.is c.in-Some.ensures c.in_ok-put_value-in-Some.ensures
+    key_next (world_over gregorian c.args.over.now) c.args.keys.now c.args.row.now _ c.loop-place.members _ c.loop-place.place _ c.in-Some.value.now c.loop-place.invariant n c.index-keys-place.is (ltb-true _ _ (sym c.in-Some.ensures.lookup.0)) c.in-Some.ensures.lookup.1 c.in_ok-put_value-in-Some.ensures

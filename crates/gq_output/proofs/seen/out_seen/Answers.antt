@@ -1,4 +1,5 @@
 use Rattle.std.proofs.Common.{ap}
+use Rattle.gq_rules_calendar.specs.Gregorian.{gregorian}
 use Rattle.gq_frame.specs.Slots.{slots_are}
 use Rattle.gq_eval_operand.specs.Meant.{meant}
 use Rattle.gq_eval_context.specs.Looks.{world_over}
@@ -6,4 +7,4 @@ use Rattle.gq_output.proofs.SeenLemmas.{set_meant}
 use Rattle.gq_output.proofs.seen.out_seen.Goals as goal
 
 pub returns-in-Set : goal.returns-in-Set
-returns-in-Set g c = set_meant (world_over g.C.Clock.clock c.args.over.now) (slots_are c.args.over.now.frame.accums) (meant c.args.seen) _ _ (ap meant c.in-Set.is) c.in_ok-out_set-in-Set.ensures
+returns-in-Set c = set_meant (world_over gregorian c.args.over.now) (slots_are c.args.over.now.frame.accums) (meant c.args.seen) _ _ (ap meant c.in-Set.is) c.in_ok-out_set-in-Set.ensures

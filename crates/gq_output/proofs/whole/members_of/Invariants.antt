@@ -1,6 +1,7 @@
+use Rattle.gq_rules_calendar.specs.Gregorian.{gregorian}
 use Rattle.gq_output.proofs.WholeLemmas.{ItemsFrom}
 use Rattle.gq_output.proofs.whole.members_of.Given as goal
 
 -- the members that are there, and the items that are left
 abbrev pub invariant-loop-item : goal.invariant-loop-item
-invariant-loop-item g l = ItemsFrom g.C.Clock.clock l.over l.items l.item-index l.members
+invariant-loop-item l = ItemsFrom gregorian l.over l.items l.item-index l.members

@@ -6,7 +6,8 @@ use Rattle.gq_tree.specs.declared.query.ParameterTree.{ParameterTree}
 use Rattle.gq_rules_typing.specs.StatementViews.{is_v2, view_definition, view_parameter, view_query, view_stmts}
 use Rattle.gq_scope.specs.Held.{sorts_in}
 use Rattle.gq_plan_stmt.specs.Steps.{resolved_stmts}
-use Rattle.gq_plan_laws.specs.Found.{TupleTypes, globals_of}
+use Rattle.gq_plan_expr.specs.Found.{TupleTypes, globals_of}
+use Rattle.gq_plan_expr.specs.Names.{globals_in}
 use Rattle.gq_plan_laws.specs.Planned.{DefinitionsPlanned}
 use Rattle.gq_plan_laws.specs.PlannedLaws.{ParametersPlanned}
 use Rattle.gq_plan.specs.Heading.{heads_of}
@@ -16,6 +17,7 @@ use Rattle.gq_plan.proofs.PrintLaws.{plan_made, lacks_definitions, lacks_stateme
 use Rattle.gq_plan.proofs.plans.planned.Goals as goal
 
 pub returns-clause-planned : goal.returns-clause-planned
+unfolding globals_in
 returns-clause-planned c =
     plan_made c.args.scope.now c.definitions.new.scope (view_query c.args.query.now) _ c.parameters.new.places c.plan_steps.new.places c.new-tuples.result c.definitions.new.tuples c.new-slots.result c.definitions.new.slots
     c.new-tuples.ensures c.new-slots.ensures c.in_ok-definitions.ensures.scoped
@@ -35,6 +37,7 @@ returns-in_err-definitions-clause-unknown c =
     search (rules, never)
 
 pub returns-in_err-steps-clause-unknown : goal.returns-in_err-steps-clause-unknown
+unfolding globals_in
 returns-in_err-steps-clause-unknown c =
     let never : c.in_err-steps.field-0.0 ≢ fault.OutOfMemory → NoPlan (sorts_in c.args.scope.now) (view_query c.args.query.now) =
     λ other. lacks_statements c.args.scope.now c.definitions.new.scope (view_query c.args.query.now) c.in_ok-parameters.parameters c.parameters.new.places c.in_ok-definitions.definitions c.new-tuples.result c.definitions.new.tuples c.new-slots.result c.definitions.new.slots

@@ -1,10 +1,11 @@
 use Rattle.std.proofs.Common.{◌≡◌, drop}
+use Rattle.gq_plan_expr.specs.Names.{globals_in}
 use Rattle.gq_plan_expr.proofs.ListLemmas.{after}
 use Rattle.gq_plan_select.specs.Resolved.{each_resolved}
 use Rattle.gq_plan_stmt.specs.Parts.{resolved_operand, view_operands}
 use Rattle.gq_plan_stmt.proofs.sets.operands.Given as goal
 
 abbrev pub invariant-loop-tree : goal.invariant-loop-tree
-invariant-loop-tree g l =
-    each_resolved (resolved_operand (g.G.KnowsGlobals.globals l.globals) l.places) (view_operands l.trees)
-    ≡ after l.planned (each_resolved (resolved_operand (g.G.KnowsGlobals.globals l.globals) l.places) (view_operands (drop l.tree-index l.trees)))
+invariant-loop-tree l =
+    each_resolved (resolved_operand (globals_in l.globals) l.places) (view_operands l.trees)
+    ≡ after l.planned (each_resolved (resolved_operand (globals_in l.globals) l.places) (view_operands (drop l.tree-index l.trees)))

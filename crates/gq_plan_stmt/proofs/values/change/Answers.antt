@@ -1,4 +1,6 @@
+use Rattle.gq_plan_expr.specs.Names.{known_of}
 use Rattle.gq_plan_stmt.proofs.values.change.Goals as goal
 
 pub returns : goal.returns
-returns g c = c.plan_change.ensures
+unfolding known_of
+returns c = c.plan_change.ensures

@@ -1,16 +1,17 @@
-use Rattle.std.proofs.Common.{rules, ◌≤◌, ◌+◌, ◌∷◌, drop, refl, ap, sym, ◌∙◌, subst, arith}
+use Rattle.std.proofs.Common.{◌≤◌, ◌+◌, ◌∷◌, drop, refl, ap, sym, ◌∙◌, subst, arith}
 use Rattle.std.proofs.lemmas.List.{drop_more}
 use Rattle.gq_io.specs.Counts.{Rose}
 use Rattle.gq_diagnostics.specs.Outcome.{Outcome, Ends}
 use Rattle.gq_diagnostics.specs.Effects.{Becomes}
 use Rattle.gq_io.specs.Known.{known_of}
 use Rattle.gq_session.specs.Runs.{Runs}
+use Rattle.gq_session.specs.Statements.{Does}
 use Rattle.gq_session.proofs.RunLemmas.{come_first, come_next, keeps_here, meant_here, meant_last}
 use Rattle.gq_session.proofs.run.run_statements.Goals as goal
 
 pub loop-index-init : goal.loop-index-init
 loop-index-init g c = (
-  come_first g.M.Machine.does c.args.bytes.now (g.F.Files.held c.args.files.now) c.args.machine.now c.args.statements.now (g.K.Sink.written c.args.out.now),
+  come_first c.args.bytes.now (g.F.Files.held c.args.files.now) c.args.session.now c.args.statements.now (g.K.Sink.written c.args.out.now),
   refl,
   omega arith,
   omega arith,
@@ -23,8 +24,8 @@ returns-in-Some-clause-keeps g c = λ pairs is outcome runs.
     let p = c.index-statements-index.result in
     let statements = c.args.statements.now in
     let next = drop_more statements c.loop-index.index p (omega arith) ∙ ap (λ q. q ∷ drop (c.loop-index.index + 1) statements) (sym c.index-statements-index.is) in
-    keeps_here g.M.Machine.does c.args.bytes.now (g.F.Files.held c.args.files.now) c.args.machine.now statements (λ ps. (g.met.M.Machine c.lifetimes (search rules)).determined ps)
-    c.loop-index.index c.loop-index.machine (g.K.Sink.written c.args.out.now) (g.K.Sink.written c.loop-index.out) inv.0 p next
+    keeps_here c.args.bytes.now (g.F.Files.held c.args.files.now) c.args.session.now statements
+    c.loop-index.index c.loop-index.session (g.K.Sink.written c.args.out.now) (g.K.Sink.written c.loop-index.out) inv.0 p next
     c.in-Some.status (g.K.Sink.written c.run_one.new.out)
     (Rose (g.F.Files.faults c.loop-index.files) (g.F.Files.faults c.run_one.new.files)) (Rose (g.K.Sink.faults c.loop-index.out) (g.K.Sink.faults c.run_one.new.out))
     (Rose (g.F.Files.faults c.args.files.now) (g.F.Files.faults c.run_one.new.files)) (Rose (g.K.Sink.faults c.args.out.now) (g.K.Sink.faults c.run_one.new.out))
@@ -43,10 +44,10 @@ returns-in-Some-clause-is_meant g c = λ final before low.
     let mid = g.K.Sink.written c.loop-index.out in
     let new = g.K.Sink.written c.run_one.new.out in
     let lower : before ≤ g.F.Files.absences c.loop-index.files = omega (arith, low, inv.3) in
-    meant_here g.M.Machine.does c.args.bytes.now (g.F.Files.held c.args.files.now) c.args.machine.now statements (λ ps. (g.met.M.Machine c.lifetimes (search rules)).determined ps)
-    c.loop-index.index c.loop-index.machine (g.K.Sink.written c.args.out.now) mid inv.0 p next
+    meant_here c.args.bytes.now (g.F.Files.held c.args.files.now) c.args.session.now statements
+    c.loop-index.index c.loop-index.session (g.K.Sink.written c.args.out.now) mid inv.0 p next
     c.in-Some.status new before now met
-    (subst (λ h. (outcome : Outcome) × Runs g.M.Machine.does c.args.bytes.now (known_of h before now met) c.loop-index.machine (c.loop-index.index + 1) (p ∷ drop (c.loop-index.index + 1) statements) outcome × Ends outcome c.in-Some.status mid new)
+    (subst (λ h. (outcome : Outcome) × Runs c.args.bytes.now (known_of h before now met) c.loop-index.session (c.loop-index.index + 1) (p ∷ drop (c.loop-index.index + 1) statements) outcome × Ends outcome c.in-Some.status mid new)
     inv.1 (c.in-Some.ensures.is_meant final before lower (drop (c.loop-index.index + 1) statements)))
 
 pub loop-index-preserved : goal.loop-index-preserved
@@ -56,10 +57,10 @@ loop-index-preserved g c =
     let statements = c.args.statements.now in
     let next = drop_more statements c.loop-index.index p (omega arith) ∙ ap (λ q. q ∷ drop (c.loop-index.index + 1) statements) (sym c.index-statements-index.is) in
     let on = c.in-None.ensures.goes_on in (
-      come_next g.M.Machine.does c.args.bytes.now (g.F.Files.held c.args.files.now) c.args.machine.now statements (λ ps. (g.met.M.Machine c.lifetimes (search rules)).determined ps)
-          c.loop-index.index c.loop-index.machine (g.K.Sink.written c.args.out.now) (g.K.Sink.written c.loop-index.out) inv.0 p next
-          c.run_one.new.machine on.0 (g.K.Sink.written c.run_one.new.out)
-          (λ before now met. subst (λ h. g.M.Machine.does (known_of h before now met) c.loop-index.machine (c.loop-index.index + 1) p.statement (Becomes c.run_one.new.machine on.0)) inv.1 (on.1 before now met))
+      come_next c.args.bytes.now (g.F.Files.held c.args.files.now) c.args.session.now statements
+          c.loop-index.index c.loop-index.session (g.K.Sink.written c.args.out.now) (g.K.Sink.written c.loop-index.out) inv.0 p next
+          c.run_one.new.session on.0 (g.K.Sink.written c.run_one.new.out)
+          (λ before now met. subst (λ h. Does (known_of h before now met) c.loop-index.session (c.loop-index.index + 1) p.statement (Becomes c.run_one.new.session on.0)) inv.1 (on.1 before now met))
           on.2,
       c.in-None.ensures.held ∙ inv.1,
       omega (arith, inv.2, c.in-None.ensures.faults_stay),
@@ -69,8 +70,5 @@ loop-index-preserved g c =
 
 pub returns-clause-is_meant : goal.returns-clause-is_meant
 returns-clause-is_meant g c = λ final before low.
-    meant_last g.M.Machine.does c.args.bytes.now (g.F.Files.held c.args.files.now) c.args.machine.now c.args.statements.now c.loop-index.index c.loop-index.machine
+    meant_last c.args.bytes.now (g.F.Files.held c.args.files.now) c.args.session.now c.args.statements.now c.loop-index.index c.loop-index.session
     (g.K.Sink.written c.args.out.now) (g.K.Sink.written c.loop-index.out) c.loop-index.invariant.0 (omega arith) before _ _
-
-pub run_one-requires-sync-R : goal.run_one-requires-sync-R
-run_one-requires-sync-R g c κs within = (search rules, (search rules, search rules))

@@ -5,10 +5,10 @@ use Rattle.gq_stmt_read.proofs.QueryReads.{created_query_reads, interpret_reads,
 use Rattle.gq_stmt_read.proofs.query_laws.queries_are_exact.Goals as goal
 
 pub returns-clause-created : goal.returns-clause-created
-returns-clause-created c = λ b r. exact CreatedQuery (created_query_parser b) _ _ (created_query_reads b r)
+returns-clause-created c = exact CreatedQuery created_query_parser _ _ created_query_reads
 
 pub returns-clause-interpret : goal.returns-clause-interpret
-returns-clause-interpret c = λ b r. exact InterpretOf (interpret_parser b) _ _ (interpret_reads b r)
+returns-clause-interpret c = exact InterpretOf interpret_parser _ _ interpret_reads
 
 pub returns-clause-install : goal.returns-clause-install
 returns-clause-install c = exact InstallOf install_parser _ _ install_reads

@@ -1,4 +1,4 @@
-use Rattle.std.proofs.Common.{◌≡◌, drop, map}
+use Rattle.std.proofs.Common.{◌≡◌, ◌+◌, ◌*◌, drop, map}
 use Rattle.gq_tree.specs.View.{views, view_parts, view_factors, view_terms}
 use Rattle.gq_rules_typing.specs.ExpressionTypes.{typing_all, typing_parts, typing_factors, typing_terms, typing_bools}
 use Rattle.gq_scope.specs.Held.{names_in}
@@ -25,3 +25,29 @@ invariant-typed_terms-loop-term l =
 abbrev pub invariant-typed_bools-loop-other : goal.invariant-typed_bools-loop-other
 invariant-typed_bools-loop-other l =
     typing_bools (names_in l.scope) (typed_is l.first) (views l.others) ≡ typing_bools (names_in l.scope) (typed_is l.x) (views (drop l.other-index l.others))
+
+-- ---- what is still to be gone down; a function that hands on what it was given counts for more
+
+abbrev pub decreases-operated : goal.decreases-operated
+decreases-operated l = 4 * goal.size-operated l + 0
+
+abbrev pub decreases-typed : goal.decreases-typed
+decreases-typed l = 4 * goal.size-typed l + 1
+
+abbrev pub decreases-typed_all : goal.decreases-typed_all
+decreases-typed_all l = 4 * goal.size-typed_all l + 2
+
+abbrev pub decreases-typed_part : goal.decreases-typed_part
+decreases-typed_part l = 4 * goal.size-typed_part l + 1
+
+abbrev pub decreases-typed_parts : goal.decreases-typed_parts
+decreases-typed_parts l = 4 * goal.size-typed_parts l + 2
+
+abbrev pub decreases-typed_factors : goal.decreases-typed_factors
+decreases-typed_factors l = 4 * goal.size-typed_factors l + 2
+
+abbrev pub decreases-typed_terms : goal.decreases-typed_terms
+decreases-typed_terms l = 4 * goal.size-typed_terms l + 2
+
+abbrev pub decreases-typed_bools : goal.decreases-typed_bools
+decreases-typed_bools l = 4 * goal.size-typed_bools l + 2

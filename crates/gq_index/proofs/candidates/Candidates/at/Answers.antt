@@ -1,4 +1,4 @@
-use Rattle.std.proofs.Common.{ℕ, ◌<◌, ◌^◌, ◌≡◌, ◌∙◌, arith, subst, sym, ap, length, map}
+use Rattle.std.proofs.Common.{ℕ, ◌<◌, ◌^◌, ◌≡◌, ◌∙◌, Some, arith, subst, sym, ap, length, map}
 use Rattle.std.specs.List.{slice_get}
 use Rattle.std.proofs.lemmas.List.{length-map, get_or_read}
 use Rattle.gq_graph.specs.Candidates.{alone}
@@ -12,16 +12,18 @@ returns-in-Vertices-clause-candidate c =
     let same : c.args.self.now ≡ map alone vertices = sym c.self.view_is ∙ ap listed c.in-Vertices.is in
     let long : length c.args.self.now ≡ length vertices = ap length same ∙ length-map vertices alone in
     ap (λ l. slice_get l place) same ∙ vertex_found vertices place c.index.result.now (omega (arith, long, c.requires.within)) (get_or_read vertices place c.index.result.now (omega (arith, long, c.requires.within)) c.index.ensures 0)
+    ∙ ap Some (sym c.vertex_alone.ensures)
 
 pub returns-in-Edges-clause-candidate : goal.returns-in-Edges-clause-candidate
 returns-in-Edges-clause-candidate c =
     let walks = c.in-Edges.walks in let place = c.args.place in
     let same : c.args.self.now ≡ map of_walk walks = sym c.self.view_is ∙ ap listed c.in-Edges.is in
     let long : length c.args.self.now ≡ length walks = ap length same ∙ length-map walks of_walk in
-    ap (λ l. slice_get l place) same ∙ walk_found walks place c.at-walk.result (omega (arith, long, c.requires.within)) c.at-walk.ensures.exact
+    ap (λ l. slice_get l place) same ∙ walk_found walks place c.at.result (omega (arith, long, c.requires.within)) c.at.ensures.exact
+    ∙ ap Some (sym c.walked_candidate.ensures)
 
 pub returns-in-Edges-clause-few : goal.returns-in-Edges-clause-few
 returns-in-Edges-clause-few c = λ d h.
     let same = ap segment_count (sym c.self.view_is ∙ ap listed c.in-Edges.is) ∙ segments_are c.in-Edges.walks in
     let P : ℕ → Type 0 = λ n. n < 2 ^ d in
-    c.at-walk.ensures.counted d (subst P same h)
+    c.at.ensures.counted d (subst P same h)

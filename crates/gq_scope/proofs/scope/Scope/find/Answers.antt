@@ -3,7 +3,7 @@ use Rattle.std.specs.Option.{option_map}
 use Rattle.std.specs.Str.{bytes_eq}
 use Rattle.gq_rules_typing.specs.Words.{under}
 use Rattle.gq_scope.specs.Held.{Held, entry_of, scope_in, setting_in}
-use Rattle.gq_scope.proofs.NewestLemmas.{under_map}
+use Rattle.gq_scope.proofs.NameTableLemmas.{under_map}
 use Rattle.gq_scope.proofs.scope.Scope.find.Goals as goal
 
 pub returns : goal.returns

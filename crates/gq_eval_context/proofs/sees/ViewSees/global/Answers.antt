@@ -1,5 +1,0 @@
-use Rattle.gq_eval_context.proofs.SeesLemmas.{reads_now}
-use Rattle.gq_eval_context.proofs.sees.ViewSees.global.Goals as goal
-
-pub returns-clause-seen : goal.returns-clause-seen
-returns-clause-seen g c = reads_now g.C.Clock.clock c.args.self.now _ c.args.slot 0 c.read_target.result c.self.view_is c.read_target.ensures.read

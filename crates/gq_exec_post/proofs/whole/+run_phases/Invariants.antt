@@ -1,5 +1,0 @@
-use Rattle.std.proofs.Common.{length}
-use Rattle.gq_exec_post.proofs.whole.+run_phases.Given as goal
-
-abbrev pub decreases-run_phases : goal.decreases-run_phases
-decreases-run_phases g l = length l.acts.now

@@ -1,0 +1,124 @@
+// A whole SELECT.
+ghost use Rattle.std.specs.Prelude.{◌≡◌, IfOk};
+ghost use Rattle.gq_rules_calendar.specs.Gregorian.{gregorian};
+ghost use Rattle.gq_frame.specs.Slots.{AreSound};
+ghost use Rattle.gq_exec_source.specs.Ends.{HasEnds, end_at};
+ghost use Rattle.gq_workers.specs.Results.{Leaves};
+ghost use Rattle.gq_flow.specs.Selecting.{Posts, Selects};
+
+use gq_after::tail;
+use gq_base::{List, OutOfMemory};
+use gq_eval_context::{After, BlockContext, BlockFault};
+use gq_exec_post::post;
+use gq_exec_source::{Ends, ends_of, selects_target};
+use gq_frame::Accums;
+use gq_index::VertexList;
+use gq_io::{AnyGate, Shape};
+use gq_plan_ir::Block;
+use gq_workers::run_block;
+use std::alloc::Global;
+use std::thread::Threads;
+
+/// How blocks are worked on: the runtime that has the threads, how the work is cut, and the gate that workers pass.
+#[derive(Drop)]
+pub struct Workers<'a, R> {
+    pub rt: &'a R,
+    pub shape: Shape,
+    pub gate: AnyGate<'a>,
+}
+
+/// What a SELECT gives: the accumulators behind it, and the selected vertices with the types that they may have.
+#[derive(Drop)]
+pub struct Selected {
+    pub accums: Accums,
+    pub types: List<u32>,
+    pub vertices: VertexList,
+}
+
+/// A whole SELECT: WHERE and ACCUM of all candidates, then POST-ACCUM, then HAVING, ORDER BY and LIMIT. The frame stays as it is.
+///
+/// Along a path it answers OutOfMemory.
+pub fn select<R: Threads + Sync>(
+    workers: &Workers<'_, R>,
+    alloc: Global,
+    block: &Block,
+    over: &BlockContext<'_>,
+) -> Result<Selected, BlockFault>
+    ensures selects { Selects gregorian over.now block.now result }
+    ensures sound { IfOk result (λ selected. AreSound selected.accums) }
+{
+    match ends_over(alloc, block, over) {
+        Err(_) => Err(BlockFault::OutOfMemory),
+        Ok(ends) => match run_block(
+            workers.rt,
+            alloc,
+            block,
+            over,
+            &ends,
+            &workers.shape,
+            &workers.gate,
+        ) {
+            Err(fault) => Err(fault),
+            Ok(after) => posted(alloc, block, over, ends, after),
+        },
+    }
+}
+
+/// POST-ACCUM and the tail, over what a block has left.
+fn posted(
+    alloc: Global,
+    block: &Block,
+    over: &BlockContext<'_>,
+    ends: Ends,
+    after: After,
+) -> Result<Selected, BlockFault>
+    requires left { Leaves over.now after }
+    requires ends { HasEnds over.now.schema over.now.plan over.now.frame.things block.now ends }
+    ensures posts { Posts gregorian over.now block.now after result }
+    ensures sound { IfOk result (λ selected. AreSound selected.accums) }
+{
+    match post(alloc, block, over, &ends, after) {
+        Err(fault) => Err(fault),
+        Ok(after) => match tail(alloc, block, over, &ends, &after) {
+            Err(fault) => Err(fault),
+            Ok(vertices) => {
+                let types = types_of(ends, selects_target(block));
+                Ok(with_vertices(after, types, vertices))
+            }
+        },
+    }
+}
+
+fn with_vertices(after: After, types: List<u32>, vertices: VertexList) -> Selected
+    ensures { result ≡ record { accums = after.accums; types = types; vertices = vertices } }
+{
+    let After {
+        accums,
+        sources: _,
+        targets: _,
+    } = after;
+    Selected {
+        accums,
+        types,
+        vertices,
+    }
+}
+
+/// The ends of a block's candidates.
+fn ends_over(alloc: Global, block: &Block, over: &BlockContext<'_>) -> Result<Ends, OutOfMemory>
+    ensures { IfOk result (HasEnds over.now.schema over.now.plan over.now.frame.things block.now) }
+{
+    let things = over.frame.things.as_slice();
+    ends_of(alloc, block, over.graph.catalog, over.plan, things)
+}
+
+/// The types of the target, or of the source.
+fn types_of(ends: Ends, target: bool) -> List<u32>
+    ensures { result ≡ (end_at ends target).types }
+{
+    let Ends {
+        source,
+        target: other,
+    } = ends;
+    if target { other.types } else { source.types }
+}

@@ -1,0 +1,63 @@
+// Where a field stands in one type.
+ghost use Rattle.std.specs.Prelude.{◌≡◌, IfOk, map, suc};
+ghost use Rattle.std.specs.Option.{option_map};
+ghost use Rattle.gq_rules_typing.specs.Sorts.{names_of, attribute_fields, with_id};
+ghost use Rattle.gq_rules_typing.specs.Words.{place_of};
+
+use gq_base::OutOfMemory;
+use gq_graph::{Attribute, IdShape};
+
+/// The place of an attribute. OutOfMemory comes too where there are some four thousand million attributes.
+#[tactic(auto, using(crate::proofs::PlaceLemmas::place_laws))]
+pub(crate) fn attribute_place(
+    attributes: &[Attribute],
+    name: &str,
+) -> Result<Option<u32>, OutOfMemory>
+    ensures { IfOk result (λ place. place ≡ place_of (names_of (attribute_fields attributes.now)) name.now) }
+{
+    if attributes.len() > u32::MAX as usize {
+        return Err(OutOfMemory);
+    }
+    for (place, attribute) in attributes.iter().enumerate() {
+        if name == attribute.name.as_str() {
+            return Ok(Some(place as u32));
+        }
+    }
+    Ok(None)
+}
+
+/// The place of an attribute of a vertex, where a shown id is the first.
+#[tactic(auto, using(crate::proofs::PlaceLemmas::id_laws))]
+pub(crate) fn vertex_place(
+    id: &IdShape,
+    attributes: &[Attribute],
+    name: &str,
+) -> Result<Option<u32>, OutOfMemory>
+    ensures { IfOk result (λ place. place ≡ place_of (names_of (with_id id.now (attribute_fields attributes.now))) name.now) }
+{
+    let place = attribute_place(attributes, name)?;
+    match id.shown {
+        false => Ok(place),
+        true => {
+            if name == id.name.as_str() {
+                return Ok(Some(0));
+            }
+            behind(place)
+        }
+    }
+}
+
+/// One place further.
+fn behind(place: Option<u32>) -> Result<Option<u32>, OutOfMemory>
+    ensures { IfOk result (λ next. next ≡ option_map suc place) }
+{
+    match place {
+        None => Ok(None),
+        Some(place) => {
+            if place == u32::MAX {
+                return Err(OutOfMemory);
+            }
+            Ok(Some(place + 1))
+        }
+    }
+}

@@ -1,0 +1,22 @@
+// Fields by name.
+ghost use Rattle.std.specs.Prelude.{◌≡◌, IfOk, map};
+ghost use Rattle.gq_rules_typing.specs.Words as words;
+
+use gq_base::OutOfMemory;
+use gq_value::{BaseType, Txt};
+
+/// The place of the first field of a name. OutOfMemory comes too where there are some four thousand million fields.
+#[tactic(auto, using(crate::proofs::FieldLemmas::place_laws))]
+pub fn field_place(fields: &[(Txt, BaseType)], name: &str) -> Result<Option<u32>, OutOfMemory>
+    ensures { IfOk result (λ place. place ≡ words.place_of (map (λ f. f.0) fields.now) name.now) }
+{
+    if fields.len() > u32::MAX as usize {
+        return Err(OutOfMemory);
+    }
+    for (place, field) in fields.iter().enumerate() {
+        if name == field.0.as_str() {
+            return Ok(Some(place as u32));
+        }
+    }
+    Ok(None)
+}
