@@ -1,0 +1,258 @@
+"""Makes cases: a schema, files, jobs and queries, by a seed."""
+import random
+
+from queries import QueryMaker
+from script import Reference
+from wrongs import spoil
+
+ATTRS = {"age": "INT", "size": "UINT", "ok": "BOOL", "label": "STRING", "born": "DATETIME", "rank": "INT"}
+EDGE_ATTRS = {"w": "INT", "u": "UINT", "note": "STRING", "stamp": "DATETIME", "yes": "BOOL"}
+DISCS = {"day": "INT", "no": "UINT", "tag": "STRING", "flag": "BOOL"}
+IDS = {"STRING": ["a", "b", "c", "d", "x y", "é", "A", '"q"'],
+       "INT": ["-3", "0", "1", "2", "7", "12"], "UINT": ["0", "1", "2", "7", "12", "18446744073709551615"]}
+TEXTS = ["", "x", "yy", "Zed", " a ", "é€", 'q"r', "b\\c", "10"]
+MOMENTS = ["2024-03-01", "2024-02-29 08:30:00", "1969-12-31T23:59:59", "0000-01-01", "9999/12/31 23:59:59", "2000-01-31T10:00:00.5Z", "1999/07/15"]
+
+
+class Maker:
+    """The maker of a case."""
+
+    def __init__(self, seed):
+        self.rng = random.Random(seed)
+        self.case = {"seed": seed, "script": [], "files": {}, "args": None, "turns": None}
+        self.vertex_types, self.edge_types, self.graph = [], [], "g"
+        self.big, self.part = self.some(0.1), None
+
+    def some(self, share):
+        return self.rng.random() < share
+
+    def whole(self):
+        rng = self.rng
+        for name in ["person", "city", "item"][:rng.choice((1, 1, 2, 2, 3))]:
+            self.vertex_type(name)
+        for name in ["knows", "owns", "likes"][:rng.choice((0, 1, 2, 2, 3))]:
+            self.edge_type(name)
+        names = [it["name"] for it in self.vertex_types + self.edge_types]
+        self.add({"k": "graph", "name": "g", "types": ["*"] if self.some(0.5) else names})
+        if self.some(0.2):
+            self.second_graph()
+        self.loads()
+        for _ in range(rng.choice((0, 0, 1, 2, 4))):
+            self.insert()
+        loaded = Reference(self.case)
+        loaded.run()
+        self.known = list(loaded.graph.known)
+        self.case["turns"] = rng.choice((5, 40, 300)) if self.some(0.15) else None
+        for at in range(rng.choice((1, 1, 2, 3))):
+            self.query(at)
+        for it in self.case["script"]:
+            it["gap"] = rng.choice(("", "", "", "\n", "  ", "# a note\n", "// a \"note\n", "/* two\nlines */ ", "; "))
+            it["spelled"] = rng.randint(1, 1 << 30) if self.some(0.3) else None
+        if self.some(0.2):
+            spoil(self)
+        return self.case
+
+    def second_graph(self):
+        """A graph h of some of the types, behind which g is in use again."""
+        vertices = self.rng.sample(self.vertex_types, self.rng.randint(1, len(self.vertex_types)))
+        ends = [it["name"] for it in vertices]
+        self.part = vertices, [it for it in self.edge_types if it["from"] in ends and it["to"] in ends]
+        self.add({"k": "graph", "name": "h", "types": [it["name"] for it in self.part[0] + self.part[1]]})
+        self.add({"k": "use", "name": "g"})
+
+    def add(self, it):
+        self.case["script"].append(it)
+        return it
+
+    def attrs(self, pool, most, defaults=True):
+        names = self.rng.sample(sorted(pool), self.rng.randint(0, most))
+        return [{"name": it, "type": pool[it], "default": self.default(pool[it]) if defaults and self.some(0.4) else None} for it in names]
+
+    def default(self, type_):
+        rng = self.rng
+        if type_ == "DATETIME":
+            return None
+        if type_ in ("INT", "UINT"):
+            return (type_[0], rng.choice((1, 3, 9223372036854775807, -9 if type_ == "INT" else 9)))
+        return ("B", self.some(0.5)) if type_ == "BOOL" else ("S", rng.choice(TEXTS))
+
+    def vertex_type(self, name):
+        id_type = self.rng.choice(("STRING", "STRING", "INT", "UINT"))
+        type_ = {"k": "vertex", "name": name, "id": "id", "id_type": id_type, "attrs": self.attrs(ATTRS, 4), "as_attribute": self.some(0.3)}
+        self.vertex_types.append(self.add(type_))
+
+    def edge_type(self, name):
+        ends = [self.rng.choice(self.vertex_types)["name"] for _ in range(2)]
+        directed = self.some(0.6)
+        discs = self.attrs(DISCS, 2, False) if self.some(0.4) else []
+        type_ = {"k": "edge", "name": name, "directed": directed, "from": ends[0], "to": ends[1], "discs": discs,
+                 "attrs": self.attrs(EDGE_ATTRS, 3), "reverse": name + "_by" if directed and self.some(0.5) else None}
+        self.edge_types.append(self.add(type_))
+
+    def type_named(self, name):
+        return next(it for it in self.vertex_types if it["name"] == name)
+
+    def wanted(self, type_):
+        """The types of what VALUES has, and whether each has a default."""
+        if type_["k"] == "vertex":
+            return [(type_["id_type"], "id")] + [(it["type"], "attr") for it in type_["attrs"]]
+        ends = [(self.type_named(type_[it])["id_type"], "id") for it in ("from", "to")]
+        return ends + [(it["type"], "disc") for it in type_["discs"]] + [(it["type"], "attr") for it in type_["attrs"]]
+
+    # Files
+
+    def field(self, type_, role):
+        rng = self.rng
+        if self.some(0.04):
+            return rng.choice(["", " ", "zz", "1.5", "99999999999999999999", "-1", "2023-02-29", "TRUE ", "1e3"])
+        if role == "id":
+            text = rng.choice(IDS[type_]) if not self.big else str(rng.randint(0, 60))
+            return "00" + text if type_ == "UINT" and self.some(0.1) else "+" + text if type_ == "UINT" and self.some(0.1) else text
+        if type_ in ("INT", "UINT"):
+            number = rng.choice((0, 1, 2, 3, 5, 10, 100, 7))
+            if self.some(0.03):
+                number = 9223372036854775807 if type_ == "INT" else 18446744073709551615
+            return rng.choice(("", "", "", "-" if type_ == "INT" else "+", "0", " ")) + str(number)
+        if type_ == "BOOL":
+            return rng.choice(("true", "FALSE", "1", "0", "True ", "false"))
+        return rng.choice(MOMENTS + ["0", "86399", "-1"]) if type_ == "DATETIME" else rng.choice(TEXTS)
+
+    def loads(self):
+        job = {"k": "job", "name": "fill", "graph": "g", "files": [], "loads": []}
+        for type_ in self.vertex_types + self.edge_types:
+            if self.some(0.9):
+                job["loads"].append(self.load(type_, job))
+        if job["loads"]:
+            self.add(job)
+            using = [[name, path] for name, path, _ in job.pop("using", [])]
+            for _ in range(runs_of(self)):
+                self.add({"k": "runjob", "name": "fill", "using": using})
+
+    def load(self, type_, job):
+        rng = self.rng
+        wanted, path = self.wanted(type_), type_["name"] + ".csv"
+        options, separator, quote = [], ",", ""
+        header = self.some(0.4)
+        if header:
+            options.append(["HEADER", rng.choice(("true", "TRUE"))])
+        if self.some(0.3):
+            separator = rng.choice(";|\t")
+            options.append(["SEPARATOR", separator])
+        if self.some(0.4):
+            style = rng.choice(("double", "single"))
+            quote = '"' if style == "double" else "'"
+            options.append(["QUOTE", style])
+        if self.some(0.1):
+            options.append(["EOL", "\n"])
+        columns = list(range(len(wanted)))
+        rng.shuffle(columns)
+        cols = ["_" if role == "attr" and self.some(0.1) else (f"c{at}" if header and self.some(0.6) else at)
+                for at, (_, role) in zip(columns, wanted)]
+        dests = [{"word": "VERTEX" if type_["k"] == "vertex" else "EDGE", "type": type_["name"], "cols": cols}]
+        if self.some(0.2):
+            dests.insert(rng.randint(0, 1), self.second(len(wanted)))
+        rows = [self.row(wanted, columns, separator, quote) for _ in range(90 if self.big else rng.choice((2, 4, 6, 9, 14)))]
+        if header:
+            rows.insert(0, separator.join(f"c{at}" for at in range(len(wanted))).encode())
+        end = rng.choice((b"\n", b"\n", b"\r\n", b"\r"))
+        data = (b"\xef\xbb\xbf" if self.some(0.05) else b"") + end.join(rows) + (end if self.some(0.7) else b"")
+        self.case["files"][path] = data
+        if self.some(0.2):
+            name = "f_" + type_["name"]
+            job["files"].append([name, path if self.some(0.7) else None])
+            if not job["files"][-1][1]:
+                job.setdefault("using", []).append((name, path, None))
+            return {"file": name, "named": True, "dests": dests, "options": options}
+        return {"file": path, "named": False, "dests": dests, "options": options}
+
+    def second(self, count):
+        """A further destination of a LOAD, which takes what stands in the fields."""
+        type_ = self.rng.choice(self.vertex_types + self.edge_types)
+        cols = ["_" if role == "attr" and self.some(0.6) else self.rng.randint(0, count - 1) for _, role in self.wanted(type_)]
+        return {"word": "VERTEX" if type_["k"] == "vertex" else "EDGE", "type": type_["name"], "cols": cols}
+
+    def row(self, wanted, columns, separator, quote):
+        if self.some(0.03):
+            return b""
+        fields = [""] * len(wanted)
+        for at, (type_, role) in zip(columns, wanted):
+            text = self.field(type_, role)
+            if quote and self.some(0.4):
+                text = quote + text.replace(quote, quote * 2) + quote + ("t" if self.some(0.03) else "")
+            fields[at] = text
+        if self.some(0.04):
+            fields.pop()
+        if self.some(0.04):
+            fields.append("more")
+        data = separator.join(fields).encode()
+        return data + b"\xff" if self.some(0.01) else data
+
+    def insert(self):
+        type_ = self.rng.choice(self.vertex_types + self.edge_types)
+        values = [self.literal(base, role) for base, role in self.wanted(type_)]
+        self.add({"k": "insert", "type": type_["name"], "values": values})
+
+    def literal(self, base, role):
+        rng = self.rng
+        if role == "attr" and self.some(0.3):
+            return None
+        if role == "id":
+            text = rng.choice(IDS[base])
+            return ("S", text) if base == "STRING" else (base[0], int(text))
+        if base in ("INT", "UINT"):
+            return (base[0], rng.choice((0, 1, 7, 40, -5 if base == "INT" else 5)))
+        if base == "BOOL":
+            return ("B", self.some(0.5))
+        return ("D", rng.choice(MOMENTS)) if base == "DATETIME" else ("S", rng.choice(TEXTS[1:]))
+
+    # Queries
+
+    def query(self, at):
+        whole = self.vertex_types, self.edge_types
+        if self.part and self.some(0.4):
+            (self.vertex_types, self.edge_types), self.graph = self.part, "h"
+        self.query_of_graph(at)
+        (self.vertex_types, self.edge_types), self.graph = whole, "g"
+
+    def query_of_graph(self, at):
+        maker = QueryMaker(self)
+        if self.some(0.5):
+            return self.add(maker.query("interpret", None))
+        name = f"q{at}"
+        query = self.add(maker.query("query", name))
+        if self.some(0.95):
+            self.add({"k": "install", "names": [name] if self.some(0.7) else []})
+        for _ in range(self.rng.choice((1, 1, 2))):
+            if self.some(0.3):
+                self.case["args"] = self.case["args"] or {}
+                self.case["args"][name] = {it["name"]: self.json_argument(it) for it in query["params"] if not (it["default"] and self.some(0.5))}
+                self.add({"k": "run", "name": name, "args": None})
+            else:
+                args = [self.argument(it) for it in query["params"]]
+                self.add({"k": "run", "name": name, "args": args})
+
+    def argument(self, param):
+        base = param["type"]
+        if base.startswith("VERTEX"):
+            type_ = self.type_named(base[7:-1]) if base != "VERTEX" else self.rng.choice(self.vertex_types)
+            there = [id_ for name, id_ in self.known if name == type_["name"]]
+            text = self.rng.choice(there) if there and self.some(0.95) else self.rng.choice(IDS[type_["id_type"]])
+            if base == "VERTEX":
+                return ("V2", text, type_["name"])
+            return ("I", int(text)) if type_["id_type"] != "STRING" and self.some(0.5) else ("S", text)
+        return self.literal(base, "param") if not self.some(0.03) else ("B", True)
+
+    def json_argument(self, param):
+        it = self.argument(param)
+        if it[0] == "V2":
+            return {"id": it[1], "type": it[2]}
+        return str(it[1]) if param["type"].startswith("VERTEX") and it[0] != "B" else it[1]
+
+
+def runs_of(maker):
+    """How often the job runs."""
+    return 2 if maker.some(0.1) else 1
+
+
+def made(seed):
+    return Maker(seed).whole()
