@@ -1,5 +1,38 @@
 """Makes one thing of a case wrong, and notes the refusal that docs/errors.md has for it."""
 
+# Statements that no check takes, where {T} is a vertex type, each with its refusal.
+WRONG_STATEMENTS = (
+    ("PRINT nosuch", "unknown name nosuch"),
+    ("PRINT @@nosuch", "unknown name @@nosuch"),
+    ("INT odd_value = TRUE", "type mismatch"),
+    ('PRINT 1 + "a" AS odd_item', "type mismatch"),
+    ("PRINT NOT 1 AS odd_item", "type mismatch"),
+    ("OddSet = {nosuch.*}", "unknown name nosuch"),
+    ("INT odd_value, odd_value", "name twice odd_value"),
+    ("PRINT 1 AS odd_item, 2 AS odd_item", "name twice odd_item"),
+    ("PRINT TRUE < FALSE AS odd_item", "type mismatch"),
+    ("IF 1 THEN PRINT 1; END", "type mismatch"),
+    ('WHILE "a" DO PRINT 1; END', "type mismatch"),
+    ("PRINT nosuch(1) AS odd_item", "unknown name nosuch"),
+    ("PRINT abs(TRUE) AS odd_item", "type mismatch"),
+    ("VERTEX odd_value", "not allowed here"),
+    ("FOREACH odd_value IN 5 DO PRINT 1; END", "type mismatch"),
+    ("OddSet = SELECT odd_vertex FROM {T}:odd_vertex ACCUM odd_vertex.@nosuch += 1", "unknown name @nosuch"),
+    ("OddSet = SELECT odd_vertex FROM {T}:odd_vertex WHERE 1", "type mismatch"),
+    ("OddSet = SELECT odd_vertex FROM {T}:odd_vertex WHERE odd_vertex.nosuch > 1", "no attribute nosuch"),
+    ("OddSet = SELECT nosuch FROM {T}:odd_vertex", "unknown name nosuch"),
+    ("OddSet = SELECT odd_vertex FROM nosuch:odd_vertex", "unknown name nosuch"),
+    ('OddSet = SELECT odd_vertex FROM {T}:odd_vertex LIMIT "a"', "type mismatch"),
+    ("OddSet = SELECT odd_vertex FROM {T}:odd_vertex ORDER BY TRUE", "type mismatch"),
+    ("OddSet = SELECT odd_vertex FROM {T}:odd_vertex -(nosuch:odd_edge)-> :odd_end", "unknown name nosuch"),
+    ("OddSet = {{T}.*}; OddSet = {{T}.*, nosuch}", "unknown name nosuch"),
+    ('PRINT datetime_add(to_datetime("2024-01-01"), 1, "WEEK") AS odd_item', "unknown name WEEK"),
+    ("OddSet = SELECT odd_vertex FROM {T}:odd_vertex HAVING odd_vertex.type", "type mismatch"),
+    ("PRINT (1).nosuch() AS odd_item", "unknown name nosuch"),
+    ("nosuch = 5", "unknown name nosuch"),
+    ("@@nosuch += 5", "unknown name @@nosuch"),
+)
+
 
 def spoil(maker):
     """Makes one thing wrong."""
@@ -12,22 +45,7 @@ def spoil(maker):
 def in_query(maker, rng, script, queries):
     """A statement that no check takes, somewhere in a body."""
     query = rng.choice(queries)
-    text, message = rng.choice((
-        ("PRINT nosuch", "unknown name nosuch"), ("PRINT @@nosuch", "unknown name @@nosuch"), ("INT w1 = TRUE", "type mismatch"),
-        ("PRINT 1 + \"a\" AS w2", "type mismatch"), ("PRINT NOT 1 AS w3", "type mismatch"), ("W4 = {nosuch.*}", "unknown name nosuch"),
-        ("INT w5, w5", "name twice w5"), ("PRINT 1 AS w6, 2 AS w6", "name twice w6"), ("PRINT TRUE < FALSE AS w7", "type mismatch"),
-        ("IF 1 THEN PRINT 1; END", "type mismatch"), ("WHILE \"a\" DO PRINT 1; END", "type mismatch"),
-        ("PRINT nosuch(1) AS w8", "unknown name nosuch"),
-        ("PRINT abs(TRUE) AS w9", "type mismatch"), ("VERTEX w10", "not allowed here"), ("FOREACH w11 IN 5 DO PRINT 1; END", "type mismatch"),
-        ("W20 = SELECT w21 FROM {T}:w21 ACCUM w21.@nosuch += 1", "unknown name @nosuch"), ("W22 = SELECT w23 FROM {T}:w23 WHERE 1", "type mismatch"),
-        ("W24 = SELECT w25 FROM {T}:w25 WHERE w25.nosuch > 1", "no attribute nosuch"), ("W26 = SELECT nosuch FROM {T}:w27", "unknown name nosuch"),
-        ("W28 = SELECT w29 FROM nosuch:w29", "unknown name nosuch"), ("W30 = SELECT w31 FROM {T}:w31 LIMIT \"a\"", "type mismatch"),
-        ("W32 = SELECT w33 FROM {T}:w33 ORDER BY TRUE", "type mismatch"),
-        ("W34 = SELECT w35 FROM {T}:w35 -(nosuch:w36)-> :w37", "unknown name nosuch"),
-        ("W38 = {{T}.*}; W38 = {{T}.*, nosuch}", "unknown name nosuch"),
-        ("PRINT datetime_add(to_datetime(\"2024-01-01\"), 1, \"WEEK\") AS w39", "unknown name WEEK"),
-        ("W40 = SELECT w41 FROM {T}:w41 HAVING w41.type", "type mismatch"), ("PRINT (1).nosuch() AS w12", "unknown name nosuch"),
-        ("nosuch = 5", "unknown name nosuch"), ("@@nosuch += 5", "unknown name @@nosuch")))
+    text, message = rng.choice(WRONG_STATEMENTS)
     types = maker.part[0] if query["graph"] == "h" else maker.vertex_types
     text = text.replace("{T}", types[0]["name"])
     query["body"].insert(rng.randint(0, len(query["body"])), {"k": "raw", "text": text})
