@@ -1,2 +1,3 @@
-pub mod ChainLemmas
+pub mod KeyChainLemmas
+pub mod KeyLemmas
 pub mod Seeks

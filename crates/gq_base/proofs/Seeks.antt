@@ -1,5 +1,5 @@
 -- Seeks: a walk through the rows of one hash, for the first row that passes a test. Tables use it.
-use Rattle.std.proofs.Common.{ℕ, zero, suc, ◌+◌, ◌<◌, ◌≤◌, ◌≡◌, ◌≢◌, Bool, true, false, cond, List, [], ◌∷◌, length, get_or, Option, Some, None, refl, ap, sym, ◌∙◌, subst, arith, inl, inr, ◌⊎◌}
+use Rattle.std.proofs.Common.{ℕ, zero, suc, ◌+◌, ◌<◌, ◌≡◌, Bool, true, false, cond, List, [], ◌∷◌, length, get_or, Option, Some, None, refl, ap, sym, ◌∙◌, arith, inl, inr}
 use Rattle.std.specs.List.{position, position_from}
 use Rattle.std.proofs.lemmas.Iterator.Adapters.{position_from-zero}
 use Rattle.std.proofs.lemmas.Bool.{cases_lt}
@@ -53,10 +53,6 @@ seek_goes p d rows hashes hash n (Some m) hits here miss last = (
   ],
 )
 
-pub seek_falls : (hashes : List ℕ) (hash n : ℕ) (next : Option ℕ) → IsLast hashes hash n next → steps_left next < n + 1
-seek_falls hashes hash n None last = omega arith
-seek_falls hashes hash n (Some m) last = omega (arith, last.0)
-
 none_from : {X : Type 0} (p : X → Bool) (d : X) (i : ℕ) (rows : List X) → ((k : ℕ) → k < length rows → p (get_or rows k d) ≡ false) → position_from p i rows ≡ None
 none_from p d i [] miss = refl
 none_from p d i (x ∷ xs) miss =
@@ -81,6 +77,16 @@ seek_found p d n rows low is apart =
     position_from-zero p rows
     ∙ found_from p d 0 n rows low is (λ k under. missed (p (get_or rows k d)) (λ hit. apart k n under low hit is))
     ∙ ap Some (let e : 0 + n ≡ n = omega arith in e)
+
+-- where rows of one hash all pass, the last of them is the answer
+pub seek_exact : {X : Type 0} (p : X → Bool) (d : X) (rows : List X) (hashes : List ℕ) (hash : ℕ) (next : Option ℕ) → length hashes ≡ length rows
+    → Hits p d rows hashes hash → ((k : ℕ) → k < length rows → get_or hashes k 0 ≡ hash → p (get_or rows k d) ≡ true)
+    → ((i j : ℕ) → i < j → j < length rows → p (get_or rows i d) ≡ true → p (get_or rows j d) ≡ true → ⊥)
+    → IsLast hashes hash (length hashes) next → next ≡ position p rows
+seek_exact p d rows hashes hash None long hits exact one last = sym (seek_none p d rows (seek_starts p d rows hashes hash None long hits last))
+seek_exact p d rows hashes hash (Some n) long hits exact one last =
+    let low : n < length rows = omega (arith, last.0) in
+    sym (seek_found p d n rows low (exact n low last.1) one)
 
 -- where no row is found, none passes
 pub nowhere : {X : Type 0} (p : X → Bool) (d : X) (rows : List X) (i : ℕ) → position p rows ≡ None → i < length rows → p (get_or rows i d) ≡ true → ⊥

@@ -1,5 +1,6 @@
 pub mod formers
 pub mod Lends
-pub mod Chains
 pub mod Hash
+pub mod Keys
+pub mod KeyChains
 pub mod Last

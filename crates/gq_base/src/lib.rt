@@ -5,21 +5,24 @@
 //! boxes is plain data to a contract: two trees are equal if they have the same shape and contents, wherever
 //! they lie in memory.
 //!
-//! Read `specs/Last.antt` first: it says which row of a table has a given hash, searching from the last row.
-//! `src/hashes.rt` is that table and `src/chains.rt` its bucket chains. The caller compares names, so a name
-//! is stored only in its row. The hash function, `src/hash.rt`, has no secret seed. Lists and boxes are in
-//! `src/list.rt` and `src/boxed.rt`.
+//! Read `specs/Last.antt` first: it says which row of a table has a given key, searching from the last row.
+//! `KeyIndex` (`src/key_index.rt`, with its chains in `src/key_chains.rt`) is that table, and its keys have 96
+//! bits. A short name can be its own key, and then the caller compares nothing; else a hash is in the key, and
+//! the caller compares names, so a name is stored only in its row. The hash function, `src/hash.rt`, has no
+//! secret seed. Lists and boxes are in `src/list.rt` and `src/boxed.rt`.
 #![tactic(auto)]
 
 mod boxed;
-mod chains;
 mod hash;
-mod hashes;
+mod key;
+mod key_chains;
+mod key_index;
 mod list;
 mod memory;
 
 pub use boxed::Boxed;
 pub use hash::{mixed, text_hash, wide_hash};
-pub use hashes::Hashes;
+pub use key::Key;
+pub use key_index::KeyIndex;
 pub use list::List;
 pub use memory::OutOfMemory;

@@ -1,20 +1,17 @@
 -- Keyed: keys that were given, and what the code keeps beside them.
-use Rattle.std.specs.Prelude.{ℕ, ◌≡◌, ◌<◌, List, map, length}
+use Rattle.std.specs.Prelude.{◌≡◌, List, map, reverse}
 use Rattle.std.specs.Borrow.{Bor}
-use Rattle.gq_base.specs.Hash.{hash_from}
+use Rattle.std.specs.BTreeSet.{BTreeSet, contains_by}
+use Rattle.std.specs.Cmp.Lexicographic.{slice_cmp}
+use Rattle.std.specs.List.{list_any}
+use Rattle.std.specs.Ordering.{nat_cmp}
+use Rattle.std.specs.Str.{bytes_eq}
 use Rattle.gq_rules_typing.specs.Statements.{Bytes}
 
--- what lent texts say
-abbrev pub texts : List (Bor Bytes) → List Bytes
-texts keys = map (λ key. key.now) keys
+-- what lent texts say, the last one first
+abbrev pub newest_first : List (Bor Bytes) → List Bytes
+newest_first keys = reverse (map (λ key. key.now) keys)
 
-abbrev pub key_hash : Bytes → ℕ
-key_hash key = hash_from 0 key
-
--- each key has its hash
-abbrev pub IsHashed : List Bytes → List ℕ → Type 0
-IsHashed keys hashes = hashes ≡ map key_hash keys
-
-pub record IsKept (keys : List Bytes) (hashes : List ℕ) : Type 0 where
-  pub hashed : IsHashed keys hashes
-  pub few : length keys < 4294967296
+-- the set has these keys and no other
+abbrev pub IsKnown : List Bytes → BTreeSet (Bor Bytes) → Type 0
+IsKnown keys known = (key : Bytes) → contains_by (λ k. slice_cmp nat_cmp key k.now) known ≡ list_any (bytes_eq key) keys

@@ -1,6 +1,6 @@
 -- The name of an edge, as one thing: two edges have one name exactly where their types, their ends in order, and the values
 -- of their discriminators are the same.
-use Rattle.std.proofs.Common.{ℕ, ◌≡◌, ◌==◌, ◌&&◌, ◌||◌, not, Bool, true, false, List, [], ◌∷◌, take, map, refl, ap, sym, ◌∙◌, arith, eq-eqb}
+use Rattle.std.proofs.Common.{ℕ, ◌+◌, ◌*◌, ◌%◌, ◌<◌, ◌≡◌, ◌==◌, nat_lt, nat_le, cond, ◌&&◌, ◌||◌, not, Bool, true, false, List, [], ◌∷◌, take, map, refl, ap, sym, ◌∙◌, arith, eq-eqb}
 use Rattle.std.specs.declared.cmp.Ordering.{Ordering}
 use Rattle.std.specs.declared.cmp.Ordering.TheVariants.{Less, Equal, Greater}
 use Rattle.std.specs.Ordering.{is_eq, ordering_reverse}
@@ -14,7 +14,7 @@ use Rattle.gq_value.specs.Order.{place}
 use Rattle.gq_value.specs.OrderLaws.{place_same, place_total}
 use Rattle.gq_graph.specs.Edges.{same_value, same_values, same_ends, is_edge}
 use Rattle.gq_base.specs.Hash.{mixed}
-use Rattle.gq_edge.specs.Hashed.{first_end, second_end, values_hash, edge_hash}
+use Rattle.gq_edge.specs.Keyed.{first_end, second_end, values_hash, tag_of, edge_tag, edge_key, HasEnds}
 
 pub record EdgeName : Type 0 where
   pub kind : ℕ
@@ -29,7 +29,7 @@ abbrev pub name_of : Naming → EdgeRow → EdgeName
 name_of naming edge =
     name edge.kind (first_end naming.directed edge.from edge.to) (second_end naming.directed edge.from edge.to) (map val (take naming.key edge.attributes))
 
-name_same : {k m f g s t : ℕ} {v w : List Val} → k ≡ m → f ≡ g → s ≡ t → v ≡ w → name k f s v ≡ name m g t w
+pub name_same : {k m f g s t : ℕ} {v w : List Val} → k ≡ m → f ≡ g → s ≡ t → v ≡ w → name k f s v ≡ name m g t w
 name_same {k} {m} {f} {g} {s} {t} {v} {w} a b c d =
     ap (λ x. name x f s v) a ∙ ap (λ x. name m x s v) b ∙ ap (λ x. name m g x v) c ∙ ap (λ x. name m g t x) d
 
@@ -47,7 +47,7 @@ own_reverse Less is = absurd (cc)
 own_reverse Equal is = refl
 own_reverse Greater is = absurd (cc)
 
-place_own : (a : Val) → place a a ≡ Equal
+pub place_own : (a : Val) → place a a ≡ Equal
 place_own a = own_reverse (place a a) (place_total.antisymm a a)
 
 values_held : (xs ys : List Value) → same_values xs ys ≡ true → map val xs ≡ map val ys
@@ -102,9 +102,61 @@ is_named naming a b same =
     ap (λ t. t && (same_ends naming.directed a b && same_values (take naming.key a.attributes) (take naming.key b.attributes))) kind
     ∙ ap (λ t. t && same_values (take naming.key a.attributes) (take naming.key b.attributes)) ends ∙ values
 
--- the hash is that of the name
-abbrev name_hash : EdgeName → ℕ
-name_hash n = values_hash (mixed (mixed (mixed 0 n.kind) n.first) n.second) n.values
+-- the key is that of the name
+abbrev name_key : Naming → EdgeName → ℕ
+name_key naming n = tag_of naming.key n.kind n.values * 18446744073709551616 + (n.first * 4294967296 + n.second)
 
-pub same_hash : (naming : Naming) (a b : EdgeRow) → name_of naming a ≡ name_of naming b → edge_hash naming a ≡ edge_hash naming b
-same_hash naming a b same = ap name_hash same
+pub same_key : (naming : Naming) (a b : EdgeRow) → name_of naming a ≡ name_of naming b → edge_key naming a ≡ edge_key naming b
+same_key naming a b same = ap (name_key naming) same
+
+by_test : (t : Bool) (x y : ℕ) (P : ℕ → Type 0) → (t ≡ true → P x) → (t ≡ false → P y) → P (cond t x y)
+by_test true x y P one other = one refl
+by_test false x y P one other = other refl
+
+-- a tag that is no hash is the type of edges that are named by their ends
+exact_tag : (key kind : ℕ) (values : List Val) → tag_of key kind values < 2147483648 → (key ≡ 0) × (tag_of key kind values ≡ kind)
+exact_tag key kind values =
+    by_test ((key == 0) && nat_lt kind 2147483648) kind (2147483648 + values_hash (mixed 0 kind) values % 2147483648)
+    (λ t. t < 2147483648 → (key ≡ 0) × (t ≡ kind))
+    (λ is low. (is_equal key 0 (both (key == 0) (nat_lt kind 2147483648) is).0, refl)) (λ is low. absurd (omega (arith, low)))
+
+first_low : (directed : Bool) (a b : ℕ) → a < 4294967296 → b < 4294967296 → first_end directed a b < 4294967296
+first_low directed a b one other = by_test (directed || nat_le a b) a b (λ x. x < 4294967296) (λ _. one) (λ _. other)
+
+second_low : (directed : Bool) (a b : ℕ) → a < 4294967296 → b < 4294967296 → second_end directed a b < 4294967296
+second_low directed a b one other = by_test (directed || nat_le a b) b a (λ x. x < 4294967296) (λ _. other) (λ _. one)
+
+parts_same : (t u f g s r : ℕ) → f < 4294967296 → g < 4294967296 → s < 4294967296 → r < 4294967296
+    → t * 18446744073709551616 + (f * 4294967296 + s) ≡ u * 18446744073709551616 + (g * 4294967296 + r) → (t ≡ u) × ((f ≡ g) × (s ≡ r))
+parts_same t u f g s r a b c d is = (omega arith, (omega arith, omega arith))
+
+-- the type of an edge, where its key is the whole name
+pub exact_kind : (naming other : Naming) (edge row : EdgeRow) → HasEnds edge → HasEnds row → edge_tag naming edge < 2147483648
+    → edge_key other row ≡ edge_key naming edge → row.kind ≡ edge.kind
+exact_kind naming other edge row ends theirs low is =
+    let parts = parts_of naming other edge row ends theirs is in
+    let mine = exact_tag naming.key edge.kind (map val (take naming.key edge.attributes)) low in
+    let its = exact_tag other.key row.kind (map val (take other.key row.attributes)) (omega (arith, parts.0, low)) in
+    sym its.1 ∙ parts.0 ∙ mine.1
+  where
+    parts_of : (naming other : Naming) (edge row : EdgeRow) → HasEnds edge → HasEnds row → edge_key other row ≡ edge_key naming edge
+        → (edge_tag other row ≡ edge_tag naming edge)
+        × ((first_end other.directed row.from row.to ≡ first_end naming.directed edge.from edge.to)
+        × (second_end other.directed row.from row.to ≡ second_end naming.directed edge.from edge.to))
+    parts_of naming other edge row ends theirs is =
+        parts_same (edge_tag other row) (edge_tag naming edge) (first_end other.directed row.from row.to) (first_end naming.directed edge.from edge.to)
+        (second_end other.directed row.from row.to) (second_end naming.directed edge.from edge.to)
+        (first_low other.directed row.from row.to theirs.0 theirs.1) (first_low naming.directed edge.from edge.to ends.0 ends.1)
+        (second_low other.directed row.from row.to theirs.0 theirs.1) (second_low naming.directed edge.from edge.to ends.0 ends.1) is
+
+-- and the row has the name
+pub exact_name : (naming : Naming) (edge row : EdgeRow) → HasEnds edge → HasEnds row → edge_tag naming edge < 2147483648
+    → edge_key naming row ≡ edge_key naming edge → name_of naming edge ≡ name_of naming row
+exact_name naming edge row ends theirs low is =
+    let parts = parts_same (edge_tag naming row) (edge_tag naming edge) (first_end naming.directed row.from row.to) (first_end naming.directed edge.from edge.to)
+    (second_end naming.directed row.from row.to) (second_end naming.directed edge.from edge.to)
+    (first_low naming.directed row.from row.to theirs.0 theirs.1) (first_low naming.directed edge.from edge.to ends.0 ends.1)
+    (second_low naming.directed row.from row.to theirs.0 theirs.1) (second_low naming.directed edge.from edge.to ends.0 ends.1) is in
+    let none : naming.key ≡ 0 = (exact_tag naming.key edge.kind (map val (take naming.key edge.attributes)) low).0 in
+    name_same (sym (exact_kind naming naming edge row ends theirs low is)) (sym parts.1.0) (sym parts.1.1)
+    (ap (λ n. map val (take n edge.attributes)) none ∙ sym (ap (λ n. map val (take n row.attributes)) none))

@@ -1,3 +1,4 @@
 pub mod EdgeLemmas
 pub mod EdgeNames
+pub mod SortedLemmas
 pub mod TableLemmas

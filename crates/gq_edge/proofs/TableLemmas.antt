@@ -13,9 +13,12 @@ use Rattle.gq_graph.specs.declared.rows.Naming.{Naming}
 use Rattle.gq_graph.specs.Edges.{EdgeTable, is_edge, edge_number, edge_put, upsert_edge, no_edge, edge_at, naming_of, noted, Agrees, most_edges}
 use Rattle.gq_value.specs.Val.{Val}
 use Rattle.gq_value.specs.Views.{val}
-use Rattle.gq_edge.specs.Hashed.{edge_hash}
-use Rattle.gq_edge.specs.Named.{naming_at, row_hash, AreNamed, IsFindable}
-use Rattle.gq_edge.proofs.EdgeNames.{EdgeName, name_of, named_so, is_named, same_hash}
+use Rattle.gq_edge.specs.Keyed.{edge_key, HasEnds}
+use Rattle.gq_edge.specs.Named.{naming_at, row_key, AreNamed, IsFindable}
+use Rattle.std.proofs.Math.Seq.{map-set_same}
+use Rattle.gq_edge.specs.Sorted.{Names, name_row, row_name, is_name, AreSorted, IsSorted}
+use Rattle.gq_edge.proofs.SortedLemmas.{row_of, row_back, held, itself, position_map, find_first}
+use Rattle.gq_edge.proofs.EdgeNames.{EdgeName, name_of, named_so, is_named, same_key, exact_kind, exact_name}
 
 abbrev pub no_naming : Naming
 no_naming = record { kind = 0; directed = false; key = 0 }
@@ -29,30 +32,43 @@ known_is : (o : Option Naming) (d : Naming) → is_some o ≡ true → o ≡ Som
 known_is None d is = absurd (cc)
 known_is (Some n) d is = refl
 
--- the type of a row that has the edge's name is named so
-agreed : (naming : Naming) (edge : EdgeRow) (rows : List EdgeRow) (namings : List Naming) (hashes : List ℕ) (k : ℕ) → AreNamed rows namings hashes
-    → Agrees namings naming → edge.kind ≡ naming.kind → k < length rows → is_edge naming edge (edge_at rows k) ≡ true
-    → naming_at namings (edge_at rows k).kind ≡ naming
-agreed naming edge rows namings hashes k named agrees kind low is =
-    let same : (edge_at rows k).kind ≡ naming.kind = sym (ap (λ (n : EdgeName). n.kind) (named_so naming edge (edge_at rows k) is)) ∙ kind in
+-- a row of the naming's type is named so
+agreed_type : (naming : Naming) (rows : List EdgeRow) (namings : List Naming) (keys : List ℕ) (k : ℕ) → AreNamed rows namings keys
+    → Agrees namings naming → (edge_at rows k).kind ≡ naming.kind → k < length rows → naming_at namings (edge_at rows k).kind ≡ naming
+agreed_type naming rows namings keys k named agrees same low =
     let known = known_is (naming_of namings (edge_at rows k).kind) (record { kind = 0; directed = false; key = 0 }) (named.known k low) in
     agrees (naming_at namings (edge_at rows k).kind) (ap (naming_of namings) (sym same) ∙ known)
 
+-- and so is one that has the edge's name
+agreed : (naming : Naming) (edge : EdgeRow) (rows : List EdgeRow) (namings : List Naming) (keys : List ℕ) (k : ℕ) → AreNamed rows namings keys
+    → Agrees namings naming → edge.kind ≡ naming.kind → k < length rows → is_edge naming edge (edge_at rows k) ≡ true
+    → naming_at namings (edge_at rows k).kind ≡ naming
+agreed naming edge rows namings keys k named agrees kind low is =
+    agreed_type naming rows namings keys k named agrees (sym (ap (λ (n : EdgeName). n.kind) (named_so naming edge (edge_at rows k) is)) ∙ kind) low
+
 -- what a search for the name needs
-pub findable : (naming : Naming) (edge : EdgeRow) (rows : List EdgeRow) (namings : List Naming) (hashes : List ℕ) → AreNamed rows namings hashes
-    → Agrees namings naming → edge.kind ≡ naming.kind → IsFindable naming edge rows hashes
-findable naming edge rows namings hashes named agrees kind = record {
-  long = ap length named.hashed ∙ length-map rows (row_hash namings);
+pub findable : (naming : Naming) (edge : EdgeRow) (rows : List EdgeRow) (namings : List Naming) (keys : List ℕ) → AreNamed rows namings keys
+    → Agrees namings naming → edge.kind ≡ naming.kind → IsFindable naming edge rows keys
+findable naming edge rows namings keys named agrees kind = record {
+  long = ap length named.keyed ∙ length-map rows (row_key namings);
   hits = λ k low is.
-      ap (λ h. get_or h k 0) named.hashed ∙ get_or-map (row_hash namings) rows k no_edge 0 low
-      ∙ ap (λ (n : Naming). edge_hash n (edge_at rows k)) (agreed naming edge rows namings hashes k named agrees kind low is)
-      ∙ sym (same_hash naming edge (edge_at rows k) (named_so naming edge (edge_at rows k) is));
+      ap (λ h. get_or h k 0) named.keyed ∙ get_or-map (row_key namings) rows k no_edge 0 low
+      ∙ ap (λ (n : Naming). edge_key n (edge_at rows k)) (agreed naming edge rows namings keys k named agrees kind low is)
+      ∙ sym (same_key naming edge (edge_at rows k) (named_so naming edge (edge_at rows k) is));
   one = λ i j before low a b.
-      let naming_is = agreed naming edge rows namings hashes i named agrees kind (omega arith) a in
+      let naming_is = agreed naming edge rows namings keys i named agrees kind (omega arith) a in
       let same = sym (named_so naming edge (edge_at rows i) a) ∙ named_so naming edge (edge_at rows j) b in
       let hit = is_named naming (edge_at rows i) (edge_at rows j) same in
       let miss = ap (λ (n : Naming). is_edge n (edge_at rows i) (edge_at rows j)) (sym naming_is) ∙ named.apart i j before low in
       absurd (clash (is_edge naming (edge_at rows i) (edge_at rows j)) hit miss);
+  exact = λ ends tag k low at.
+      let row = edge_at rows k in
+      let own : edge_key (naming_at namings row.kind) row ≡ edge_key naming edge =
+      sym (ap (λ h. get_or h k 0) named.keyed ∙ get_or-map (row_key namings) rows k no_edge 0 low) ∙ at in
+      let same : row.kind ≡ naming.kind = exact_kind naming (naming_at namings row.kind) edge row ends (named.ends k low) tag own ∙ kind in
+      let alike = agreed_type naming rows namings keys k named agrees same low in
+      is_named naming edge row
+      (exact_name naming edge row ends (named.ends k low) tag (subst (λ (n : Naming). edge_key n row ≡ edge_key naming edge) alike own));
 }
   where
     clash : (b : Bool) → b ≡ true → b ≡ false → ⊥
@@ -132,11 +148,24 @@ map_agree f g d [] same = refl
 map_agree f g d (x ∷ xs) same =
     ap (λ y. y ∷ map f xs) (same 0 (omega arith)) ∙ ap (λ ys. g x ∷ ys) (map_agree f g d xs (λ k low. same (suc k) (omega arith)))
 
+-- what is kept of each row beside its naming, after one edge more
+pub known_added : {X : Type 0} (f : Naming → EdgeRow → X) (rows : List EdgeRow) (namings : List Naming) (keys : List ℕ) (naming : Naming) (edge : EdgeRow)
+    → AreNamed rows namings keys → Agrees namings naming → edge.kind ≡ naming.kind
+    → map (λ (r : EdgeRow). f (naming_at (noted namings naming) r.kind) r) (rows ++ edge ∷ []) ≡ map (λ (r : EdgeRow). f (naming_at namings r.kind) r) rows ++ f naming edge ∷ []
+known_added f rows namings keys naming edge named agrees kind =
+    let after = noted namings naming in
+    let own : naming_of after edge.kind ≡ Some naming = ap (naming_of after) kind ∙ noted_own namings naming agrees in
+    map_push (λ (r : EdgeRow). f (naming_at after r.kind) r) rows edge
+    ∙ ap (λ l. l ++ f (naming_at after edge.kind) edge ∷ [])
+    (map_agree (λ (r : EdgeRow). f (naming_at after r.kind) r) (λ (r : EdgeRow). f (naming_at namings r.kind) r) no_edge rows (λ k low.
+    ap (λ (o : Option Naming). f (unwrap_or o (record { kind = 0; directed = false; key = 0 })) (edge_at rows k)) (noted_known namings naming (edge_at rows k).kind (named.known k low))))
+    ∙ ap (λ (o : Option Naming). map (λ (r : EdgeRow). f (naming_at namings r.kind) r) rows ++ f (unwrap_or o (record { kind = 0; directed = false; key = 0 })) edge ∷ []) own
+
 -- one edge more, of a new name
-pub named_added : (rows : List EdgeRow) (namings : List Naming) (hashes : List ℕ) (naming : Naming) (edge : EdgeRow) (hash : ℕ) → Agrees namings naming
-    → edge.kind ≡ naming.kind → edge_number rows naming edge ≡ None → length rows < most_edges → hash ≡ edge_hash naming edge → AreNamed rows namings hashes
-    → AreNamed (rows ++ edge ∷ []) (noted namings naming) (hashes ++ hash ∷ [])
-named_added rows namings hashes naming edge hash agrees kind none room is named =
+pub named_added : (rows : List EdgeRow) (namings : List Naming) (keys : List ℕ) (naming : Naming) (edge : EdgeRow) (key : ℕ) → Agrees namings naming
+    → edge.kind ≡ naming.kind → edge_number rows naming edge ≡ None → length rows < most_edges → key ≡ edge_key naming edge → HasEnds edge
+    → AreNamed rows namings keys → AreNamed (rows ++ edge ∷ []) (noted namings naming) (keys ++ key ∷ [])
+named_added rows namings keys naming edge key agrees kind none room is ends named =
     let all = rows ++ edge ∷ [] in let after = noted namings naming in
     let front : (k : ℕ) → k < length rows → edge_at all k ≡ edge_at rows k = λ k low. get_or_append_left rows (edge ∷ []) no_edge k low in
     let back : edge_at all (length rows) ≡ edge = get_or_push rows edge no_edge (length rows) refl in
@@ -152,11 +181,15 @@ named_added rows namings hashes naming edge hash agrees kind none room is named 
             let last : k ≡ length rows = omega (arith, length_push rows edge) in
             ap (λ n. is_some (naming_of after (edge_at all n).kind)) last ∙ ap (λ (r : EdgeRow). is_some (naming_of after r.kind)) back ∙ ap is_some own
       ];
-      hashed =
-          ap (λ h. h ++ hash ∷ []) named.hashed
-          ∙ ap (λ l. l ++ hash ∷ []) (map_agree (row_hash namings) (row_hash after) no_edge rows (λ k low. ap (λ (n : Naming). edge_hash n (edge_at rows k)) (sym (old_at k low))))
-          ∙ ap (λ h. map (row_hash after) rows ++ h ∷ []) (is ∙ ap (λ (o : Option Naming). edge_hash (unwrap_or o (record { kind = 0; directed = false; key = 0 })) edge) (sym own))
-          ∙ sym (map_push (row_hash after) rows edge);
+      keyed =
+          ap (λ h. h ++ key ∷ []) named.keyed ∙ ap (λ h. map (row_key namings) rows ++ h ∷ []) is
+          ∙ sym (known_added edge_key rows namings keys naming edge named agrees kind);
+      ends = λ k low. elim (cases_lt k (length rows)) [
+        | inl under ↦ subst HasEnds (sym (front k under)) (named.ends k under)
+        | inr over ↦
+            let last : k ≡ length rows = omega (arith, length_push rows edge) in
+            subst HasEnds (sym (ap (edge_at all) last ∙ back)) ends
+      ];
       apart = λ i j before low.
           let first : i < length rows = omega (arith, length_push rows edge) in
           ap (λ (r : EdgeRow). is_edge (naming_at after r.kind) r (edge_at all j)) (front i first)
@@ -204,20 +237,24 @@ same_name_at rows n row naming low same k m alike = elim (eqb_tells k n) [
   | inr h ↦ ap (name_of m) (get_or-set_other rows n k row no_edge h.1)
 ]
 
-pub named_replaced : (rows : List EdgeRow) (namings : List Naming) (hashes : List ℕ) (n : ℕ) (row : EdgeRow) (naming : Naming) → n < length rows
+pub named_replaced : (rows : List EdgeRow) (namings : List Naming) (keys : List ℕ) (n : ℕ) (row : EdgeRow) (naming : Naming) → n < length rows
     → naming_at namings (edge_at rows n).kind ≡ naming → row.kind ≡ (edge_at rows n).kind → name_of naming row ≡ name_of naming (edge_at rows n)
-    → AreNamed rows namings hashes → AreNamed (set rows n row) namings hashes
-named_replaced rows namings hashes n row naming low own kind same named =
+    → HasEnds row → AreNamed rows namings keys → AreNamed (set rows n row) namings keys
+named_replaced rows namings keys n row naming low own kind same ends named =
     let after = set rows n row in
     let kinds : (k : ℕ) → (edge_at after k).kind ≡ (edge_at rows k).kind = λ k. same_rows rows n row low kind k in
     let alike : (k : ℕ) → k ≡ n → naming_at namings (edge_at rows k).kind ≡ naming = λ k is. ap (λ j. naming_at namings (edge_at rows j).kind) is ∙ own in
     let count : length after ≡ length rows = length-set rows n row in
     record {
       known = λ k under. ap (λ x. is_some (naming_of namings x)) (kinds k) ∙ named.known k (omega (arith, count));
-      hashed = named.hashed ∙ by_place rows after (row_hash namings) no_edge (sym count) (λ k under.
-          sym (ap (λ x. edge_hash (naming_at namings x) (edge_at after k)) (kinds k)
-          ∙ same_hash (naming_at namings (edge_at rows k).kind) (edge_at after k) (edge_at rows k)
+      keyed = named.keyed ∙ by_place rows after (row_key namings) no_edge (sym count) (λ k under.
+          sym (ap (λ x. edge_key (naming_at namings x) (edge_at after k)) (kinds k)
+          ∙ same_key (naming_at namings (edge_at rows k).kind) (edge_at after k) (edge_at rows k)
           (same_name_at rows n row naming low same k (naming_at namings (edge_at rows k).kind) (alike k))));
+      ends = λ k under. elim (eqb_tells k n) [
+        | inl h ↦ subst HasEnds (sym (ap (edge_at after) h.1 ∙ get_or-set_same rows n row no_edge low)) ends
+        | inr h ↦ subst HasEnds (sym (get_or-set_other rows n k row no_edge h.1)) (named.ends k (omega (arith, under, count)))
+      ];
       apart = λ i j before under.
           let m = naming_at namings (edge_at rows i).kind in
           ap (λ x. is_edge (naming_at namings x) (edge_at after i) (edge_at after j)) (kinds i)
@@ -242,19 +279,24 @@ named_replaced rows namings hashes n row naming low own kind same named =
         ap (λ z. z ∷ map f xs) (same 0 (omega arith)) ∙ ap (λ zs. f y ∷ zs) (by_place xs ys f d (omega arith) (λ k low. same (suc k) (omega arith)))
 
 -- an edge of a known name
-pub found_row : (rows : List EdgeRow) (namings : List Naming) (hashes : List ℕ) (naming : Naming) (edge : EdgeRow) (n : ℕ) → AreNamed rows namings hashes
+pub found_row : (rows : List EdgeRow) (namings : List Naming) (keys : List ℕ) (naming : Naming) (edge : EdgeRow) (n : ℕ) → AreNamed rows namings keys
     → Agrees namings naming → edge.kind ≡ naming.kind → edge_number rows naming edge ≡ Some n
-    → (n < length rows) × AreNamed (set rows n (record (edge_at rows n) { attributes = edge.attributes })) namings hashes × (noted namings naming ≡ namings)
-found_row rows namings hashes naming edge n named agrees kind is =
+    → (n < length rows) × AreNamed (set rows n (record (edge_at rows n) { attributes = edge.attributes })) namings keys × (noted namings naming ≡ namings)
+    × (map (row_name namings) (set rows n (record (edge_at rows n) { attributes = edge.attributes })) ≡ map (row_name namings) rows)
+found_row rows namings keys naming edge n named agrees kind is =
     let at = number_low rows naming edge n is in
     let so = named_so naming edge (edge_at rows n) at.1 in
-    let own = agreed naming edge rows namings hashes n named agrees kind at.0 at.1 in
+    let own = agreed naming edge rows namings keys n named agrees kind at.0 at.1 in
     let values : map val (take naming.key edge.attributes) ≡ map val (take naming.key (edge_at rows n).attributes) = ap (λ (x : EdgeName). x.values) so in
     let kinds : (edge_at rows n).kind ≡ naming.kind = sym (ap (λ (x : EdgeName). x.kind) so) ∙ kind in (
       at.0,
-      named_replaced rows namings hashes n (record (edge_at rows n) { attributes = edge.attributes }) naming at.0 own refl
-          (ap (λ (v : List Val). with_values (name_of naming (edge_at rows n)) v) values) named,
+      named_replaced rows namings keys n (record (edge_at rows n) { attributes = edge.attributes }) naming at.0 own refl
+          (ap (λ (v : List Val). with_values (name_of naming (edge_at rows n)) v) values) (named.ends n at.0) named,
       noted_already namings naming (ap (λ k. is_some (naming_of namings k)) (sym kinds) ∙ named.known n at.0),
+      map-set_same (row_name namings) rows n (record (edge_at rows n) { attributes = edge.attributes }) no_edge
+          (ap (λ (m : Naming). name_row m (record (edge_at rows n) { attributes = edge.attributes })) own
+          ∙ ap (λ (v : List Val). row_of (with_values (name_of naming (edge_at rows n)) v)) values
+          ∙ ap (λ (m : Naming). name_row m (edge_at rows n)) (sym own)),
     )
   where
     with_values : EdgeName → List Val → EdgeName
@@ -277,3 +319,66 @@ replaced_is rows namings now after naming edge n view is same written =
       where
         table : List EdgeRow → List Naming → EdgeTable
         table r m = record { rows = r; namings = m }
+
+-- ---- the tree of names
+
+same_bool : (a b : Bool) → (a ≡ true → b ≡ true) → (b ≡ true → a ≡ true) → a ≡ b
+same_bool true b one other = sym (one refl)
+same_bool false b one other = sym (missed b (λ is. let back : false ≡ true = other is in absurd (cc)))
+
+-- a row whose name is that of the edge
+pub row_hit : (naming : Naming) (edge : EdgeRow) (rows : List EdgeRow) (namings : List Naming) (keys : List ℕ) (k : ℕ) → AreNamed rows namings keys
+    → Agrees namings naming → edge.kind ≡ naming.kind → k < length rows → row_name namings (edge_at rows k) ≡ name_row naming edge
+    → is_edge naming edge (edge_at rows k) ≡ true
+row_hit naming edge rows namings keys k named agrees kind low is =
+    let row = edge_at rows k in
+    let same = row_back (name_of (naming_at namings row.kind) row) (name_of naming edge) is in
+    let own = agreed_type naming rows namings keys k named agrees (ap (λ (n : EdgeName). n.kind) same ∙ kind) low in
+    is_named naming edge row (sym (subst (λ (m : Naming). name_of m row ≡ name_of naming edge) own same))
+
+-- what a search in the tree needs
+pub searchable : (naming : Naming) (edge : EdgeRow) (rows : List EdgeRow) (namings : List Naming) (keys : List ℕ) (tree : Option Names) → AreNamed rows namings keys
+    → Agrees namings naming → edge.kind ≡ naming.kind → AreSorted (map (row_name namings) rows) tree → IsSorted naming edge rows tree
+searchable naming edge rows namings keys None named agrees kind sorted = tt
+searchable naming edge rows namings keys (Some tree) named agrees kind sorted = λ name is.
+    sorted name ∙ position_map (is_name name) (row_name namings) (is_edge naming edge) rows no_edge (λ k low.
+    let row = edge_at rows k in
+    same_bool (is_name name (row_name namings row)) (is_edge naming edge row)
+    (λ hit. row_hit naming edge rows namings keys k named agrees kind low (held (row_name namings row) (map val name.items) hit ∙ is))
+    (λ hit.
+    let own = agreed naming edge rows namings keys k named agrees kind low hit in
+    let same : row_name namings row ≡ map val name.items =
+    ap (λ (m : Naming). name_row m row) own ∙ sym (ap row_of (named_so naming edge row hit)) ∙ sym is in
+    ap (λ r. is_name name r) same ∙ itself (map val name.items)))
+
+-- no row has the name of a new edge
+pub new_name : (naming : Naming) (edge : EdgeRow) (rows : List EdgeRow) (namings : List Naming) (keys : List ℕ) → AreNamed rows namings keys
+    → Agrees namings naming → edge.kind ≡ naming.kind → edge_number rows naming edge ≡ None
+    → (k : ℕ) → k < length (map (row_name namings) rows) → get_or (map (row_name namings) rows) k [] ≡ name_row naming edge → ⊥
+new_name naming edge rows namings keys named agrees kind none k low is =
+    let under : k < length rows = omega (arith, low, length-map rows (row_name namings)) in
+    nowhere (is_edge naming edge) no_edge rows k none under
+    (row_hit naming edge rows namings keys k named agrees kind under (sym (get_or-map (row_name namings) rows k no_edge [] under) ∙ is))
+
+-- two rows have two names
+pub names_apart : (rows : List EdgeRow) (namings : List Naming) (keys : List ℕ) → AreNamed rows namings keys → (i j : ℕ) → i < j → j < length (map (row_name namings) rows)
+    → get_or (map (row_name namings) rows) i [] ≡ get_or (map (row_name namings) rows) j [] → ⊥
+names_apart rows namings keys named i j before low is =
+    let second : j < length rows = omega (arith, low, length-map rows (row_name namings)) in
+    let first : i < length rows = omega (arith, second) in
+    let a = edge_at rows i in let b = edge_at rows j in
+    let same = row_back (name_of (naming_at namings a.kind) a) (name_of (naming_at namings b.kind) b)
+    (sym (get_or-map (row_name namings) rows i no_edge [] first) ∙ is ∙ get_or-map (row_name namings) rows j no_edge [] second) in
+    let alike : naming_at namings b.kind ≡ naming_at namings a.kind = ap (naming_at namings) (sym (ap (λ (n : EdgeName). n.kind) same)) in
+    let hit = is_named (naming_at namings a.kind) a b (same ∙ ap (λ (m : Naming). name_of m b) alike) in
+    clash (is_edge (naming_at namings a.kind) a b) hit (named.apart i j before second)
+  where
+    clash : (b : Bool) → b ≡ true → b ≡ false → ⊥
+    clash b hit miss = cc
+
+-- the naming that a search by type finds
+pub naming_there : (namings : List Naming) (kind i : ℕ) → i < length namings → naming_of (take i namings) kind ≡ None
+    → (get_or namings i no_naming).kind ≡ kind → get_or namings i no_naming ≡ naming_at namings kind
+naming_there namings kind i low none is =
+    sym (ap (λ (o : Option Naming). unwrap_or o no_naming)
+    (find_first (λ (n : Naming). n.kind == kind) namings i no_naming low none (eq-eqb (get_or namings i no_naming).kind kind is)))

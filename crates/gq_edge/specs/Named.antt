@@ -1,29 +1,33 @@
--- Named: what the table of edges keeps beside its rows, namely how each type is named, and the hash of each row's name.
+-- Named: what the table of edges keeps beside its rows, namely how each type is named, and the key of each row's name.
 use Rattle.std.specs.Prelude.{ℕ, ◌≡◌, ◌<◌, ◌≤◌, false, true, is_some, unwrap_or, List, length, map, slice_index}
 use Rattle.gq_graph.specs.declared.rows.EdgeRow.{EdgeRow}
 use Rattle.gq_graph.specs.declared.rows.Naming.{Naming}
 use Rattle.gq_graph.specs.Edges.{is_edge, edge_at, naming_of, most_edges}
-use Rattle.gq_edge.specs.Hashed.{edge_hash}
+use Rattle.gq_edge.specs.Keyed.{edge_tag, edge_key, HasEnds}
 
 -- how the edges of a type that has rows are named
 abbrev pub naming_at : List Naming → ℕ → Naming
 naming_at namings kind = unwrap_or (naming_of namings kind) (record { kind = 0; directed = false; key = 0 })
 
--- the hash of a row's name
-abbrev pub row_hash : List Naming → EdgeRow → ℕ
-row_hash namings row = edge_hash (naming_at namings row.kind) row
+-- the key of a row's name
+abbrev pub row_key : List Naming → EdgeRow → ℕ
+row_key namings row = edge_key (naming_at namings row.kind) row
 
--- each row's type has its naming, each row its hash, each name one row, and there are not too many
-pub record AreNamed (rows : List EdgeRow) (namings : List Naming) (hashes : List ℕ) : Type 0 where
+-- each row's type has its naming, each row its key, each name one row, and there are not too many
+pub record AreNamed (rows : List EdgeRow) (namings : List Naming) (keys : List ℕ) : Type 0 where
   pub known : (k : ℕ) → k < length rows → is_some (naming_of namings (edge_at rows k).kind) ≡ true
-  pub hashed : hashes ≡ map (row_hash namings) rows
+  pub keyed : keys ≡ map (row_key namings) rows
+  pub ends : (k : ℕ) → k < length rows → HasEnds (edge_at rows k)
   pub apart : (i j : ℕ) → i < j → j < length rows
       → is_edge (naming_at namings (edge_at rows i).kind) (edge_at rows i) (edge_at rows j) ≡ false
   pub few : length rows ≤ most_edges
 
--- what a search for an edge's name needs: rows of that name have its hash, and there is one at most
-pub record IsFindable (naming : Naming) (edge : EdgeRow) (rows : List EdgeRow) (hashes : List ℕ) : Type 0 where
-  pub long : length hashes ≡ length rows
-  pub hits : (k : ℕ) → k < length rows → is_edge naming edge (edge_at rows k) ≡ true → slice_index hashes k ≡ edge_hash naming edge
+-- what a search for an edge's name needs: rows of that name have its key, and there is one at most;
+-- where the key is the whole name, rows of the key have the name
+pub record IsFindable (naming : Naming) (edge : EdgeRow) (rows : List EdgeRow) (keys : List ℕ) : Type 0 where
+  pub long : length keys ≡ length rows
+  pub hits : (k : ℕ) → k < length rows → is_edge naming edge (edge_at rows k) ≡ true → slice_index keys k ≡ edge_key naming edge
   pub one : (i j : ℕ) → i < j → j < length rows
       → is_edge naming edge (edge_at rows i) ≡ true → is_edge naming edge (edge_at rows j) ≡ true → ⊥
+  pub exact : HasEnds edge → edge_tag naming edge < 2147483648
+      → (k : ℕ) → k < length rows → slice_index keys k ≡ edge_key naming edge → is_edge naming edge (edge_at rows k) ≡ true

@@ -1,12 +1,15 @@
 // The table of edges.
-ghost use Rattle.std.specs.Prelude.{◌≡◌, ◌<◌, ◌≤◌, ◌↔◌, ◌++◌, [], ◌∷◌, length, slice_set, take, is_some, vec_len, vec_capacity, Some, None, Err, IfOk, MatchResult};
+ghost use Rattle.std.specs.Prelude.{◌≡◌, ◌<◌, ◌≤◌, ◌↔◌, ◌++◌, [], ◌∷◌, length, map, slice_set, take, is_some, vec_len, vec_capacity, Some, None, Err, IfOk, MatchResult};
 ghost use Rattle.std.specs.Option.{unwrap_or};
+ghost use Rattle.gq_base.specs.Keys.{number_of};
 ghost use Rattle.gq_graph.specs.Edges.{Agrees, edge_with, naming_with, edge_number, upsert_edge, edge_at, noted, naming_of, most_edges};
 ghost use Rattle.gq_edge.specs.Named.{AreNamed};
+ghost use Rattle.gq_edge.specs.Sorted.{AreSorted, row_name};
 
 use crate::find::find;
-use crate::hash::edge_hash;
-use gq_base::{Hashes, OutOfMemory};
+use crate::key::edge_key;
+use crate::names::{Names, insert, sorted};
+use gq_base::{Key, KeyIndex, OutOfMemory};
 use gq_graph::{EdgeRow, Naming, StoreFault};
 use gq_value::{Row, duplicate_row};
 use std::alloc::Global;
@@ -20,14 +23,18 @@ pub const MOST_EDGES: usize = 16_777_216;
 pub struct Edges {
     rows: Vec<EdgeRow>,
     namings: Vec<Naming>,
-    hashes: Hashes,
+    index: KeyIndex,
+    /// Kept from when so many rows first shared a bucket that their names must have been chosen for it.
+    names: Option<Names>,
 }
 
 impl Model for Edges {
     ghost use Rattle.std.specs.Coded.{codes};
     ghost use Rattle.gq_value.specs.contracts.value.Value as value;
     ghost use Rattle.gq_graph.specs.Edges.{EdgeTable};
+    ghost use Rattle.std.specs.Prelude.{map};
     ghost use Rattle.gq_edge.specs.Named.{AreNamed};
+    ghost use Rattle.gq_edge.specs.Sorted.{AreSorted, row_name};
 
     ghost Value = { EdgeTable };
 
@@ -35,7 +42,10 @@ impl Model for Edges {
 
     ghost view = { λ e. record { rows = e.rows.items; namings = e.namings.items } };
 
-    ghost invariant = { λ e. AreNamed e.rows.items e.namings.items e.hashes };
+    ghost invariant = { λ e. record {
+      named : AreNamed e.rows.items e.namings.items e.index;
+      sorted : AreSorted (map (row_name e.namings.items) e.rows.items) e.names;
+    } };
 }
 
 impl Edges {
@@ -46,7 +56,8 @@ impl Edges {
         Edges {
             rows: Vec::new(alloc),
             namings: Vec::new(alloc),
-            hashes: Hashes::new(alloc),
+            index: KeyIndex::new(alloc),
+            names: None,
         }
     }
 
@@ -107,7 +118,8 @@ impl Edges {
             to,
             attributes,
         };
-        match find(&self.rows, &self.hashes, naming, &edge) {
+        let alloc = *self.rows.allocator();
+        match find(&self.rows, &self.index, &self.names, alloc, naming, &edge) {
             Some(number) => {
                 replace(&mut self.rows, number, edge);
                 Ok(number)
@@ -119,7 +131,8 @@ impl Edges {
                 match add(
                     &mut self.rows,
                     &mut self.namings,
-                    &mut self.hashes,
+                    &mut self.index,
+                    &mut self.names,
                     naming,
                     edge,
                 ) {
@@ -135,10 +148,15 @@ impl Edges {
         ensures { IfOk result (λ copy. copy ≡ self.now) }
     {
         let alloc = *self.rows.allocator();
+        let names = match self.names {
+            Some(_) => Some(sorted(alloc, &self.rows, &self.namings, &self.index)?),
+            None => None,
+        };
         Ok(Edges {
             rows: copied(alloc, &self.rows)?,
             namings: Vec::from_slice(alloc, &self.namings)?,
-            hashes: self.hashes.duplicate()?,
+            index: self.index.duplicate()?,
+            names,
         })
     }
 }
@@ -162,17 +180,20 @@ fn copied(alloc: Global, rows: &[EdgeRow]) -> Result<Vec<EdgeRow>, OutOfMemory>
 fn add(
     rows: &mut Vec<EdgeRow>,
     namings: &mut Vec<Naming>,
-    hashes: &mut Hashes,
+    index: &mut KeyIndex,
+    names: &mut Option<Names>,
     naming: Naming,
     edge: EdgeRow,
 ) -> Result<u32, OutOfMemory>
-    requires named { AreNamed rows.old.items namings.old.items hashes.old }
+    requires named { AreNamed rows.old.items namings.old.items index.old }
+    requires sorted { AreSorted (map (row_name namings.old.items) rows.old.items) names.old }
     requires agrees { Agrees namings.old.items naming }
     requires kind { edge.kind ≡ naming.kind }
     requires within { naming.key ≤ length edge.attributes }
     requires new { edge_number rows.old.items naming edge ≡ None }
     requires room { vec_len rows.old < most_edges }
-    ensures named { AreNamed rows.new.items namings.new.items hashes.new }
+    ensures named { AreNamed rows.new.items namings.new.items index.new }
+    ensures sorted { AreSorted (map (row_name namings.new.items) rows.new.items) names.new }
     ensures done { MatchResult result
         (λ n. (n ≡ length rows.old.items) × (rows.new.items ≡ rows.old.items ++ edge ∷ []) × (namings.new.items ≡ noted namings.old.items naming))
         (λ _. (rows.new.items ≡ rows.old.items) × (namings.new.items ≡ namings.old.items)) }
@@ -180,10 +201,35 @@ fn add(
     let number = rows.len() as u32;
     rows.reserve(1)?;
     namings.reserve(1)?;
-    hashes.push(edge_hash(naming, &edge))?;
+    insert(
+        names,
+        *rows.allocator(),
+        rows,
+        namings,
+        index,
+        naming,
+        &edge,
+    )?;
+    push(index, names, edge_key(naming, &edge))?;
     note(namings, naming);
     put(rows, edge);
     Ok(number)
+}
+
+/// Puts the key of a new row last. Where there is no memory for it, the tree, which has the name already, is given up.
+fn push(index: &mut KeyIndex, names: &mut Option<Names>, key: Key) -> Result<(), OutOfMemory>
+    requires { length index.old < 2147483648 }
+    ensures { MatchResult result
+        (λ _. (index.new ≡ index.old ++ number_of key ∷ []) × (names.new ≡ names.old))
+        (λ _. (index.new ≡ index.old) × (names.new ≡ None)) }
+{
+    match index.push(key) {
+        Ok(()) => Ok(()),
+        Err(OutOfMemory) => {
+            *names = None;
+            Err(OutOfMemory)
+        }
+    }
 }
 
 /// Keeps how the edges of a type are named, where there is room for it.

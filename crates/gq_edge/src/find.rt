@@ -2,23 +2,53 @@
 ghost use Rattle.std.specs.Prelude.{◌≡◌, ◌≤◌, length, take};
 ghost use Rattle.gq_graph.specs.Edges as edges;
 ghost use Rattle.gq_edge.specs.Named.{IsFindable};
+ghost use Rattle.gq_edge.specs.Sorted.{IsSorted};
 
-use crate::hash::edge_hash;
-use gq_base::Hashes;
+use crate::key::{HASHED, edge_key};
+use crate::names::{Names, name_of};
+use gq_base::KeyIndex;
 use gq_graph::{EdgeRow, Naming};
+use std::alloc::Global;
 
-/// The number of the row of an edge's name.
-pub(crate) fn find(rows: &[EdgeRow], hashes: &Hashes, naming: Naming, edge: &EdgeRow) -> Option<u32>
+/// The number of the row of an edge's name: by the tree of names, if there is one and memory for the name, and else by
+/// the keys of the rows.
+pub(crate) fn find(
+    rows: &[EdgeRow],
+    index: &KeyIndex,
+    names: &Option<Names>,
+    alloc: Global,
+    naming: Naming,
+    edge: &EdgeRow,
+) -> Option<u32>
     requires within { naming.key ≤ length edge.now.attributes }
-    requires findable { IsFindable naming edge.now rows.now hashes.now }
+    requires findable { IsFindable naming edge.now rows.now index.now }
+    requires sorted { IsSorted naming edge.now rows.now names.now }
     ensures { result ≡ edges.edge_number rows.now naming edge.now }
 {
-    let mut next = hashes.last(edge_hash(naming, edge));
+    if let Some(tree) = names {
+        if let Ok(name) = name_of(alloc, naming, edge) {
+            return tree.get(&name).copied();
+        }
+    }
+    find_by_key(rows, index, naming, edge)
+}
+
+/// The same by the keys of the rows. No row is read where the key is the whole name.
+fn find_by_key(rows: &[EdgeRow], index: &KeyIndex, naming: Naming, edge: &EdgeRow) -> Option<u32>
+    requires within { naming.key ≤ length edge.now.attributes }
+    requires findable { IsFindable naming edge.now rows.now index.now }
+    ensures { result ≡ edges.edge_number rows.now naming edge.now }
+{
+    let key = edge_key(naming, edge);
+    let mut next = index.last(key);
+    if key.tag < HASHED {
+        return next;
+    }
     while let Some(number) = next {
         if is_edge(naming, edge, &rows[number as usize]) {
             return Some(number);
         }
-        next = hashes.before(number);
+        next = index.before(number);
     }
     None
 }

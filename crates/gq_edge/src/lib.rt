@@ -1,15 +1,16 @@
 //! The edges of a store, each with a name of its own.
 //!
 //! The name of an edge is its type, its two ends (unordered if the type is undirected) and the values of its
-//! discriminators. `Edges` keeps its rows in a list and finds a row by the hash of its name, so edges that
-//! differ only in their discriminators are found as fast as others.
+//! discriminators. `Edges` keeps its rows in a list and finds a row by the key of its name, which has the
+//! discriminators in it, so edges that differ only in these are found as fast as others.
 //!
 //! Read `Edges.antt` of `gq_graph` first: what an upsert does to a list of rows. Then read `specs/Named.antt`
-//! and `specs/Hashed.antt`. The table is in `src/edges.rt`, the lookup in `src/find.rt`.
+//! and `specs/Keyed.antt`. The table is in `src/edges.rt`, the lookup in `src/find.rt`.
 #![tactic(auto)]
 
 mod edges;
 mod find;
-mod hash;
+mod key;
+mod names;
 
 pub use edges::Edges;

@@ -1,11 +1,7 @@
--- Engines: the run of a plan over a catalog and a store, and rows that are whole.
-use Rattle.std.specs.Prelude.{◌≡◌, ℕ, ◌<◌, ◌≤◌, List, [], length, slice_get, Some}
+-- Engines: the run of a plan over a catalog and a store.
+use Rattle.std.specs.Prelude.{ℕ, List, []}
 use Rattle.gq_graph.specs.Catalog.{Schema}
-use Rattle.gq_graph.specs.Vertices.{vertex_at}
 use Rattle.gq_value.specs.Val.{Val}
-use Rattle.gq_graph.specs.declared.types.VertexType.{VertexType}
-use Rattle.gq_graph.specs.declared.rows.VertexRow.{VertexRow}
-use Rattle.gq_graph.specs.declared.rows.EdgeRow.{EdgeRow}
 use Rattle.gq_index.specs.declared.store.Store.{Store}
 use Rattle.gq_rules_meaning.specs.Answers.{Answer}
 use Rattle.gq_rules_meaning.specs.Calendars.{Calendar}
@@ -20,12 +16,3 @@ use Rattle.gq_flow.specs.Plans.{Objects}
 -- what a plan prints over a catalog and a store
 abbrev pub plan_over : Schema → Store → Calendar → Plan → List Val → ℕ → Answer Fault Objects
 plan_over schema store clock plan arguments turns = run_plan (world_of (accum_names plan) [] (graph_for schema store.vertices store.edges plan) clock) (view_plan plan) arguments turns
-
--- a vertex has a value for each attribute of its type
-pub record HasAttributes (schema : Schema) (rows : List VertexRow) (v : ℕ) : Type 0 where
-  pub each : (t : VertexType) → slice_get schema.vertex_types (vertex_at rows v).kind ≡ Some t → length t.attributes ≤ length (vertex_at rows v).attributes
-
--- edges have their ends below a number
-pub record HasEnds (count : ℕ) (rows : List EdgeRow) : Type 0 where
-  pub from : (r : ℕ) (e : EdgeRow) → slice_get rows r ≡ Some e → e.from < count
-  pub to : (r : ℕ) (e : EdgeRow) → slice_get rows r ≡ Some e → e.to < count

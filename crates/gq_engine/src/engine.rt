@@ -1,18 +1,14 @@
 // What runs queries.
-ghost use Rattle.std.specs.Prelude.{◌≡◌, map};
+ghost use Rattle.std.specs.Prelude.{map};
 ghost use Rattle.gq_value.specs.Views.{val};
-ghost use Rattle.gq_index.specs.Sights.{sight_of};
-ghost use Rattle.gq_index.specs.Walks.{adjacency};
 ghost use Rattle.gq_rules_meaning.specs.Answers.{Answer};
 ghost use Rattle.gq_rules_meaning.specs.Statements.{Fault};
 ghost use Rattle.gq_rules_calendar.specs.Gregorian.{gregorian};
-ghost use Rattle.gq_eval_attributes.specs.Worlds.{HaveAttributes};
-ghost use Rattle.gq_eval_context.specs.Ends.{HaveEnds};
 ghost use Rattle.gq_flow.specs.Plans.{Objects, Prints};
+ghost use Rattle.gq_query_run.specs.Indexed.{IsIndexed};
 ghost use Rattle.gq_query_run.specs.Runs.{Runs};
 ghost use Rattle.gq_engine.specs.Engines.{plan_over};
 
-use crate::premises::{has_attributes, has_ends};
 use gq_base::List;
 use gq_exec_control::RunFault as PlanFault;
 use gq_flow::{Workers, run_query};
@@ -42,6 +38,7 @@ impl<'g> RunsQueries for Engine<'g> {
         catalog: &Catalog,
         graph: Option<u32>,
         store: &Store,
+        index: &Index,
         query: &QueryTree,
         arguments: &Row,
         shape: &Shape,
@@ -54,36 +51,15 @@ impl<'g> RunsQueries for Engine<'g> {
         };
         match plan(alloc, catalog, graph, query) {
             Err(_) => Err(QueryFault::OutOfMemory),
-            Ok(plan) => run_plan(&workers, alloc, catalog, store, &plan, arguments, turns),
+            Ok(plan) => run_plan(
+                &workers, alloc, catalog, store, index, &plan, arguments, turns,
+            ),
         }
     }
 }
 
-/// Indexes a store, and runs a plan over it.
-fn run_plan<R: Threads + Sync>(
-    workers: &Workers<'_, R>,
-    alloc: Global,
-    catalog: &Catalog,
-    store: &Store,
-    plan: &Plan,
-    arguments: &Row,
-    turns: u64,
-) -> Result<List<Printed>, QueryFault>
-    ensures { Runs (plan_over catalog.now store.now gregorian plan.now (map val arguments.now) turns) result }
-{
-    if !has_attributes(catalog, &store.vertices) || !has_ends(store) {
-        return Err(QueryFault::OutOfMemory);
-    }
-    match Index::build(alloc, catalog, store) {
-        Err(_) => Err(QueryFault::OutOfMemory),
-        Ok(index) => run_indexed(
-            workers, alloc, catalog, store, &index, plan, arguments, turns,
-        ),
-    }
-}
-
-/// Runs a plan over an indexed store.
-fn run_indexed<'x, R: Threads + Sync>(
+/// Runs a plan over a store with its index.
+fn run_plan<'x, R: Threads + Sync>(
     workers: &'x Workers<'x, R>,
     alloc: Global,
     catalog: &'x Catalog,
@@ -93,9 +69,7 @@ fn run_indexed<'x, R: Threads + Sync>(
     arguments: &Row,
     turns: u64,
 ) -> Result<List<Printed>, QueryFault>
-    requires indexed { index.now ≡ adjacency (sight_of catalog.now store.now.vertices store.now.edges) }
-    requires attributes { HaveAttributes catalog.now store.now.vertices }
-    requires ends { HaveEnds store.now.vertices store.now.edges.rows }
+    requires { IsIndexed catalog.now store.now index.now }
     ensures { Runs (plan_over catalog.now store.now gregorian plan.now (map val arguments.now) turns) result }
 {
     let graph = Graph {

@@ -15,6 +15,7 @@ use Rattle.gq_graph.specs.declared.types.VertexType.{VertexType}
 use Rattle.gq_graph.specs.declared.rows.VertexRow.{VertexRow}
 use Rattle.gq_value.specs.declared.value.Value.{Value}
 use Rattle.gq_index.specs.declared.store.Graph as code
+use Rattle.gq_index.specs.Rows.{HaveAttributes}
 use Rattle.gq_rules_typing.specs.Sorts.{Fields, VertexSort, bases_of, names_of, attribute_fields, vertex_sort, id_base}
 use Rattle.gq_rules_typing.specs.Words.{OfVertexType}
 use Rattle.gq_rules_meaning.specs.Answers.{Gives, Stuck, ◌>>=◌, found}
@@ -34,7 +35,7 @@ use Rattle.gq_eval_operand.specs.declared.halt.Halt.{Halt}
 use Rattle.gq_eval_operand.specs.declared.halt.Halt.TheVariants as halt
 use Rattle.gq_eval_operand.specs.Meant.{meant, Tells}
 use Rattle.gq_eval_attributes.specs.Attributes.{attribute_at, vertex_value, id_shown}
-use Rattle.gq_eval_attributes.specs.Worlds.{InWorld, HaveAttributes}
+use Rattle.gq_eval_attributes.specs.Worlds.{InWorld}
 use Rattle.gq_eval_attributes.proofs.ListLemmas.{item_there, value_there, no_base_there, no_value_there}
 
 -- ---- the meaning, part by part

@@ -1,9 +1,5 @@
 -- Worlds: the graph of a catalog and a store, as the definitions have it: what a plan's expressions see.
-use Rattle.std.specs.Prelude.{◌≡◌, ℕ, ◌<◌, ◌≤◌, List, [], length, slice_get, Some, Result}
-use Rattle.gq_graph.specs.Catalog.{Schema}
-use Rattle.gq_graph.specs.Vertices.{vertex_at}
-use Rattle.gq_graph.specs.declared.types.VertexType.{VertexType}
-use Rattle.gq_graph.specs.declared.rows.VertexRow.{VertexRow}
+use Rattle.std.specs.Prelude.{ℕ, List, [], Some, Result}
 use Rattle.gq_index.specs.declared.store.Graph as code
 use Rattle.gq_rules_typing.specs.Statements.{Bytes}
 use Rattle.gq_rules_typing.specs.Sorts.{Fields}
@@ -24,7 +20,3 @@ graph_is g vertices edges = graph_of g.catalog.now (Some (record { name = []; ve
 -- the answer is what is meant in each world over a catalog and a store
 pub record InWorld (g : code.Graph) (meaning : World Reference → Outcome) (result : Result Seen Halt) : Type 0 where
   pub each : (vertices edges : List ℕ) (names : List Bytes) (tuples : List (Reference × Fields)) (clock : Calendar) → Tells meant (meaning (world_of names tuples (graph_is g vertices edges) clock)) result
-
--- each vertex of the store has a value for each attribute of its type
-pub record HaveAttributes (schema : Schema) (rows : List VertexRow) : Type 0 where
-  pub each : (v : ℕ) (t : VertexType) → v < length rows → slice_get schema.vertex_types (vertex_at rows v).kind ≡ Some t → length t.attributes ≤ length (vertex_at rows v).attributes

@@ -3,11 +3,11 @@ ghost use Rattle.std.specs.Prelude.{◌≡◌, ◌<◌, ◌≤◌, IfSome, Some,
 ghost use Rattle.gq_value.specs.Val.{Int};
 ghost use Rattle.gq_graph.specs.Vertices.{vertex_at};
 ghost use Rattle.gq_graph.specs.declared.rows.VertexRow.{VertexRow};
+ghost use Rattle.gq_index.specs.Rows.{HaveAttributes};
 ghost use Rattle.gq_rules_meaning.specs.Answers.{Gives};
 ghost use Rattle.gq_rules_meaning.specs.States as states;
 ghost use Rattle.gq_plan_ir.specs.ExprView.{field_of};
 ghost use Rattle.gq_eval_attributes.specs.Attributes.{attribute_at, vertex_value};
-ghost use Rattle.gq_eval_attributes.specs.Worlds.{HaveAttributes};
 ghost use Rattle.gq_eval_attributes.specs.Reads.{value_meant, IsReadInt};
 
 use crate::int_items::place_in;

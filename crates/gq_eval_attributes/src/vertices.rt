@@ -1,6 +1,7 @@
 // Fields of vertices.
 ghost use Rattle.std.specs.Prelude.{◌≡◌, ◌<◌, ◌≤◌, IfOk, Some, length};
 ghost use Rattle.gq_graph.specs.Vertices.{vertex_at};
+ghost use Rattle.gq_index.specs.Rows.{HaveAttributes};
 ghost use Rattle.gq_rules_typing.specs.Sorts.{names_of, vertex_sort};
 ghost use Rattle.gq_rules_typing.specs.Words.{OfVertexType};
 ghost use Rattle.gq_rules_meaning.specs.States as states;
@@ -9,7 +10,7 @@ ghost use Rattle.gq_plan_ir.specs.References.{place_in};
 ghost use Rattle.gq_eval_operand.specs.Meant.{meant, Tells};
 ghost use Rattle.gq_eval_operand.specs.Sound.{Sound};
 ghost use Rattle.gq_eval_attributes.specs.Attributes.{attribute_at, vertex_value};
-ghost use Rattle.gq_eval_attributes.specs.Worlds.{InWorld, HaveAttributes};
+ghost use Rattle.gq_eval_attributes.specs.Worlds.{InWorld};
 
 use crate::ids::id_value;
 use crate::names::vertex_place;

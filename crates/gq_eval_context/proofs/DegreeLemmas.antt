@@ -15,11 +15,11 @@ use Rattle.gq_index.specs.declared.store.Graph as code
 use Rattle.gq_index.specs.declared.walks.Traversal.{Traversal}
 use Rattle.gq_index.specs.Sights.{sight_of}
 use Rattle.gq_index.specs.Walks.{adjacency}
+use Rattle.gq_index.specs.Rows.{HaveEnds}
 use Rattle.gq_rules_typing.specs.Sorts.{EdgeSort, edge_sort}
 use Rattle.gq_rules_typing.specs.Words.{place_of, if_own, edge_quoted}
 use Rattle.gq_rules_meaning.specs.Calls.{sum, degree_of}
 use Rattle.gq_eval_attributes.specs.Worlds.{graph_is}
-use Rattle.gq_eval_context.specs.Ends.{HaveEnds}
 
 -- ---- of one type
 

@@ -1,5 +1,4 @@
 pub mod Times
-pub mod Ends
 pub mod Viewed
 pub mod Looks
 pub mod LookLaws

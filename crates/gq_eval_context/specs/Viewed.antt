@@ -6,15 +6,14 @@ use Rattle.gq_graph.specs.declared.rows.VertexRow.{VertexRow}
 use Rattle.gq_index.specs.declared.walks.Traversal.{Traversal}
 use Rattle.gq_index.specs.Sights.{sight_of}
 use Rattle.gq_index.specs.Walks.{adjacency}
+use Rattle.gq_index.specs.Rows.{HaveAttributes, HaveEnds}
 use Rattle.gq_frame.specs.declared.accums.Accums.{Accums}
 use Rattle.gq_plan_ir.specs.declared.plan.Plan.{Plan}
 use Rattle.gq_eval_attributes.specs.declared.tuple_type.TupleType.{TupleType}
-use Rattle.gq_eval_attributes.specs.Worlds.{HaveAttributes}
 use Rattle.gq_frame.specs.declared.frame.Frame.{Frame}
 use Rattle.gq_frame.specs.declared.frame.Thing.{Thing}
 use Rattle.gq_frame.specs.Names.{Placed}
 use Rattle.gq_frame.specs.Slots.{AreSound}
-use Rattle.gq_eval_context.specs.Ends.{HaveEnds}
 
 -- a catalog and a store, a plan with its tuple types, what names and accumulators hold, and the aliases with their places
 pub record Viewed : Type 0 where

@@ -5,10 +5,10 @@ ghost use Rattle.gq_graph.specs.Catalog.{most_types};
 ghost use Rattle.gq_graph.specs.Edges.{most_edges};
 ghost use Rattle.gq_index.specs.Sights.{sight_of};
 ghost use Rattle.gq_index.specs.Walks.{adjacency};
+ghost use Rattle.gq_index.specs.Rows.{HaveEnds};
 ghost use Rattle.gq_rules_typing.specs.Words.{edge_quoted};
 ghost use Rattle.gq_rules_meaning.specs.Calls.{sum, degree_of};
 ghost use Rattle.gq_eval_attributes.specs.Worlds.{graph_is};
-ghost use Rattle.gq_eval_context.specs.Ends.{HaveEnds};
 
 use gq_index::Graph;
 

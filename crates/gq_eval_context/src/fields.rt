@@ -2,12 +2,12 @@
 ghost use Rattle.std.specs.Prelude.{◌≡◌, IfOk, map, slice_get};
 ghost use Rattle.std.specs.Option.{option_copied};
 ghost use Rattle.gq_value.specs.Views.{val};
+ghost use Rattle.gq_index.specs.Rows.{HaveAttributes};
 ghost use Rattle.gq_rules_meaning.specs.Meanings.{Is};
 ghost use Rattle.gq_rules_meaning.specs.States as states;
 ghost use Rattle.gq_plan_ir.specs.ExprView.{field_of};
 ghost use Rattle.gq_eval_operand.specs.Meant.{meant, valued, sort_is, Tells};
 ghost use Rattle.gq_eval_operand.specs.Sound.{Sound};
-ghost use Rattle.gq_eval_attributes.specs.Worlds.{HaveAttributes};
 ghost use Rattle.gq_eval_context.specs.FieldReads.{Reads, tuple_read};
 
 use gq_eval_attributes::{

@@ -6,6 +6,7 @@ use Rattle.gq_graph.specs.declared.rows.VertexRow.{VertexRow}
 use Rattle.gq_index.specs.declared.walks.Traversal.{Traversal}
 use Rattle.gq_index.specs.Sights.{sight_of}
 use Rattle.gq_index.specs.Walks.{adjacency}
+use Rattle.gq_index.specs.Rows.{HaveAttributes, HaveEnds}
 use Rattle.gq_rules_meaning.specs.Calendars.{Calendar}
 use Rattle.gq_rules_meaning.specs.Expressions.{World, Look}
 use Rattle.gq_plan_ir.specs.declared.plan.Plan.{Plan}
@@ -14,9 +15,7 @@ use Rattle.gq_plan_ir.specs.PlanView.{accum_names}
 use Rattle.gq_plan_ir.specs.Reference.{Reference}
 use Rattle.gq_eval_attributes.specs.declared.tuple_type.TupleType.{TupleType}
 use Rattle.gq_eval_attributes.specs.Tuples.{tuples_are}
-use Rattle.gq_eval_attributes.specs.Worlds.{HaveAttributes}
 use Rattle.gq_frame.specs.declared.frame.Frame.{Frame}
-use Rattle.gq_eval_context.specs.Ends.{HaveEnds}
 use Rattle.gq_eval_context.specs.Viewed.{Viewed, Over, viewed}
 use Rattle.gq_eval_context.specs.Looks.{graph_for, look_of}
 

@@ -7,6 +7,7 @@ use Rattle.std.proofs.lemmas.Result.{err_from_is_err_and}
 use Rattle.gq_index.specs.declared.store.Graph as code
 use Rattle.gq_index.specs.Sights.{sight_of}
 use Rattle.gq_index.specs.Walks.{adjacency}
+use Rattle.gq_index.specs.Rows.{HaveAttributes, HaveEnds}
 use Rattle.gq_value.specs.declared.value.Value.{Value}
 use Rattle.gq_value.specs.declared.value.Wrong.{Wrong}
 use Rattle.gq_value.specs.declared.kind.Kind.{Kind}
@@ -37,9 +38,7 @@ use Rattle.gq_eval_operand.specs.declared.halt.Halt.{Halt}
 use Rattle.gq_eval_operand.specs.Meant.{Halts}
 use Rattle.gq_eval_attributes.specs.declared.tuple_type.TupleType.{TupleType}
 use Rattle.gq_eval_attributes.specs.Tuples.{fields_in, tuples_are, tuples_from}
-use Rattle.gq_eval_attributes.specs.Worlds.{HaveAttributes}
 use Rattle.gq_frame.specs.Slots.{AreSound, slots_are}
-use Rattle.gq_eval_context.specs.Ends.{HaveEnds}
 use Rattle.gq_frame.specs.declared.live.Live.{Live}
 use Rattle.gq_frame.specs.Lives.{Lives, Unwinds}
 use Rattle.gq_exec_vars.specs.declared.opening.Opened.{Opened}

@@ -4,6 +4,7 @@ use Rattle.std.specs.List.{list_any}
 use Rattle.gq_index.specs.declared.store.Graph as code
 use Rattle.gq_index.specs.Sights.{sight_of}
 use Rattle.gq_index.specs.Walks.{adjacency}
+use Rattle.gq_index.specs.Rows.{HaveAttributes, HaveEnds}
 use Rattle.gq_graph.specs.Catalog.{most_types}
 use Rattle.gq_value.specs.declared.kind.BaseType.{BaseType}
 use Rattle.gq_value.specs.declared.value.Value.{Value}
@@ -45,12 +46,10 @@ use Rattle.gq_eval_operand.specs.declared.halt.Halt.{Halt}
 use Rattle.gq_eval_operand.specs.Meant.{Halts, Tells}
 use Rattle.gq_eval_attributes.specs.declared.tuple_type.TupleType.{TupleType}
 use Rattle.gq_eval_attributes.specs.Tuples.{fields_in, tuples_are}
-use Rattle.gq_eval_attributes.specs.Worlds.{HaveAttributes}
 use Rattle.gq_exec_feed.proofs.SlotLemmas.{Every}
 use Rattle.gq_frame.specs.declared.frame.Frame.{Frame}
 use Rattle.gq_frame.specs.declared.frame.Thing as frame
 use Rattle.gq_frame.specs.Slots.{AreSound, slots_are}
-use Rattle.gq_eval_context.specs.Ends.{HaveEnds}
 use Rattle.gq_eval_context.specs.Looks.{graph_for}
 use Rattle.gq_eval_context.specs.Viewed.{Over}
 use Rattle.gq_frame.specs.declared.live.Live.{Live}

@@ -4,13 +4,12 @@ ghost use Rattle.gq_graph.specs.Catalog.{most_types};
 ghost use Rattle.gq_value.specs.Views.{val};
 ghost use Rattle.gq_index.specs.Sights.{sight_of};
 ghost use Rattle.gq_index.specs.Walks.{adjacency};
+ghost use Rattle.gq_index.specs.Rows.{HaveAttributes, HaveEnds};
 ghost use Rattle.gq_rules_meaning.specs.Answers.{Gives, through};
 ghost use Rattle.gq_rules_meaning.specs.Queries.{Defining, defined};
 ghost use Rattle.gq_rules_calendar.specs.Gregorian.{gregorian};
 ghost use Rattle.gq_plan_ir.specs.PlanView.{view_definition};
 ghost use Rattle.gq_plan_ir.specs.Reference.{Reference};
-ghost use Rattle.gq_eval_attributes.specs.Worlds.{HaveAttributes};
-ghost use Rattle.gq_eval_context.specs.Ends.{HaveEnds};
 ghost use Rattle.gq_exec_vars.specs.Begun.{AddsTuple, AreReady, Begins, Leads, MayOpen, Stands, begins, world_with};
 
 use crate::accums::accums;

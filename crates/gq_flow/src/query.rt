@@ -4,12 +4,11 @@ ghost use Rattle.gq_graph.specs.Catalog.{most_types};
 ghost use Rattle.gq_value.specs.Views.{val};
 ghost use Rattle.gq_index.specs.Sights.{sight_of};
 ghost use Rattle.gq_index.specs.Walks.{adjacency};
+ghost use Rattle.gq_index.specs.Rows.{HaveAttributes, HaveEnds};
 ghost use Rattle.gq_rules_meaning.specs.Queries.{run_plan};
 ghost use Rattle.gq_rules_calendar.specs.Gregorian.{gregorian};
 ghost use Rattle.gq_plan_ir.specs.PlanView.{view_plan};
-ghost use Rattle.gq_eval_attributes.specs.Worlds.{HaveAttributes};
 ghost use Rattle.gq_frame.specs.Slots.{AreSound};
-ghost use Rattle.gq_eval_context.specs.Ends.{HaveEnds};
 ghost use Rattle.gq_flow.specs.Plans.{Prints, RunsFrom, plan_world};
 
 use crate::program::Program;

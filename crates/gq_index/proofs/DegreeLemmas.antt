@@ -56,7 +56,7 @@ climbs_two a (w ∷ ws) zero (suc j) up le h = climbs_at w.kind ws j up.1 (omega
 climbs_two a (w ∷ ws) (suc i) zero up le h = absurd (omega arith)
 climbs_two a (w ∷ ws) (suc i) (suc j) up le h = climbs_two w.kind ws i j up.1 (omega arith) (omega arith)
 
-one_kind : (v e r : ℕ) (fars : List ℕ) → All (λ (w : Traversal). w.kind ≡ e) (map (λ far. record { source = v; kind = e; row = r; target = far }) fars)
+pub one_kind : (v e r : ℕ) (fars : List ℕ) → All (λ (w : Traversal). w.kind ≡ e) (map (λ far. record { source = v; kind = e; row = r; target = far }) fars)
 one_kind v e r [] = All-nil (λ (w : Traversal). w.kind ≡ e)
 one_kind v e r (x ∷ xs) =
     All-cons (λ (w : Traversal). w.kind ≡ e) (record { source = v; kind = e; row = r; target = x }) (map (λ far. record { source = v; kind = e; row = r; target = far }) xs)
@@ -156,7 +156,7 @@ count_walked v k (x ∷ xs) =
     count_cons (λ (w : Traversal). w.kind == k) (walked v x) (map (walked v) xs) ∙ ap (λ n. cond (x.kind == k) 1 0 + n) (count_walked v k xs)
     ∙ sym (count_cons (λ (way : Neighbor). way.kind == k) x xs)
 
-all_or_none : (b : Bool) (p : Traversal → Bool) (ws : List Traversal) → All (λ w. p w ≡ b) ws → filter p ws ≡ cond b ws []
+pub all_or_none : (b : Bool) (p : Traversal → Bool) (ws : List Traversal) → All (λ w. p w ≡ b) ws → filter p ws ≡ cond b ws []
 all_or_none true p [] all = refl
 all_or_none false p [] all = refl
 all_or_none true p (w ∷ ws) all =
@@ -188,15 +188,20 @@ only_one g k = nat_up P (λ h. absurd (omega arith)) step
       | inr other ↦ ap (λ b. flat_map G (below n) ++ cond b (g n) []) (differs n k other) ∙ append-nil (flat_map G (below n)) ∙ before (omega arith)
     ]
 
+-- of walks by type, those of a type
+pub of_kind_in : (F : ℕ → List Traversal) → ((e : ℕ) → All (λ (w : Traversal). w.kind ≡ e) (F e)) → (k n : ℕ) → k < n
+    → filter (λ (w : Traversal). w.kind == k) (flat_map F (below n)) ≡ F k
+of_kind_in F same k n h =
+    filter_flat_map (λ (w : Traversal). w.kind == k) F (below n)
+    ∙ flat_map_agree (λ e. filter (λ (w : Traversal). w.kind == k) (F e)) (λ e. cond (e == k) (F e) []) n
+    (λ e _. all_or_none (e == k) (λ (w : Traversal). w.kind == k) (F e)
+    (All-weaker (λ (w : Traversal). w.kind ≡ e) (λ (w : Traversal). (w.kind == k) ≡ (e == k)) (λ w q. ap (λ n. n == k) q) (F e) (same e)))
+    ∙ only_one F k n h
+
 -- of the walks from a vertex, those of a type are the walks under it
-of_kind : (types : List EdgeType) (edges : List EdgeRow) (v k : ℕ) → k < length types
+pub of_kind : (types : List EdgeType) (edges : List EdgeRow) (v k : ℕ) → k < length types
     → filter (λ (w : Traversal). w.kind == k) (walks_from types edges v) ≡ walks_under types edges v k
-of_kind types edges v k h =
-    filter_flat_map (λ (w : Traversal). w.kind == k) (walks_under types edges v) (below (length types))
-    ∙ flat_map_agree (λ e. filter (λ (w : Traversal). w.kind == k) (walks_under types edges v e)) (λ e. cond (e == k) (walks_under types edges v e) []) (length types)
-    (λ e _. all_or_none (e == k) (λ (w : Traversal). w.kind == k) (walks_under types edges v e)
-    (All-weaker (λ (w : Traversal). w.kind ≡ e) (λ (w : Traversal). (w.kind == k) ≡ (e == k)) (λ w q. ap (λ n. n == k) q) (walks_under types edges v e) (under_kind types edges v e)))
-    ∙ only_one (walks_under types edges v) k (length types) h
+of_kind types edges v k h = of_kind_in (walks_under types edges v) (under_kind types edges v) k (length types) h
 
 -- the walks under a type are as many as the edges that can be walked
 under_length : (types : List EdgeType) (edges : List EdgeRow) (v k : ℕ)

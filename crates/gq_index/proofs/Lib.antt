@@ -1,5 +1,6 @@
 pub mod PlaceLemmas
 pub mod WalkLemmas
+pub mod ListLemmas
 pub mod IndexLemmas
 pub mod DegreeLemmas
 pub mod SightLemmas
@@ -8,4 +9,5 @@ pub mod RunLemmas
 pub mod CandidateLemmas
 pub mod GatherLemmas
 pub mod StepLemmas
+pub mod KeptLemmas
 pub mod NamingLemmas

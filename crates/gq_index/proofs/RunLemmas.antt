@@ -1,5 +1,5 @@
 -- RunLemmas: what one more walk does to segments and places, and what the search for a segment finds.
-use Rattle.std.proofs.Common.{eq-eqb, inl, inr, ℕ, zero, suc, ◌+◌, ◌-◌, ◌/◌, ◌^◌, ◌<◌, ◌≤◌, ◌≡◌, Bool, true, false, cond, not, List, [], ◌∷◌, ◌++◌, ◌==◌, ◌&&◌, ◌||◌, nat_le, length, get_or, map, refl, ap, sym, ◌∙◌, arith, zero-add}
+use Rattle.std.proofs.Common.{eq-eqb, inl, inr, ℕ, zero, suc, ◌+◌, ◌-◌, ◌/◌, ◌^◌, ◌<◌, ◌≤◌, ◌≡◌, Bool, true, false, cond, not, List, [], ◌∷◌, ◌++◌, ◌==◌, ◌&&◌, ◌||◌, nat_le, length, get_or, map, refl, ap, ap₂, sym, ◌∙◌, subst, arith, zero-add}
 use Rattle.std.specs.List.{count_by}
 use Rattle.std.proofs.lemmas.List.{get_or_append_left, get_or_push, length_push, map_push}
 use Rattle.std.proofs.lemmas.List.FromFn.{get_or-map-range_with_len, length-map-range_with_len}
@@ -277,3 +277,12 @@ holds_none = record {
   begun = λ h. absurd (omega arith);
   runs = sym (many_zero (opens []));
 }
+
+-- without segments and places no walks are shown
+pub none_shown : (segments : List Segment) (reached : List Reached) → segments ≡ [] → reached ≡ [] → shown segments reached ≡ []
+none_shown segments reached first second = ap₂ shown first second ∙ holds_none.shows
+
+pub none_held : (segments : List Segment) (reached : List Reached) → segments ≡ [] → reached ≡ [] → Holds segments reached (shown segments reached)
+none_held segments reached first second =
+    subst (λ (s : List Segment). Holds s reached (shown s reached)) (sym first)
+    (subst (λ (r : List Reached). Holds [] r (shown [] r)) (sym second) (subst (Holds [] []) (sym holds_none.shows) holds_none))

@@ -1,13 +1,12 @@
--- WalkLemmas: the walks that a pass over the types finds, put in order of their sources, are those from each vertex.
+-- WalkLemmas: the walks that a pass over the types finds, and those of them from one vertex.
 use Rattle.std.specs.Prelude.{min}
-use Rattle.std.proofs.Common.{inl, inr, ℕ, zero, suc, ◌+◌, ◌<◌, ◌≤◌, ◌≡◌, ◌≢◌, Bool, true, false, cond, not, ◌⊎◌, List, [], ◌∷◌, ◌++◌, ◌==◌, ◌&&◌, length, get_or, take, map, Some, None, refl, ap, sym, ◌∙◌, arith, append-nil, zero-add}
+use Rattle.std.proofs.Common.{inl, inr, ℕ, zero, suc, ◌+◌, ◌-◌, ◌<◌, ◌≤◌, ◌≡◌, ◌≢◌, Bool, true, false, cond, not, ◌⊎◌, List, [], ◌∷◌, ◌++◌, ◌==◌, ◌&&◌, ◌||◌, length, get_or, drop, map, Some, None, refl, ap, sym, ◌∙◌, arith, append-nil, zero-add}
 use Rattle.std.specs.List.{filter, flat_map, All}
 use Rattle.std.specs.Option.{is_some, option_to_list}
-use Rattle.std.proofs.lemmas.List.{get_or-map, take_all, length-map, map-append}
+use Rattle.std.proofs.lemmas.List.{get_or-map, get_or-drop, length-drop, length-map}
 use Rattle.std.proofs.lemmas.List.Concat.{flat_map-append}
-use Rattle.std.proofs.lemmas.List.Elements.{filter-append, filter_agree, filter_more, All-nil, All-cons, All-append, All-weaker, All-head, All-tail}
+use Rattle.std.proofs.lemmas.List.Elements.{filter-append, All-nil, All-cons, All-append, All-weaker, All-head, All-tail}
 use Rattle.std.proofs.lemmas.List.FromFn.{get_or-map-range_with_len, get_or-range_with_len, length-range_with_len}
-use Rattle.std.proofs.lemmas.Simd.{map-map}
 use Rattle.std.proofs.lemmas.Bool.Decides.{nat_tests}
 use Rattle.std.proofs.lemmas.Bool.{cases_eq}
 use Rattle.gq_graph.specs.declared.types.EdgeType.{EdgeType}
@@ -15,10 +14,10 @@ use Rattle.gq_graph.specs.declared.rows.EdgeRow.{EdgeRow}
 use Rattle.gq_graph.specs.Candidates.{far_end, led_to}
 use Rattle.gq_graph.specs.Edges.{edge_at, no_edge}
 use Rattle.gq_index.specs.declared.walks.Traversal.{Traversal}
-use Rattle.gq_index.specs.Places.{below, passing, holds, part_of, cut_up, IsPlaced}
+use Rattle.gq_index.specs.Places.{below, passing, holds, cut_up, IsPlaced}
 use Rattle.gq_index.specs.Sights.{type_at}
-use Rattle.gq_index.specs.Walks.{no_walk, walk_at, base_of, walks_along, walks_under, walks_from, both_ways, type_walks, all_walks, edge_kinds, sources_of}
-use Rattle.gq_index.proofs.PlaceLemmas.{nat_up, below_more, passing_more, passing_zero, cut_map, cut_part}
+use Rattle.gq_index.specs.Walks.{base_of, walks_along, walks_under, walks_from, both_ways, type_walks, all_walks, type_walks_behind, walks_behind, edge_kinds}
+use Rattle.gq_index.proofs.PlaceLemmas.{nat_up, below_more, passing_more, passing_zero}
 
 pub filter_flat_map : {X Y : Type 0} (p : Y → Bool) (f : X → List Y) (xs : List X) → filter p (flat_map f xs) ≡ flat_map (λ x. filter p (f x)) xs
 filter_flat_map p f [] = refl
@@ -86,6 +85,28 @@ type_walks_from types edges v e =
     ∙ flat_map_agree (λ r. filter (λ (w : Traversal). w.source == v) (ends r)) (λ r. walks_along types v e r (edge_at edges r)) (length edges)
     (λ r _. edge_walks t e r v (edge_at edges r))
 
+-- the walks from a vertex under a type along the edges behind the first ones
+abbrev pub under_behind : List EdgeType → List EdgeRow → ℕ → ℕ → ℕ → List Traversal
+under_behind types edges first v e = flat_map (λ r. walks_along types v e (first + r) (edge_at edges (first + r))) (below (length edges - first))
+
+type_behind_from : (types : List EdgeType) (edges : List EdgeRow) (first v e : ℕ)
+    → filter (λ (w : Traversal). w.source == v) (type_walks_behind (type_at types e) e first edges) ≡ under_behind types edges first v e
+unfolding type_walks_behind
+type_behind_from types edges first v e =
+    let t = type_at types e in
+    let ends : ℕ → List Traversal = λ r. both_ways t e (first + r) (edge_at edges (first + r)) in
+    let n : ℕ = length edges - first in
+    filter_flat_map (λ (w : Traversal). w.source == v) ends (below n)
+    ∙ flat_map_agree (λ r. filter (λ (w : Traversal). w.source == v) (ends r)) (λ r. walks_along types v e (first + r) (edge_at edges (first + r))) n
+    (λ r _. edge_walks t e (first + r) v (edge_at edges (first + r)))
+
+pub all_behind_from : (types : List EdgeType) (edges : List EdgeRow) (first v : ℕ)
+    → filter (λ (w : Traversal). w.source == v) (walks_behind types first edges) ≡ flat_map (under_behind types edges first v) (below (length types))
+unfolding walks_behind
+all_behind_from types edges first v =
+    filter_flat_map (λ (w : Traversal). w.source == v) (λ e. type_walks_behind (type_at types e) e first edges) (below (length types))
+    ∙ flat_map_agree (λ e. filter (λ (w : Traversal). w.source == v) (type_walks_behind (type_at types e) e first edges)) (under_behind types edges first v) (length types) (λ e _. type_behind_from types edges first v e)
+
 pub all_walks_from : (types : List EdgeType) (edges : List EdgeRow) (v : ℕ)
     → filter (λ (w : Traversal). w.source == v) (all_walks types edges) ≡ walks_from types edges v
 unfolding all_walks
@@ -96,57 +117,6 @@ all_walks_from types edges v =
 pub map_cond : {X Y : Type 0} (f : X → Y) (b : Bool) (x : X) → map f (cond b (x ∷ []) []) ≡ cond b (f x ∷ []) []
 map_cond f true x = refl
 map_cond f false x = refl
-
--- the elements at the places that have a key are those that have it
-picked_more : {X : Type 0} (key : X → ℕ) (xs : List X) (d : X) (k n : ℕ)
-    → (n ≤ length xs → map (λ i. get_or xs i d) (passing (holds (map key xs) k) n) ≡ filter (λ x. key x == k) (take n xs))
-    → n + 1 ≤ length xs → map (λ i. get_or xs i d) (passing (holds (map key xs) k) (n + 1)) ≡ filter (λ x. key x == k) (take (n + 1) xs)
-picked_more key xs d k n before h =
-    let read = λ (i : ℕ). get_or xs i d in
-    let p : ℕ → Bool = holds (map key xs) k in
-    let same : get_or (map key xs) n 0 ≡ key (get_or xs n d) = get_or-map key xs n d 0 (omega arith) in
-    ap (map read) (passing_more p n) ∙ map-append read (passing p n) (cond (p n) (n ∷ []) [])
-    ∙ ap (λ l. map read (passing p n) ++ l) (map_cond read (p n) n)
-    ∙ ap (λ l. l ++ cond (p n) (get_or xs n d ∷ []) []) (before (omega arith))
-    ∙ ap (λ m. filter (λ x. key x == k) (take n xs) ++ cond (m == k) (get_or xs n d ∷ []) []) same
-    ∙ sym (filter_more (λ x. key x == k) xs n d (omega arith))
-
-pub picked : {X : Type 0} (key : X → ℕ) (xs : List X) (d : X) (k n : ℕ) → n ≤ length xs
-    → map (λ i. get_or xs i d) (passing (holds (map key xs) k) n) ≡ filter (λ x. key x == k) (take n xs)
-picked {X} key xs d k =
-    let P : ℕ → Type 0 = λ n. n ≤ length xs → map (λ i. get_or xs i d) (passing (holds (map key xs) k) n) ≡ filter (λ x. key x == k) (take n xs)
-    in nat_up P (λ _. ap (map (λ i. get_or xs i d)) (passing_zero (holds (map key xs) k))) (picked_more key xs d k)
-
--- below the count nothing changes
-cut_test : (s n k : ℕ) → k < n → (min s n == k) ≡ (s == k)
-cut_test s n k h = grind (arith, nat_tests)
-
--- the walks in order of their sources are those from each vertex
-pub placed_walks : (types : List EdgeType) (edges : List EdgeRow) (walks : List Traversal) (sources starts order : List ℕ) (vertices : ℕ)
-    → walks ≡ all_walks types edges → sources ≡ sources_of vertices walks → IsPlaced sources (vertices + 1) starts order
-    → (k : ℕ) → k < vertices → part_of starts (map (walk_at walks) order) k ≡ walks_from types edges k
-placed_walks types edges walks sources starts order vertices are keys placed k low =
-    sym (cut_part starts (map (walk_at walks) order) k (omega (arith, placed.long)))
-    ∙ ap (λ l. get_or l k [])
-    (cut_map (walk_at walks) starts order ∙ ap (map (map (walk_at walks))) placed.groups
-    ∙ map-map (map (walk_at walks)) (λ k. passing (holds sources k) (length sources)) (below (vertices + 1)))
-    ∙ get_or-map-range_with_len (λ k. map (walk_at walks) (passing (holds sources k) (length sources))) 0 (vertices + 1) k k [] (omega arith) (zero-add k)
-    ∙ at
-  where
-    key : Traversal → ℕ
-    key w = min w.source vertices
-
-    long : length sources ≡ length walks
-    long = ap length keys ∙ length-map walks key
-
-    at : map (walk_at walks) (passing (holds sources k) (length sources)) ≡ walks_from types edges k
-    at =
-        ap (λ n. map (walk_at walks) (passing (holds sources k) n)) long
-        ∙ ap (λ l. map (walk_at walks) (passing (holds l k) (length walks))) keys
-        ∙ picked key walks no_walk k (length walks) (omega arith)
-        ∙ ap (filter (λ w. key w == k)) (take_all (length walks) walks (omega arith) ∙ are)
-        ∙ filter_agree (λ w. key w == k) (λ w. w.source == k) (λ w. cut_test w.source vertices k low) (all_walks types edges)
-        ∙ all_walks_from types edges k
 
 pub passing_below : (p : ℕ → Bool) (n : ℕ) → All (λ r. r < n) (passing p n)
 passing_below p =
@@ -182,8 +152,32 @@ pub kind_part_below : (edges : List EdgeRow) (starts order part : List ℕ) (kin
 kind_part_below edges starts order part kinds b placed e =
     rw (e ∙ kind_part edges starts order kinds b placed) (passing_below (holds (edge_kinds kinds edges) (min kinds b)) (length edges))
 
-both_none : (t : EdgeType) (e r : ℕ) (edge : EdgeRow) → (edge.kind == base_of t e) ≡ false → both_ways t e r edge ≡ []
+pub both_none : (t : EdgeType) (e r : ℕ) (edge : EdgeRow) → (edge.kind == base_of t e) ≡ false → both_ways t e r edge ≡ []
 both_none t e r edge other = rw (other, both_ways) refl
+
+-- an edge of the type, walked backwards, forwards, and both ways
+pub both_back : (t : EdgeType) (e r : ℕ) (edge : EdgeRow) → (edge.kind == base_of t e) ≡ true → is_some t.forward ≡ true
+    → both_ways t e r edge ≡ (record { source = edge.to; kind = e; row = r; target = edge.from }) ∷ []
+both_back t e r edge has back = rw (has, back, both_ways) refl
+
+pub both_out : (t : EdgeType) (e r : ℕ) (edge : EdgeRow) → (edge.kind == base_of t e) ≡ true → is_some t.forward ≡ false
+    → (t.directed || (edge.from == edge.to)) ≡ true → both_ways t e r edge ≡ (record { source = edge.from; kind = e; row = r; target = edge.to }) ∷ []
+both_out t e r edge has own one = rw (has, own, alone t.directed (edge.from == edge.to) one, both_ways) refl
+  where
+    alone : (a b : Bool) → (a || b) ≡ true → (not a && not b) ≡ false
+    alone true b h = refl
+    alone false true h = refl
+    alone false false h = sym h
+
+pub both_two : (t : EdgeType) (e r : ℕ) (edge : EdgeRow) → (edge.kind == base_of t e) ≡ true → is_some t.forward ≡ false
+    → (t.directed || (edge.from == edge.to)) ≡ false
+    → both_ways t e r edge ≡ (record { source = edge.from; kind = e; row = r; target = edge.to }) ∷ (record { source = edge.to; kind = e; row = r; target = edge.from }) ∷ []
+both_two t e r edge has own two = rw (has, own, twice t.directed (edge.from == edge.to) two, both_ways) refl
+  where
+    twice : (a b : Bool) → (a || b) ≡ false → (not a && not b) ≡ true
+    twice true b h = sym h
+    twice false true h = sym h
+    twice false false h = refl
 
 cond_none : (b : Bool) → cond {A = List Traversal} b [] [] ≡ []
 cond_none true = refl
@@ -204,35 +198,36 @@ kept_kind t e r edge kinds = elim (cases_eq edge.kind (base_of t e)) [
     differs a b ne = grind (arith, nat_tests)
 
 -- the walks along the part of a type are all its walks
-part_walks : (edges : List EdgeRow) (t : EdgeType) (e kinds : ℕ)
-    → flat_map (λ r. both_ways t e r (edge_at edges r)) (passing (holds (edge_kinds kinds edges) (min kinds (base_of t e))) (length edges)) ≡ type_walks t e edges
-unfolding passing type_walks
-part_walks edges t e kinds =
+part_walks : (edges tail : List EdgeRow) (t : EdgeType) (e first kinds : ℕ) → tail ≡ drop first edges
+    → flat_map (λ r. both_ways t e (first + r) (edge_at edges (first + r))) (passing (holds (edge_kinds kinds tail) (min kinds (base_of t e))) (length tail)) ≡ type_walks_behind t e first edges
+unfolding passing type_walks_behind
+part_walks edges tail t e first kinds is =
     let k : ℕ = min kinds (base_of t e) in
-    let has : ℕ → Bool = holds (edge_kinds kinds edges) k in
-    let ends : ℕ → List Traversal = λ r. both_ways t e r (edge_at edges r) in
-    flat_map_filter ends has (below (length edges))
-    ∙ flat_map_agree (λ r. cond (has r) (ends r) []) ends (length edges)
-    (λ r h. ap (λ x. cond (x == k) (ends r) []) (get_or-map (λ (edge : EdgeRow). min edge.kind kinds) edges r no_edge 0 h) ∙ kept_kind t e r (edge_at edges r) kinds)
+    let has : ℕ → Bool = holds (edge_kinds kinds tail) k in
+    let ends : ℕ → List Traversal = λ r. both_ways t e (first + r) (edge_at edges (first + r)) in
+    let kind : EdgeRow → ℕ = λ edge. min edge.kind kinds in
+    flat_map_filter ends has (below (length tail))
+    ∙ flat_map_agree (λ r. cond (has r) (ends r) []) ends (length tail)
+    (λ r h. ap (λ x. cond (x == k) (ends r) []) (get_or-map kind tail r no_edge 0 h ∙ ap kind (ap (λ l. edge_at l r) is ∙ get_or-drop first edges r no_edge))
+    ∙ kept_kind t e (first + r) (edge_at edges (first + r)) kinds)
+    ∙ ap (λ n. flat_map ends (below n)) (ap length is ∙ length-drop first edges)
 
-pub type_more : (types : List EdgeType) (edges : List EdgeRow) (starts order part : List ℕ) (before after : List Traversal) (t : EdgeType) (e : ℕ)
-    → IsPlaced (edge_kinds (length types) edges) (length types + 1) starts order → t ≡ type_at types e
+pub type_more : (types : List EdgeType) (edges tail : List EdgeRow) (starts order part : List ℕ) (t : EdgeType) (e first : ℕ)
+    → IsPlaced (edge_kinds (length types) tail) (length types + 1) starts order → tail ≡ drop first edges → t ≡ type_at types e
     → part ≡ get_or (cut_up starts order) (min (length types) (base_of t e)) []
-    → before ≡ flat_map (λ e. type_walks (type_at types e) e edges) (below e)
-    → after ≡ before ++ flat_map (λ r. both_ways t e r (edge_at edges r)) part
-    → after ≡ flat_map (λ e. type_walks (type_at types e) e edges) (below (e + 1))
-type_more types edges starts order part before after t e placed is parted was now =
-    let all : List Traversal = flat_map (λ e. type_walks (type_at types e) e edges) (below e) in
-    now ∙ ap (λ l. l ++ flat_map (λ r. both_ways t e r (edge_at edges r)) part) was
-    ∙ ap (λ l. all ++ flat_map (λ r. both_ways t e r (edge_at edges r)) l) (parted ∙ kind_part edges starts order (length types) (base_of t e) placed)
-    ∙ ap (λ l. all ++ l) (part_walks edges t e (length types))
-    ∙ ap (λ u. all ++ type_walks u e edges) is
-    ∙ sym (flat_map_below (λ e. type_walks (type_at types e) e edges) e)
+    → flat_map (λ e. type_walks_behind (type_at types e) e first edges) (below e) ++ flat_map (λ r. both_ways t e (first + r) (edge_at edges (first + r))) part
+    ≡ flat_map (λ e. type_walks_behind (type_at types e) e first edges) (below (e + 1))
+type_more types edges tail starts order part t e first placed cut is parted =
+    let all : List Traversal = flat_map (λ e. type_walks_behind (type_at types e) e first edges) (below e) in
+    ap (λ l. all ++ flat_map (λ r. both_ways t e (first + r) (edge_at edges (first + r))) l) (parted ∙ kind_part tail starts order (length types) (base_of t e) placed)
+    ∙ ap (λ l. all ++ l) (part_walks edges tail t e first (length types) cut)
+    ∙ ap (λ u. all ++ type_walks_behind u e first edges) is
+    ∙ sym (flat_map_below (λ e. type_walks_behind (type_at types e) e first edges) e)
 
-pub flat_map_to : (types : List EdgeType) (edges : List EdgeRow) (n : ℕ) → n ≡ length types
-    → flat_map (λ e. type_walks (type_at types e) e edges) (below n) ≡ all_walks types edges
-unfolding all_walks
-flat_map_to types edges n e = ap (λ n. flat_map (λ e. type_walks (type_at types e) e edges) (below n)) e
+pub flat_map_to : (types : List EdgeType) (edges : List EdgeRow) (first n : ℕ) → n ≡ length types
+    → flat_map (λ e. type_walks_behind (type_at types e) e first edges) (below n) ≡ walks_behind types first edges
+unfolding walks_behind
+flat_map_to types edges first n e = ap (λ n. flat_map (λ e. type_walks_behind (type_at types e) e first edges) (below n)) e
 
 pub All-flat_map : {X Y : Type 0} (P : Y → Type 0) (Q : X → Type 0) (f : X → List Y) → ((x : X) → Q x → All P (f x)) → (xs : List X) → All Q xs → All P (flat_map f xs)
 All-flat_map P Q f each [] all = All-nil P

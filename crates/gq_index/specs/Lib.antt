@@ -6,3 +6,5 @@ pub mod Segments
 pub mod Steps
 pub mod Ends
 pub mod Namings
+pub mod Rows
+pub mod Kept

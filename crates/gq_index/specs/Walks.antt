@@ -1,7 +1,7 @@
 -- Walks: the ways along edges from each vertex, by edge type and by edge.
 -- Here each vertex looks at every edge under every type. The code looks at each edge once under each type that has it, and
--- then puts what it found in order of the vertices.
-use Rattle.std.specs.Prelude.{ℕ, ◌-◌, min, ◌&&◌, not, if◌then◌else◌, ◌==◌, List, [], ◌∷◌, length, map, slice_index_or}
+-- puts each walk behind those of its type in the list of its vertex.
+use Rattle.std.specs.Prelude.{ℕ, ◌+◌, ◌-◌, ◌<◌, ◌≡◌, min, filter, ◌&&◌, not, if◌then◌else◌, ◌==◌, List, [], ◌∷◌, length, map, slice_index_or}
 use Rattle.std.specs.List.{flat_map}
 use Rattle.std.specs.Option.{is_some, unwrap_or, option_to_list}
 use Rattle.gq_graph.specs.declared.types.EdgeType.{EdgeType}
@@ -10,7 +10,7 @@ use Rattle.gq_graph.specs.Candidates.{Sight, far_end}
 use Rattle.gq_graph.specs.Edges.{edge_at}
 use Rattle.gq_index.specs.declared.walks.Traversal.{Traversal}
 use Rattle.gq_index.specs.declared.walks.Neighbor.{Neighbor}
-use Rattle.gq_index.specs.Places.{below, part_of}
+use Rattle.gq_index.specs.Places.{below}
 use Rattle.gq_index.specs.Sights.{type_at}
 
 -- no walk
@@ -50,9 +50,13 @@ adjacency sight = map (walks_from sight.types sight.edges) (below (length sight.
 abbrev pub walks_at : List (List Traversal) → ℕ → List Traversal
 walks_at index v = slice_index_or index v []
 
--- what ways and their starts stand for: the walks from each vertex
-abbrev pub laid_out : List ℕ → List Neighbor → List (List Traversal)
-laid_out starts ways = map (λ v. map (walked v) (part_of starts ways v)) (below (length starts - 1))
+-- the ways from a vertex
+abbrev pub ways_at : List (List Neighbor) → ℕ → List Neighbor
+ways_at lists v = slice_index_or lists v []
+
+-- what lists of ways stand for: the walks from each vertex
+abbrev pub laid_out : List (List Neighbor) → List (List Traversal)
+laid_out lists = map (λ v. map (walked v) (ways_at lists v)) (below (length lists))
 
 -- the type that has a type's edges: its forward type, or itself
 abbrev pub base_of : EdgeType → ℕ → ℕ
@@ -75,10 +79,6 @@ both_ways type e r edge =
 abbrev pub edge_kinds : ℕ → List EdgeRow → List ℕ
 edge_kinds count edges = map (λ (edge : EdgeRow). min edge.kind count) edges
 
--- where each walk is taken from; vertices that aren't there are one more
-abbrev pub sources_of : ℕ → List Traversal → List ℕ
-sources_of count walks = map (λ (walk : Traversal). min walk.source count) walks
-
 -- the walks under one type, by edge
 unfoldable pub type_walks : EdgeType → ℕ → List EdgeRow → List Traversal
 type_walks type e edges = flat_map (λ r. both_ways type e r (edge_at edges r)) (below (length edges))
@@ -86,3 +86,24 @@ type_walks type e edges = flat_map (λ r. both_ways type e r (edge_at edges r)) 
 -- all walks, by type and by edge
 unfoldable pub all_walks : List EdgeType → List EdgeRow → List Traversal
 all_walks types edges = flat_map (λ e. type_walks (type_at types e) e edges) (below (length types))
+
+-- the walks along the edges behind the first ones, under one type
+unfoldable pub type_walks_behind : EdgeType → ℕ → ℕ → List EdgeRow → List Traversal
+type_walks_behind type e first edges = flat_map (λ r. both_ways type e (first + r) (edge_at edges (first + r))) (below (length edges - first))
+
+-- the walks along the edges behind the first ones, by type and by edge
+unfoldable pub walks_behind : List EdgeType → ℕ → List EdgeRow → List Traversal
+walks_behind types first edges = flat_map (λ e. type_walks_behind (type_at types e) e first edges) (below (length types))
+
+-- walks by type, those of one type as they stand
+unfoldable pub by_type : ℕ → List Traversal → List Traversal
+by_type count walks = flat_map (λ e. filter (λ (walk : Traversal). walk.kind == e) walks) (below count)
+
+-- the walks that are taken from a vertex
+abbrev pub taken_from : ℕ → List Traversal → List Traversal
+taken_from v walks = filter (λ (walk : Traversal). walk.source == v) walks
+
+-- n lists have, for each vertex, those walks that are taken from it, by type
+pub record AreListed (n count : ℕ) (lists : List (List Neighbor)) (walks : List Traversal) : Type 0 where
+  pub long : length lists ≡ n
+  pub own : (v : ℕ) → v < n → map (walked v) (ways_at lists v) ≡ by_type count (taken_from v walks)

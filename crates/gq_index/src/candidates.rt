@@ -138,7 +138,11 @@ fn below(alloc: Global, numbers: &[u32], count: u32) -> Result<Vec<u32>, OutOfMe
 }
 
 /// The vertices of a set that are there, by number, at a cost of the set alone.
-fn in_number_order(alloc: Global, set: &[u32], graph: &Graph<'_>) -> Result<Vec<u32>, OutOfMemory>
+pub fn in_number_order(
+    alloc: Global,
+    set: &[u32],
+    graph: &Graph<'_>,
+) -> Result<Vec<u32>, OutOfMemory>
     ensures { IfOk result (λ v. v.items ≡ by_number (sight_of graph.now.catalog.now graph.now.store.now.vertices graph.now.store.now.edges) set.now) }
 {
     let mut sources = below(alloc, set, graph.store.vertices.len())?;
@@ -210,6 +214,15 @@ fn walked_candidate(walk: Traversal) -> Candidate
 }
 
 impl Candidates {
+    /// The candidates along walks.
+    pub(crate) fn along(walks: Runs) -> Candidates
+        ensures { result ≡ map of_walk walks }
+    {
+        Candidates {
+            held: CandidateRows::Edges(walks),
+        }
+    }
+
     /// The candidates of a set along a pattern, or of a set alone. The cost is that of sorting the set, and of the walks
     /// from its vertices, whatever else the graph holds. More than 4,294,967,295 candidates are `OutOfMemory` too.
     pub fn of(
@@ -230,9 +243,7 @@ impl Candidates {
             }
             Some(pattern) => {
                 let walks = walks_of(alloc, graph, set.as_slice(), pattern)?;
-                Ok(Candidates {
-                    held: CandidateRows::Edges(walks),
-                })
+                Ok(Candidates::along(walks))
             }
         }
     }

@@ -1,17 +1,21 @@
 //! The store, the adjacency index over its edges, and the candidates that a SELECT block goes through.
 //!
-//! The index is built once from a catalog and a store, and is read-only from then on. The candidates of one
-//! source and edge type form a segment, so `Candidates::at` finds a candidate by its position, and workers
-//! share only a counter of chunks.
+//! An index has a list of walks for each vertex. It is built from a catalog and a store; a `KeptIndex` is brought
+//! up to date when rows were added behind those that it knows. The candidates of one source and edge type form a
+//! segment, so `Candidates::at` finds a candidate by its position, and workers share only a counter of chunks.
 //!
 //! Read `Candidates.antt` of `gq_graph` first, then `specs/Walks.antt` and `specs/Runs.antt`. `src/index.rt`
-//! has the adjacency lists and `src/runs.rt` the segments. Rows enter the store in `src/put.rt`:
-//! `specs/Steps.antt` says that a row is a list of upserts, and that a store is a fold of them.
+//! has the adjacency lists, which `src/walks.rt` fills, and `src/runs.rt` the segments. `specs/Kept.antt` says what
+//! is kept in `src/kept.rt`. Rows enter the store in `src/put.rt`: `specs/Steps.antt` says that a row is a list of
+//! upserts, and that a store is a fold of them.
 #![tactic(auto)]
 
 mod candidates;
 mod chunks;
 mod index;
+mod kept;
+mod listing;
+mod lists;
 mod marks;
 mod places;
 mod put;
@@ -20,10 +24,14 @@ mod store;
 mod vertex_list;
 mod walks;
 
-pub use candidates::Candidates;
+pub use candidates::{Candidates, in_number_order};
 pub use chunks::chunk;
 pub use index::Index;
+pub use kept::KeptIndex;
+pub use listing::Listing;
+pub use places::{in_order, part};
 pub use put::{EndpointRef, put_edge, put_vertex};
 pub use runs::Cursor;
 pub use store::{Graph, Store};
 pub use vertex_list::VertexList;
+pub use walks::{Neighbor, Traversal, rows_by_kind};

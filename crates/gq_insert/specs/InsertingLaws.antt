@@ -1,5 +1,5 @@
 -- InsertingLaws: a row of a catalog is put as its type says.
-use Rattle.std.proofs.Common.{◌≡◌, List, [], ◌∷◌, length, Option, Some, None, Bool, true, false, Result, Ok, Err, refl, sym, ap, subst, ◌∙◌, arith}
+use Rattle.std.proofs.Common.{◌≡◌, ℕ, ◌<◌, List, [], ◌∷◌, length, Option, Some, None, Bool, true, false, Result, Ok, Err, refl, sym, ap, subst, ◌∙◌, arith}
 use Rattle.std.specs.Prelude.{◌&&◌}
 use Rattle.gq_graph.specs.Catalog.{Schema}
 use Rattle.gq_graph.specs.declared.types.Attribute.{Attribute}
@@ -12,18 +12,21 @@ use Rattle.gq_value.specs.Views.{val}
 use Rattle.gq_graph.specs.Defaults.{sort_of}
 use Rattle.gq_index.specs.declared.store.Store.{Store}
 use Rattle.gq_tree.specs.declared.schema.InsertTree.{InsertTree}
+use Rattle.gq_load_check.specs.declared.insert.Endpoint.{Endpoint}
 use Rattle.gq_load_check.specs.declared.insert.Insert.{Insert}
 use Rattle.gq_load_check.specs.declared.insert.Insert.TheVariants as insert
 use Rattle.gq_load_check.specs.declared.insert.InsertFault.{InsertFault}
-use Rattle.gq_load_check.specs.Targets.{edge_type_at}
+use Rattle.gq_load_check.specs.Targets.{vertex_type_at, edge_type_at}
 use Rattle.gq_index.specs.Namings.{naming_in}
-use Rattle.gq_insert.specs.Fits.{is_value, row_fits, EdgeTypeFits, IsSound, InsertFits}
+use Rattle.gq_index.specs.Kept.{StoreGrown}
+use Rattle.gq_index.proofs.KeptLemmas.{puts_grow, store_same}
+use Rattle.gq_insert.specs.Fits.{is_value, row_fits, EdgeTypeFits, IsSound, EndFits, InsertFits}
 use Rattle.gq_insert.specs.Inserts.{insert_named, insert_refusal}
-use Rattle.gq_load.specs.Inserts.{steps_of_insert, IsNamedAs, PutsAll}
+use Rattle.gq_load.specs.Inserts.{end_row, steps_of_insert, IsNamedAs, PutsAll}
 use Rattle.gq_load_csv.specs.Readings.{reading}
 use Rattle.gq_load.specs.PutLaws.{done_begun}
-use Rattle.gq_load.specs.Keeping.{StoreFits, AllOfTypes}
-use Rattle.gq_load.specs.KeepingLaws.{begun_fits}
+use Rattle.gq_load.specs.Keeping.{IsVertexOf, StoreFits, UpsertsFit}
+use Rattle.gq_load.specs.KeepingLaws.{begun_fits, one_fits, edge_fits}
 use Rattle.gq_insert.specs.Inserting.{named_put, row_inserted, row_put, unless_refused}
 
 -- a row that fits has a value for each attribute
@@ -48,20 +51,36 @@ row_named schema store (insert.Edge n directed key from to attributes) sound fit
     let same : naming_in (edge_type_at schema) n ≡ naming_with n directed key = ap (λ b. naming_with n b t.discriminators) (sym fits.directed) ∙ ap (naming_with n directed) (sym fits.key) in
     (omega (arith, fits.key, whole.key, row_long t.attributes attributes fits.row), subst (Agrees store.edges.namings) same (kept.named n))
 
--- the upserts of a row are of the catalog's types
-row_types : (schema : Schema) (row : Insert) → InsertFits schema row → AllOfTypes schema (steps_of_insert row)
-row_types schema (insert.Vertex n id attributes) fits = (tt, tt)
-row_types schema (insert.Edge n directed key from to attributes) fits =
+-- an end is put as its type says
+end_fits : (schema : Schema) (n : ℕ) (end : Endpoint) → EndFits schema n end → IsVertexOf schema (end_row end)
+end_fits schema n end fits = record {
+  there = subst (λ k. k < length schema.vertex_types) (sym fits.kind) fits.there;
+  values = sym (row_long (vertex_type_at schema n).attributes end.missing fits.missing) ∙ ap (λ k. length (vertex_type_at schema k).attributes) (sym fits.kind);
+}
+
+-- the upserts of a row are of the catalog's types, and put an edge behind its ends
+row_fit : (schema : Schema) (row : Insert) → InsertFits schema row → UpsertsFit schema (steps_of_insert row)
+row_fit schema (insert.Vertex n id attributes) fits =
+    one_fits schema _ (record { there = fits.there; values = sym (row_long (vertex_type_at schema n).attributes attributes fits.row) })
+row_fit schema (insert.Edge n directed key from to attributes) fits =
     let t : EdgeType = edge_type_at schema n in
-    (tt, (tt, ((fits.there, ap (λ b. naming_with n b key) fits.directed ∙ ap (naming_with n t.directed) fits.key), tt)))
+    edge_fits schema (naming_with n directed key) (end_row from) (end_row to) attributes fits.there
+    (ap (λ b. naming_with n b key) fits.directed ∙ ap (naming_with n t.directed) fits.key)
+    (end_fits schema t.from from fits.ends.from) (end_fits schema t.to to fits.ends.to)
 
 -- whatever the answer, the store stays one of the catalog
 pub row_keeps : {A : Type 0} (schema : Schema) (before later : Store) (row : Insert) (result : Result A StoreFault) → InsertFits schema row
     → PutsAll before (steps_of_insert row) later result → StoreFits schema before → StoreFits schema later
 row_keeps schema before later row (Ok a) fits puts kept =
-    begun_fits schema before later (steps_of_insert row) (row_types schema row fits) (done_begun before later (steps_of_insert row) puts) kept
+    begun_fits schema before later (steps_of_insert row) (row_fit schema row fits) (done_begun before later (steps_of_insert row) puts) kept
 row_keeps schema before later row (Err fault.Full) fits puts kept = subst (StoreFits schema) (sym puts.0) kept
 row_keeps schema before later row (Err fault.OutOfMemory) fits puts kept = subst (StoreFits schema) (sym puts) kept
+
+-- and it has grown
+pub row_grows : {A : Type 0} (before later : Store) (row : Insert) (result : Result A StoreFault) → PutsAll before (steps_of_insert row) later result → StoreGrown before later
+row_grows {A} before later row (Ok a) puts = puts_grow before later (steps_of_insert row) (Ok a) puts
+row_grows before later row (Err fault.Full) puts = subst (StoreGrown before) (sym puts.0) (store_same before)
+row_grows before later row (Err fault.OutOfMemory) puts = subst (StoreGrown before) (sym puts) (store_same before)
 
 -- a row that no rule refuses is put
 pub row_due : (schema : Schema) (store : Store) (tree : InsertTree) (row : Insert) → insert_refusal reading schema tree ≡ None → insert_named reading schema tree ≡ Some row

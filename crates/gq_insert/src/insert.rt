@@ -2,6 +2,7 @@
 ghost use Rattle.std.specs.Prelude.{◌≡◌};
 ghost use Rattle.gq_diagnostics.specs.Answers.{Answers};
 ghost use Rattle.gq_insert.specs.Fits.{InsertFits, IsSound};
+ghost use Rattle.gq_index.specs.Kept.{StoreGrown};
 ghost use Rattle.gq_load.specs.Keeping.{StoreFits};
 ghost use Rattle.gq_insert.specs.Inserting.{row_inserted, row_put};
 
@@ -28,8 +29,9 @@ pub fn insert_row(
     requires sound { IsSound catalog.now }
     requires store { StoreFits catalog.now store.old }
     ensures inserted { Answers (row_inserted catalog.now store.old tree.now) store.old store.new result }
-    // The store stays one of its catalog.
+    // The store stays one of its catalog, and grows at its end.
     ensures fits { StoreFits catalog.now store.new }
+    ensures grown { StoreGrown store.old store.new }
 {
     match check_insert(alloc, catalog, tree) {
         Ok(row) => put_row(alloc, catalog, store, &row),
@@ -48,6 +50,7 @@ fn put_row(
     requires store { StoreFits catalog.now store.old }
     ensures put { Answers (row_put store.old row.now) store.old store.new result }
     ensures fits { StoreFits catalog.now store.new }
+    ensures grown { StoreGrown store.old store.new }
 {
     match insert(alloc, row, store) {
         Ok(()) => Ok(()),

@@ -3,9 +3,10 @@ ghost use Rattle.std.specs.Prelude.{◌≡◌, List, [], Some, None};
 ghost use Rattle.gq_graph.specs.Catalog.{Schema};
 ghost use Rattle.gq_index.specs.declared.store.Store.{Store};
 ghost use Rattle.gq_load_check.specs.Fits.{HasGrown};
+ghost use Rattle.gq_index.specs.Rows.{HaveAttributes, HaveEnds};
 ghost use Rattle.gq_index.specs.Steps.{Step, Done, Refused, Begun};
 ghost use Rattle.gq_load.specs.Puts.{put_all};
-ghost use Rattle.gq_load.specs.Keeping.{StoreFits, AllOfTypes, no_rows};
+ghost use Rattle.gq_load.specs.Keeping.{StoreFits, UpsertsFit, no_rows};
 
 /// Upserts that were all taken make the store that the function gives, and where one was refused it gives none.
 pub fn upserts_are_decided()
@@ -13,11 +14,17 @@ pub fn upserts_are_decided()
     ensures refused { (before later : Store) (steps : List Step) → Refused before steps later → put_all before steps ≡ None }
 {}
 
-/// A store without rows is one of every catalog; upserts of a catalog's types leave a store one of the catalog; and a store of
-/// a catalog is one of each catalog that has grown out of it.
+/// A store without rows is one of every catalog; upserts of a catalog's types that put an edge behind its ends leave a store
+/// one of the catalog; and a store of a catalog is one of each catalog that has grown out of it.
 pub fn stores_stay_fit()
     ensures empty { (schema : Schema) → StoreFits schema no_rows }
-    ensures by_upserts { (schema : Schema) (before later : Store) (steps : List Step) → AllOfTypes schema steps → Begun before steps later
+    ensures by_upserts { (schema : Schema) (before later : Store) (steps : List Step) → UpsertsFit schema steps → Begun before steps later
         → StoreFits schema before → StoreFits schema later }
     ensures by_growth { (before after : Schema) (store : Store) → HasGrown before after → StoreFits before store → StoreFits after store }
+{}
+
+/// In a store of a catalog each vertex has a value for each attribute of its type, and the ends of each edge are vertices.
+pub fn rows_are_whole()
+    ensures attributes { (schema : Schema) (store : Store) → StoreFits schema store → HaveAttributes schema store.vertices }
+    ensures ends { (schema : Schema) (store : Store) → StoreFits schema store → HaveEnds store.vertices store.edges.rows }
 {}

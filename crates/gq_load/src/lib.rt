@@ -25,7 +25,7 @@ mod value;
 pub use draft::Draft;
 pub use fault::LoadFault;
 pub use inserting::insert;
-pub use laws::{stores_stay_fit, upserts_are_decided};
+pub use laws::{rows_are_whole, stores_stay_fit, upserts_are_decided};
 pub use loading::load;
 pub use record::Verdict;
 pub use report::Report;

@@ -6,3 +6,4 @@ pub mod Deciding
 pub mod Numbers
 pub mod Moments
 pub mod Readings
+pub mod Digits

@@ -1,10 +1,71 @@
 // Texts as numbers and truths.
-ghost use Rattle.std.specs.Prelude.{◌≡◌};
+ghost use Rattle.std.specs.Prelude.{◌≡◌, IfSome};
 ghost use Rattle.std.specs.Str.{str_eq_ignore_ascii_case};
+ghost use Rattle.gq_load_csv.specs.Digits.{IsShort, IsOwn, has_leading_zero};
 ghost use Rattle.gq_load_csv.specs.Texts.{int_in, uint_in, truth_in};
+
+/// The most digits of a number that is read without a test of its range: any such number is an INT and a UINT.
+const FEW: usize = 18;
 
 /// The INT that a text says.
 pub(crate) fn int_in(text: &[u8]) -> Option<i64>
+    ensures { result ≡ int_in text.now }
+{
+    match few_digits(text) {
+        Some(number) => Some(number as i64),
+        None => parsed_int(text),
+    }
+}
+
+/// The UINT that a text says.
+pub(crate) fn uint_in(text: &[u8]) -> Option<u64>
+    ensures { result ≡ uint_in text.now }
+{
+    match few_digits(text) {
+        Some(number) => Some(number),
+        None => parsed_uint(text),
+    }
+}
+
+/// The number of a text of 1 to 18 digits. None says nothing of the text.
+fn few_digits(text: &[u8]) -> Option<u64>
+    ensures { IfSome result (IsShort text.now) }
+{
+    if text.is_empty() || text.len() > FEW {
+        return None;
+    }
+    let mut number: u64 = 0;
+    for byte in text {
+        if !byte.is_ascii_digit() {
+            return None;
+        }
+        number = number * 10 + (*byte - b'0') as u64;
+    }
+    Some(number)
+}
+
+/// A text of 1 to 18 digits that doesn't begin with a zero, or is one: the shortest text of its number. None says nothing of the text.
+pub(crate) fn own_text(text: &[u8]) -> Option<&str>
+    ensures { IfSome result (λ own. (own.now ≡ text.now) × IsOwn text.now) }
+{
+    if has_leading_zero(text) {
+        return None;
+    }
+    match few_digits(text) {
+        // Digits are ASCII.
+        Some(_) => Some(unsafe { str::from_utf8_unchecked(text) }),
+        None => None,
+    }
+}
+
+/// Whether a zero stands before other bytes.
+fn has_leading_zero(text: &[u8]) -> bool
+    ensures { result ≡ has_leading_zero text.now }
+{
+    text.len() > 1 && text[0] == b'0'
+}
+
+fn parsed_int(text: &[u8]) -> Option<i64>
     ensures { result ≡ int_in text.now }
 {
     match str::from_utf8(text) {
@@ -16,8 +77,7 @@ pub(crate) fn int_in(text: &[u8]) -> Option<i64>
     }
 }
 
-/// The UINT that a text says.
-pub(crate) fn uint_in(text: &[u8]) -> Option<u64>
+fn parsed_uint(text: &[u8]) -> Option<u64>
     ensures { result ≡ uint_in text.now }
 {
     match str::from_utf8(text) {

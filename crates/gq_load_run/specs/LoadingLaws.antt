@@ -1,7 +1,11 @@
--- LoadingLaws: what an answer of a load says, by the function of loads, and what it leaves; and its upserts are of the catalog's types.
+-- LoadingLaws: what an answer of a load says, by the function of loads, and what it leaves; and its upserts leave a store one of its catalog.
 use Rattle.std.proofs.Common.{◌≡◌, ℕ, zero, suc, ◌<◌, ℤ, List, [], ◌∷◌, ◌++◌, length, map, All, Option, Some, None, Bool, true, false, cond, Result, Ok, Err, refl, sym, ap, subst, ◌∙◌, arith}
-use Rattle.std.specs.Prelude.{option_and_then}
+use Rattle.std.specs.Prelude.{◌-◌, nat_lt, option_and_then}
+use Rattle.std.proofs.lemmas.List.{length-map}
 use Rattle.gq_graph.specs.Catalog.{Schema}
+use Rattle.gq_graph.specs.declared.types.Attribute.{Attribute}
+use Rattle.gq_graph.specs.declared.rows.StoreFault.{StoreFault}
+use Rattle.gq_graph.specs.declared.rows.StoreFault.TheVariants as store_fault
 use Rattle.gq_value.specs.declared.value.Value.{Value}
 use Rattle.gq_diagnostics.specs.declared.refusal.Refusal.TheVariants as refusal
 use Rattle.gq_index.specs.declared.store.Store.{Store}
@@ -11,22 +15,26 @@ use Rattle.gq_load_check.specs.declared.job.LoadInto.{LoadInto}
 use Rattle.gq_load_check.specs.declared.job.LoadLine.{LoadLine}
 use Rattle.gq_load_check.specs.Targets.{HasTarget, edge_type_at, vertex_type_at}
 use Rattle.gq_load_check.specs.Fits.{LineFits, IntoFits}
+use Rattle.gq_index.specs.Namings.{naming_in}
+use Rattle.gq_index.specs.Kept.{StoreGrown}
 use Rattle.gq_index.specs.Steps.{Step, Begun}
+use Rattle.gq_index.proofs.KeptLemmas.{puts_grow}
 use Rattle.gq_index.proofs.StepLemmas.{none_begun}
 use Rattle.gq_load.specs.declared.fault.LoadFault.{LoadFault}
 use Rattle.gq_load.specs.declared.fault.LoadFault.TheVariants as fault
 use Rattle.gq_load.specs.declared.route.Route.{Route}
 use Rattle.gq_load.specs.Columns.{Fields}
-use Rattle.gq_load.specs.Routes.{route_of}
-use Rattle.gq_load.specs.Rows.{vertex_steps, joined_steps, steps_by, steps_along, steps_of, and_steps, is_short, id_of, values_of}
-use Rattle.gq_load.specs.Records.{Short, judged, judged_as, steps_from}
+use Rattle.gq_load.specs.Routes.{route_of, defaults_of, from_defaults, to_defaults}
+use Rattle.gq_load.specs.Rows.{vertex_row, vertex_steps, joined_steps, steps_by, steps_along, steps_of, and_steps, is_short, id_of, value_of, and_values, values_of}
+use Rattle.gq_load.specs.Records.{Short, judged, judged_as, steps_from, HasEnds, AllHaveEnds}
 use Rattle.gq_load.specs.declared.report.Report.{Report}
 use Rattle.gq_load.specs.Loads as load
 use Rattle.gq_load_run.specs.Loads.{Loads, Fails}
+use Rattle.gq_load_csv.specs.Fields.{default_of}
 use Rattle.gq_load_csv.specs.Readings.{reading}
 use Rattle.gq_load.specs.PutLaws.{put_done, put_refused, done_begun, refused_begun}
-use Rattle.gq_load.specs.Keeping.{StoreFits, AllOfTypes}
-use Rattle.gq_load.specs.KeepingLaws.{begun_fits, types_join}
+use Rattle.gq_load.specs.Keeping.{StoreFits, UpsertsFit}
+use Rattle.gq_load.specs.KeepingLaws.{begun_fits, none_fit, one_fits, edge_fits, fit_join}
 use Rattle.gq_load_run.specs.Loadings.{line_steps, line_report, stored_or, unless_missing, line_loaded, RefusedLeaves}
 
 -- ---- answers
@@ -72,73 +80,115 @@ module _ (schema : Schema) (line : LoadLine) (records : List Fields) (before lat
 same_some : {A : Type 0} (x y : A) → Some x ≡ Some y → x ≡ y
 same_some {A} x y e = cc
 
+-- a destination's route: its type is there, and what it has for the ends of an edge that aren't there are their types' defaults
+pub record IsRoute (schema : Schema) (route : Route) : Type 0 where
+  pub there : HasTarget schema route.target
+  pub from : route.from ≡ from_defaults schema route.target
+  pub to : route.to ≡ to_defaults schema route.target
+
+-- there is a value for each attribute
+values_long : (read : List ℕ → Option ℤ) (keys : ℕ) (attributes : List Attribute) (sources : List (Option ℕ)) (fields : Fields) (values : List Value)
+    → values_of read keys attributes sources fields ≡ Some values → length values ≡ length attributes
+values_long read keys [] sources fields values is = ap length (sym (same_some [] values is))
+values_long read keys (a ∷ others) [] fields values is = absurd (cc)
+values_long read keys (a ∷ others) (source ∷ sources) fields values is =
+    by (value_of read (nat_lt 0 keys) a source fields) (values_of read (keys - 1) others sources fields) (λ vs e. values_long read (keys - 1) others sources fields vs e) is
+  where
+    by : (o : Option Value) (p : Option (List Value)) → ((vs : List Value) → p ≡ Some vs → length vs ≡ length others)
+        → option_and_then (λ v. and_values v p) o ≡ Some values → length values ≡ length (a ∷ others)
+    by None p each e = absurd (cc)
+    by (Some v) None each e = absurd (cc)
+    by (Some v) (Some vs) each e = ap length (sym (same_some (v ∷ vs) values e)) ∙ ap suc (each vs refl)
+
+defaults_long : (schema : Schema) (n : ℕ) → length (defaults_of schema n) ≡ length (vertex_type_at schema n).attributes
+defaults_long schema n = length-map (vertex_type_at schema n).attributes default_of
+
 module _ (read : List ℕ → Option ℤ) (schema : Schema) (fields : Fields) where
-  vertex_types : (n : ℕ) (id : Option (List ℕ)) (values : Option (List Value)) (steps : List Step) → vertex_steps n id values ≡ Some steps → AllOfTypes schema steps
-  vertex_types n (Some id) (Some values) steps is = subst (AllOfTypes schema) (same_some _ steps is) (tt, tt)
-  vertex_types n (Some id) None steps is = absurd (cc)
-  vertex_types n None values steps is = absurd (cc)
+  abbrev Fit : List Step → Type 0
+  Fit = UpsertsFit schema
 
-  edge_types : (n : ℕ) (route : Route) (from to : Option (List ℕ)) (values : Option (List Value)) (steps : List Step) → n < length schema.edge_types
-      → joined_steps schema n route from to values ≡ Some steps → AllOfTypes schema steps
-  edge_types n route (Some from) (Some to) (Some values) steps low is = subst (AllOfTypes schema) (same_some _ steps is) (tt, (tt, ((low, refl), tt)))
-  edge_types n route (Some from) (Some to) None steps low is = absurd (cc)
-  edge_types n route (Some from) None values steps low is = absurd (cc)
-  edge_types n route None to values steps low is = absurd (cc)
+  vertex_fit : (n : ℕ) (id : Option (List ℕ)) (values : Option (List Value)) (steps : List Step) → n < length schema.vertex_types
+      → ((vs : List Value) → values ≡ Some vs → length vs ≡ length (vertex_type_at schema n).attributes) → vertex_steps n id values ≡ Some steps → Fit steps
+  vertex_fit n (Some id) (Some values) steps low long is = subst Fit (same_some _ steps is) (one_fits schema (vertex_row n id values) (record { there = low; values = long values refl }))
+  vertex_fit n (Some id) None steps low long is = absurd (cc)
+  vertex_fit n None values steps low long is = absurd (cc)
 
-  route_types : (route : Route) (t : Target) (sources : List (Option ℕ)) (steps : List Step) → HasTarget schema t → steps_by read schema route t sources fields ≡ Some steps → AllOfTypes schema steps
-  route_types route (target.Vertex n) [] steps there is = absurd (cc)
-  route_types route (target.Vertex n) (id ∷ sources) steps there is =
-      vertex_types n (id_of (vertex_type_at schema n).id.kind id fields) (values_of read 0 (vertex_type_at schema n).attributes sources fields) steps is
-  route_types route (target.Edge n) [] steps there is = absurd (cc)
-  route_types route (target.Edge n) (from ∷ []) steps there is = absurd (cc)
-  route_types route (target.Edge n) (from ∷ to ∷ sources) steps there is =
-      edge_types n route
+  edge_fit : (n : ℕ) (route : Route) (from to : Option (List ℕ)) (values : Option (List Value)) (steps : List Step) → n < length schema.edge_types → HasEnds schema n
+      → route.from ≡ defaults_of schema (edge_type_at schema n).from → route.to ≡ defaults_of schema (edge_type_at schema n).to
+      → joined_steps schema n route from to values ≡ Some steps → Fit steps
+  edge_fit n route (Some from) (Some to) (Some values) steps low ends first second is =
+      subst Fit (same_some _ steps is)
+      (edge_fits schema (naming_in (edge_type_at schema) n) (vertex_row (edge_type_at schema n).from from route.from) (vertex_row (edge_type_at schema n).to to route.to) values low refl
+      (record { there = ends.from; values = ap length first ∙ defaults_long schema (edge_type_at schema n).from })
+      (record { there = ends.to; values = ap length second ∙ defaults_long schema (edge_type_at schema n).to }))
+  edge_fit n route (Some from) (Some to) None steps low ends first second is = absurd (cc)
+  edge_fit n route (Some from) None values steps low ends first second is = absurd (cc)
+  edge_fit n route None to values steps low ends first second is = absurd (cc)
+
+  route_fit : AllHaveEnds schema → (route : Route) (t : Target) (sources : List (Option ℕ)) (steps : List Step) → HasTarget schema t
+      → route.from ≡ from_defaults schema t → route.to ≡ to_defaults schema t → steps_by read schema route t sources fields ≡ Some steps → Fit steps
+  route_fit ends route (target.Vertex n) [] steps there from to is = absurd (cc)
+  route_fit ends route (target.Vertex n) (id ∷ sources) steps there from to is =
+      vertex_fit n (id_of (vertex_type_at schema n).id.kind id fields) (values_of read 0 (vertex_type_at schema n).attributes sources fields) steps there
+      (λ vs e. values_long read 0 (vertex_type_at schema n).attributes sources fields vs e) is
+  route_fit ends route (target.Edge n) [] steps there first second is = absurd (cc)
+  route_fit ends route (target.Edge n) (from ∷ []) steps there first second is = absurd (cc)
+  route_fit ends route (target.Edge n) (from ∷ to ∷ sources) steps there first second is =
+      edge_fit n route
       (id_of (vertex_type_at schema (edge_type_at schema n).from).id.kind from fields)
       (id_of (vertex_type_at schema (edge_type_at schema n).to).id.kind to fields)
-      (values_of read (edge_type_at schema n).discriminators (edge_type_at schema n).attributes sources fields) steps there.0 is
+      (values_of read (edge_type_at schema n).discriminators (edge_type_at schema n).attributes sources fields) steps there.0 (ends n there.0) first second is
 
-  routes_types : (routes : List Route) (steps : List Step) → All (λ (route : Route). HasTarget schema route.target) routes → steps_of read schema routes fields ≡ Some steps → AllOfTypes schema steps
-  routes_types [] steps there is = subst (AllOfTypes schema) (same_some _ steps is) tt
-  routes_types (route ∷ routes) steps there is =
+  routes_fit : AllHaveEnds schema → (routes : List Route) (steps : List Step) → All (IsRoute schema) routes → steps_of read schema routes fields ≡ Some steps → Fit steps
+  routes_fit ends [] steps are is = subst Fit (same_some _ steps is) (none_fit schema)
+  routes_fit ends (route ∷ routes) steps are is =
+      let one = are 0 route (omega arith) in
       by (steps_along read schema route fields) (steps_of read schema routes fields)
-      (λ first e. route_types route route.target route.fields first (there 0 route (omega arith)) e)
-      (λ more e. routes_types routes more (λ k d low. there (suc k) d (omega arith)) e)
+      (λ first e. route_fit ends route route.target route.fields first one.there one.from one.to e)
+      (λ more e. routes_fit ends routes more (λ k d low. are (suc k) d (omega arith)) e)
       is
     where
-      by : (a b : Option (List Step)) → ((first : List Step) → a ≡ Some first → AllOfTypes schema first) → ((more : List Step) → b ≡ Some more → AllOfTypes schema more)
-          → option_and_then (λ first. and_steps first b) a ≡ Some steps → AllOfTypes schema steps
+      by : (a b : Option (List Step)) → ((first : List Step) → a ≡ Some first → Fit first) → ((more : List Step) → b ≡ Some more → Fit more)
+          → option_and_then (λ first. and_steps first b) a ≡ Some steps → Fit steps
       by None b first more e = absurd (cc)
       by (Some x) None first more e = absurd (cc)
-      by (Some x) (Some y) first more e = subst (AllOfTypes schema) (same_some (x ++ y) steps e) (types_join schema x y (first x refl) (more y refl))
+      by (Some x) (Some y) first more e = subst Fit (same_some (x ++ y) steps e) (fit_join schema x y (first x refl) (more y refl))
 
-  record_types : (routes : List Route) → All (λ (route : Route). HasTarget schema route.target) routes → AllOfTypes schema (steps_from (judged read schema routes fields))
-  record_types routes there = by (is_short routes fields) (steps_of read schema routes fields) (λ steps e. routes_types routes steps there e)
+  record_fits : AllHaveEnds schema → (routes : List Route) → All (IsRoute schema) routes → Fit (steps_from (judged read schema routes fields))
+  record_fits ends routes are = by (is_short routes fields) (steps_of read schema routes fields) (λ steps e. routes_fit ends routes steps are e)
     where
-      by : (b : Bool) (o : Option (List Step)) → ((steps : List Step) → o ≡ Some steps → AllOfTypes schema steps) → AllOfTypes schema (steps_from (cond b Short (judged_as o)))
-      by true o each = tt
-      by false None each = tt
+      by : (b : Bool) (o : Option (List Step)) → ((steps : List Step) → o ≡ Some steps → Fit steps) → Fit (steps_from (cond b Short (judged_as o)))
+      by true o each = none_fit schema
+      by false None each = none_fit schema
       by false (Some steps) each = each steps refl
 
-all_types : (read : List ℕ → Option ℤ) (schema : Schema) (routes : List Route) (records : List Fields) → All (λ (route : Route). HasTarget schema route.target) routes
-    → AllOfTypes schema (load.all_steps read schema routes records)
-all_types read schema routes [] there = tt
-all_types read schema routes (fields ∷ records) there =
-    types_join schema (steps_from (judged read schema routes fields)) (load.all_steps read schema routes records)
-    (record_types read schema fields routes there) (all_types read schema routes records there)
+all_fit : (read : List ℕ → Option ℤ) (schema : Schema) (routes : List Route) (records : List Fields) → AllHaveEnds schema → All (IsRoute schema) routes
+    → UpsertsFit schema (load.all_steps read schema routes records)
+all_fit read schema routes [] ends are = none_fit schema
+all_fit read schema routes (fields ∷ records) ends are =
+    fit_join schema (steps_from (judged read schema routes fields)) (load.all_steps read schema routes records)
+    (record_fits read schema fields ends routes are) (all_fit read schema routes records ends are)
 
-routes_there : (schema : Schema) (header : Option Fields) (intos : List LoadInto) → All (IntoFits schema) intos → All (λ (route : Route). HasTarget schema route.target) (map (route_of schema header) intos)
-routes_there schema header [] fit k d low = absurd (omega arith)
-routes_there schema header (into ∷ intos) fit zero d low = (fit 0 into (omega arith)).there
-routes_there schema header (into ∷ intos) fit (suc k) d low = routes_there schema header intos (λ j e less. fit (suc j) e (omega arith)) k d (omega arith)
+are_routes : (schema : Schema) (header : Option Fields) (intos : List LoadInto) → All (IntoFits schema) intos → All (IsRoute schema) (map (route_of schema header) intos)
+are_routes schema header [] fit k d low = absurd (omega arith)
+are_routes schema header (into ∷ intos) fit zero d low = record { there = (fit 0 into (omega arith)).there; from = refl; to = refl }
+are_routes schema header (into ∷ intos) fit (suc k) d low = are_routes schema header intos (λ j e less. fit (suc j) e (omega arith)) k d (omega arith)
 
--- the upserts of a LOAD are of the catalog's types
-pub line_types : (schema : Schema) (line : LoadLine) (records : List Fields) → LineFits schema line → AllOfTypes schema (line_steps schema line records)
-line_types schema line records fits =
-    all_types reading schema (load.routes_of schema line (load.header_of line records)) (load.loaded_of line records)
-    (routes_there schema (load.header_of line records) line.destinations fits.destinations)
+-- the upserts of a LOAD are of the catalog's types, and put an edge behind its ends
+pub line_fits : (schema : Schema) (line : LoadLine) (records : List Fields) → AllHaveEnds schema → LineFits schema line → UpsertsFit schema (line_steps schema line records)
+line_fits schema line records ends fits =
+    all_fit reading schema (load.routes_of schema line (load.header_of line records)) (load.loaded_of line records) ends
+    (are_routes schema (load.header_of line records) line.destinations fits.destinations)
 
 -- whatever the answer, the store stays one of the catalog
-pub says_fits : (schema : Schema) (line : LoadLine) (records : List Fields) (before later : Store) (result : Result Report LoadFault) → LineFits schema line
+pub says_fits : (schema : Schema) (line : LoadLine) (records : List Fields) (before later : Store) (result : Result Report LoadFault) → AllHaveEnds schema → LineFits schema line
     → load.Loads reading schema line records before later result → StoreFits schema before → StoreFits schema later
-says_fits schema line records before later result fits says kept =
-    begun_fits schema before later (line_steps schema line records) (line_types schema line records fits) (says_begun schema line records before later result says) kept
+says_fits schema line records before later result ends fits says kept =
+    begun_fits schema before later (line_steps schema line records) (line_fits schema line records ends fits) (says_begun schema line records before later result says) kept
+
+-- and it has grown
+pub says_grown : (schema : Schema) (line : LoadLine) (records : List Fields) (before later : Store) (result : Result Report LoadFault)
+    → load.Loads reading schema line records before later result → StoreGrown before later
+says_grown schema line records before later result says =
+    let out : Result Report StoreFault = Err store_fault.OutOfMemory in
+    puts_grow before later (line_steps schema line records) out (says_begun schema line records before later result says)

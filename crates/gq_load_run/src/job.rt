@@ -9,6 +9,7 @@ ghost use Rattle.gq_diagnostics.specs.Effects.{Effect, Becomes, Refused};
 ghost use Rattle.gq_io.specs.Known.{known_of};
 ghost use Rattle.gq_load_check.specs.Fits.{LineFits};
 ghost use Rattle.gq_load.specs.Records.{AllHaveEnds};
+ghost use Rattle.gq_index.specs.Kept.{StoreGrown};
 ghost use Rattle.gq_load.specs.Keeping.{StoreFits};
 ghost use Rattle.gq_load_run.specs.Loadings.{Leaves, loaded_by, place_of};
 ghost use Rattle.gq_load_run.specs.Loads.{LoadsMean};
@@ -50,6 +51,7 @@ pub(crate) fn run_loads<F: Files>(
     ensures left { (before : ℕ) → before ≤ F.absences files.old → IfErr result (λ fault.
         LoadsLeave (known_of (F.held files.old) before (F.absences files.new) (F.length_met files.new)) catalog.now job.now given.now store.old fault store.new) }
     ensures fits { StoreFits catalog.now store.new }
+    ensures grown { StoreGrown store.old store.new }
     ensures read_fault { IsErrOf result StatementFault.ReadFault → Rose (F.faults files.old) (F.faults files.new) }
     ensures held { F.held files.new ≡ F.held files.old }
     ensures faults_stay { F.faults files.old ≤ F.faults files.new }
@@ -72,6 +74,7 @@ pub(crate) fn run_loads<F: Files>(
 }
 
 // Reads the file of the LOAD of this number, and loads it.
+#[tactic(auto, using(gq_index::proofs::KeptLemmas::store_same))]
 fn load_one<F: Files>(
     alloc: Global,
     catalog: &Catalog,
@@ -95,6 +98,7 @@ fn load_one<F: Files>(
     ensures left { (before : ℕ) → before ≤ F.absences files.old → IfErr result (λ fault.
         BreaksOff (place_of job.now given.now) (loaded_by catalog.now job.now) (Leaves catalog.now job.now) (known_of (F.held files.old) before (F.absences files.new) (F.length_met files.new)) store.old number fault store.new) }
     ensures fits { StoreFits catalog.now store.new }
+    ensures grown { StoreGrown store.old store.new }
     ensures read_fault { IsErrOf result StatementFault.ReadFault → Rose (F.faults files.old) (F.faults files.new) }
     ensures held { F.held files.new ≡ F.held files.old }
     ensures faults_stay { F.faults files.old ≤ F.faults files.new }

@@ -5,6 +5,7 @@ ghost use Rattle.gq_load_check.specs.Fits.{LineFits};
 ghost use Rattle.gq_load.specs.Records.{AllHaveEnds};
 ghost use Rattle.gq_load.specs.Loads.{records_in};
 ghost use Rattle.gq_load_run.specs.Loads.{Fails, Loads};
+ghost use Rattle.gq_index.specs.Kept.{StoreGrown};
 ghost use Rattle.gq_load.specs.Keeping.{StoreFits};
 ghost use Rattle.gq_load_run.specs.Loadings.{Leaves, LineLeaves, line_loaded, loaded_by};
 
@@ -34,6 +35,7 @@ pub(crate) fn load_numbered(
     ensures read_fault { result ≡ Err StatementFault.ReadFault → ⊥ }
     ensures left { IfErr result (λ fault. Leaves catalog.now job.now store.old number bytes.now fault store.new) }
     ensures fits { StoreFits catalog.now store.new }
+    ensures grown { StoreGrown store.old store.new }
 {
     load_line(alloc, catalog, job.lines.at(number), bytes, store)
 }
@@ -55,6 +57,7 @@ fn load_line(
     ensures read_fault { result ≡ Err StatementFault.ReadFault → ⊥ }
     ensures left { IfErr result (λ fault. LineLeaves catalog.now line.now (records_in line.now bytes.now) store.old fault store.new) }
     ensures fits { StoreFits catalog.now store.new }
+    ensures grown { StoreGrown store.old store.new }
 {
     match load(alloc, catalog, line, bytes, store) {
         Ok(report) => Ok(report),

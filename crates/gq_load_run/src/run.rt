@@ -7,6 +7,7 @@ ghost use Rattle.gq_load_check.specs.Fits.{LineFits};
 ghost use Rattle.gq_load.specs.Records.{AllHaveEnds};
 ghost use Rattle.gq_diagnostics.specs.Effects.{Becomes, Refused};
 ghost use Rattle.gq_io.specs.Known.{known_of};
+ghost use Rattle.gq_index.specs.Kept.{StoreGrown};
 ghost use Rattle.gq_load.specs.Keeping.{StoreFits};
 ghost use Rattle.gq_ddl.specs.Fitting.{JobsFit};
 ghost use Rattle.gq_ddl.specs.Tells.{Tells};
@@ -29,6 +30,7 @@ use std::alloc::Global;
 /// Refused where no job has the name, else where the run gives a path for a name of which the job has no file, else by the first
 /// LOAD that is. After a refusal the store has the upserts of the LOADs that ended, and of the refused one those before the upsert
 /// that found no room; a missing column loads nothing. `OutOfMemory` leaves some of a LOAD's upserts, from the first one on.
+#[tactic(auto, using(gq_index::proofs::KeptLemmas::store_same))]
 pub fn run_job<F: Files>(
     alloc: Global,
     catalog: &Catalog,
@@ -48,6 +50,7 @@ pub fn run_job<F: Files>(
     ensures left { (before : ℕ) → before ≤ F.absences files.old → IfErr result (λ fault.
         JobLeaves (known_of (F.held files.old) before (F.absences files.new) (F.length_met files.new)) catalog.now jobs.now store.old tree.now fault store.new) }
     ensures fits { StoreFits catalog.now store.new }
+    ensures grown { StoreGrown store.old store.new }
     ensures read_fault { IsErrOf result StatementFault.ReadFault → Rose (F.faults files.old) (F.faults files.new) }
     ensures held { F.held files.new ≡ F.held files.old }
     ensures faults_stay { F.faults files.old ≤ F.faults files.new }
@@ -59,6 +62,7 @@ pub fn run_job<F: Files>(
     }
 }
 
+#[tactic(auto, using(gq_index::proofs::KeptLemmas::store_same))]
 fn run_found<F: Files>(
     alloc: Global,
     catalog: &Catalog,
@@ -77,6 +81,7 @@ fn run_found<F: Files>(
     ensures left { (before : ℕ) → before ≤ F.absences files.old → IfErr result (λ fault.
         FoundLeaves (known_of (F.held files.old) before (F.absences files.new) (F.length_met files.new)) catalog.now store.old tree.now (Some job.now) fault store.new) }
     ensures fits { StoreFits catalog.now store.new }
+    ensures grown { StoreGrown store.old store.new }
     ensures read_fault { IsErrOf result StatementFault.ReadFault → Rose (F.faults files.old) (F.faults files.new) }
     ensures held { F.held files.new ≡ F.held files.old }
     ensures faults_stay { F.faults files.old ≤ F.faults files.new }

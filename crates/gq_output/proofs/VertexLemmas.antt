@@ -15,6 +15,7 @@ use Rattle.gq_graph.specs.declared.types.IdKind.{IdKind}
 use Rattle.gq_graph.specs.declared.types.IdKind.TheVariants as id
 use Rattle.gq_graph.specs.declared.types.VertexType.{VertexType}
 use Rattle.gq_graph.specs.declared.rows.VertexRow.{VertexRow}
+use Rattle.gq_index.specs.Rows.{HaveAttributes}
 use Rattle.gq_value.specs.declared.value.Value.{Value}
 use Rattle.gq_value.specs.declared.value.Wrong.{Wrong}
 use Rattle.gq_json.specs.declared.out.Out as json
@@ -31,7 +32,6 @@ use Rattle.gq_rules_meaning.specs.Outs.{Out, OutText, out_named}
 use Rattle.gq_rules_meaning.specs.Printing.{out_vertex, out_attached}
 use Rattle.gq_rules_meaning.specs.States as states
 use Rattle.gq_plan_ir.specs.Reference.{Reference}
-use Rattle.gq_eval_attributes.specs.Worlds.{HaveAttributes}
 use Rattle.gq_eval_context.specs.Viewed.{Over}
 use Rattle.gq_eval_context.specs.Looks.{world_over}
 use Rattle.gq_output.specs.Printed.{shown, value_shown, named_shown}

@@ -4,3 +4,4 @@ pub mod Queries
 pub mod Sessions
 pub mod Answers
 pub mod Runs
+pub mod Indexed

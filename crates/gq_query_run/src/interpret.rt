@@ -6,6 +6,7 @@ ghost use Rattle.gq_rules_meaning.specs.Sessions.{interpreted};
 ghost use Rattle.gq_rules_calendar.specs.Gregorian.{gregorian};
 ghost use Rattle.gq_query_run.specs.Kept.{Kept};
 ghost use Rattle.gq_query_run.specs.Answers.{Says};
+ghost use Rattle.gq_query_run.specs.Indexed.{IsIndexed};
 ghost use Rattle.gq_query_run.specs.Sessions.{session_of};
 
 use crate::judge::{graph_of, judge_interpreted};
@@ -13,13 +14,14 @@ use crate::line::line_over;
 use crate::runner::{Runner, RunsQueries};
 use gq_base::List;
 use gq_diagnostics::StatementFault;
-use gq_index::Store;
+use gq_index::{Index, Store};
 use gq_schema::Catalog;
 use gq_tree::QueryTree;
 use std::alloc::Global;
 use std::thread::Threads;
 
-/// INTERPRET QUERY, with the graph that is in use, by its number: the line that the query prints. The session stays as it is.
+/// INTERPRET QUERY over a store with its index, with the graph that is in use, by its number: the line that the query prints. The
+/// session stays as it is.
 ///
 /// Refused for its modes, else for a graph that isn't there, else by the first rule on queries that fails, else for the fault of its run.
 pub fn interpret_query<R: Threads + Sync, M: RunsQueries>(
@@ -28,10 +30,12 @@ pub fn interpret_query<R: Threads + Sync, M: RunsQueries>(
     runner: &Runner<'_, M>,
     catalog: &Catalog,
     store: &Store,
+    index: &Index,
     in_use: Option<u32>,
     tree: &QueryTree,
 ) -> Result<Vec<u8>, StatementFault>
-    requires { ForSome in_use (λ g. g < length catalog.now.graphs) }
+    requires there { ForSome in_use (λ g. g < length catalog.now.graphs) }
+    requires indexed { IsIndexed catalog.now store.now index.now }
     ensures { (queries : List Kept) → Says (session_of catalog.now in_use queries store.now)
         (interpreted (session_of catalog.now in_use queries store.now) gregorian runner.now.turns tree.now.graph tree.now.modes (view_query tree.now)) result }
 {
@@ -39,7 +43,7 @@ pub fn interpret_query<R: Threads + Sync, M: RunsQueries>(
         Ok(()) => {
             let graph = graph_of(catalog, in_use, tree);
             let none = List::new(alloc);
-            line_over(rt, alloc, runner, catalog, graph, store, tree, &none)
+            line_over(rt, alloc, runner, catalog, graph, store, index, tree, &none)
         }
         Err(fault) => Err(fault),
     }

@@ -5,7 +5,8 @@
 //!
 //! Read `specs/Judging.antt` first, why a query is refused for its modes, its graph or its rules, then
 //! `specs/Queries.antt` (creating and installing) and `specs/Answers.antt` (running). `Sessions.antt` of
-//! `gq_rules_meaning` defines `ran` and `interpreted`. The trait is in `src/runner.rt`, the statements in
+//! `gq_rules_meaning` defines `ran` and `interpreted`; `specs/Indexed.antt` says what a store and its index
+//! are when a query runs. The trait is in `src/runner.rt`, the statements in
 //! `src/create.rt`, `src/install.rt`, `src/run.rt` and `src/interpret.rt`.
 #![tactic(auto)]
 

@@ -11,6 +11,7 @@ ghost use Rattle.gq_arguments.specs.Rows.{Tells as Due};
 ghost use Rattle.gq_rules_meaning.specs.Statements.{Fault};
 ghost use Rattle.gq_diagnostics.specs.Messages.{message_of};
 ghost use Rattle.gq_query_run.specs.Answers.{Objects, Tells};
+ghost use Rattle.gq_query_run.specs.Indexed.{IsIndexed};
 ghost use Rattle.gq_query_run.specs.Runs.{Runs, answer_over};
 ghost use Rattle.gq_query_run.specs.Sessions.{graph_read};
 
@@ -18,7 +19,7 @@ use crate::runner::{QueryFault, Runner, RunsQueries};
 use crate::slot::slot_name;
 use gq_base::OutOfMemory;
 use gq_diagnostics::{Refusal, StatementFault};
-use gq_index::Store;
+use gq_index::{Index, Store};
 use gq_json::{Printed, json_line};
 use gq_schema::Catalog;
 use gq_tree::QueryTree;
@@ -26,7 +27,7 @@ use gq_value::{Row, Txt, Wrong};
 use std::alloc::Global;
 use std::thread::Threads;
 
-/// The line of a query for the graph of this number, over values of its parameters.
+/// The line of a query for the graph of this number, over a store with its index and values of its parameters.
 pub(crate) fn line_over<R: Threads + Sync, M: RunsQueries>(
     rt: &R,
     alloc: Global,
@@ -34,9 +35,11 @@ pub(crate) fn line_over<R: Threads + Sync, M: RunsQueries>(
     catalog: &Catalog,
     graph: Option<u32>,
     store: &Store,
+    index: &Index,
     query: &QueryTree,
     arguments: &Row,
 ) -> Result<Vec<u8>, StatementFault>
+    requires { IsIndexed catalog.now store.now index.now }
     ensures { Tells (answer_over (graph_read catalog.now graph store.now) gregorian runner.now.turns (view_query query.now) (map val arguments.now)) result }
 {
     let turns = runner.turns;
@@ -46,6 +49,7 @@ pub(crate) fn line_over<R: Threads + Sync, M: RunsQueries>(
         catalog,
         graph,
         store,
+        index,
         query,
         arguments,
         &runner.shape,

@@ -14,6 +14,7 @@ ghost use Rattle.gq_arguments.specs.Members.{members_for};
 ghost use Rattle.gq_arguments.specs.Rows.{values_given, Tells as Due};
 ghost use Rattle.gq_query_run.specs.Kept.{Kept};
 ghost use Rattle.gq_query_run.specs.Answers.{Says, Tells};
+ghost use Rattle.gq_query_run.specs.Indexed.{IsIndexed};
 ghost use Rattle.gq_query_run.specs.Runs.{answer_found, answer_given, values_run};
 ghost use Rattle.gq_query_run.specs.Sessions.{graph_read, session_of};
 
@@ -23,14 +24,14 @@ use crate::stored::{Stored, query_named};
 use gq_arguments::{Args, Arguments, argument_row};
 use gq_base::OutOfMemory;
 use gq_diagnostics::{Refusal, StatementFault};
-use gq_index::Store;
+use gq_index::{Index, Store};
 use gq_schema::Catalog;
 use gq_tree::{QueryTree, RunTree};
 use gq_value::Txt;
 use std::alloc::Global;
 use std::thread::Threads;
 
-/// RUN QUERY: the line that the query prints. The session stays as it is.
+/// RUN QUERY, over a store with its index: the line that the query prints. The session stays as it is.
 ///
 /// Refused where no query of the name is there, else where it isn't installed, else for its arguments, else for the fault of its run.
 pub fn run_query<R: Threads + Sync, M: RunsQueries>(
@@ -39,16 +40,18 @@ pub fn run_query<R: Threads + Sync, M: RunsQueries>(
     runner: &Runner<'_, M>,
     catalog: &Catalog,
     store: &Store,
+    index: &Index,
     queries: &[Stored<'_>],
     file: &Args,
     tree: &RunTree,
 ) -> Result<Vec<u8>, StatementFault>
+    requires { IsIndexed catalog.now store.now index.now }
     ensures { (in_use : Option ℕ) → Says (session_of catalog.now in_use queries.now store.now)
         (ran (session_of catalog.now in_use queries.now store.now) gregorian runner.now.turns tree.now.name (option_map (map view_argument) tree.now.arguments) (members_for (held file.now) tree.now.name)) result }
 {
     let name = tree.name.as_str();
     match query_named(queries, name) {
-        Some(query) => run_found(rt, alloc, runner, catalog, store, query, file, tree),
+        Some(query) => run_found(rt, alloc, runner, catalog, store, index, query, file, tree),
         None => Err(unknown(alloc, name)),
     }
 }
@@ -59,10 +62,12 @@ fn run_found<R: Threads + Sync, M: RunsQueries>(
     runner: &Runner<'_, M>,
     catalog: &Catalog,
     store: &Store,
+    index: &Index,
     query: &Stored<'_>,
     file: &Args,
     tree: &RunTree,
 ) -> Result<Vec<u8>, StatementFault>
+    requires { IsIndexed catalog.now store.now index.now }
     ensures { Tells (answer_found catalog.now store.now gregorian runner.now.turns query.now tree.now (held file.now)) result }
 {
     if query.is_installed() {
@@ -74,6 +79,7 @@ fn run_found<R: Threads + Sync, M: RunsQueries>(
             catalog,
             query.graph(),
             store,
+            index,
             query.tree(),
             arguments,
         )
@@ -100,9 +106,11 @@ fn run_with<R: Threads + Sync, M: RunsQueries>(
     catalog: &Catalog,
     graph: Option<u32>,
     store: &Store,
+    index: &Index,
     query: &QueryTree,
     arguments: Arguments<'_>,
 ) -> Result<Vec<u8>, StatementFault>
+    requires { IsIndexed catalog.now store.now index.now }
     ensures { Tells (answer_given (graph_read catalog.now graph store.now) gregorian runner.now.turns (view_query query.now)
         (values_given (sorts_of catalog.now (graph_in catalog.now graph)) store.now.vertices (map view_parameter query.now.parameters) arguments.entry)) result }
 {
@@ -118,7 +126,7 @@ fn run_with<R: Threads + Sync, M: RunsQueries>(
         parameters,
         arguments,
     ) {
-        Ok(row) => line_over(rt, alloc, runner, catalog, graph, store, query, &row),
+        Ok(row) => line_over(rt, alloc, runner, catalog, graph, store, index, query, &row),
         Err(fault) => Err(fault),
     }
 }

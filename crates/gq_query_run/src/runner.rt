@@ -5,11 +5,12 @@ ghost use Rattle.gq_value.specs.Views.{val};
 ghost use Rattle.gq_rules_typing.specs.StatementViews.{view_query};
 ghost use Rattle.gq_rules_meaning.specs.Queries as meaning;
 ghost use Rattle.gq_rules_calendar.specs.Gregorian.{gregorian};
+ghost use Rattle.gq_query_run.specs.Indexed.{IsIndexed};
 ghost use Rattle.gq_query_run.specs.Runs.{Runs};
 ghost use Rattle.gq_query_run.specs.Sessions.{graph_read};
 
 use gq_base::List;
-use gq_index::Store;
+use gq_index::{Index, Store};
 use gq_io::Shape;
 use gq_json::Printed;
 use gq_schema::Catalog;
@@ -52,8 +53,8 @@ pub struct Runner<'r, M> {
 
 /// Something that runs queries which were checked.
 pub trait RunsQueries {
-    /// Runs a query for the graph of this number, over a value of each parameter and with so many turns. The runtime's threads, and the
-    /// shape, by which the work of its blocks is cut, change no answer.
+    /// Runs a query for the graph of this number, over a store with its index and a value of each parameter, and with so many turns. The
+    /// runtime's threads, and the shape, by which the work of its blocks is cut, change no answer.
     fn run<R: Threads + Sync>(
         &self,
         rt: &R,
@@ -61,11 +62,13 @@ pub trait RunsQueries {
         catalog: &Catalog,
         graph: Option<u32>,
         store: &Store,
+        index: &Index,
         query: &QueryTree,
         arguments: &Row,
         shape: &Shape,
         turns: u64,
     ) -> Result<List<Printed>, QueryFault>
-        requires { IsSync R.row }
+        requires sync { IsSync R.row }
+        requires indexed { IsIndexed catalog.now store.now index.now }
         ensures { Runs (meaning.run_query (graph_read catalog.now graph store.now) gregorian (view_query query.now) (map val arguments.now) turns) result };
 }

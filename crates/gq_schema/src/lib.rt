@@ -1,6 +1,6 @@
 //! The catalog: vertex types, edge types and graphs, which declarations extend.
 //!
-//! A declaration appends an entry, or is refused by the first rule that fails. Names are found by hash.
+//! A declaration appends an entry, or is refused by the first rule that fails. Names are found in a tree.
 //!
 //! Read `Catalog.antt` of `gq_graph` first, then `specs/Refusals.antt`, which rule a declaration violates
 //! first, and `specs/Members.antt`, the types of a graph. The code begins in `src/catalog.rt`;

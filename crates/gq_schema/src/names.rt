@@ -1,29 +1,32 @@
 // Names that are found fast.
-ghost use Rattle.std.specs.Prelude.{◌≡◌, ◌≤◌, ◌++◌, [], ◌∷◌, ◌<◌, length, take, vec_len, vec_capacity, Some, None, MatchResult};
+ghost use Rattle.std.specs.Prelude.{◌≡◌, ◌≤◌, ◌++◌, [], ◌∷◌, ◌<◌, length, take, vec_len, vec_capacity, Some, None, MatchResult, IsTrue, ◌↔◌};
 ghost use Rattle.gq_graph.specs.Catalog.{name_place};
-ghost use Rattle.gq_schema.specs.Kept.{AreHashed, name_hash};
+ghost use Rattle.gq_schema.specs.Kept.{HavePlaces, name_at};
 
-use gq_base::{Hashes, OutOfMemory, text_hash};
+use gq_base::OutOfMemory;
 use gq_value::Txt;
 use std::alloc::Global;
+use std::collections::BTreeMap;
 use std::marker::Model;
 
 /// Names in order, none of them twice. Contracts see them as a list.
 #[derive(Drop)]
 pub(crate) struct NameTable {
     names: Vec<Txt>,
-    hashes: Hashes,
+
+    /// The place of each name. A name that was cut may stand here still.
+    places: BTreeMap<String, u32>,
 }
 
 impl Model for NameTable {
     ghost use Rattle.std.specs.Prelude.{List, ℕ};
-    ghost use Rattle.gq_schema.specs.Kept.{AreHashed};
+    ghost use Rattle.gq_schema.specs.Kept.{HavePlaces};
 
     ghost Value = { List (List ℕ) };
 
     ghost view = { λ t. t.names.items };
 
-    ghost invariant = { λ t. AreHashed t.names.items t.hashes };
+    ghost invariant = { λ t. HavePlaces t.names.items t.places };
 }
 
 impl NameTable {
@@ -32,7 +35,7 @@ impl NameTable {
     {
         NameTable {
             names: Vec::new(alloc),
-            hashes: Hashes::new(alloc),
+            places: BTreeMap::new(alloc),
         }
     }
 
@@ -46,7 +49,10 @@ impl NameTable {
     pub(crate) fn find(&self, name: &str) -> Option<u32>
         ensures { result ≡ name_place self.now name.now }
     {
-        find(&self.names, &self.hashes, name)
+        match self.places.get(name) {
+            Some(place) if stands_at(&self.names, *place, name) => Some(*place),
+            _ => None,
+        }
     }
 
     /// Puts a name last. Unchanged after OutOfMemory, which comes too where there are some four thousand million names.
@@ -57,9 +63,14 @@ impl NameTable {
         if self.names.len() >= u32::MAX as usize {
             return Err(OutOfMemory);
         }
-        let copy = Txt::of(*self.names.allocator(), name)?;
+        let alloc = *self.names.allocator();
+        let copy = Txt::of(alloc, name)?;
+        let key = String::from_str(alloc, name)?;
         self.names.reserve(1)?;
-        self.hashes.push(text_hash(0, name))?;
+        match self.places.insert(key, self.names.len() as u32) {
+            Ok(_) => {}
+            Err(_) => return Err(OutOfMemory),
+        }
         put(&mut self.names, copy);
         Ok(())
     }
@@ -70,22 +81,13 @@ impl NameTable {
         ensures { self.new ≡ take len self.old }
     {
         self.names.truncate(len);
-        self.hashes.cut(len);
     }
 }
 
-fn find(names: &[Txt], hashes: &Hashes, name: &str) -> Option<u32>
-    requires { AreHashed names.now hashes.now }
-    ensures { result ≡ name_place names.now name.now }
+fn stands_at(names: &[Txt], place: u32, name: &str) -> bool
+    ensures { IsTrue result ↔ (place < length names.now) × (name_at names.now place ≡ name.now) }
 {
-    let mut next = hashes.last(text_hash(0, name));
-    while let Some(number) = next {
-        if name == names[number as usize].as_str() {
-            return Some(number);
-        }
-        next = hashes.before(number);
-    }
-    None
+    (place as usize) < names.len() && names[place as usize].as_str() == name
 }
 
 /// Puts a name last where there is room for it.

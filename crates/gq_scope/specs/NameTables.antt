@@ -1,31 +1,30 @@
--- NameTables: what a table of names keeps beside them, and where the last one of a name stands.
-use Rattle.std.specs.Prelude.{ℕ, ◌<◌, ◌≡◌, true, false, List, [], length, map, slice_index_or, Option, Some, None}
-use Rattle.std.specs.Str.{bytes_eq}
-use Rattle.gq_base.specs.Hash.{hash_from}
+-- NameTables: what a table of names keeps beside them, so that the last one of a name is found by one look-up.
+-- A row is written as one more than its place, so that 0 is none.
+use Rattle.std.specs.Prelude.{ℕ, suc, ◌<◌, ◌≡◌, if◌then◌else◌, List, [], ◌∷◌, length, map, reverse, bytes_eq, unwrap_or}
+use Rattle.std.specs.BTreeMap.{BTreeMap, get_by_text}
+use Rattle.std.specs.Prelude.{String}
 use Rattle.gq_rules_typing.specs.Statements.{Bytes}
 
--- the names, without what stands under them
-abbrev pub plain_names : {A : Type 0} → List (Bytes × A) → List Bytes
-plain_names rows = map (λ r. r.0) rows
+-- the names, without what stands under them, the last one first
+abbrev pub newest_first : {A : Type 0} → List (Bytes × A) → List Bytes
+newest_first rows = map (λ r. r.0) (reverse rows)
 
--- the hash of a name
-abbrev pub name_hash : Bytes → ℕ
-name_hash name = hash_from 0 name
+-- the last row of a name, among names of which the last one comes first
+abbrev pub last_of : List Bytes → Bytes → ℕ
+last_of [] name = 0
+last_of (n ∷ ns) name = if bytes_eq n name then suc (length ns) else last_of ns name
 
--- each name has its hash
-abbrev pub IsHashed : List Bytes → List ℕ → Type 0
-IsHashed names hashes = hashes ≡ map name_hash names
+-- for each name the last row of it before this one
+abbrev pub hidden_by : List Bytes → List ℕ
+hidden_by [] = []
+hidden_by (n ∷ ns) = last_of ns n ∷ hidden_by ns
 
-abbrev pub plain_at : List Bytes → ℕ → Bytes
-plain_at names n = slice_index_or names n []
+-- the row that is kept for a name
+abbrev pub row_of : {Y : Type 0} → BTreeMap (String Y) ℕ → Bytes → ℕ
+row_of last name = unwrap_or (get_by_text last name) 0
 
--- the last of a name is at this place
-abbrev pub IsNewest : List Bytes → Bytes → Option ℕ → Type 0
-IsNewest names name None = (k : ℕ) → k < length names → bytes_eq (plain_at names k) name ≡ false
-IsNewest names name (Some n) =
-    (n < length names) × (bytes_eq (plain_at names n) name ≡ true)
-    × ((k : ℕ) → n < k → k < length names → bytes_eq (plain_at names k) name ≡ false)
-
-pub record IsKept (names : List Bytes) (hashes : List ℕ) : Type 0 where
-  pub hashed : IsHashed names hashes
-  pub few : length names < 4294967296
+-- the last rows of the names are kept, and what each of them hides
+pub record IsKept {A Y : Type 0} (rows : List (Bytes × A)) (hidden : List ℕ) (last : BTreeMap (String Y) ℕ) : Type 0 where
+  pub linked : reverse hidden ≡ hidden_by (newest_first rows)
+  pub ended : (name : Bytes) → row_of last name ≡ last_of (newest_first rows) name
+  pub few : length rows < 4294967296

@@ -1,6 +1,6 @@
 //! The visible names of a query: scopes for the type checker, and places of the frame for the planner.
 //!
-//! A `Scope` implements the scope of `gq_rules_typing` with hash tables. In `Places`, each name that comes
+//! A `Scope` implements the scope of `gq_rules_typing` with trees of names. In `Places`, each name that comes
 //! into view takes a place of its own, even if it shadows another; the names of a body go out of view at its
 //! end, and their places aren't reused.
 //!

@@ -1,26 +1,36 @@
 // Names with what stands under each, found fast.
-ghost use Rattle.std.specs.Prelude.{◌≡◌, ◌≤◌, ◌<◌, ◌++◌, [], ◌∷◌, length, take, reverse, vec_len, vec_capacity, MatchResult};
+ghost use Rattle.std.specs.Prelude.{◌≡◌, ◌≤◌, ◌<◌, ◌-◌, ◌++◌, [], ◌∷◌, length, take, reverse, vec_len, vec_capacity, List, ℕ, Some, IsSome, MatchResult};
+ghost use Rattle.std.specs.BTreeMap.{get_by_text};
+ghost use Rattle.std.specs.Map.{update};
 ghost use Rattle.std.specs.Option.{option_copied};
 ghost use Rattle.std.specs.Str.{bytes_eq};
 ghost use Rattle.gq_rules_typing.specs.Words.{under};
-ghost use Rattle.gq_scope.specs.NameTables.{plain_names, IsHashed, IsNewest};
+ghost use Rattle.gq_scope.specs.NameTables.{IsKept, row_of};
 
-use gq_base::{Hashes, OutOfMemory, text_hash};
+use gq_base::OutOfMemory;
 use gq_value::Txt;
 use std::alloc::Global;
+use std::collections::BTreeMap;
 use std::marker::Model;
 
 /// Names with what stands under each, in the order in which they were added. A name may be added again, and hides the one before it.
+///
+/// A row is written as one more than its place, so that 0 is none.
 #[derive(Drop)]
 pub(crate) struct NameTable<T> {
     rows: Vec<(Txt, T)>,
-    hashes: Hashes,
+
+    /// For each row, the last one of its name before it.
+    hidden: Vec<u32>,
+
+    /// For each name, its last row.
+    last: BTreeMap<String, u32>,
 }
 
 impl<T> Model for NameTable<T> {
     ghost use Rattle.std.specs.Prelude.{List, ℕ};
     ghost use Rattle.std.specs.Coded.{coded_list, coded×, coded_ℕ};
-    ghost use Rattle.gq_scope.specs.NameTables.{IsKept, plain_names};
+    ghost use Rattle.gq_scope.specs.NameTables.{IsKept};
 
     ghost Value = { List (List ℕ × T) };
 
@@ -28,7 +38,7 @@ impl<T> Model for NameTable<T> {
 
     ghost view = { λ t. t.rows.items };
 
-    ghost invariant = { λ t. IsKept (plain_names t.rows.items) t.hashes };
+    ghost invariant = { λ t. IsKept t.rows.items t.hidden.items t.last };
 }
 
 impl<T> NameTable<T> {
@@ -37,7 +47,8 @@ impl<T> NameTable<T> {
     {
         NameTable {
             rows: Vec::new(alloc),
-            hashes: Hashes::new(alloc),
+            hidden: Vec::new(alloc),
+            last: BTreeMap::new(alloc),
         }
     }
 
@@ -58,9 +69,9 @@ impl<T> NameTable<T> {
     pub(crate) fn find(&self, name: &str) -> Option<&T>
         ensures { option_copied result ≡ under bytes_eq name.now (reverse self.now) }
     {
-        match last_place(&self.rows, &self.hashes, name) {
-            None => None,
-            Some(place) => Some(&self.rows[place as usize].1),
+        match last_row(&self.last, name) {
+            0 => None,
+            row => Some(&self.rows[row as usize - 1].1),
         }
     }
 }
@@ -74,10 +85,18 @@ impl<T: Drop> NameTable<T> {
         if self.rows.len() >= u32::MAX as usize {
             return Err(OutOfMemory);
         }
-        let copy = Txt::of(*self.rows.allocator(), name)?;
+        let alloc = *self.rows.allocator();
+        let copy = Txt::of(alloc, name)?;
+        let key = String::from_str(alloc, name)?;
         self.rows.reserve(1)?;
-        self.hashes.push(text_hash(0, name))?;
-        put(&mut self.rows, copy, what);
+        self.hidden.reserve(1)?;
+        let row = self.rows.len() as u32 + 1;
+        let hidden = match self.last.insert(key, row) {
+            Ok(before) => before.unwrap_or(0),
+            Err(_) => return Err(OutOfMemory),
+        };
+        put(&mut self.rows, (copy, what));
+        put(&mut self.hidden, hidden);
         Ok(())
     }
 
@@ -86,32 +105,55 @@ impl<T: Drop> NameTable<T> {
         requires { len ≤ length self.old }
         ensures { self.new ≡ take len self.old }
     {
-        self.rows.truncate(len as usize);
-        self.hashes.cut(len as usize);
-    }
-}
-
-/// The place of the last one of a name.
-fn last_place<T>(rows: &[(Txt, T)], hashes: &Hashes, name: &str) -> Option<u32>
-    requires { IsHashed (plain_names rows.now) hashes.now }
-    ensures { IsNewest (plain_names rows.now) name.now result }
-{
-    let mut next = hashes.last(text_hash(0, name));
-    while let Some(place) = next {
-        if rows[place as usize].0.as_str() == name {
-            return Some(place);
+        while self.rows.len() > len as usize {
+            drop_last(&mut self.rows, &mut self.hidden, &mut self.last);
         }
-        next = hashes.before(place);
     }
-    None
 }
 
-/// Puts a name last where there is room for it.
-fn put<T: Drop>(rows: &mut Vec<(Txt, T)>, name: Txt, what: T)
-    requires { vec_len rows.old < vec_capacity rows.old }
-    ensures { rows.new.items ≡ rows.old.items ++ (name, what) ∷ [] }
+/// The last row of a name.
+fn last_row(last: &BTreeMap<String, u32>, name: &str) -> u32
+    ensures { result ≡ row_of last.now name.now }
 {
-    match rows.push((name, what)) {
+    match last.get(name) {
+        Some(row) => *row,
+        None => 0,
+    }
+}
+
+/// Takes the last name away. The one that it hid is the last of its name again.
+fn drop_last<T: Drop>(
+    rows: &mut Vec<(Txt, T)>,
+    hidden: &mut Vec<u32>,
+    last: &mut BTreeMap<String, u32>,
+)
+    requires { IsKept rows.old.items hidden.old.items last.old }
+    ensures kept { IsKept rows.new.items hidden.new.items last.new }
+    ensures dropped { rows.new.items ≡ take (vec_len rows.old - 1) rows.old.items }
+    ensures count { vec_len rows.new ≡ vec_len rows.old - 1 }
+{
+    match (rows.pop(), hidden.pop()) {
+        (Some(row), Some(before)) => restore(last, row.0.as_str(), before),
+        _ => {}
+    }
+}
+
+/// Makes a row the last one of a name that has one.
+fn restore(last: &mut BTreeMap<String, u32>, name: &str, row: u32)
+    requires { IsSome (get_by_text last.old name.now) }
+    ensures { (other : List ℕ) → get_by_text last.new other ≡ update bytes_eq (get_by_text last.old) name.now (Some row) other }
+{
+    if let Some(kept) = last.get_mut(name) {
+        *kept = row;
+    }
+}
+
+/// Puts an item last where there is room for it.
+fn put<T: Drop>(items: &mut Vec<T>, item: T)
+    requires { vec_len items.old < vec_capacity items.old }
+    ensures { items.new.items ≡ items.old.items ++ item ∷ [] }
+{
+    match items.push(item) {
         Ok(()) => {}
         Err(_) => unreachable!(),
     }

@@ -1,5 +1,5 @@
 -- What RUN QUERY and INTERPRET QUERY answer, by what was read of the session.
-use Rattle.std.proofs.Common.{◌≡◌, ℕ, Bool, true, false, cond, List, [], map, Option, Some, None, Result, Ok, Err, IfOk, sym, ap, subst}
+use Rattle.std.proofs.Common.{◌≡◌, ℕ, Bool, true, false, cond, List, [], map, Option, Some, None, Result, Ok, Err, IfOk, sym, ap, subst, ◌∙◌}
 use Rattle.std.specs.Prelude.{Vec, option_map}
 use Rattle.std.specs.declared.alloc.Global.{Global}
 use Rattle.serde_json.specs.Data.{Data}
@@ -42,9 +42,9 @@ prints_line s t effect answer (Err fault.ReadFault) is says =
     subst P is says
 prints_line s t effect answer (Err fault.OutOfMemory) is says = tt
 
-pub prints_done : (s : State) (effect : Effect State) (r : Result (Option (Vec ℕ Global)) StatementFault) → Prints s effect r → IfOk r (λ line. Becomes s (lines_of line) ≡ effect)
-prints_done s effect (Ok line) prints = sym prints
-prints_done s effect (Err f) prints = tt
+pub prints_done : (s t : State) (effect : Effect State) (r : Result (Option (Vec ℕ Global)) StatementFault) → t ≡ s → Prints s effect r → IfOk r (λ line. Becomes t (lines_of line) ≡ effect)
+prints_done s t effect (Ok line) same prints = ap (λ (u : State). Becomes u (lines_of line)) same ∙ sym prints
+prints_done s t effect (Err f) same prints = tt
 
 pub prints_refused : (s : State) (effect : Effect State) (r : Result (Option (Vec ℕ Global)) StatementFault) (refusal : Refusal) → r ≡ Err (fault.Refused refusal) → Prints s effect r
     → Refused (message_of refusal) ≡ effect

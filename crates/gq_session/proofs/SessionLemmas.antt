@@ -1,20 +1,33 @@
 -- What is true of a session stays so while its catalog grows; and what its answers say of a statement.
-use Rattle.std.proofs.Common.{◌≡◌, ℕ, List, [], ◌∷◌, Option, Some, None, Result, Ok, Err, IfOk, IfSome, refl, sym, subst, ◌<◌, ◌≤◌, length, take, arith}
+use Rattle.std.proofs.Common.{◌≡◌, ℕ, List, [], ◌∷◌, Option, Some, None, Result, Ok, Err, IfOk, IfSome, ◌++◌, refl, sym, ap, subst, ◌∙◌, ◌<◌, ◌≤◌, length, take, drop, arith}
+use Rattle.std.proofs.lemmas.List.{take-append-drop}
 use Rattle.std.specs.Prelude.{IfErr, IsSome, Vec}
 use Rattle.std.specs.Option.{ForSome}
 use Rattle.std.specs.declared.alloc.Global.{Global}
 use Rattle.gq_graph.specs.Catalog.{Schema}
+use Rattle.gq_graph.specs.declared.types.EdgeType.{EdgeType}
+use Rattle.gq_index.specs.declared.kept.KeptIndex.{KeptIndex}
 use Rattle.gq_index.specs.declared.store.Store.{Store}
+use Rattle.gq_index.specs.declared.walks.Traversal.{Traversal}
+use Rattle.gq_index.specs.Kept.{IsKept, CatalogGrown, StoreGrown}
+use Rattle.gq_index.specs.Sights.{sight_of}
+use Rattle.gq_index.specs.Walks.{adjacency}
+use Rattle.gq_index.proofs.KeptLemmas.{kept_grows, store_same, catalog_same}
 use Rattle.gq_diagnostics.specs.declared.refusal.Refusal.{Refusal}
 use Rattle.gq_diagnostics.specs.declared.refusal.StatementFault.{StatementFault}
 use Rattle.gq_diagnostics.specs.declared.refusal.StatementFault.TheVariants as fault
 use Rattle.gq_diagnostics.specs.Answers.{Answers, Denies}
 use Rattle.gq_insert.specs.Fits.{IsSound}
+use Rattle.gq_insert.specs.SoundLaws.{empty_is_sound}
 use Rattle.gq_load.specs.Records.{AllHaveEnds}
+use Rattle.gq_load_check.specs.Fits.{HasGrown}
 use Rattle.gq_load_check.specs.Targets.{no_edge_type}
+use Rattle.gq_load.specs.Keeping.{StoreFits, no_rows}
+use Rattle.gq_query_run.specs.Indexed.{IsIndexed}
 use Rattle.gq_ddl.specs.declared.named.NamedJob.{NamedJob}
+use Rattle.gq_ddl.specs.Fitting.{JobsFit}
 use Rattle.gq_ddl.specs.FittingLaws.{jobs_stay}
-use Rattle.gq_load.specs.KeepingLaws.{growth_fits}
+use Rattle.gq_load.specs.KeepingLaws.{empty_fits, growth_fits, attributes_there, rows_join}
 use Rattle.gq_tree.specs.declared.job.RunJobTree.{RunJobTree}
 use Rattle.gq_io.specs.Known.{Known}
 use Rattle.gq_diagnostics.specs.Effects.{Becomes, Refused, lines_of}
@@ -39,20 +52,64 @@ longer (x ∷ xs) (y ∷ ys) is = let rest : take (length xs) ys ≡ xs = cc in 
 stays_there : (in_use : Option ℕ) (m n : ℕ) → m ≤ n → ForSome in_use (λ graph. graph < m) → ForSome in_use (λ graph. graph < n)
 stays_there in_use m n more low = λ graph is. let before = low graph is in omega arith
 
-pub session_grows : (before after : Schema) (in_use : Option ℕ) (jobs : List NamedJob) (store : Store) → Grown before after → SessionFits before in_use jobs store → SessionFits after in_use jobs store
-session_grows before after in_use jobs store more fits = record {
+-- a session without anything
+pub session_opens : (schema : Schema) (jobs : List NamedJob) (store : Store) (index : KeptIndex) → schema ≡ record { vertex_types = []; edge_types = []; graphs = [] } → jobs ≡ [] → store ≡ no_rows
+    → IsKept index schema store → SessionFits schema None jobs store index
+session_opens schema jobs store index types no_jobs rows kept = record {
+  there = λ graph is. absurd (cc);
+  sound = subst IsSound (sym types) empty_is_sound;
+  each = subst (JobsFit schema) (sym no_jobs) (λ k d low. absurd (omega arith));
+  kept = subst (StoreFits schema) (sym rows) (empty_fits schema);
+  indexed = kept;
+}
+
+-- as the index has it, the catalog has grown
+types_grow : (before after : Schema) → HasGrown before after → CatalogGrown before after
+types_grow before after grown =
+    let more : List EdgeType = drop (length before.edge_types) after.edge_types in
+    record {
+      more = more;
+      types = sym (take-append-drop (length before.edge_types) after.edge_types) ∙ ap (λ (l : List EdgeType). l ++ more) grown.edge_types;
+    }
+
+pub session_grows : (before after : Schema) (in_use : Option ℕ) (jobs : List NamedJob) (store : Store) (index : KeptIndex) → Grown before after
+    → SessionFits before in_use jobs store index → SessionFits after in_use jobs store index
+session_grows before after in_use jobs store index more fits = record {
   there = stays_there in_use (length before.graphs) (length after.graphs) (longer before.graphs after.graphs more.grown.graphs) fits.there;
   sound = more.whole fits.sound;
   each = jobs_stay before after jobs more.grown fits.each;
   kept = growth_fits before after store more.grown fits.kept;
+  indexed = kept_grows index before after store store (types_grow before after more.grown) (store_same store) fits.indexed;
 }
 
 -- a new graph is in use
-pub session_uses : (before after : Schema) (in_use : Option ℕ) (graph : ℕ) (jobs : List NamedJob) (store : Store) → Grown before after → graph < length after.graphs
-    → SessionFits before in_use jobs store → SessionFits after (Some graph) jobs store
-session_uses before after in_use graph jobs store more low fits =
-    let grown = session_grows before after in_use jobs store more fits in
-    record { there = λ other is. let same : graph ≡ other = cc in omega arith; sound = grown.sound; each = grown.each; kept = grown.kept }
+pub session_uses : (before after : Schema) (in_use : Option ℕ) (graph : ℕ) (jobs : List NamedJob) (store : Store) (index : KeptIndex) → Grown before after → graph < length after.graphs
+    → SessionFits before in_use jobs store index → SessionFits after (Some graph) jobs store index
+session_uses before after in_use graph jobs store index more low fits =
+    let grown = session_grows before after in_use jobs store index more fits in
+    record { there = λ other is. let same : graph ≡ other = cc in omega arith; sound = grown.sound; each = grown.each; kept = grown.kept; indexed = grown.indexed }
+
+-- the store has grown
+pub session_gains : (schema : Schema) (in_use : Option ℕ) (jobs : List NamedJob) (before after : Store) (index : KeptIndex) → StoreFits schema after → StoreGrown before after
+    → SessionFits schema in_use jobs before index → SessionFits schema in_use jobs after index
+session_gains schema in_use jobs before after index fit more fits = record {
+  there = fits.there;
+  sound = fits.sound;
+  each = fits.each;
+  kept = fit;
+  indexed = kept_grows index schema schema before after (catalog_same schema) more fits.indexed;
+}
+
+-- the index was looked after
+pub session_indexes : (schema : Schema) (in_use : Option ℕ) (jobs : List NamedJob) (store : Store) (before after : KeptIndex) → IsKept after schema store
+    → SessionFits schema in_use jobs store before → SessionFits schema in_use jobs store after
+session_indexes schema in_use jobs store before after kept fits = record { there = fits.there; sound = fits.sound; each = fits.each; kept = fits.kept; indexed = kept }
+
+-- with its index, as it was last looked after, queries can run over its store
+pub session_indexed : (schema : Schema) (in_use : Option ℕ) (jobs : List NamedJob) (store : Store) (before after : KeptIndex) (index : List (List Traversal))
+    → SessionFits schema in_use jobs store before → after.index ≡ adjacency (sight_of schema store.vertices store.edges) → index ≡ after.index → IsIndexed schema store index
+session_indexed schema in_use jobs store before after index fits built lent =
+    record { attributes = attributes_there schema store fits.kept; ends = rows_join schema store fits.kept; adjacent = lent ∙ built }
 
 -- a declaration lets the catalog grow, or leaves it as it was
 pub answers_grow : {R : Type 0} (meant : Result Schema Refusal) (before after : Schema) (r : Result R StatementFault) → ((new : Schema) → meant ≡ Ok new → Grown before new)
@@ -77,10 +134,10 @@ silent_left {R} meant s t answer (Err f) answers same =
     let P : Result R StatementFault → Type 0 = λ a. Answers meant s t a in
     denied_same meant s t f (subst P same answers)
 
--- and so does one that changes nothing
-pub left_same : {A : Type 0} (s : State) (r : Result A StatementFault) → IfErr r (λ f. s ≡ s)
-left_same s (Ok a) = tt
-left_same s (Err f) = refl
+-- and so does one that prints a line
+pub left_same : {A : Type 0} (s t : State) (r : Result A StatementFault) → t ≡ s → IfErr r (λ f. t ≡ s)
+left_same s t (Ok a) same = tt
+left_same s t (Err f) same = same
 
 -- ---- loading jobs
 

@@ -16,7 +16,7 @@ use gq_base::{List, OutOfMemory};
 use gq_ddl::{NamedJob, create_edge, create_graph, create_job, create_vertex};
 use gq_diagnostics::{Refusal, StatementFault};
 use gq_edge::Edges;
-use gq_index::Store;
+use gq_index::{KeptIndex, Store};
 use gq_insert::insert_row;
 use gq_io::Files;
 use gq_load_run::run_job;
@@ -37,6 +37,8 @@ use std::thread::Threads;
 
 /// What the statements of a script leave to one another: the catalog, the graph in use, the loading jobs, the queries, whose trees the
 /// script lends, and the store. The file of arguments and what runs queries are lent to it too.
+///
+/// The store's index is kept from one query to the next, and takes in what came behind it when a query is run.
 #[derive(Drop)]
 pub struct Session<'s, M> {
     alloc: Global,
@@ -45,6 +47,7 @@ pub struct Session<'s, M> {
     jobs: List<NamedJob>,
     queries: List<Stored<'s>>,
     store: Store,
+    index: KeptIndex,
     file: ArgsFile<'s>,
     runner: &'s Runner<'s, M>,
 }
@@ -63,7 +66,7 @@ impl<'s, M> Model for Session<'s, M> {
 
     ghost view = { λ s. record { schema = s.catalog; in_use = s.in_use; jobs = s.jobs; queries = s.queries; store = s.store; file = s.file; turns = s.runner.now.turns } };
 
-    ghost invariant = { λ s. SessionFits s.catalog s.in_use s.jobs s.store };
+    ghost invariant = { λ s. SessionFits s.catalog s.in_use s.jobs s.store s.index };
 }
 
 impl<'s, M: RunsQueries> Session<'s, M> {
@@ -78,6 +81,7 @@ impl<'s, M: RunsQueries> Session<'s, M> {
             jobs: List::new(alloc),
             queries: List::new(alloc),
             store: no_rows(alloc),
+            index: KeptIndex::new(alloc),
             file,
             runner,
         }
@@ -194,24 +198,31 @@ impl<'s, M: RunsQueries> Session<'s, M> {
     }
 
     fn run_query<R: Threads + Sync>(
-        &self,
+        &mut self,
         rt: &R,
         number: u64,
         tree: &RunTree,
     ) -> Result<Option<Vec<u8>>, StatementFault>
-        ensures { Prints self.now (query_ran self.now number tree.now) result }
+        ensures prints { Prints self.old (query_ran self.old number tree.now) result }
+        ensures same { self.new ≡ self.old }
     {
         let queries = self.queries.as_slice();
         if walks_path(queries, tree.name.as_str()) {
             return unsupported(number);
         }
+        let (alloc, catalog, store) = (self.alloc, &self.catalog, &self.store);
+        match self.index.catch_up(alloc, catalog, store) {
+            Ok(()) => {}
+            Err(OutOfMemory) => return Err(StatementFault::OutOfMemory),
+        }
         let file = self.file.given();
         with_line(run_query(
             rt,
-            self.alloc,
+            alloc,
             self.runner,
-            &self.catalog,
-            &self.store,
+            catalog,
+            store,
+            self.index.index(),
             queries,
             file,
             tree,
@@ -219,15 +230,20 @@ impl<'s, M: RunsQueries> Session<'s, M> {
     }
 
     fn interpret<R: Threads + Sync>(
-        &self,
+        &mut self,
         rt: &R,
         number: u64,
         tree: &QueryTree,
     ) -> Result<Option<Vec<u8>>, StatementFault>
-        ensures { Prints self.now (query_interpreted self.now number tree.now) result }
+        ensures prints { Prints self.old (query_interpreted self.old number tree.now) result }
+        ensures same { self.new ≡ self.old }
     {
         if has_path(tree) {
             return self.judge_path(number, tree);
+        }
+        match self.index.catch_up(self.alloc, &self.catalog, &self.store) {
+            Ok(()) => {}
+            Err(OutOfMemory) => return Err(StatementFault::OutOfMemory),
         }
         with_line(interpret_query(
             rt,
@@ -235,6 +251,7 @@ impl<'s, M: RunsQueries> Session<'s, M> {
             self.runner,
             &self.catalog,
             &self.store,
+            self.index.index(),
             self.in_use,
             tree,
         ))

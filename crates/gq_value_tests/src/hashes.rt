@@ -1,38 +1,42 @@
-use gq_base::{Hashes, mixed, text_hash, wide_hash};
+use gq_base::{Key, KeyIndex, mixed, text_hash, wide_hash};
 use std::test::Fail;
 
+fn key(tag: u32) -> Key {
+    Key { word: 7, tag }
+}
+
 #[test]
-fn rows_of_one_hash_are_found_from_the_last_on(rt: HostRuntime) -> Result<(), Fail> {
-    let mut hashes = Hashes::new(rt.alloc());
+fn rows_of_one_key_are_found_from_the_last_on(rt: HostRuntime) -> Result<(), Fail> {
+    let mut index = KeyIndex::new(rt.alloc());
     for row in 0..100u32 {
-        assert!(rt; hashes.len() < 1000);
-        hashes.push(row % 3)?;
+        assert!(rt; index.len() < 1000);
+        index.push(key(row % 3))?;
     }
-    assert!(rt; hashes.len() == 100);
-    assert_eq!(rt; hashes.last(2), Some(98));
-    assert_eq!(rt; hashes.before(98), Some(95));
-    assert_eq!(rt; hashes.before(2), None);
-    assert_eq!(rt; hashes.last(3), None);
+    assert!(rt; index.len() == 100);
+    assert_eq!(rt; index.last(key(2)), Some(98));
+    assert_eq!(rt; index.before(98), Some(95));
+    assert_eq!(rt; index.before(2), None);
+    assert_eq!(rt; index.last(key(3)), None);
     Ok(())
 }
 
 #[test]
 fn a_cut_forgets_the_last_rows_alone(rt: HostRuntime) -> Result<(), Fail> {
-    let mut hashes = Hashes::new(rt.alloc());
+    let mut index = KeyIndex::new(rt.alloc());
     for row in 0..50u32 {
-        assert!(rt; hashes.len() < 1000);
-        hashes.push(row % 8)?;
+        assert!(rt; index.len() < 1000);
+        index.push(key(row % 8))?;
     }
-    assert!(rt; hashes.len() == 50);
-    let copy = hashes.duplicate()?;
-    hashes.cut(11);
-    assert_eq!(rt; hashes.len(), 11);
-    assert_eq!(rt; hashes.last(2), Some(10));
-    assert_eq!(rt; hashes.last(7), Some(7));
-    assert!(rt; hashes.len() == 11);
-    hashes.push(7)?;
-    assert_eq!(rt; hashes.last(7), Some(11));
-    assert_eq!(rt; copy.last(7), Some(47));
+    assert!(rt; index.len() == 50);
+    let copy = index.duplicate()?;
+    index.cut(11);
+    assert_eq!(rt; index.len(), 11);
+    assert_eq!(rt; index.last(key(2)), Some(10));
+    assert_eq!(rt; index.last(key(7)), Some(7));
+    assert!(rt; index.len() == 11);
+    index.push(key(7))?;
+    assert_eq!(rt; index.last(key(7)), Some(11));
+    assert_eq!(rt; copy.last(key(7)), Some(47));
     Ok(())
 }
 

@@ -1,1 +1,3 @@
+pub mod KeyedLemmas
+pub mod SortedLemmas
 pub mod VertexLemmas

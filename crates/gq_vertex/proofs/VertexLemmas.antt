@@ -3,7 +3,7 @@ use Rattle.std.proofs.Common.{inl, inr, ℕ, ◌+◌, ◌<◌, ◌≤◌, ◌≡
 use Rattle.std.specs.Str.{bytes_eq}
 use Rattle.std.proofs.lemmas.Bool.Decides.{nat_tests}
 use Rattle.std.proofs.lemmas.Slice.Eq.{bytes_eq-Decides}
-use Rattle.std.proofs.lemmas.List.{length-map, get_or-map, map_push, get_or_read, get_or_append_left, get_or_push, get_or-take, length-take-le, length_push, take-map, get_or-set_same, get_or-set_other, length-set}
+use Rattle.std.proofs.lemmas.List.{length-map, get_or-map, get_or_read, get_or_append_left, get_or_push, get_or-take, length-take-le, length_push, get_or-set_same, get_or-set_other, length-set}
 use Rattle.std.proofs.lemmas.List.Quantifiers.{position-Some}
 use Rattle.std.proofs.lemmas.Bool.{cases_lt}
 use Rattle.std.proofs.lemmas.Bool.Decides.{eqb_tells}
@@ -14,7 +14,13 @@ use Rattle.gq_graph.specs.declared.rows.VertexRow.{VertexRow}
 use Rattle.gq_graph.specs.Vertices.{is_vertex, vertex_number, vertex_put, upsert_vertex, no_vertex, vertex_at, VerticesApart, most_vertices}
 use Rattle.gq_base.specs.Last.{IsLast}
 use Rattle.gq_base.proofs.Seeks.{Seeks, Hits, seek_starts, seek_goes, seek_none, seek_found, nowhere}
-use Rattle.gq_vertex.specs.Named.{vertex_hash, row_hash, AreNamed}
+use Rattle.gq_base.proofs.Seeks.{seek_exact}
+use Rattle.gq_vertex.specs.Keyed.{word, vertex_key, IsBytes}
+use Rattle.gq_vertex.specs.declared.index.Index.{Index}
+use Rattle.gq_vertex.specs.declared.index.Index.TheVariants.{Hashed, Sorted}
+use Rattle.gq_vertex.specs.Named.{row_key, Finds, AreNamed}
+use Rattle.gq_vertex.proofs.SortedLemmas.{position_set}
+use Rattle.gq_vertex.proofs.KeyedLemmas.{exact_same}
 
 and_true : (a b : Bool) → a && b ≡ true → (a ≡ true) × (b ≡ true)
 and_true true b is = (refl, is)
@@ -34,12 +40,12 @@ pub is_named : (kind : ℕ) (id : List ℕ) (row : VertexRow) → row.kind ≡ k
 is_named kind id row k i =
     ap (λ b. b && bytes_eq id row.id) (eq-eqb row.kind kind k) ∙ (bytes_eq-Decides id row.id).1 (sym i)
 
-pub hits : (rows : List VertexRow) (hashes : List ℕ) (kind : ℕ) (id : List ℕ) → hashes ≡ map row_hash rows
-    → Hits (is_vertex kind id) no_vertex rows hashes (vertex_hash kind id)
-hits rows hashes kind id hashed k low is =
+pub hits : (rows : List VertexRow) (keys : List ℕ) (kind : ℕ) (id : List ℕ) → keys ≡ map row_key rows
+    → Hits (is_vertex kind id) no_vertex rows keys (vertex_key kind id)
+hits rows keys kind id keyed k low is =
     let so = named_so kind id (get_or rows k no_vertex) is in
-    ap (λ h. get_or h k 0) hashed ∙ get_or-map row_hash rows k no_vertex 0 low
-    ∙ ap (λ x. vertex_hash x (get_or rows k no_vertex).id) so.0 ∙ ap (vertex_hash kind) so.1
+    ap (λ h. get_or h k 0) keyed ∙ get_or-map row_key rows k no_vertex 0 low
+    ∙ ap (λ x. vertex_key x (get_or rows k no_vertex).id) so.0 ∙ ap (vertex_key kind) so.1
 
 -- two rows that are the vertex are one
 pub one_vertex : (rows : List VertexRow) (kind : ℕ) (id : List ℕ) → VerticesApart rows → (i j : ℕ) → i < j → j < length rows
@@ -50,10 +56,10 @@ one_vertex rows kind id apart i j low there a b =
     apart i j low there (first.0 ∙ sym second.0) (first.1 ∙ sym second.1)
 
 -- the row that a walk found
-pub found_there : (rows : List VertexRow) (hashes : List ℕ) (kind : ℕ) (id : List ℕ) (hash n : ℕ) (row : VertexRow) (t : Bool)
-    → VerticesApart rows → Seeks (is_vertex kind id) no_vertex rows hashes hash (Some n) → row ≡ get_or rows n row → t ≡ is_vertex kind id row → t ≡ true
+pub found_there : (rows : List VertexRow) (keys : List ℕ) (kind : ℕ) (id : List ℕ) (hash n : ℕ) (row : VertexRow) (t : Bool)
+    → VerticesApart rows → Seeks (is_vertex kind id) no_vertex rows keys hash (Some n) → row ≡ get_or rows n row → t ≡ is_vertex kind id row → t ≡ true
     → Some n ≡ vertex_number rows kind id
-found_there rows hashes kind id hash n row t apart here read test is =
+found_there rows keys kind id hash n row t apart here read test is =
     sym (seek_found (is_vertex kind id) no_vertex n rows here.0
     (ap (is_vertex kind id) (sym (get_or_read rows n row here.0 read no_vertex)) ∙ sym test ∙ is) (one_vertex rows kind id apart))
 
@@ -66,39 +72,54 @@ number_low rows kind n id is =
 
 -- what stands of the walk for a vertex
 abbrev pub SeeksVertex : List VertexRow → List ℕ → ℕ → List ℕ → Option ℕ → Type 0
-SeeksVertex rows hashes kind id next = Seeks (is_vertex kind id) no_vertex rows hashes (vertex_hash kind id) next
+SeeksVertex rows keys kind id next = Seeks (is_vertex kind id) no_vertex rows keys (vertex_key kind id) next
 
-pub vertex_starts : (rows : List VertexRow) (hashes : List ℕ) (kind : ℕ) (id : List ℕ) (hash : ℕ) (next : Option ℕ) → AreNamed rows hashes
-    → hash ≡ vertex_hash kind id → IsLast hashes hash (length hashes) next → SeeksVertex rows hashes kind id next
-vertex_starts rows hashes kind id hash next named is last =
-    seek_starts (is_vertex kind id) no_vertex rows hashes (vertex_hash kind id) next (ap length named.hashed ∙ length-map rows row_hash)
-    (hits rows hashes kind id named.hashed) (subst (λ h. IsLast hashes h (length hashes) next) is last)
+pub vertex_starts : (rows : List VertexRow) (keys : List ℕ) (kind : ℕ) (id : List ℕ) (hash : ℕ) (next : Option ℕ) → AreNamed rows (Hashed keys)
+    → hash ≡ vertex_key kind id → IsLast keys hash (length keys) next → SeeksVertex rows keys kind id next
+vertex_starts rows keys kind id hash next named is last =
+    seek_starts (is_vertex kind id) no_vertex rows keys (vertex_key kind id) next (ap length named.finds ∙ length-map rows row_key)
+    (hits rows keys kind id named.finds) (subst (λ h. IsLast keys h (length keys) next) is last)
 
-pub vertex_goes : (rows : List VertexRow) (hashes : List ℕ) (kind n : ℕ) (id : List ℕ) (old next : Option ℕ) (row : VertexRow) (t : Bool) → AreNamed rows hashes
-    → SeeksVertex rows hashes kind id old → old ≡ Some n → row ≡ get_or rows n row → t ≡ is_vertex kind id row → t ≡ false
-    → IsLast hashes (get_or hashes n 0) n next → SeeksVertex rows hashes kind id next
-vertex_goes rows hashes kind n id old next row t named here at read test miss last =
-    let this = subst (SeeksVertex rows hashes kind id) at here in
-    seek_goes (is_vertex kind id) no_vertex rows hashes (vertex_hash kind id) n next (hits rows hashes kind id named.hashed) this
+-- the last row of an exact key is the vertex
+pub vertex_exact : (rows : List VertexRow) (keys : List ℕ) (kind : ℕ) (id : List ℕ) (key : ℕ) (next : Option ℕ) → AreNamed rows (Hashed keys) → IsBytes id
+    → word id < 9223372036854775808 → key ≡ vertex_key kind id → IsLast keys key (length keys) next → next ≡ vertex_number rows kind id
+vertex_exact rows keys kind id key next named bytes low is last =
+    seek_exact (is_vertex kind id) no_vertex rows keys (vertex_key kind id) next (ap length named.finds ∙ length-map rows row_key)
+    (hits rows keys kind id named.finds)
+    (λ k under at.
+    let there : vertex_key (vertex_at rows k).kind (vertex_at rows k).id ≡ vertex_key kind id =
+    sym (ap (λ h. get_or h k 0) named.finds ∙ get_or-map row_key rows k no_vertex 0 under) ∙ at in
+    let same = exact_same (vertex_at rows k).kind kind (vertex_at rows k).id id (named.bytes k under) bytes low there in
+    is_named kind id (vertex_at rows k) same.0 same.1)
+    (one_vertex rows kind id named.apart)
+    (subst (λ h. IsLast keys h (length keys) next) is last)
+
+pub vertex_goes : (rows : List VertexRow) (keys : List ℕ) (kind n : ℕ) (id : List ℕ) (old next : Option ℕ) (row : VertexRow) (t : Bool) → AreNamed rows (Hashed keys)
+    → SeeksVertex rows keys kind id old → old ≡ Some n → row ≡ get_or rows n row → t ≡ is_vertex kind id row → t ≡ false
+    → IsLast keys (get_or keys n 0) n next → SeeksVertex rows keys kind id next
+vertex_goes rows keys kind n id old next row t named here at read test miss last =
+    let this = subst (SeeksVertex rows keys kind id) at here in
+    seek_goes (is_vertex kind id) no_vertex rows keys (vertex_key kind id) n next (hits rows keys kind id named.finds) this
     (ap (is_vertex kind id) (sym (get_or_read rows n row this.0 read no_vertex)) ∙ sym test ∙ miss) last
 
-pub vertex_found : (rows : List VertexRow) (hashes : List ℕ) (kind n : ℕ) (id : List ℕ) (old : Option ℕ) (row : VertexRow) (t : Bool) → AreNamed rows hashes
-    → SeeksVertex rows hashes kind id old → old ≡ Some n → row ≡ get_or rows n row → t ≡ is_vertex kind id row → t ≡ true
+pub vertex_found : (rows : List VertexRow) (keys : List ℕ) (kind n : ℕ) (id : List ℕ) (old : Option ℕ) (row : VertexRow) (t : Bool) → AreNamed rows (Hashed keys)
+    → SeeksVertex rows keys kind id old → old ≡ Some n → row ≡ get_or rows n row → t ≡ is_vertex kind id row → t ≡ true
     → Some n ≡ vertex_number rows kind id
-vertex_found rows hashes kind n id old row t named here at read test is =
-    found_there rows hashes kind id (vertex_hash kind id) n row t named.apart (subst (SeeksVertex rows hashes kind id) at here) read test is
+vertex_found rows keys kind n id old row t named here at read test is =
+    found_there rows keys kind id (vertex_key kind id) n row t named.apart (subst (SeeksVertex rows keys kind id) at here) read test is
 
-pub vertex_missing : (rows : List VertexRow) (hashes : List ℕ) (kind : ℕ) (id : List ℕ) (old : Option ℕ)
-    → SeeksVertex rows hashes kind id old → old ≡ None → None ≡ vertex_number rows kind id
-vertex_missing rows hashes kind id old here at =
-    sym (seek_none (is_vertex kind id) no_vertex rows (subst (SeeksVertex rows hashes kind id) at here))
+pub vertex_missing : (rows : List VertexRow) (keys : List ℕ) (kind : ℕ) (id : List ℕ) (old : Option ℕ)
+    → SeeksVertex rows keys kind id old → old ≡ None → None ≡ vertex_number rows kind id
+vertex_missing rows keys kind id old here at =
+    sym (seek_none (is_vertex kind id) no_vertex rows (subst (SeeksVertex rows keys kind id) at here))
 
 -- fewer rows
-pub named_cut : (n : ℕ) (rows : List VertexRow) (hashes : List ℕ) → n ≤ length rows → AreNamed rows hashes → AreNamed (take n rows) (take n hashes)
-named_cut n rows hashes low named =
+pub named_cut : (n : ℕ) (rows : List VertexRow) (index new : Index) → n ≤ length rows → AreNamed rows index → Finds (take n rows) new → AreNamed (take n rows) new
+named_cut n rows index new low named finds =
     let count : length (take n rows) ≡ n = length-take-le n rows low in
     record {
-      hashed = ap (take n) named.hashed ∙ take-map row_hash n rows;
+      finds = finds;
+      bytes = λ k under. subst (λ (r : VertexRow). IsBytes r.id) (sym (get_or-take n rows k no_vertex (omega (arith, under, count)))) (named.bytes k (omega (arith, under, low, count)));
       apart = λ i j before there kinds ids.
           let under : j < n = omega (arith, count) in
           named.apart i j before (omega (arith, count))
@@ -114,10 +135,16 @@ not_there rows kind id i none low k same =
     nowhere (is_vertex kind id) no_vertex rows i none low (is_named kind id (vertex_at rows i) k same)
 
 -- one row more, of a new name
-pub named_added : (rows : List VertexRow) (hashes : List ℕ) (row : VertexRow) (hash : ℕ) → vertex_number rows row.kind row.id ≡ None → length rows < most_vertices
-    → hash ≡ row_hash row → AreNamed rows hashes → AreNamed (rows ++ row ∷ []) (hashes ++ hash ∷ [])
-named_added rows hashes row hash none room is named = record {
-  hashed = ap (λ h. h ++ hash ∷ []) named.hashed ∙ ap (λ h. map row_hash rows ++ h ∷ []) is ∙ sym (map_push row_hash rows row);
+pub named_added : (rows : List VertexRow) (index new : Index) (row : VertexRow) → vertex_number rows row.kind row.id ≡ None → length rows < most_vertices
+    → IsBytes row.id → AreNamed rows index → Finds (rows ++ row ∷ []) new → AreNamed (rows ++ row ∷ []) new
+named_added rows index new row none room bytes named finds = record {
+  finds = finds;
+  bytes = λ k low. elim (cases_lt k (length rows)) [
+    | inl under ↦ subst (λ (r : VertexRow). IsBytes r.id) (sym (get_or_append_left rows (row ∷ []) no_vertex k under)) (named.bytes k under)
+    | inr over ↦
+        let last : k ≡ length rows = omega (arith, length_push rows row) in
+        subst (λ (r : VertexRow). IsBytes r.id) (sym (ap (λ n. get_or (rows ++ row ∷ []) n no_vertex) last ∙ get_or_push rows row no_vertex (length rows) refl)) bytes
+  ];
   apart = λ i j before there kinds ids.
       let last : get_or (rows ++ row ∷ []) (length rows) no_vertex ≡ row = get_or_push rows row no_vertex (length rows) refl in
       let short : j < length rows + 1 = omega (arith, length_push rows row) in
@@ -153,12 +180,21 @@ same_names rows n row low kind id k = elim (eqb_tells k n) [
       (ap (λ (r : VertexRow). r.kind) there, ap (λ (r : VertexRow). r.id) there)
 ]
 
-pub named_replaced : (rows : List VertexRow) (hashes : List ℕ) (n : ℕ) (row : VertexRow) → n < length rows → row.kind ≡ (vertex_at rows n).kind
-    → row.id ≡ (vertex_at rows n).id → AreNamed rows hashes → AreNamed (set rows n row) hashes
-named_replaced rows hashes n row low kind id named = record {
-  hashed = named.hashed ∙ sym (map-set_same row_hash rows n row no_vertex (ap (λ k. vertex_hash k row.id) kind ∙ ap (vertex_hash (vertex_at rows n).kind) id));
+finds_replaced : (rows : List VertexRow) (index : Index) (n : ℕ) (row : VertexRow) → row.kind ≡ (vertex_at rows n).kind
+    → row.id ≡ (vertex_at rows n).id → Finds rows index → Finds (set rows n row) index
+finds_replaced rows (Hashed keys) n row kind id keyed =
+    keyed ∙ sym (map-set_same row_key rows n row no_vertex (ap (λ k. vertex_key k row.id) kind ∙ ap (vertex_key (vertex_at rows n).kind) id))
+finds_replaced rows (Sorted names) n row kind id sorted = λ k i.
+    sorted k i ∙ sym (position_set (is_vertex k i) rows n row no_vertex
+    (ap (λ x. (x == k) && bytes_eq i row.id) kind ∙ ap (λ x. ((vertex_at rows n).kind == k) && bytes_eq i x) id))
+
+pub named_replaced : (rows : List VertexRow) (index : Index) (n : ℕ) (row : VertexRow) → n < length rows → row.kind ≡ (vertex_at rows n).kind
+    → row.id ≡ (vertex_at rows n).id → AreNamed rows index → AreNamed (set rows n row) index
+named_replaced rows index n row low_n kind id named = record {
+  finds = finds_replaced rows index n row kind id named.finds;
+  bytes = λ k low. subst IsBytes (sym (same_names rows n row low_n kind id k).1) (named.bytes k (omega (arith, low, length-set rows n row)));
   apart = λ i j before there kinds ids.
-      let a = same_names rows n row low kind id i in let b = same_names rows n row low kind id j in
+      let a = same_names rows n row low_n kind id i in let b = same_names rows n row low_n kind id j in
       named.apart i j before (omega (arith, length-set rows n row)) (sym a.0 ∙ kinds ∙ b.0) (sym a.1 ∙ ids ∙ b.1);
   few = omega (arith, length-set rows n row, named.few);
 }

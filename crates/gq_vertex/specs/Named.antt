@@ -1,19 +1,28 @@
--- Named: what the table of vertices keeps beside its rows, namely the hash of each row's name.
-use Rattle.std.specs.Prelude.{ℕ, ◌≡◌, ◌≤◌, List, length, map}
-use Rattle.gq_base.specs.Hash.{mixed, hash_from}
+-- Named: what the table of vertices keeps beside its rows, namely what finds each row by its name.
+use Rattle.std.specs.Prelude.{ℕ, ◌≡◌, ◌<◌, ◌≤◌, List, length, map}
 use Rattle.gq_graph.specs.declared.rows.VertexRow.{VertexRow}
-use Rattle.gq_graph.specs.Vertices.{VerticesApart, most_vertices}
+use Rattle.gq_graph.specs.Vertices.{VerticesApart, vertex_at, vertex_number, most_vertices}
+use Rattle.gq_vertex.specs.declared.index.Index.{Index}
+use Rattle.gq_vertex.specs.declared.index.Index.TheVariants.{Hashed, Sorted}
+use Rattle.gq_vertex.specs.Keyed.{vertex_key, IsBytes}
+use Rattle.gq_vertex.specs.Sorted.{Names, number_of}
 
--- the hash of a vertex's name
-abbrev pub vertex_hash : ℕ → List ℕ → ℕ
-vertex_hash kind id = hash_from (mixed 0 kind) id
+-- the key of a row's name
+abbrev pub row_key : VertexRow → ℕ
+row_key row = vertex_key row.kind row.id
 
--- the hash of a row's name
-abbrev pub row_hash : VertexRow → ℕ
-row_hash row = vertex_hash row.kind row.id
+-- the tree has the number of each row under its name, and no other names
+abbrev pub IsSorted : List VertexRow → Names → Type 0
+IsSorted rows names = (kind : ℕ) (id : List ℕ) → number_of names kind id ≡ vertex_number rows kind id
 
--- each row has its hash, each name one row, and there are not too many
-pub record AreNamed (rows : List VertexRow) (hashes : List ℕ) : Type 0 where
-  pub hashed : hashes ≡ map row_hash rows
+-- the index finds these rows: it has their keys, or the tree of their names
+abbrev pub Finds : List VertexRow → Index → Type 0
+Finds rows (Hashed keys) = keys ≡ map row_key rows
+Finds rows (Sorted names) = IsSorted rows names
+
+-- the index finds the rows, each name has one row, and there are not too many
+pub record AreNamed (rows : List VertexRow) (index : Index) : Type 0 where
+  pub finds : Finds rows index
+  pub bytes : (k : ℕ) → k < length rows → IsBytes (vertex_at rows k).id
   pub apart : VerticesApart rows
   pub few : length rows ≤ most_vertices

@@ -2,28 +2,40 @@
 ghost use Rattle.std.specs.Prelude.{◌≡◌};
 ghost use Rattle.gq_graph.specs.Vertices.{is_vertex, vertex_number};
 ghost use Rattle.gq_vertex.specs.Named as spec;
+ghost use Rattle.gq_vertex.specs.declared.index.Index.TheVariants.{Hashed};
 
-use gq_base::{Hashes, mixed, text_hash};
+use crate::index::Index;
+use crate::key::{is_exact, vertex_key};
+use crate::names::number_of;
+use gq_base::KeyIndex;
 use gq_graph::VertexRow;
 
-/// The hash of a vertex's name.
-pub(crate) fn vertex_hash(kind: u32, id: &str) -> u32
-    ensures { result ≡ spec.vertex_hash kind id.now }
-{
-    text_hash(mixed(0, kind), id)
-}
-
 /// The number of the vertex of a type and an id.
-pub(crate) fn find(rows: &[VertexRow], hashes: &Hashes, kind: u32, id: &str) -> Option<u32>
-    requires { spec.AreNamed rows.now hashes.now }
+pub(crate) fn find(rows: &[VertexRow], index: &Index, kind: u32, id: &str) -> Option<u32>
+    requires { spec.AreNamed rows.now index.now }
     ensures { result ≡ vertex_number rows.now kind id.now }
 {
-    let mut next = hashes.last(vertex_hash(kind, id));
+    match index {
+        Index::Hashed(keys) => find_by_key(rows, keys, kind, id),
+        Index::Sorted(names) => number_of(names, kind, id),
+    }
+}
+
+/// The same by the keys of the rows. No row is read where the key is the whole name.
+fn find_by_key(rows: &[VertexRow], keys: &KeyIndex, kind: u32, id: &str) -> Option<u32>
+    requires { spec.AreNamed rows.now (Hashed keys.now) }
+    ensures { result ≡ vertex_number rows.now kind id.now }
+{
+    let key = vertex_key(kind, id);
+    let mut next = keys.last(key);
+    if is_exact(key) {
+        return next;
+    }
     while let Some(number) = next {
         if is_vertex(&rows[number as usize], kind, id) {
             return Some(number);
         }
-        next = hashes.before(number);
+        next = keys.before(number);
     }
     None
 }

@@ -4,8 +4,9 @@ ghost use Rattle.std.specs.Option.{unwrap_or};
 ghost use Rattle.gq_graph.specs.Vertices.{vertex_number, upsert_vertex, vertex_at, most_vertices};
 ghost use Rattle.gq_vertex.specs.Named.{AreNamed};
 
-use crate::find::{find, vertex_hash};
-use gq_base::{Hashes, OutOfMemory};
+use crate::find::find;
+use crate::index::{Index, cut, duplicate, insert};
+use gq_base::{KeyIndex, OutOfMemory};
 use gq_graph::{StoreFault, VertexRow};
 use gq_value::{Row, Txt, Value, duplicate_row};
 use std::alloc::Global;
@@ -18,7 +19,7 @@ pub const MOST_VERTICES: usize = 4_194_304;
 #[derive(Drop)]
 pub struct Vertices {
     rows: Vec<VertexRow>,
-    hashes: Hashes,
+    index: Index,
 }
 
 impl Model for Vertices {
@@ -34,7 +35,7 @@ impl Model for Vertices {
 
     ghost view = { λ v. v.rows.items };
 
-    ghost invariant = { λ v. AreNamed v.rows.items v.hashes };
+    ghost invariant = { λ v. AreNamed v.rows.items v.index };
 }
 
 impl Vertices {
@@ -44,7 +45,7 @@ impl Vertices {
     {
         Vertices {
             rows: Vec::new(alloc),
-            hashes: Hashes::new(alloc),
+            index: Index::Hashed(KeyIndex::new(alloc)),
         }
     }
 
@@ -56,12 +57,12 @@ impl Vertices {
         self.rows.len() as u32
     }
 
-    /// The number of the vertex of a type and an id. Takes no memory; its time doesn't grow with the table, as long as
-    /// few names share a hash.
+    /// The number of the vertex of a type and an id. Takes no memory; its time doesn't grow with the table, or as the
+    /// logarithm of its size where ids were chosen to share a bucket.
     pub fn find(&self, kind: u32, id: &str) -> Option<u32>
         ensures { result ≡ vertex_number self.now kind id.now }
     {
-        find(&self.rows, &self.hashes, kind, id)
+        find(&self.rows, &self.index, kind, id)
     }
 
     /// How many attributes the row of a vertex has.
@@ -106,7 +107,7 @@ impl Vertices {
         ensures full { (result ≡ Err StoreFault.Full)
             ↔ ((vertex_number self.old kind id.now ≡ None) × (most_vertices ≤ length self.old)) }
     {
-        match find(&self.rows, &self.hashes, kind, id) {
+        match find(&self.rows, &self.index, kind, id) {
             Some(number) => {
                 replace(&mut self.rows, number, attributes);
                 Ok(number)
@@ -115,7 +116,7 @@ impl Vertices {
                 if self.rows.len() >= MOST_VERTICES {
                     return Err(StoreFault::Full);
                 }
-                match add(&mut self.rows, &mut self.hashes, kind, id, attributes) {
+                match add(&mut self.rows, &mut self.index, kind, id, attributes) {
                     Ok(number) => Ok(number),
                     Err(OutOfMemory) => Err(StoreFault::OutOfMemory),
                 }
@@ -128,17 +129,18 @@ impl Vertices {
         requires { len ≤ length self.old }
         ensures { self.new ≡ take len self.old }
     {
+        cut(&mut self.index, &self.rows, len as usize);
         self.rows.truncate(len as usize);
-        self.hashes.cut(len as usize);
     }
 
     /// An equal table with memory of its own.
     pub fn duplicate(&self) -> Result<Vertices, OutOfMemory>
         ensures { IfOk result (λ copy. copy ≡ self.now) }
     {
+        let alloc = *self.rows.allocator();
         Ok(Vertices {
-            rows: copied(*self.rows.allocator(), &self.rows)?,
-            hashes: self.hashes.duplicate()?,
+            rows: copied(alloc, &self.rows)?,
+            index: duplicate(&self.index, alloc, &self.rows)?,
         })
     }
 }
@@ -160,15 +162,15 @@ fn copied(alloc: Global, rows: &[VertexRow]) -> Result<Vec<VertexRow>, OutOfMemo
 /// Puts a row of a new name last.
 fn add(
     rows: &mut Vec<VertexRow>,
-    hashes: &mut Hashes,
+    index: &mut Index,
     kind: u32,
     id: &str,
     attributes: Row,
 ) -> Result<u32, OutOfMemory>
-    requires named { AreNamed rows.old.items hashes.old }
+    requires named { AreNamed rows.old.items index.old }
     requires new { vertex_number rows.old.items kind id.now ≡ None }
     requires room { vec_len rows.old < most_vertices }
-    ensures named { AreNamed rows.new.items hashes.new }
+    ensures named { AreNamed rows.new.items index.new }
     ensures done { MatchResult result
         (λ n. (n ≡ length rows.old.items)
         × (rows.new.items ≡ rows.old.items ++ (record { kind = kind; id = id.now; attributes = attributes }) ∷ []))
@@ -181,7 +183,7 @@ fn add(
         id: Txt::of(*rows.allocator(), id)?,
         attributes,
     };
-    hashes.push(vertex_hash(kind, id))?;
+    insert(index, *rows.allocator(), rows, &row)?;
     put(rows, row);
     Ok(number)
 }

@@ -123,7 +123,7 @@ pub edge_type_sync : IsSync edge_type.the_row
 edge_type_sync = search (attribute_sync, txt_sync, list_crosses.the_sync, crosses, sendable) depth 30 fits 50000
 
 graph_field : (l : NamedLft) → IsSync (graph.the_field l).row
-graph_field l = search (store_sync, index_sync, vertex_type_sync, edge_type_sync, txt_sync, list_crosses.the_sync, crosses, sendable) depth 30 fits 50000
+graph_field l = search (store_sync, index_sync, vertex_type_sync, edge_type_sync, txt_sync, list_crosses.the_sync, maps.crosses, crosses, sendable) depth 30 fits 50000
 
 pub work_sync : (l : NamedLft) → IsSync (work.the_row l)
 work_sync l = search (block_sync, ends_sync, name_field, name_sync, field_sync, list_crosses.the_sync, crosses, sendable) depth 30 fits 50000

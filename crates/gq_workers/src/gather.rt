@@ -1,6 +1,6 @@
 // INTs of candidates, gathered.
 ghost use Rattle.std.specs.Prelude.{◌≡◌, IfOk, IfSome};
-ghost use Rattle.gq_eval_attributes.specs.Worlds.{HaveAttributes};
+ghost use Rattle.gq_index.specs.Rows.{HaveAttributes};
 ghost use Rattle.gq_workers.specs.Direct.{EdgeRead, Gathered, LeafRead, PartRead, Reaches, VertexTo, VertexIn};
 
 use crate::direct::{AliasRole, Leaf, Name, Simple};

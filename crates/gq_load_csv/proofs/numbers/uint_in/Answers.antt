@@ -1,12 +1,6 @@
-use Rattle.std.proofs.Common.{ℕ, sym}
-use Rattle.gq_load_csv.proofs.TextLemmas.{uint_read, uint_unread, uint_no_text}
+use Rattle.std.proofs.Common.{sym}
+use Rattle.gq_load_csv.proofs.DigitLemmas.{uint_short}
 use Rattle.gq_load_csv.proofs.numbers.uint_in.Goals as goal
 
-pub returns-in-Ok-parse : goal.returns-in-Ok-parse
-returns-in-Ok-parse c = sym (uint_read ℕ c.args.text.now c.in-Ok-parse.number (rw c.in-Ok.ensures.cases.0 at c.in-Ok-parse.ensures.value.0))
-
-pub returns-in-Err-parse : goal.returns-in-Err-parse
-returns-in-Err-parse c = sym (uint_unread _ c.args.text.now c.in-Err-parse.field-0 (rw c.in-Ok.ensures.cases.0 at c.in-Err-parse.ensures.value.0))
-
-pub returns-in-Err : goal.returns-in-Err
-returns-in-Err c = sym (uint_no_text c.args.text.now c.in-Err.ensures.cases.0)
+pub returns-in-Some : goal.returns-in-Some
+returns-in-Some c = sym (uint_short c.args.text.now c.in-Some.number c.in-Some.ensures)

@@ -3,6 +3,7 @@ use Rattle.gq_diagnostics.specs.Messages.{message_of}
 use Rattle.gq_diagnostics.specs.declared.refusal.StatementFault.TheVariants as fault
 use Rattle.gq_diagnostics.specs.Effects.{Refused}
 use Rattle.gq_io.specs.Known.{known_of}
+use Rattle.gq_index.proofs.KeptLemmas.{store_same, store_more}
 use Rattle.gq_load_run.specs.Loadings.{Leaves, loaded_by, place_of}
 use Rattle.gq_load_run.specs.Loads.{LoadsMean}
 use Rattle.gq_load_run.specs.Remains.{BreaksOff, Ends}
@@ -21,6 +22,7 @@ loop-number-init g c =
       omega arith,
       omega arith,
       c.requires.store,
+      store_same first,
     )
 
 pub returns-in-Err-push-clause-left : goal.returns-in-Err-push-clause-left
@@ -97,4 +99,11 @@ loop-number-preserved g c =
       omega (arith, inv.2, c.in-Ok.ensures.faults_stay),
       omega (arith, inv.3, c.in-Ok.ensures.absences_stay),
       c.in-Ok.ensures.fits,
+      store_more first c.loop-number.store then inv.5 c.in-Ok.ensures.grown,
     )
+
+pub returns-in-Err-push-clause-grown : goal.returns-in-Err-push-clause-grown
+returns-in-Err-push-clause-grown g c = store_more c.args.store.now c.loop-number.store c.load_one.new.store c.loop-number.invariant.5 c.in-Ok.ensures.grown
+
+pub returns-in-Err-clause-grown : goal.returns-in-Err-clause-grown
+returns-in-Err-clause-grown g c = store_more c.args.store.now c.loop-number.store c.load_one.new.store c.loop-number.invariant.5 c.in-Err.ensures.grown

@@ -1,4 +1,5 @@
 use Rattle.std.proofs.Common.{◌≡◌, ◌≤◌, length}
+use Rattle.gq_index.specs.Kept.{StoreGrown}
 use Rattle.gq_load.specs.Keeping.{StoreFits}
 use Rattle.gq_load_run.specs.Loadings.{loaded_by, place_of}
 use Rattle.gq_load_run.specs.LoadLaws.{HasLoaded}
@@ -11,3 +12,4 @@ invariant-loop-number g l =
     × (g.F.Files.faults l.fn.files ≤ g.F.Files.faults l.files)
     × (g.F.Files.absences l.fn.files ≤ g.F.Files.absences l.files)
     × StoreFits l.fn.catalog l.store
+    × StoreGrown l.fn.store l.store

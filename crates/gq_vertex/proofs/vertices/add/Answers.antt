@@ -9,5 +9,5 @@ returns-clause-named c =
     let row : VertexRow = record { kind = c.args.kind; id = c.args.id.now; attributes = c.args.attributes } in
     let room : length rows < 4194304 = omega (arith, c.args.rows.now.ok.0) in
     let rows_are : c.put.new.rows.items ≡ rows ++ row ∷ [] = cc (c.put.ensures, c.reserve.ensures.items, c.in_ok-of.ensures) in
-    let hashes_are : c.push.new.self ≡ c.args.hashes.now ++ c.vertex_hash.result ∷ [] = c.in_ok-push.ensures in
-    rw (rows_are, hashes_are) (named_added rows c.args.hashes.now row c.vertex_hash.result c.requires.new room c.vertex_hash.ensures c.requires.named)
+    let found = rw (c.deref.ensures.value, c.reserve.ensures.items, c.in_ok-of.ensures) at c.in_ok-insert.ensures in
+    rw rows_are (named_added rows c.args.index.now c.insert.new.index row c.requires.new room (λ k. (c.type_inv.id k).fits) c.requires.named found.put)

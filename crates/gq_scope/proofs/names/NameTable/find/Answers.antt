@@ -1,18 +1,29 @@
-use Rattle.std.proofs.Common.{◌∙◌, ap, subst, ℕ, List, reverse, Some}
+use Rattle.std.proofs.Common.{◌≡◌, ◌∙◌, ◌+◌, ◌-◌, suc, ap, sym, arith, reverse, Some}
 use Rattle.std.specs.Str.{bytes_eq}
 use Rattle.gq_rules_typing.specs.Words.{under}
-use Rattle.gq_scope.specs.NameTables.{plain_names, IsNewest}
-use Rattle.gq_scope.proofs.NameTableLemmas.{newest_none, newest_some}
+use Rattle.gq_scope.specs.NameTables.{row_of}
+use Rattle.gq_scope.proofs.NameTableLemmas.{row_low, none_found, row_found}
 use Rattle.gq_scope.proofs.names.NameTable.find.Goals as goal
 
-pub returns-in-None : goal.returns-in-None
-returns-in-None g c =
-    newest_none c.deref.result.now c.args.name.now (subst (λ r. IsNewest (plain_names c.deref.result.now) c.args.name.now r) c.in-None.is c.last_place.ensures)
-    ∙ ap (λ ns. under bytes_eq c.args.name.now (reverse ns)) (c.deref.ensures.value ∙ c.self.view_is)
+pub index-requires : goal.index-requires
+index-requires g c =
+    omega (
+      arith,
+      c.in_default,
+      c.last_row.ensures,
+      c.self.inside.rows.ok.0,
+      row_low c.self.inside.rows.items c.self.inside.hidden.items c.self.inside.last c.args.name.now c.self.invariant,
+    )
 
-pub returns-in-Some : goal.returns-in-Some
-returns-in-Some g c =
-    let found = subst (λ r. IsNewest (plain_names c.deref.result.now) c.args.name.now r) c.in-Some.is c.last_place.ensures in
-    newest_some c.self.inside.rows.items c.args.name.now c.in-Some.place c.index.result.now
-    (subst (λ ns. IsNewest (plain_names ns) c.args.name.now (Some c.in-Some.place)) c.deref.ensures.value found) c.index.ensures
-    ∙ ap (λ ns. under bytes_eq c.args.name.now (reverse ns)) c.self.view_is
+pub returns-in-0 : goal.returns-in-0
+returns-in-0 g c =
+    none_found c.self.inside.rows.items c.self.inside.hidden.items c.self.inside.last c.args.name.now c.self.invariant (sym c.last_row.ensures ∙ c.in-0.is)
+    ∙ ap (λ rs. under bytes_eq c.args.name.now (reverse rs)) c.self.view_is
+
+pub returns-in_default : goal.returns-in_default
+returns-in_default g c =
+    let row_is : c.last_row.result ≡ suc (c.last_row.result - 1) = omega (arith, c.in_default) in
+    ap (λ r. Some r.1) c.index.ensures
+    ∙ row_found c.self.inside.rows.items c.self.inside.hidden.items c.self.inside.last c.args.name.now (c.last_row.result - 1) c.index.result.now c.self.invariant
+    (sym c.last_row.ensures ∙ row_is)
+    ∙ ap (λ rs. under bytes_eq c.args.name.now (reverse rs)) c.self.view_is

@@ -1,18 +1,28 @@
 use Rattle.std.proofs.Common.{refl, sym, ◌∙◌}
 use Rattle.gq_session.specs.Statements.{State}
-use Rattle.gq_session.proofs.SessionLemmas.{is_line}
+use Rattle.gq_session.proofs.SessionLemmas.{is_line, session_indexed, session_indexes}
 use Rattle.gq_session.proofs.QueryLemmas.{interpreted_path, interpreted_says}
 use Rattle.gq_session.proofs.session.Session.interpret.Goals as goal
 
-pub returns-then-has_path : goal.returns-then-has_path
-returns-then-has_path g c =
+pub returns-then-has_path-clause-prints : goal.returns-then-has_path-clause-prints
+returns-then-has_path-clause-prints g c =
     let s = c.args.self.now in
     interpreted_path s s refl c.args.number c.args.tree.now c.judge_path.result (sym c.has_path.ensures ∙ c.if-has_path.true) c.judge_path.ensures
 
-pub returns : goal.returns
-returns g c =
+pub returns-clause-prints : goal.returns-clause-prints
+returns-clause-prints g c =
     let i = c.self.inside in
     let v : State = record { schema = i.catalog; in_use = i.in_use; jobs = i.jobs; queries = i.queries; store = i.store; file = i.file; turns = i.runner.now.turns } in
     interpreted_says c.args.self.now v c.self.view_is c.args.number c.args.tree.now c.with_line.result c.interpret_query.result (sym c.has_path.ensures ∙ c.if-has_path.false)
     (is_line c.interpret_query.result c.with_line.result c.with_line.ensures.done c.with_line.ensures.printed c.with_line.ensures.same)
     (c.interpret_query.ensures i.queries)
+
+pub interpret_query-requires-clause-indexed : goal.interpret_query-requires-clause-indexed
+interpret_query-requires-clause-indexed g c κs within =
+    let i = c.self.inside in
+    session_indexed i.catalog i.in_use i.jobs i.store i.index c.catch_up.new.self c.index.result.now c.self.invariant c.in-Ok.ensures.index c.index.ensures
+
+pub invariant_of-self : goal.invariant_of-self
+invariant_of-self g c =
+    let i = c.self.inside in
+    session_indexes i.catalog i.in_use i.jobs i.store i.index c.catch_up.new.self c.catch_up.ensures.kept c.self.invariant

@@ -5,7 +5,7 @@ use Rattle.gq_session.proofs.session.Session.make_graph.Goals as goal
 pub invariant_of-self : goal.invariant_of-self
 invariant_of-self g c =
     let i = c.self.inside in
-    session_uses i.catalog c.create_graph.new.catalog i.in_use c.in-Ok.graph i.jobs i.store
+    session_uses i.catalog c.create_graph.new.catalog i.in_use c.in-Ok.graph i.jobs i.store i.index
     (graph_grown i.catalog c.create_graph.new.catalog c.args.tree.now c.in-Ok.ensures.created)
     (graph_there i.catalog c.create_graph.new.catalog c.args.tree.now c.in-Ok.graph c.in-Ok.ensures.created c.in-Ok.ensures.number)
     c.self.invariant

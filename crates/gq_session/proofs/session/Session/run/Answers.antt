@@ -54,32 +54,32 @@ returns-in-RunJob-clause-done g c = λ before now met.
 pub returns-in-Interpret-clause-done : goal.returns-in-Interpret-clause-done
 returns-in-Interpret-clause-done g c = λ before now met.
     let known = known_of (g.F.Files.held c.args.files.now) before now met in
-    let P : Statement → Type 0 = λ statement. IfOk c.interpret.result (λ line. Does known c.args.self.now c.args.number statement (Becomes c.args.self.now (lines_of line))) in
-    subst P (sym c.in-Interpret.is) (prints_done c.args.self.now (query_interpreted c.args.self.now c.args.number c.in-Interpret.tree) c.interpret.result c.interpret.ensures)
+    let P : Statement → Type 0 = λ statement. IfOk c.interpret.result (λ line. Does known c.args.self.now c.args.number statement (Becomes c.interpret.new.self (lines_of line))) in
+    subst P (sym c.in-Interpret.is) (prints_done c.args.self.now c.interpret.new.self (query_interpreted c.args.self.now c.args.number c.in-Interpret.tree) c.interpret.result c.interpret.ensures.same c.interpret.ensures.prints)
 
 pub returns-in-Interpret-clause-refused : goal.returns-in-Interpret-clause-refused
 returns-in-Interpret-clause-refused g c = λ refusal is before low.
     let known = known_of (g.F.Files.held c.args.files.now) before (g.F.Files.absences c.args.files.now) (g.F.Files.length_met c.args.files.now) in
     let P : Statement → Type 0 = λ statement. Does known c.args.self.now c.args.number statement (Refused (message_of refusal)) in
-    subst P (sym c.in-Interpret.is) (prints_refused c.args.self.now (query_interpreted c.args.self.now c.args.number c.in-Interpret.tree) c.interpret.result refusal is c.interpret.ensures)
+    subst P (sym c.in-Interpret.is) (prints_refused c.args.self.now (query_interpreted c.args.self.now c.args.number c.in-Interpret.tree) c.interpret.result refusal is c.interpret.ensures.prints)
 
 pub returns-in-Interpret-clause-read_fault : goal.returns-in-Interpret-clause-read_fault
-returns-in-Interpret-clause-read_fault g c = λ is. prints_no_read_fault c.args.self.now (query_interpreted c.args.self.now c.args.number c.in-Interpret.tree) c.interpret.result is c.interpret.ensures
+returns-in-Interpret-clause-read_fault g c = λ is. prints_no_read_fault c.args.self.now (query_interpreted c.args.self.now c.args.number c.in-Interpret.tree) c.interpret.result is c.interpret.ensures.prints
 
 pub returns-in-Run-clause-done : goal.returns-in-Run-clause-done
 returns-in-Run-clause-done g c = λ before now met.
     let known = known_of (g.F.Files.held c.args.files.now) before now met in
-    let P : Statement → Type 0 = λ statement. IfOk c.run_query.result (λ line. Does known c.args.self.now c.args.number statement (Becomes c.args.self.now (lines_of line))) in
-    subst P (sym c.in-Run.is) (prints_done c.args.self.now (query_ran c.args.self.now c.args.number c.in-Run.tree) c.run_query.result c.run_query.ensures)
+    let P : Statement → Type 0 = λ statement. IfOk c.run_query.result (λ line. Does known c.args.self.now c.args.number statement (Becomes c.run_query.new.self (lines_of line))) in
+    subst P (sym c.in-Run.is) (prints_done c.args.self.now c.run_query.new.self (query_ran c.args.self.now c.args.number c.in-Run.tree) c.run_query.result c.run_query.ensures.same c.run_query.ensures.prints)
 
 pub returns-in-Run-clause-refused : goal.returns-in-Run-clause-refused
 returns-in-Run-clause-refused g c = λ refusal is before low.
     let known = known_of (g.F.Files.held c.args.files.now) before (g.F.Files.absences c.args.files.now) (g.F.Files.length_met c.args.files.now) in
     let P : Statement → Type 0 = λ statement. Does known c.args.self.now c.args.number statement (Refused (message_of refusal)) in
-    subst P (sym c.in-Run.is) (prints_refused c.args.self.now (query_ran c.args.self.now c.args.number c.in-Run.tree) c.run_query.result refusal is c.run_query.ensures)
+    subst P (sym c.in-Run.is) (prints_refused c.args.self.now (query_ran c.args.self.now c.args.number c.in-Run.tree) c.run_query.result refusal is c.run_query.ensures.prints)
 
 pub returns-in-Run-clause-read_fault : goal.returns-in-Run-clause-read_fault
-returns-in-Run-clause-read_fault g c = λ is. prints_no_read_fault c.args.self.now (query_ran c.args.self.now c.args.number c.in-Run.tree) c.run_query.result is c.run_query.ensures
+returns-in-Run-clause-read_fault g c = λ is. prints_no_read_fault c.args.self.now (query_ran c.args.self.now c.args.number c.in-Run.tree) c.run_query.result is c.run_query.ensures.prints
 
 pub returns-in-Query-clause-done : goal.returns-in-Query-clause-done
 returns-in-Query-clause-done g c = λ before now met.
@@ -150,11 +150,11 @@ returns-in-RunJob-clause-left g c = λ before low.
 pub returns-in-Interpret-clause-left : goal.returns-in-Interpret-clause-left
 returns-in-Interpret-clause-left g c = λ before low.
     let known = known_of (g.F.Files.held c.args.files.now) before (g.F.Files.absences c.args.files.now) (g.F.Files.length_met c.args.files.now) in
-    let P : Statement → Type 0 = λ statement. IfErr c.interpret.result (λ f. Leaves known c.args.self.now statement f c.args.self.now) in
-    subst P (sym c.in-Interpret.is) (left_same c.args.self.now c.interpret.result)
+    let P : Statement → Type 0 = λ statement. IfErr c.interpret.result (λ f. Leaves known c.args.self.now statement f c.interpret.new.self) in
+    subst P (sym c.in-Interpret.is) (left_same c.args.self.now c.interpret.new.self c.interpret.result c.interpret.ensures.same)
 
 pub returns-in-Run-clause-left : goal.returns-in-Run-clause-left
 returns-in-Run-clause-left g c = λ before low.
     let known = known_of (g.F.Files.held c.args.files.now) before (g.F.Files.absences c.args.files.now) (g.F.Files.length_met c.args.files.now) in
-    let P : Statement → Type 0 = λ statement. IfErr c.run_query.result (λ f. Leaves known c.args.self.now statement f c.args.self.now) in
-    subst P (sym c.in-Run.is) (left_same c.args.self.now c.run_query.result)
+    let P : Statement → Type 0 = λ statement. IfErr c.run_query.result (λ f. Leaves known c.args.self.now statement f c.run_query.new.self) in
+    subst P (sym c.in-Run.is) (left_same c.args.self.now c.run_query.new.self c.run_query.result c.run_query.ensures.same)

@@ -7,7 +7,7 @@ use Rattle.gq_io.specs.Known.{known_of}
 use Rattle.gq_ddl.specs.declared.named.NamedJob.{NamedJob}
 use Rattle.gq_load_run.specs.JobRuns.{JobDoes, JobLeaves}
 use Rattle.gq_session.specs.Statements.{State}
-use Rattle.gq_session.proofs.SessionLemmas.{is_line, job_printed, job_refused, job_left, refused_back}
+use Rattle.gq_session.proofs.SessionLemmas.{session_gains, is_line, job_printed, job_refused, job_left, refused_back}
 use Rattle.gq_session.proofs.session.Session.run_job.Goals as goal
 
 pub returns-clause-done : goal.returns-clause-done
@@ -40,3 +40,8 @@ returns-clause-left g c = λ before low.
     (is_line c.run_job.result c.with_line.result c.with_line.ensures.done c.with_line.ensures.printed c.with_line.ensures.same)
     (let P : List NamedJob → Type 0 = λ jobs. IfErr c.run_job.result (λ f. JobLeaves known i.catalog jobs i.store c.args.tree.now f c.run_job.new.store) in
     subst P c.as_slice-jobs.ensures (c.run_job.ensures.left before low))
+
+pub invariant_of-self : goal.invariant_of-self
+invariant_of-self g c =
+    let i = c.self.inside in
+    session_gains i.catalog i.in_use i.jobs i.store c.run_job.new.store i.index c.run_job.ensures.fits c.run_job.ensures.grown c.self.invariant

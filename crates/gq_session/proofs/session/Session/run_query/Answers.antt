@@ -1,20 +1,20 @@
-use Rattle.std.proofs.Common.{sym, ◌∙◌, ap}
+use Rattle.std.proofs.Common.{rules, sym, ◌∙◌, ap}
 use Rattle.gq_arguments.specs.Holds.{held}
 use Rattle.gq_session.specs.Paths.{walks_path}
 use Rattle.gq_session.specs.Statements.{State}
-use Rattle.gq_session.proofs.SessionLemmas.{is_line}
+use Rattle.gq_session.proofs.SessionLemmas.{is_line, session_indexed, session_indexes}
 use Rattle.gq_session.proofs.QueryLemmas.{ran_path, ran_says}
 use Rattle.gq_session.proofs.session.Session.run_query.Goals as goal
 
-pub returns-then-walks_path : goal.returns-then-walks_path
-returns-then-walks_path g c =
+pub returns-then-walks_path-clause-prints : goal.returns-then-walks_path-clause-prints
+returns-then-walks_path-clause-prints g c =
     let i = c.self.inside in
     let v : State = record { schema = i.catalog; in_use = i.in_use; jobs = i.jobs; queries = i.queries; store = i.store; file = i.file; turns = i.runner.now.turns } in
     ran_path c.args.self.now v c.self.view_is c.args.number c.args.tree.now c.unsupported.result c.as_slice-queries.result.now c.as_slice-queries.ensures
     (ap (walks_path c.as_slice-queries.result.now) (sym c.as_str.ensures) ∙ sym c.walks_path.ensures ∙ c.if-walks_path.true) c.unsupported.ensures
 
-pub returns : goal.returns
-returns g c =
+pub returns-clause-prints : goal.returns-clause-prints
+returns-clause-prints g c =
     let i = c.self.inside in
     let v : State = record { schema = i.catalog; in_use = i.in_use; jobs = i.jobs; queries = i.queries; store = i.store; file = i.file; turns = i.runner.now.turns } in
     ran_says c.args.self.now v c.self.view_is c.args.number c.args.tree.now c.with_line.result c.as_slice-queries.result.now (held c.given-file.result.now) c.run_query.result
@@ -22,3 +22,13 @@ returns g c =
     (ap (walks_path c.as_slice-queries.result.now) (sym c.as_str.ensures) ∙ sym c.walks_path.ensures ∙ c.if-walks_path.false)
     (is_line c.run_query.result c.with_line.result c.with_line.ensures.done c.with_line.ensures.printed c.with_line.ensures.same)
     (c.run_query.ensures i.in_use)
+
+pub run_query-requires : goal.run_query-requires
+run_query-requires g c =
+    let i = c.self.inside in
+    (search rules, session_indexed i.catalog i.in_use i.jobs i.store i.index c.catch_up.new.self c.index.result.now c.self.invariant c.in-Ok.ensures.index c.index.ensures)
+
+pub invariant_of-self : goal.invariant_of-self
+invariant_of-self g c =
+    let i = c.self.inside in
+    session_indexes i.catalog i.in_use i.jobs i.store i.index c.catch_up.new.self c.catch_up.ensures.kept c.self.invariant

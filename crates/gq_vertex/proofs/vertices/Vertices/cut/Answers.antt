@@ -5,4 +5,5 @@ use Rattle.gq_vertex.proofs.vertices.Vertices.cut.Goals as goal
 pub invariant_of-self : goal.invariant_of-self
 invariant_of-self c =
     let low : c.args.len ≤ length c.self.inside.rows.items = omega (arith, ap length c.self.view_is) in
-    rw (c.truncate.ensures.items, c.cut.ensures) (named_cut c.args.len c.self.inside.rows.items c.self.inside.hashes low c.self.invariant)
+    rw c.truncate.ensures.items
+    (named_cut c.args.len c.self.inside.rows.items c.self.inside.index c.cut.new.index low c.self.invariant (rw c.deref.ensures.value at c.cut.ensures))

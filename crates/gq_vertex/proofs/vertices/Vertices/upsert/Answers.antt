@@ -11,7 +11,7 @@ invariant_of-self c =
     ap (λ (l : List VertexRow). vertex_number l c.args.kind c.args.id.now) (sym c.deref.ensures.value) ∙ sym c.find.ensures ∙ c.in-Some.is in
     let low = number_low rows c.args.kind c.in-Some.number c.args.id.now found in
     rw c.replace.ensures
-    (named_replaced rows c.self.inside.hashes c.in-Some.number (record (vertex_at rows c.in-Some.number) { attributes = c.args.attributes }) low.0 refl refl c.self.invariant)
+    (named_replaced rows c.self.inside.index c.in-Some.number (record (vertex_at rows c.in-Some.number) { attributes = c.args.attributes }) low.0 refl refl c.self.invariant)
 
 pub returns-in-Some-clause-done : goal.returns-in-Some-clause-done
 returns-in-Some-clause-done c =

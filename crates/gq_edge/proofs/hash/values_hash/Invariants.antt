@@ -1,7 +1,0 @@
-use Rattle.std.proofs.Common.{◌≡◌, take, map}
-use Rattle.gq_value.specs.Views.{val}
-use Rattle.gq_edge.specs.Hashed as spec
-use Rattle.gq_edge.proofs.hash.values_hash.Given as goal
-
-abbrev pub invariant-loop-value : goal.invariant-loop-value
-invariant-loop-value l = l.mix ≡ spec.values_hash l.hash (map val (take l.value-index l.values))

@@ -1,0 +1,49 @@
+-- Sorted: the tree of names, which a table of edges has beside the keys once keys were chosen to share a bucket.
+use Rattle.std.specs.Prelude.{ℕ, ◌≡◌, Bool, List, [], ◌∷◌, map, take, Option, Some, None, position}
+use Rattle.std.specs.declared.cmp.Ordering.{Ordering}
+use Rattle.std.specs.Ordering.{is_eq, on}
+use Rattle.std.specs.Cmp.Lexicographic.{slice_cmp}
+use Rattle.std.specs.BTreeMap.{BTreeMap, get}
+use Rattle.std.specs.Global.{Vec}
+use Rattle.gq_graph.specs.declared.rows.EdgeRow.{EdgeRow}
+use Rattle.gq_graph.specs.declared.rows.Naming.{Naming}
+use Rattle.gq_graph.specs.Edges.{edge_number}
+use Rattle.gq_value.specs.declared.value.Value.{Value}
+use Rattle.gq_value.specs.Val.{Val, Vertex, UInt}
+use Rattle.gq_value.specs.Views.{val}
+use Rattle.gq_value.specs.Order.{place}
+use Rattle.gq_edge.specs.Keyed.{first_end, second_end}
+use Rattle.gq_edge.specs.Named.{naming_at}
+
+-- numbers by names
+abbrev pub Names : Type 0
+Names = BTreeMap (Vec Value) ℕ
+
+-- an edge's name as a row of values: its ends in order, its type, its discriminators
+abbrev pub name_row : Naming → EdgeRow → List Val
+name_row naming edge =
+    Vertex (first_end naming.directed edge.from edge.to) ∷ Vertex (second_end naming.directed edge.from edge.to) ∷ UInt edge.kind
+    ∷ map val (take naming.key edge.attributes)
+
+-- the name of a row
+abbrev pub row_name : List Naming → EdgeRow → List Val
+row_name namings row = name_row (naming_at namings row.kind) row
+
+-- the order of names in the tree: value by value
+abbrev pub name_cmp : Vec Value → Vec Value → Ordering
+name_cmp a b = slice_cmp (on val place) a.items b.items
+
+-- whether a row of values is that name
+abbrev pub is_name : Vec Value → List Val → Bool
+is_name name row = is_eq (slice_cmp place row (map val name.items))
+
+-- the tree, where there is one, has the number of each of these names, and no other
+abbrev pub AreSorted : List (List Val) → Option Names → Type 0
+AreSorted names None = Unit {0}
+AreSorted names (Some tree) = (name : Vec Value) → get name_cmp tree name ≡ position (is_name name) names
+
+-- what a search in the tree needs
+abbrev pub IsSorted : Naming → EdgeRow → List EdgeRow → Option Names → Type 0
+IsSorted naming edge rows None = Unit {0}
+IsSorted naming edge rows (Some tree) =
+    (name : Vec Value) → map val name.items ≡ name_row naming edge → get name_cmp tree name ≡ edge_number rows naming edge

@@ -1,0 +1,166 @@
+// Edges by name, in order.
+ghost use Rattle.std.specs.Prelude.{◌≡◌, ◌<◌, ◌≤◌, ◌++◌, ◌∷◌, [], length, map, take, IfOk, OnOk, OnErr, None, Some};
+ghost use Rattle.std.specs.BTreeMap.{Updates, IsUnchanged};
+ghost use Rattle.gq_value.specs.Views.{val};
+ghost use Rattle.gq_graph.specs.Edges.{edge_number, most_edges, Agrees};
+ghost use Rattle.gq_edge.specs.Keyed.{first_end, second_end};
+ghost use Rattle.gq_edge.specs.Named as named;
+ghost use Rattle.gq_edge.specs.Sorted as spec;
+
+use crate::key::edge_key;
+use gq_base::{Key, KeyIndex, OutOfMemory};
+use gq_graph::{EdgeRow, Naming};
+use gq_value::Value;
+use std::alloc::Global;
+use std::collections::BTreeMap;
+
+/// The numbers of edges, by name.
+pub(crate) type Names = BTreeMap<Vec<Value>, u32>;
+
+/// The name of an edge as a row of values: its ends in order, its type, its discriminators.
+pub(crate) fn name_of(
+    alloc: Global,
+    naming: Naming,
+    edge: &EdgeRow,
+) -> Result<Vec<Value>, OutOfMemory>
+    ensures { IfOk result (λ name. map val name.items ≡ spec.name_row naming edge.now) }
+{
+    let values = discriminators(naming, edge);
+    let mut name = Vec::with_capacity(alloc, values.len().saturating_add(3))?;
+    let (first, second) = ends(naming.directed, edge.from, edge.to);
+    add(&mut name, Value::Vertex(first))?;
+    add(&mut name, Value::Vertex(second))?;
+    add(&mut name, Value::UInt(edge.kind as u64))?;
+    add_all(alloc, &mut name, values)?;
+    Ok(name)
+}
+
+/// Both ends, of which the smaller is first where there is no direction.
+fn ends(directed: bool, from: u32, to: u32) -> (u32, u32)
+    ensures { (result.0 ≡ first_end directed from to) × (result.1 ≡ second_end directed from to) }
+{
+    if directed || from <= to {
+        (from, to)
+    } else {
+        (to, from)
+    }
+}
+
+fn discriminators(naming: Naming, edge: &EdgeRow) -> &[Value]
+    ensures { result.now ≡ take naming.key edge.now.attributes }
+{
+    let values = edge.attributes.as_slice();
+    &values[..(naming.key as usize).min(values.len())]
+}
+
+fn add_all(alloc: Global, name: &mut Vec<Value>, values: &[Value]) -> Result<(), OutOfMemory>
+    ensures { OnOk result (map val name.new.items ≡ map val name.old.items ++ map val values.now) }
+{
+    for value in values {
+        add(name, value.duplicate(alloc)?)?;
+    }
+    Ok(())
+}
+
+#[tactic(auto, using(crate::proofs::SortedLemmas::map_push))]
+fn add(name: &mut Vec<Value>, value: Value) -> Result<(), OutOfMemory>
+    ensures { OnOk result (map val name.new.items ≡ map val name.old.items ++ val value ∷ []) }
+{
+    name.push(value)?;
+    Ok(())
+}
+
+/// Puts the name of a new edge into the tree, which is to stand behind `rows`. The tree is made where the bucket of the
+/// edge's key is crowded. After OutOfMemory all rows are found as before.
+pub(crate) fn insert(
+    names: &mut Option<Names>,
+    alloc: Global,
+    rows: &[EdgeRow],
+    namings: &[Naming],
+    keys: &KeyIndex,
+    naming: Naming,
+    edge: &EdgeRow,
+) -> Result<(), OutOfMemory>
+    requires named { named.AreNamed rows.now namings.now keys.now }
+    requires agrees { Agrees namings.now naming }
+    requires kind { edge.now.kind ≡ naming.kind }
+    requires within { naming.key ≤ length edge.now.attributes }
+    requires new { edge_number rows.now naming edge.now ≡ None }
+    requires sorted { spec.AreSorted (map (spec.row_name namings.now) rows.now) names.old }
+    requires room { length rows.now < most_edges }
+    ensures put { OnOk result (spec.AreSorted (map (spec.row_name namings.now) rows.now ++ spec.name_row naming edge.now ∷ []) names.new) }
+    ensures stays { OnErr result (spec.AreSorted (map (spec.row_name namings.now) rows.now) names.new) }
+{
+    make_if_crowded(names, alloc, rows, namings, keys, edge_key(naming, edge))?;
+    match names {
+        Some(tree) => put(tree, name_of(alloc, naming, edge)?, rows.len() as u32),
+        None => Ok(()),
+    }
+}
+
+/// Makes the tree of the names of all rows where the bucket of a key is crowded.
+fn make_if_crowded(
+    names: &mut Option<Names>,
+    alloc: Global,
+    rows: &[EdgeRow],
+    namings: &[Naming],
+    keys: &KeyIndex,
+    key: Key,
+) -> Result<(), OutOfMemory>
+    requires named { named.AreNamed rows.now namings.now keys.now }
+    requires sorted { spec.AreSorted (map (spec.row_name namings.now) rows.now) names.old }
+    ensures { spec.AreSorted (map (spec.row_name namings.now) rows.now) names.new }
+{
+    if names.is_none() && keys.is_crowded(key) {
+        *names = Some(sorted(alloc, rows, namings, keys)?);
+    }
+    Ok(())
+}
+
+/// The names of all rows.
+pub(crate) fn sorted(
+    alloc: Global,
+    rows: &[EdgeRow],
+    namings: &[Naming],
+    keys: &KeyIndex,
+) -> Result<Names, OutOfMemory>
+    requires { named.AreNamed rows.now namings.now keys.now }
+    ensures { IfOk result (λ tree. spec.AreSorted (map (spec.row_name namings.now) rows.now) (Some tree)) }
+{
+    let mut names = BTreeMap::new(alloc);
+    for (number, row) in rows.iter().enumerate() {
+        put(
+            &mut names,
+            name_of(alloc, naming_at(namings, row.kind), row)?,
+            number as u32,
+        )?;
+    }
+    Ok(names)
+}
+
+/// How the edges of a type that has rows are named.
+fn naming_at(namings: &[Naming], kind: u32) -> Naming
+    ensures { result ≡ named.naming_at namings.now kind }
+{
+    for naming in namings {
+        if naming.kind == kind {
+            return *naming;
+        }
+    }
+    Naming {
+        kind: 0,
+        directed: false,
+        key: 0,
+    }
+}
+
+/// Gives a name that number. After OutOfMemory each name has the number that it had.
+fn put(names: &mut Names, name: Vec<Value>, number: u32) -> Result<(), OutOfMemory>
+    ensures put { OnOk result (Updates spec.name_cmp names.old names.new name (Some number)) }
+    ensures stays { OnErr result (IsUnchanged names.old names.new) }
+{
+    match names.insert(name, number) {
+        Ok(_) => Ok(()),
+        Err(_) => Err(OutOfMemory),
+    }
+}

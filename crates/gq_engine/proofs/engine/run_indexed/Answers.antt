@@ -1,4 +1,0 @@
-use Rattle.gq_engine.proofs.engine.run_indexed.Goals as goal
-
-pub returns : goal.returns
-returns g c = c.told.ensures _ c.run_query.ensures

@@ -1,0 +1,159 @@
+// An index that is kept.
+ghost use Rattle.std.specs.Prelude.{◌≡◌, ◌<◌, ◌≤◌, true, IfOk, length};
+ghost use Rattle.gq_graph.specs.Catalog.{Schema};
+ghost use Rattle.gq_index.specs.declared.store.Store as meant;
+ghost use Rattle.gq_index.specs.Kept.{AllWithin, EndsWithin, IsKept};
+ghost use Rattle.gq_index.specs.Sights.{sight_of};
+ghost use Rattle.gq_index.specs.Walks.{adjacency};
+
+use crate::index::Index;
+use crate::store::Store;
+use gq_base::OutOfMemory;
+use gq_graph::{EdgeRow, EdgeType};
+use gq_schema::Catalog;
+use std::alloc::Global;
+use std::mem;
+
+/// How many ways may move, for each edge that the index knows, before it is built anew.
+const MOST_MOVES: u64 = 16;
+
+/// An index over the rows that there were when it was last brought up to date, to be kept between queries.
+#[derive(Drop)]
+pub struct KeptIndex {
+    index: Index,
+    /// How many edge types it knows.
+    types: u32,
+    /// How many edges it knows.
+    edges: u32,
+    /// Whether their ends are among the vertices that it knows.
+    whole: bool,
+}
+
+/// Whether both ends of an edge are among the first vertices.
+fn is_within(edge: &EdgeRow, vertices: u32) -> bool
+    ensures { result ≡ true → EndsWithin vertices edge.now }
+{
+    edge.from < vertices && edge.to < vertices
+}
+
+/// Whether the ends of all edges behind the first ones are among the first vertices.
+fn are_within(edges: &[EdgeRow], known: u32, vertices: u32) -> bool
+    requires before { AllWithin vertices known edges.now }
+    ensures { result ≡ true → AllWithin vertices (length edges.now) edges.now }
+{
+    for row in known as usize..edges.len() {
+        if !is_within(&edges[row], vertices) {
+            return false;
+        }
+    }
+    true
+}
+
+/// How many ways from a vertex stand behind those of a type.
+fn behind(index: &Index, vertex: u32, kind: u32) -> u64 {
+    let ways = index.ways(vertex);
+    (ways.len() - ways.partition_point(|way| way.kind <= kind)) as u64
+}
+
+/// The type under which an edge is walked back.
+fn type_back(types: &[EdgeType], kind: u32) -> u32 {
+    match types.get(kind as usize) {
+        Some(of) => of.reverse.unwrap_or(kind),
+        None => kind,
+    }
+}
+
+/// How many ways move when these edges are added.
+fn moves(index: &Index, types: &[EdgeType], edges: &[EdgeRow]) -> u64 {
+    let mut moved = 0u64;
+    for edge in edges {
+        moved = moved.saturating_add(behind(index, edge.from, edge.kind));
+        moved = moved.saturating_add(behind(index, edge.to, type_back(types, edge.kind)));
+    }
+    moved
+}
+
+impl KeptIndex {
+    /// An index that knows nothing, which takes no memory.
+    pub fn new(alloc: Global) -> KeptIndex
+        ensures kept { (schema : Schema) → (store : meant.Store) → IsKept result schema store }
+        ensures types { result.types ≡ 0 }
+    {
+        KeptIndex::of_types(alloc, 0)
+    }
+
+    /// An index that knows these types, and no vertices or edges.
+    fn of_types(alloc: Global, types: u32) -> KeptIndex
+        ensures kept { (schema : Schema) → (store : meant.Store) → types ≤ length schema.edge_types → IsKept result schema store }
+        ensures types { result.types ≡ types }
+        ensures whole { result.whole ≡ true }
+    {
+        KeptIndex {
+            index: Index::new(alloc),
+            types,
+            edges: 0,
+            whole: true,
+        }
+    }
+
+    /// The index, as it was last brought up to date.
+    pub fn index(&self) -> &Index
+        ensures { result.now ≡ self.now.index }
+    {
+        &self.index
+    }
+
+    /// Whether adding what is new costs less than beginning anew.
+    fn goes_on(&self, types: &[EdgeType], edges: &[EdgeRow]) -> bool
+        requires { self.now.edges ≤ length edges.now }
+        ensures types { result ≡ true → self.now.types ≡ length types.now }
+        ensures whole { result ≡ true → self.now.whole ≡ true }
+    {
+        if !self.whole || self.types as usize != types.len() {
+            return false;
+        }
+        let most = MOST_MOVES * self.edges as u64;
+        moves(&self.index, types, &edges[self.edges as usize..]) <= most
+    }
+
+    /// Brings the index up to date. The cost is that of the rows that are new, and of walks from their ends that stand behind
+    /// theirs; where there are new edge types, or where it costs less, the index is built anew.
+    ///
+    /// After `OutOfMemory` it knows nothing.
+    pub fn catch_up(
+        &mut self,
+        alloc: Global,
+        catalog: &Catalog,
+        store: &Store,
+    ) -> Result<(), OutOfMemory>
+        requires { IsKept self.old catalog.now store.now }
+        ensures index { IfOk result (λ _. self.new.index ≡ adjacency (sight_of catalog.now store.now.vertices store.now.edges)) }
+        ensures kept { IsKept self.new catalog.now store.now }
+    {
+        let types = catalog.edge_types();
+        if self.goes_on(types, store.edges.rows()) {
+            return self.extend(alloc, catalog, store);
+        }
+        *self = KeptIndex::of_types(alloc, types.len() as u32);
+        self.extend(alloc, catalog, store)
+    }
+
+    /// Adds the vertices and edges that are new.
+    fn extend(&mut self, alloc: Global, catalog: &Catalog, store: &Store) -> Result<(), OutOfMemory>
+        requires kept { IsKept self.old catalog.now store.now }
+        requires types { self.old.types ≡ length catalog.now.edge_types }
+        requires whole { self.old.whole ≡ true }
+        ensures index { IfOk result (λ _. self.new.index ≡ adjacency (sight_of catalog.now store.now.vertices store.now.edges)) }
+        ensures kept { IsKept self.new catalog.now store.now }
+    {
+        let edges = store.edges.rows();
+        let vertices = store.vertices.len();
+        let known = self.edges;
+        let index = mem::replace(&mut self.index, Index::new(alloc));
+        self.edges = 0;
+        self.index = index.grown(alloc, catalog.edge_types(), known, edges, vertices)?;
+        self.whole = are_within(edges, known, vertices);
+        self.edges = edges.len() as u32;
+        Ok(())
+    }
+}

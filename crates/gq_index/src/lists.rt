@@ -1,0 +1,91 @@
+// Lists of ways, one for each vertex.
+ghost use Rattle.std.specs.Prelude.{◌≡◌, ℕ, ◌+◌, ◌-◌, ◌<◌, ◌≤◌, ◌++◌, [], ◌∷◌, List, length, map, IfOk, replicate};
+ghost use Rattle.gq_index.specs.declared.walks.Traversal.{Traversal};
+ghost use Rattle.gq_index.specs.Walks.{AreListed, by_type, walked};
+
+use crate::walks::{Neighbor, Traversal};
+use gq_base::OutOfMemory;
+use gq_graph::{EdgeRow, EdgeType};
+use std::alloc::Global;
+
+/// Puts a way behind those of its type and of lower ones.
+fn insert(list: &mut Vec<Neighbor>, way: Neighbor) -> Result<(), OutOfMemory>
+    ensures { IfOk result (λ _. (count v : ℕ) (walks : List Traversal) → way.kind < count
+        → map (walked v) list.old.items ≡ by_type count walks
+        → map (walked v) list.new.items ≡ by_type count (walks ++ walked v way ∷ [])) }
+{
+    let place = list.partition_point(|other| other.kind <= way.kind);
+    list.insert(place, way)?;
+    Ok(())
+}
+
+/// Puts a walk into the list of the vertex that it is taken from, where that is there.
+pub fn put(lists: &mut Vec<Vec<Neighbor>>, walk: Traversal) -> Result<(), OutOfMemory>
+    ensures { IfOk result (λ _. (n count : ℕ) (walks : List Traversal) → walk.kind < count
+        → AreListed n count (map (λ list. list.items) lists.old.items) walks
+        → AreListed n count (map (λ list. list.items) lists.new.items) (walks ++ walk ∷ [])) }
+{
+    if walk.source as usize >= lists.len() {
+        return Ok(());
+    }
+    let way = Neighbor {
+        kind: walk.kind,
+        row: walk.row,
+        target: walk.target,
+    };
+    insert(&mut lists[walk.source as usize], way)
+}
+
+/// Counts a way from a vertex, where that is one of the new ones.
+fn count(room: &mut [u32], first: u32, vertex: u32)
+    ensures { length room.new ≡ length room.old }
+{
+    if vertex < first {
+        return;
+    }
+    let place = (vertex - first) as usize;
+    if place < room.len() {
+        room[place] = room[place].saturating_add(1);
+    }
+}
+
+/// Whether edges of a type are walked from their TO vertices too.
+fn is_walked_back(types: &[EdgeType], kind: u32) -> bool {
+    match types.get(kind as usize) {
+        Some(of) => !of.directed || of.reverse.is_some(),
+        None => false,
+    }
+}
+
+/// How many ways there will be along these edges from each of the new vertices, of which `first` is the first one.
+pub fn room_for(
+    alloc: Global,
+    types: &[EdgeType],
+    edges: &[EdgeRow],
+    first: u32,
+    vertices: u32,
+) -> Result<Vec<u32>, OutOfMemory>
+    requires { first ≤ vertices }
+    ensures { IfOk result (λ room. length room.items ≡ vertices - first) }
+{
+    let mut room = vec![in alloc; 0u32; (vertices - first) as usize]?;
+    for edge in edges {
+        count(&mut room, first, edge.from);
+        if is_walked_back(types, edge.kind) {
+            count(&mut room, first, edge.to);
+        }
+    }
+    Ok(room)
+}
+
+/// Puts empty lists last, each with room for so many ways.
+pub fn widen(alloc: Global, lists: &mut Vec<Vec<Neighbor>>, room: &[u32]) -> Result<(), OutOfMemory>
+    ensures { IfOk result (λ _. map (λ list. list.items) lists.new.items ≡ map (λ list. list.items) lists.old.items ++ replicate (length room.now) []) }
+{
+    lists.reserve(room.len())?;
+    for ways in room {
+        let empty = Vec::with_capacity(alloc, *ways as usize)?;
+        lists.push(empty)?;
+    }
+    Ok(())
+}

@@ -1,0 +1,117 @@
+// How a table finds its rows.
+ghost use Rattle.std.specs.Prelude.{◌≡◌, ◌<◌, ◌≤◌, ◌++◌, ◌∷◌, [], length, take, None, IfOk, OnOk, OnErr};
+ghost use Rattle.gq_graph.specs.Vertices.{vertex_number, VerticesApart, most_vertices};
+ghost use Rattle.gq_vertex.specs.Named.{Finds, IsSorted, AreNamed};
+
+use crate::key::vertex_key;
+use crate::names::{Names, put, take_out};
+use gq_base::{Key, KeyIndex, OutOfMemory};
+use gq_graph::VertexRow;
+use std::alloc::Global;
+use std::collections::BTreeMap;
+
+/// What finds the row of a name: keys in buckets, until so many rows share a bucket that their ids must have been chosen
+/// for it, and from then on a tree, in which no name is far away.
+#[derive(Drop)]
+pub(crate) enum Index {
+    Hashed(KeyIndex),
+    Sorted(Names),
+}
+
+/// Puts in the name of a new row, which is to stand behind `rows`. After OutOfMemory all rows are found as before.
+pub(crate) fn insert(
+    index: &mut Index,
+    alloc: Global,
+    rows: &[VertexRow],
+    row: &VertexRow,
+) -> Result<(), OutOfMemory>
+    requires named { AreNamed rows.now index.old }
+    requires new { vertex_number rows.now row.now.kind row.now.id ≡ None }
+    requires room { length rows.now < most_vertices }
+    ensures put { OnOk result (Finds (rows.now ++ row.now ∷ []) index.new) }
+    ensures stays { OnErr result (Finds rows.now index.new) }
+{
+    let key = vertex_key(row.kind, row.id.as_str());
+    change_if_crowded(index, alloc, rows, key)?;
+    match index {
+        Index::Hashed(keys) => keys.push(key),
+        Index::Sorted(names) => put(alloc, names, row.kind, row.id.as_str(), rows.len() as u32),
+    }
+}
+
+/// Makes a tree of the names of all rows where the bucket of a key is crowded.
+fn change_if_crowded(
+    index: &mut Index,
+    alloc: Global,
+    rows: &[VertexRow],
+    key: Key,
+) -> Result<(), OutOfMemory>
+    requires { AreNamed rows.now index.old }
+    ensures { Finds rows.now index.new }
+{
+    if is_crowded(index, key) {
+        *index = Index::Sorted(sorted(alloc, rows)?);
+    }
+    Ok(())
+}
+
+fn is_crowded(index: &Index, key: Key) -> bool {
+    match index {
+        Index::Hashed(keys) => keys.is_crowded(key),
+        Index::Sorted(_) => false,
+    }
+}
+
+/// The names of all rows.
+fn sorted(alloc: Global, rows: &[VertexRow]) -> Result<Names, OutOfMemory>
+    requires apart { VerticesApart rows.now }
+    requires few { length rows.now ≤ most_vertices }
+    ensures { IfOk result (IsSorted rows.now) }
+{
+    let mut names = BTreeMap::new(alloc);
+    for (number, row) in rows.iter().enumerate() {
+        put(alloc, &mut names, row.kind, row.id.as_str(), number as u32)?;
+    }
+    Ok(names)
+}
+
+/// Forgets the rows from number `len` on.
+pub(crate) fn cut(index: &mut Index, rows: &[VertexRow], len: usize)
+    requires named { AreNamed rows.now index.old }
+    requires within { len ≤ length rows.now }
+    ensures { Finds (take len rows.now) index.new }
+{
+    match index {
+        Index::Hashed(keys) => keys.cut(len),
+        Index::Sorted(names) => cut_names(names, rows, len),
+    }
+}
+
+fn cut_names(names: &mut Names, rows: &[VertexRow], len: usize)
+    requires apart { VerticesApart rows.now }
+    requires sorted { IsSorted rows.now names.old }
+    requires within { len ≤ length rows.now }
+    ensures { IsSorted (take len rows.now) names.new }
+{
+    let mut left = rows.len();
+    while left > len {
+        left -= 1;
+        let row = &rows[left];
+        take_out(names, row.kind, row.id.as_str());
+    }
+}
+
+/// An index of the same rows, with memory of its own.
+pub(crate) fn duplicate(
+    index: &Index,
+    alloc: Global,
+    rows: &[VertexRow],
+) -> Result<Index, OutOfMemory>
+    requires { AreNamed rows.now index.now }
+    ensures { IfOk result (Finds rows.now) }
+{
+    match index {
+        Index::Hashed(keys) => Ok(Index::Hashed(keys.duplicate()?)),
+        Index::Sorted(_) => Ok(Index::Sorted(sorted(alloc, rows)?)),
+    }
+}
