@@ -14,7 +14,7 @@ use Rattle.gq_frame.specs.declared.frame.Alias.{Alias}
 use Rattle.gq_frame.specs.Names.{Placed, AVertex, alias_of, alias_named, aliases_named}
 use Rattle.gq_exec_source.specs.declared.ends.Ends.{Ends}
 use Rattle.gq_exec_source.specs.Ends.{AreEnds, end_things}
-use Rattle.gq_workers.specs.Aliases.{target_bound, edge_bound, bound_to}
+use Rattle.gq_exec_prepared.specs.Aliases.{target_bound, edge_bound, bound_to}
 
 -- ---- a row that is filled from its start
 
@@ -34,14 +34,6 @@ bind_all x0 x1 x2 x3 t e s t' e' s' p0 p1 p2 p3 pt pe ps =
     ∙ ap₂ (λ u v. option_to_list u ++ v) pt (ap₂ (λ u v. option_to_list u ++ option_to_list v) pe ps)
 
 -- ---- the last step of a path
-
-last_is : (s : PathStep) (steps : List PathStep) (x : PathStep) → x ≡ get_or (s ∷ steps) (length steps) x → option_map Place x.edge_alias ≡ edge_alias (plain.Path (map view_path_step (s ∷ steps)))
-last_is s [] x h = ap (λ (y : PathStep). option_map Place y.edge_alias) h
-last_is s (t ∷ steps) x h = last_is t steps x h
-
-pub last_step_is : (steps : List PathStep) (x : PathStep) → 1 ≤ length steps → x ≡ get_or steps (length steps - 1) x → option_map Place x.edge_alias ≡ edge_alias (plain.Path (map view_path_step steps))
-last_step_is [] x l h = absurd (omega (arith, l))
-last_step_is (s ∷ steps) x l h = let e : suc (length steps) - 1 ≡ length steps = omega arith in last_is s steps x (h ∙ ap (λ (n : ℕ). get_or (s ∷ steps) n x) e)
 
 -- ---- the names in view
 
@@ -77,5 +69,3 @@ named_all ends edge f c names are e =
 pub ruleset put_laws = (put_more, put_none)
 
 pub ruleset bind_laws = (bind_all)
-
-pub ruleset last_laws = (last_step_is)

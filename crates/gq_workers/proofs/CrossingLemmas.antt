@@ -28,11 +28,12 @@ use Rattle.gq_frame.specs.contracts.frame.Thing as thing
 use Rattle.gq_frame.specs.contracts.frame.Frame as frame
 use Rattle.gq_exec_source.specs.contracts.ends.End as end
 use Rattle.gq_exec_source.specs.contracts.ends.Ends as ends
-use Rattle.gq_workers.specs.contracts.direct.Name as name
-use Rattle.gq_workers.specs.contracts.direct.AliasRole as name_part
+use Rattle.gq_exec_prepared.specs.contracts.cells.Taken as taken
+use Rattle.gq_exec_prepared.specs.contracts.cells.Cells as cells
+use Rattle.gq_exec_prepared.specs.contracts.inputs.ScalarInput as scalar
+use Rattle.gq_exec_prepared.specs.contracts.leaves.Leaves as leaves
 use Rattle.gq_index.specs.contracts.store.Store as store
 use Rattle.gq_index.specs.contracts.index.Index as index
-use Rattle.gq_plan_ir.specs.contracts.expr.Field as field
 use Rattle.gq_index.specs.contracts.store.Graph as graph
 use Rattle.gq_workers.specs.contracts.work.Work as work
 use Rattle.gq_workers.specs.contracts.work.Round as round
@@ -45,8 +46,11 @@ pub use Rattle.gq_plan_ir.proofs.CrossingLemmas.{block_sync, plan_sync}
 batches_send : IsSend batches.the_row
 batches_send = search (sendable, input_send, crosses) depth 20
 
+scalar_send : IsSend scalar.the_row
+scalar_send = search (sendable) depth 30 fits 50000
+
 left_send : IsSend left.the_row
-left_send = search (sendable, batches_send, list_crosses.the_send, crosses) depth 30 fits 50000
+left_send = search (sendable, batches_send, scalar_send, list_crosses.the_send, crosses) depth 30 fits 50000
 
 pub part_send : IsSend part.the_row
 part_send = search (sendable, left_send, list_crosses.the_send, crosses) depth 30 fits 50000
@@ -92,17 +96,14 @@ end_field = search (list_crosses.the_sync, crosses, sendable) depth 30 fits 5000
 pub ends_sync : IsSync ends.the_row
 ends_sync = search (end_field, list_crosses.the_sync, crosses, sendable) depth 30 fits 50000
 
-part_field : IsSync (name_part.the_field).row
-part_field = search (sendable) depth 30 fits 50000
+taken_field : IsSync (taken.the_field).row
+taken_field = search (sendable) depth 30 fits 50000
 
-pub name_field : IsSync (name.the_field).row
-name_field = search (part_field, sendable) depth 30 fits 50000
+pub cells_sync : IsSync cells.the_row
+cells_sync = search (taken_field, sendable) depth 30 fits 50000
 
-pub name_sync : IsSync name.the_row
-name_sync = search (part_field, sendable) depth 30 fits 50000
-
-pub field_sync : IsSync field.the_row
-field_sync = search (txt_sync, list_crosses.the_sync, crosses, sendable) depth 30 fits 50000
+leaves_field : (l : NamedLft) → IsSync (leaves.the_field l).row
+leaves_field l = search (ends_sync, cells_sync, list_crosses.the_sync, crosses, sendable) depth 30 fits 50000
 
 pub store_sync : IsSync store.the_row
 store_sync = search (value_sync, txt_sync, list_crosses.the_sync, maps.crosses, crosses, sendable) depth 30 fits 50000
@@ -126,7 +127,7 @@ graph_field : (l : NamedLft) → IsSync (graph.the_field l).row
 graph_field l = search (store_sync, index_sync, vertex_type_sync, edge_type_sync, txt_sync, list_crosses.the_sync, maps.crosses, crosses, sendable) depth 30 fits 50000
 
 pub work_sync : (l : NamedLft) → IsSync (work.the_row l)
-work_sync l = search (block_sync, ends_sync, name_field, name_sync, field_sync, list_crosses.the_sync, crosses, sendable) depth 30 fits 50000
+work_sync l = search (block_sync, leaves_field, list_crosses.the_sync, crosses, sendable) depth 30 fits 50000
 
 pub round_sync : (l : NamedLft) → IsSync (round.the_row l)
 round_sync l = search (graph_field, plan_sync, tuple_sync, frame_sync, work_sync, sync, crosses, sendable) depth 30 fits 50000

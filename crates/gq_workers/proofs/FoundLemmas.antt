@@ -1,13 +1,12 @@
 -- FoundLemmas: what was found: at first, once INTs are put behind the batch, and after a candidate.
 use Rattle.std.proofs.Common.{◌≡◌, ℕ, zero, suc, ◌+◌, ◌*◌, ◌/◌, ◌%◌, ◌<◌, ◌≤◌, ◌==◌, ◌||◌, Bool, true, false, List, [], ◌∷◌, ◌++◌, map, take, length, replicate, slice_get, get_or, Result, Ok, Err, IfOk, Option, Some, None, refl, sym, ap, ap₂, ◌∙◌, subst, arith, append-nil, append_assoc}
 use Rattle.std.specs.List.{All, AllByRecursion}
-use Rattle.std.specs.Prelude.{ℤ}
 use Rattle.std.proofs.lemmas.List.{map-append, take_all}
 use Rattle.std.proofs.lemmas.List.Elements.{All-nil, All-cons, recursion_from_All}
 use Rattle.std.proofs.lemmas.Bool.Decides.{nat_tests}
 use Rattle.gq_value.specs.declared.kind.Input.{Input}
+use Rattle.gq_value.specs.declared.value.Value.{Value}
 use Rattle.gq_value.specs.declared.kind.Input.TheVariants as input
-use Rattle.gq_value.specs.declared.value.Value.TheVariants as value
 use Rattle.gq_graph.specs.declared.rows.Candidate.{Candidate}
 use Rattle.gq_value.specs.declared.value.Wrong.{Wrong}
 use Rattle.gq_graph.specs.Candidates.{among}
@@ -27,11 +26,12 @@ use Rattle.gq_exec_feed.specs.Taking.{MayTake, as_given, targeted, AreBatched}
 use Rattle.gq_exec_contribute.specs.Passing.{GainsAll, Comes}
 use Rattle.gq_exec_contribute.specs.declared.candidate.Outcome.{Outcome}
 use Rattle.gq_exec_contribute.specs.declared.candidate.Outcome.TheVariants as outcome
-use Rattle.gq_exec_feed.specs.Ints.{as_input, as_inputs}
+use Rattle.gq_exec_prepared.specs.Inputs.{made_of, as_input, as_inputs}
 use Rattle.gq_workers.specs.declared.found.MatchBuffer.{MatchBuffer}
-use Rattle.gq_workers.specs.Aliases.{bound_to}
-use Rattle.gq_workers.specs.Direct.{AreInts}
-use Rattle.gq_workers.specs.Running.{comes_under, comes, ComesUnder, gives_of, sources_of, targets_of, Wait, IsShaped, IsOpened, AddsInts, Settles, Tried, marks_end}
+use Rattle.gq_exec_prepared.specs.Aliases.{bound_to}
+use Rattle.gq_exec_prepared.specs.Prepared.{AreInputs}
+use Rattle.gq_workers.specs.Running.{comes_under, comes, ComesUnder, gives_of, sources_of, targets_of, Wait, IsShaped, IsOpened, AddsInputs, Settles, Tried, marks_end}
+use Rattle.gq_exec_prepared.specs.declared.inputs.ScalarInput.{ScalarInput}
 
 -- ---- at first
 
@@ -48,7 +48,7 @@ words_of n words e = (omega (arith, l), λ few. omega (arith, l, few))
 no_marks : (n : ℕ) (words : List ℕ) → words ≡ replicate (n / 64 + 1) 0 → (v : ℕ) → is_marked words v ≡ false
 no_marks n words e v = ap (λ w. is_marked w v) e ∙ unmarked_none (n / 64 + 1) v
 
-pub opened : (n : ℕ) (found : MatchBuffer) → found.batches ≡ [] ∷ [] → found.ints ≡ [] → found.sources ≡ replicate (n / 64 + 1) 0 → found.targets ≡ replicate (n / 64 + 1) 0 → IsOpened n found
+pub opened : (n : ℕ) (found : MatchBuffer) → found.batches ≡ [] ∷ [] → found.inputs ≡ [] → found.sources ≡ replicate (n / 64 + 1) 0 → found.targets ≡ replicate (n / 64 + 1) 0 → IsOpened n found
 opened n found batches ints sources targets = record {
   shaped = λ few. record {
     one = ap length batches;
@@ -56,7 +56,7 @@ opened n found batches ints sources targets = record {
     targets = (words_of n found.targets targets).0;
     short = record { sources = (words_of n found.sources sources).1 few; targets = (words_of n found.targets targets).1 few };
   };
-  empty = record { batches = batches; ints = ints };
+  empty = record { batches = batches; inputs = ints };
   sources = no_marks n found.sources sources;
   targets = no_marks n found.targets targets;
 }
@@ -97,27 +97,35 @@ shaped_still n old new s b p q = record {
 
 -- ---- INTs put behind the batch
 
-pub ints_none : (xs : List (ℕ × ℤ)) (old : List (List (ℕ × Input))) → AddsInts (take 0 xs) old old
+pub ints_none : (xs : List (ℕ × ScalarInput)) (old : List (List (ℕ × Input))) → AddsInputs (take 0 xs) old old
 ints_none [] old = record { each = λ batch e. e ∙ ap (λ l. l ∷ []) (sym (append-nil batch)) }
 ints_none (x ∷ xs) old = record { each = λ batch e. e ∙ ap (λ l. l ∷ []) (sym (append-nil batch)) }
 
-take_next : (n : ℕ) (xs : List (ℕ × ℤ)) (x : ℕ × ℤ) → n < length xs → x ≡ get_or xs n x → take (n + 1) xs ≡ take n xs ++ x ∷ []
+take_next : (n : ℕ) (xs : List (ℕ × ScalarInput)) (x : ℕ × ScalarInput) → n < length xs → x ≡ get_or xs n x → take (n + 1) xs ≡ take n xs ++ x ∷ []
 take_next n [] x l e = absurd (omega (arith, l))
 take_next zero (y ∷ xs) x l e = (none xs ∙ ap (λ z. z ∷ []) (sym e))
   where
-    none : (xs : List (ℕ × ℤ)) → take (0 + 1) (y ∷ xs) ≡ y ∷ []
+    none : (xs : List (ℕ × ScalarInput)) → take (0 + 1) (y ∷ xs) ≡ y ∷ []
     none [] = refl
     none (z ∷ xs) = refl
 take_next (suc n) (y ∷ xs) x l e = (let z : suc n + 1 ≡ suc (n + 1) = omega arith in ap (λ (m : ℕ). take m (y ∷ xs)) z) ∙ ap (λ r. y ∷ r) (take_next n xs x (omega (arith, l)) e)
 
-pub ints_more : (xs : List (ℕ × ℤ)) (n : ℕ) (x : ℕ × ℤ) (old was new : List (List (ℕ × Input))) → n < length xs → x ≡ get_or xs n x → AddsInts (take n xs) old was → Gains was new x.0 (input.One (value.Int x.1)) → AddsInts (take (n + 1) xs) old new
+pub ints_more : (xs : List (ℕ × ScalarInput)) (n : ℕ) (x : ℕ × ScalarInput) (old was new : List (List (ℕ × Input))) → n < length xs → x ≡ get_or xs n x → AddsInputs (take n xs) old was → Gains was new x.0 (input.One (made_of x.1)) → AddsInputs (take (n + 1) xs) old new
 ints_more xs n x old was new l is before gains = record {
   each = λ batch e. gained was new (batch ++ as_inputs (take n xs)) (as_input x ∷ []) (before.each batch e) (record { same = gains.same; gains = gains.gains })
       ∙ ap (λ l. l ∷ []) (append_assoc batch (as_inputs (take n xs)) (as_input x ∷ []) ∙ ap (λ l. batch ++ l) (sym (map-append as_input (take n xs) (x ∷ []))) ∙ ap (λ l. batch ++ as_inputs l) (sym (take_next n xs x l is)));
 }
 
-pub ints_all : (xs : List (ℕ × ℤ)) (n : ℕ) (old new : List (List (ℕ × Input))) → length xs ≤ n → AddsInts (take n xs) old new → AddsInts xs old new
-ints_all xs n old new l h = subst (λ l. AddsInts l old new) (take_all n xs l) h
+get_or_same : {A : Type 0} (xs : List A) (n : ℕ) (d e : A) → n < length xs → get_or xs n d ≡ get_or xs n e
+get_or_same [] n d e l = absurd (omega (arith, l))
+get_or_same (x ∷ xs) zero d e l = refl
+get_or_same (x ∷ xs) (suc n) d e l = get_or_same xs n d e (omega (arith, l))
+
+pub ints_at : (xs : List (ℕ × ScalarInput)) (n : ℕ) (d : ℕ × ScalarInput) (v : Value) (old was new : List (List (ℕ × Input))) → n < length xs → v ≡ made_of (get_or xs n d).1 → Gains was new (get_or xs n d).0 (input.One v) → AddsInputs (take n xs) old was → AddsInputs (take (n + 1) xs) old new
+ints_at xs n d v old was new l e gains before = ints_more xs n (get_or xs n d) old was new l (get_or_same xs n d (get_or xs n d) l) before (subst (λ (u : Value). Gains was new (get_or xs n d).0 (input.One u)) e gains)
+
+pub ints_all : (xs : List (ℕ × ScalarInput)) (n : ℕ) (old new : List (List (ℕ × Input))) → length xs ≤ n → AddsInputs (take n xs) old new → AddsInputs xs old new
+ints_all xs n old new l h = subst (λ l. AddsInputs l old new) (take_all n xs l) h
 
 pub ruleset ints_laws = (ints_none, ints_more, ints_all)
 
@@ -126,22 +134,22 @@ one_batch [] h = absurd (omega (arith, h))
 one_batch (x ∷ []) h = (x, refl)
 one_batch (x ∷ y ∷ l) h = absurd (omega (arith, h))
 
-pub settled : (old new : MatchBuffer) (ints : List (ℕ × ℤ)) → length old.batches ≡ 1 → ints ≡ old.ints → AddsInts ints old.batches new.batches → new.ints ≡ [] → new.sources ≡ old.sources → new.targets ≡ old.targets → Settles old new
+pub settled : (old new : MatchBuffer) (ints : List (ℕ × ScalarInput)) → length old.batches ≡ 1 → ints ≡ old.inputs → AddsInputs ints old.batches new.batches → new.inputs ≡ [] → new.sources ≡ old.sources → new.targets ≡ old.targets → Settles old new
 settled old new ints one same added none sources targets = record {
   shaped = λ n s. shaped_still n old new s long (ap length sources) (ap length targets);
   wait = λ o ms h. record {
     may = h.may;
-    batch = h.batch ++ as_inputs old.ints;
+    batch = h.batch ++ as_inputs old.inputs;
     waiting = adds.each h.batch h.waiting;
-    batched = ap (map as_given) (ap (λ l. (h.batch ++ as_inputs old.ints) ++ as_inputs l) none ∙ append-nil (h.batch ++ as_inputs old.ints)) ∙ h.batched;
+    batched = ap (map as_given) (ap (λ l. (h.batch ++ as_inputs old.inputs) ++ as_inputs l) none ∙ append-nil (h.batch ++ as_inputs old.inputs)) ∙ h.batched;
     within = h.within;
   };
   sources = sources;
   targets = targets;
 }
   where
-    adds : AddsInts old.ints old.batches new.batches
-    adds = subst (λ l. AddsInts l old.batches new.batches) same added
+    adds : AddsInputs old.inputs old.batches new.batches
+    adds = subst (λ l. AddsInputs l old.batches new.batches) same added
 
     long : length new.batches ≡ length old.batches
     long = let b = one_batch old.batches one in ap length (adds.each b.0 b.1) ∙ sym one
@@ -193,7 +201,7 @@ marked_target old new None k = k
 marked_target old new (Some x) k = marked_source old new x k
 
 -- a batch with no INTs behind it
-alone : (batch : List (ℕ × Input)) (ints : List (ℕ × ℤ)) → ints ≡ [] → batch ++ as_inputs ints ≡ batch
+alone : (batch : List (ℕ × Input)) (ints : List (ℕ × ScalarInput)) → ints ≡ [] → batch ++ as_inputs ints ≡ batch
 alone batch ints e = ap (λ l. batch ++ as_inputs l) e ∙ append-nil batch
 
 -- a match behind others
@@ -214,25 +222,25 @@ module _ (o : Over) (c : Candidate) (gives : List Contribution) (ms : List Match
   within_more h w = all_append (λ (x : Match). IsWithin (length o.vertices) x.candidate) ms (m ∷ []) h (All-cons (λ (x : Match). IsWithin (length o.vertices) x.candidate) m [] w (All-nil (λ (x : Match). IsWithin (length o.vertices) x.candidate)))
 
 module _ (o : Over) (c : Candidate) (go : Answer Wrong (List Match)) (old new : MatchBuffer) where
-  pub passed : IsWithin (length o.vertices) c → Comes o.frame.accums.slots c go old.batches new.batches outcome.Passed → old.ints ≡ [] → new.ints ≡ old.ints
+  pub passed : IsWithin (length o.vertices) c → Comes o.frame.accums.slots c go old.batches new.batches outcome.Passed → old.inputs ≡ [] → new.inputs ≡ old.inputs
       → ((v : ℕ) → is_marked new.sources v ≡ (v == c.source || is_marked old.sources v)) → ((v : ℕ) → is_marked new.targets v ≡ (marks_end c.target v || is_marked old.targets v)) → Tried o go old new None
   passed within comes none ints sources targets = (record { candidate = c; gives = comes.0 } ∷ [], comes.1, more, marked_source old.sources new.sources c.source sources, marked_target old.targets new.targets c.target targets)
     where
-      more : (ms : List Match) → Wait o ms old.batches old.ints → Wait o (ms ++ record { candidate = c; gives = comes.0 } ∷ []) new.batches new.ints
+      more : (ms : List Match) → Wait o ms old.batches old.inputs → Wait o (ms ++ record { candidate = c; gives = comes.0 } ∷ []) new.batches new.inputs
       more ms h = record {
         may = may_more o c comes.0 ms h.may comes.2.may;
         batch = h.batch ++ comes.2.inputs;
         waiting = gained old.batches new.batches h.batch comes.2.inputs h.waiting comes.2.gained;
-        batched = batched_more o c comes.0 ms (h.batch ++ as_inputs old.ints) comes.2.inputs ((h.batch ++ comes.2.inputs) ++ as_inputs new.ints)
-            (alone (h.batch ++ comes.2.inputs) new.ints (ints ∙ none) ∙ ap (λ l. l ++ comes.2.inputs) (sym (alone h.batch old.ints none))) h.batched comes.2.are;
+        batched = batched_more o c comes.0 ms (h.batch ++ as_inputs old.inputs) comes.2.inputs ((h.batch ++ comes.2.inputs) ++ as_inputs new.inputs)
+            (alone (h.batch ++ comes.2.inputs) new.inputs (ints ∙ none) ∙ ap (λ l. l ++ comes.2.inputs) (sym (alone h.batch old.inputs none))) h.batched comes.2.are;
         within = within_more o c comes.0 ms h.within within;
       }
 
-  pub filtered : Comes o.frame.accums.slots c go old.batches new.batches outcome.Filtered → new.ints ≡ old.ints → new.sources ≡ old.sources → new.targets ≡ old.targets → Tried o go old new None
+  pub filtered : Comes o.frame.accums.slots c go old.batches new.batches outcome.Filtered → new.inputs ≡ old.inputs → new.sources ≡ old.sources → new.targets ≡ old.targets → Tried o go old new None
   filtered comes ints sources targets = ([], comes.0, same, (λ v. ap (λ l. is_marked l v) sources), (λ v. ap (λ l. is_marked l v) targets))
     where
-      same : (ms : List Match) → Wait o ms old.batches old.ints → Wait o (ms ++ []) new.batches new.ints
-      same ms h = subst (λ (l : List Match). Wait o l new.batches new.ints) (sym (append-nil ms)) (record {
+      same : (ms : List Match) → Wait o ms old.batches old.inputs → Wait o (ms ++ []) new.batches new.inputs
+      same ms h = subst (λ (l : List Match). Wait o l new.batches new.inputs) (sym (append-nil ms)) (record {
         may = h.may;
         batch = h.batch;
         waiting = comes.1 ∙ h.waiting;
@@ -243,23 +251,27 @@ module _ (o : Over) (c : Candidate) (go : Answer Wrong (List Match)) (old new : 
   pub faulted : (w : Wrong) → Comes o.frame.accums.slots c go old.batches new.batches (outcome.Fault w) → new.sources ≡ old.sources → new.targets ≡ old.targets → Tried o go old new (Some w)
   faulted w comes sources targets = (comes.0, sources, targets)
 
--- ---- INTs that are at hand
+-- a candidate that WHERE filters changes nothing
+pub filtered_same : (o : Over) (go : Answer Wrong (List Match)) (old : MatchBuffer) → go ≡ Gives [] → Tried o go old old None
+filtered_same o go old e = ([], e, (λ ms h. subst (λ (l : List Match). Wait o l old.batches old.inputs) (sym (append-nil ms)) h), (λ v. refl), (λ v. refl))
 
-module _ (o : Over) (c : Candidate) (go : Answer Wrong (List Match)) (contributed : Answer Wrong (List Contribution)) (more : List (ℕ × ℤ)) (old new : MatchBuffer) where
-  pub ints_passed : IsWithin (length o.vertices) c → (ints : AreInts o.frame.accums.slots contributed more) → go ≡ Gives (record { candidate = c; gives = ints.gives } ∷ []) → new.ints ≡ old.ints ++ more → new.batches ≡ old.batches
+-- ---- INTs and truths that are read
+
+module _ (o : Over) (c : Candidate) (go : Answer Wrong (List Match)) (contributed : Answer Wrong (List Contribution)) (more : List (ℕ × ScalarInput)) (old new : MatchBuffer) where
+  pub ints_passed : IsWithin (length o.vertices) c → (ints : AreInputs o.frame.accums.slots contributed more) → go ≡ Gives (record { candidate = c; gives = ints.contributed } ∷ []) → new.inputs ≡ old.inputs ++ more → new.batches ≡ old.batches
       → ((v : ℕ) → is_marked new.sources v ≡ (v == c.source || is_marked old.sources v)) → ((v : ℕ) → is_marked new.targets v ≡ (marks_end c.target v || is_marked old.targets v)) → Tried o go old new None
-  ints_passed within ints is added batches sources targets = (record { candidate = c; gives = ints.gives } ∷ [], is, one_more, marked_source old.sources new.sources c.source sources, marked_target old.targets new.targets c.target targets)
+  ints_passed within ints is added batches sources targets = (record { candidate = c; gives = ints.contributed } ∷ [], is, one_more, marked_source old.sources new.sources c.source sources, marked_target old.targets new.targets c.target targets)
     where
-      behind : (batch : List (ℕ × Input)) → batch ++ as_inputs new.ints ≡ (batch ++ as_inputs old.ints) ++ as_inputs more
-      behind batch = ap (λ l. batch ++ as_inputs l) added ∙ ap (λ l. batch ++ l) (map-append as_input old.ints more) ∙ sym (append_assoc batch (as_inputs old.ints) (as_inputs more))
+      behind : (batch : List (ℕ × Input)) → batch ++ as_inputs new.inputs ≡ (batch ++ as_inputs old.inputs) ++ as_inputs more
+      behind batch = ap (λ l. batch ++ as_inputs l) added ∙ ap (λ l. batch ++ l) (map-append as_input old.inputs more) ∙ sym (append_assoc batch (as_inputs old.inputs) (as_inputs more))
 
-      one_more : (ms : List Match) → Wait o ms old.batches old.ints → Wait o (ms ++ record { candidate = c; gives = ints.gives } ∷ []) new.batches new.ints
+      one_more : (ms : List Match) → Wait o ms old.batches old.inputs → Wait o (ms ++ record { candidate = c; gives = ints.contributed } ∷ []) new.batches new.inputs
       one_more ms h = record {
-        may = may_more o c ints.gives ms h.may ints.may;
+        may = may_more o c ints.contributed ms h.may ints.may;
         batch = h.batch;
         waiting = batches ∙ h.waiting;
-        batched = batched_more o c ints.gives ms (h.batch ++ as_inputs old.ints) (as_inputs more) (h.batch ++ as_inputs new.ints) (behind h.batch) h.batched ints.batched;
-        within = within_more o c ints.gives ms h.within within;
+        batched = batched_more o c ints.contributed ms (h.batch ++ as_inputs old.inputs) (as_inputs more) (h.batch ++ as_inputs new.inputs) (behind h.batch) h.batched ints.batched;
+        within = within_more o c ints.contributed ms h.within within;
       }
 
 -- nothing has changed, and then INTs are put behind the batch: what is tried then is tried of what was there before
@@ -268,7 +280,7 @@ tried_behind o go old same mid new (Err x) e settles tried = tt
 tried_behind o go old same mid new (Ok None) e settles tried = (
   tried.0,
   tried.1,
-  (λ ms has. tried.2 ms (settles.wait o ms (subst (λ (f : MatchBuffer). Wait o ms f.batches f.ints) (sym e) has))),
+  (λ ms has. tried.2 ms (settles.wait o ms (subst (λ (f : MatchBuffer). Wait o ms f.batches f.inputs) (sym e) has))),
   (λ v. tried.3 v ∙ ap (λ l. among (sources_of tried.0) v || is_marked l v) (settles.sources ∙ ap (λ (f : MatchBuffer). f.sources) e)),
   (λ v. tried.4 v ∙ ap (λ l. among (targets_of tried.0) v || is_marked l v) (settles.targets ∙ ap (λ (f : MatchBuffer). f.targets) e)),
 )

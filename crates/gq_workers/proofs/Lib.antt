@@ -7,7 +7,5 @@ pub mod ListLemmas
 pub mod EndLemmas
 pub mod RunLemmas
 pub mod RoundLemmas
-pub mod DirectLemmas
-pub mod GatherLemmas
 pub mod ComesLemmas
 pub mod CrossingLemmas

@@ -27,19 +27,20 @@ use Rattle.gq_workers.specs.Running.{come, matches_by, sources_of, targets_of, W
 use Rattle.gq_workers.specs.Rounds.{IsLeft, Only, IsPart, LeavesChunk, Joins, MarksPart, AreLefts, MarksParts, StandsIn, InRound, Feeds, FeedsLeft, FeedsParts}
 use Rattle.gq_workers.proofs.FoundLemmas.{shaped_still}
 use Rattle.gq_workers.proofs.MarkLemmas.{below_or_not, true_or_false, or_first, or_second, of_or, not_both}
+use Rattle.gq_exec_prepared.specs.declared.inputs.ScalarInput.{ScalarInput}
 
 -- ---- what a chunk leaves
 
 module _ (clock : Calendar) (o : Over) (w : Work) (start end : ℕ) where
-  pub leaves_chunk : (fault : Option (ℕ × Wrong)) (batches : List (List (ℕ × Input))) (ints : List (ℕ × ℤ)) (old mid new : MatchBuffer) → GoneThrough (come clock o w) w.candidates o start end old mid fault → batches ≡ mid.batches → ints ≡ mid.ints
-      → new.batches ≡ [] ∷ [] → new.ints ≡ [] → new.sources ≡ mid.sources → new.targets ≡ mid.targets → LeavesChunk clock o w start end old new (record { start = start; end = end; batches = batches; ints = ints; fault = fault })
+  pub leaves_chunk : (fault : Option (ℕ × Wrong)) (batches : List (List (ℕ × Input))) (ints : List (ℕ × ScalarInput)) (old mid new : MatchBuffer) → GoneThrough (come clock o w) w.candidates o start end old mid fault → batches ≡ mid.batches → ints ≡ mid.inputs
+      → new.batches ≡ [] ∷ [] → new.inputs ≡ [] → new.sources ≡ mid.sources → new.targets ≡ mid.targets → LeavesChunk clock o w start end old new (record { start = start; end = end; batches = batches; inputs = ints; fault = fault })
   leaves_chunk fault batches ints old mid new gone b i emptied none sources targets = record {
     left = record {
       came = subst (λ l. Came (come clock o w) w.candidates o start end l ints fault) (sym b) (subst (λ l. Came (come clock o w) w.candidates o start end mid.batches l fault) (sym i) gone.came);
       sources = subst (λ l. CoverWhole sources_of (come clock o w) w.candidates start end l fault) (sym sources) gone.cover_sources;
       targets = subst (λ l. CoverWhole targets_of (come clock o w) w.candidates start end l fault) (sym targets) gone.cover_targets;
     };
-    empty = record { batches = emptied; ints = none };
+    empty = record { batches = emptied; inputs = none };
     shaped = shaped_still (length o.vertices) mid new gone.shaped (ap length emptied ∙ sym gone.shaped.one) (ap length sources) (ap length targets);
     sources = subst (λ l. Mark sources_of (come clock o w) w.candidates start end old.sources l) (sym sources) gone.sources;
     targets = subst (λ l. Mark targets_of (come clock o w) w.candidates start end old.targets l) (sym targets) gone.targets;
@@ -222,7 +223,7 @@ marks_next parts i r p old mid new l at is h step = record {
   sources = λ clock o w first last are. mark_joined sources_of clock o w first last old.sources mid.sources p.sources new.sources (part clock o w first last are).sources (h.sources clock o w first last are) step.sources;
   targets = λ clock o w first last are. mark_joined targets_of clock o w first last old.targets mid.targets p.targets new.targets (part clock o w first last are).targets (h.targets clock o w first last are) step.targets;
   shaped = λ n s. shaped_still n mid new (h.shaped n s) (ap length step.batches) step.sources.len step.targets.len;
-  empty = λ e. let m = h.empty e in record { batches = step.batches ∙ m.batches; ints = step.ints ∙ m.ints };
+  empty = λ e. let m = h.empty e in record { batches = step.batches ∙ m.batches; inputs = step.inputs ∙ m.inputs };
 }
   where
     part : (clock : Calendar) (o : Over) (w : Work) (first last : ℕ) → All (λ part. IfOk part (IsPart clock o w first last)) parts → IsPart clock o w first last p
@@ -241,10 +242,10 @@ pub ruleset marks_laws = (marks_first, marks_done)
 
 -- ---- what is left is fed
 
-pub left_fed : (l : ChunkOutput) (old new : BlockProgress) (ints : List (ℕ × ℤ)) → l.start ≡ old.at → l.fault ≡ None → ints ≡ l.ints → FedFrom old.accums new.accums old.fed l.batches ints new.fed → new.at ≡ l.end → new.found ≡ old.found → FeedsLeft l old new None
+pub left_fed : (l : ChunkOutput) (old new : BlockProgress) (ints : List (ℕ × ScalarInput)) → l.start ≡ old.at → l.fault ≡ None → ints ≡ l.inputs → FedFrom old.accums new.accums old.fed l.batches ints new.fed → new.at ≡ l.end → new.found ≡ old.found → FeedsLeft l old new None
 left_fed l old new ints start fault listed took end same = record {
   each = λ clock o w h left.
-      let came : Came (come clock o w) w.candidates o l.start l.end l.batches l.ints None = subst (Came (come clock o w) w.candidates o l.start l.end l.batches l.ints) fault left.came in (
+      let came : Came (come clock o w) w.candidates o l.start l.end l.batches l.inputs None = subst (Came (come clock o w) w.candidates o l.start l.end l.batches l.inputs) fault left.came in (
         record {
           matched = h.matched ++ came.0;
           ran = subst (λ (n : ℕ). Rattle.gq_workers.specs.Running.MatchesTo (come clock o w) w.candidates n (h.matched ++ came.0)) (sym end)
@@ -259,7 +260,7 @@ left_fed l old new ints start fault listed took end same = record {
       );
 }
   where
-    fed : FedFrom old.accums new.accums old.fed l.batches l.ints new.fed
+    fed : FedFrom old.accums new.accums old.fed l.batches l.inputs new.fed
     fed = subst (λ x. FedFrom old.accums new.accums old.fed l.batches x new.fed) listed took
 
     both : (f : List Match → List ℕ) (clock : Calendar) (o : Over) (w : Work) (words : List ℕ) → Cover f (come clock o w) w.candidates 0 old.at words → Cover f (come clock o w) w.candidates l.start l.end words → Cover f (come clock o w) w.candidates 0 l.end words
@@ -272,7 +273,7 @@ left_fed l old new ints start fault listed took end same = record {
 pub left_faults : (l : ChunkOutput) (old new : BlockProgress) (f : ℕ × Wrong) → l.start ≡ old.at → l.fault ≡ Some f → FeedsLeft l old new (Some f)
 left_faults l old new f start fault = record {
   each = λ clock o w h left.
-      let came : Came (come clock o w) w.candidates o l.start l.end l.batches l.ints (Some f) = subst (Came (come clock o w) w.candidates o l.start l.end l.batches l.ints) fault left.came in
+      let came : Came (come clock o w) w.candidates o l.start l.end l.batches l.inputs (Some f) = subst (Came (come clock o w) w.candidates o l.start l.end l.batches l.inputs) fault left.came in
       came h.matched (subst (λ (n : ℕ). Rattle.gq_workers.specs.Running.MatchesTo (come clock o w) w.candidates n h.matched) (sym start) h.ran);
 }
 

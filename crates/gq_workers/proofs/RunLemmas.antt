@@ -34,11 +34,12 @@ use Rattle.gq_workers.specs.declared.block.Ran.TheVariants as ran
 use Rattle.gq_workers.specs.declared.found.MatchBuffer.{MatchBuffer}
 use Rattle.gq_workers.specs.declared.run.BlockProgress.{BlockProgress}
 use Rattle.gq_workers.specs.declared.work.Work.{Work}
-use Rattle.gq_workers.specs.Aliases.{bound_to}
+use Rattle.gq_exec_prepared.specs.Aliases.{bound_to}
 use Rattle.gq_workers.specs.Running.{comes, come, matches_by, sources_of, targets_of, MatchesTo, GoOn, FaultAt, Wait, AreFedTo, FedFrom, Mark, Cover, AreMarked, IsShaped, IsEmpty, IsOpened, Tried, IsWork, Came, GoneThrough, HasRun, Steps}
 use Rattle.gq_workers.specs.Results.{Answers, Leaves, IsJudged, IsBegun, RanTo, block_matches}
 use Rattle.gq_workers.proofs.AliasLemmas.{named_all}
 use Rattle.gq_workers.proofs.MarkLemmas.{mark_first, cover_first, mark_next, cover_next, mark_wider, marked_first, marked_more, sources_over, targets_over}
+use Rattle.gq_exec_prepared.specs.declared.inputs.ScalarInput.{ScalarInput}
 
 -- ---- one candidate more
 
@@ -155,19 +156,19 @@ pub record ChunkTo (go : Candidate → Answer Wrong (List Match)) (cs : List Can
   pub high : p ≤ end
   pub matched : List Match
   pub goes : GoOn go cs start p matched
-  pub waits : Wait o matched now.batches now.ints
+  pub waits : Wait o matched now.batches now.inputs
   pub shaped : IsShaped (length o.vertices) now
   pub sources : Mark sources_of go cs start p old.sources now.sources
   pub targets : Mark targets_of go cs start p old.targets now.targets
   pub cover_sources : Cover sources_of go cs start p now.sources
   pub cover_targets : Cover targets_of go cs start p now.targets
 
-none_waits : (o : Over) (found : MatchBuffer) → IsEmpty found → Wait o [] found.batches found.ints
+none_waits : (o : Over) (found : MatchBuffer) → IsEmpty found → Wait o [] found.batches found.inputs
 none_waits o found h = record {
   may = All-nil (MayTake o.frame.accums.slots);
   batch = [];
   waiting = h.batches;
-  batched = ap (λ l. Rattle.std.proofs.Common.map Rattle.gq_exec_feed.specs.Taking.as_given (Rattle.gq_exec_feed.specs.Ints.as_inputs l)) h.ints;
+  batched = ap (λ l. Rattle.std.proofs.Common.map Rattle.gq_exec_feed.specs.Taking.as_given (Rattle.gq_exec_prepared.specs.Inputs.as_inputs l)) h.inputs;
   within = All-nil (λ (m : Match). IsWithin (length o.vertices) m.candidate);
 }
 
@@ -242,14 +243,14 @@ begun o r vertices at fed opened e few = record {
 
 module _ (clock : Calendar) (o : Over) (w : Work) (old new : BlockProgress) where
   -- a chunk of this thread
-  pub chunk_steps : (end : ℕ) (mid : MatchBuffer) (given : List (ℕ × ℤ)) → HasRun clock o w old → GoneThrough (come clock o w) w.candidates o old.at end old.found mid None → given ≡ mid.ints → FedFrom old.accums new.accums old.fed mid.batches given new.fed → old.at < end → new.at ≡ end
-      → new.found.batches ≡ replicate (length mid.batches) [] → new.found.ints ≡ take 0 mid.ints → new.found.sources ≡ mid.sources → new.found.targets ≡ mid.targets → Steps clock o w old new None
+  pub chunk_steps : (end : ℕ) (mid : MatchBuffer) (given : List (ℕ × ScalarInput)) → HasRun clock o w old → GoneThrough (come clock o w) w.candidates o old.at end old.found mid None → given ≡ mid.inputs → FedFrom old.accums new.accums old.fed mid.batches given new.fed → old.at < end → new.at ≡ end
+      → new.found.batches ≡ replicate (length mid.batches) [] → new.found.inputs ≡ take 0 mid.inputs → new.found.sources ≡ mid.sources → new.found.targets ≡ mid.targets → Steps clock o w old new None
   chunk_steps end mid given h gone listed took l at batches ints sources targets = (
     record {
       matched = h.matched ++ gone.came.0;
       ran = ap (λ (n : ℕ). matches_by (come clock o w) 0 (take n w.candidates)) at ∙ gone.came.1 h.matched h.ran;
       fed = fed.each o h.matched gone.came.0 h.fed gone.came.2;
-      empty = record { batches = emptied; ints = ints ∙ none mid.ints };
+      empty = record { batches = emptied; inputs = ints ∙ none mid.inputs };
       shaped = record {
         one = ap length emptied;
         sources = subst (λ w. length o.vertices ≤ length w * 64) (sym sources) gone.shaped.sources;
@@ -262,7 +263,7 @@ module _ (clock : Calendar) (o : Over) (w : Work) (old new : BlockProgress) wher
     omega (arith, l, at),
   )
     where
-      fed : FedFrom old.accums new.accums old.fed mid.batches mid.ints new.fed
+      fed : FedFrom old.accums new.accums old.fed mid.batches mid.inputs new.fed
       fed = subst (λ x. FedFrom old.accums new.accums old.fed mid.batches x new.fed) listed took
 
       subst2 : (f : List Match → List ℕ) {a b : ℕ} {u v : List ℕ} → a ≡ b → u ≡ v → AreMarked f (come clock o w) w.candidates a u → AreMarked f (come clock o w) w.candidates b v
@@ -271,7 +272,7 @@ module _ (clock : Calendar) (o : Over) (w : Work) (old new : BlockProgress) wher
       emptied : new.found.batches ≡ [] ∷ []
       emptied = batches ∙ ap (λ (n : ℕ). replicate n []) gone.shaped.one
 
-      none : (xs : List (ℕ × ℤ)) → take 0 xs ≡ []
+      none : (xs : List (ℕ × ScalarInput)) → take 0 xs ≡ []
       none [] = refl
       none (x ∷ xs) = refl
 
@@ -282,12 +283,12 @@ module _ (clock : Calendar) (o : Over) (w : Work) (old new : BlockProgress) wher
 
 module _ (clock : Calendar) (o : Over) (w : Work) (is : IsWork o w) where
   pub run_faults : (old new : BlockProgress) (f : ℕ × Wrong) (n : ℕ) (x : Wrong) → f.0 ≡ n → f.1 ≡ x → Steps clock o w old new (Some f) → RanTo clock o w.block.now (ran.Fault n x)
-  run_faults old new f n x e d h s shows = block_comes clock o w.block.now w.ends.now w.edge s shows is.ends is.edge w.candidates is.candidates ∙ h ∙ ap₂ (λ (k : ℕ) (y : Wrong). Faults (AtPlace k y)) e d
+  run_faults old new f n x e d h s shows = block_comes clock o w.block.now w.leaves.ends.now w.leaves.edge s shows is.ends is.edge w.candidates is.candidates ∙ h ∙ ap₂ (λ (k : ℕ) (y : Wrong). Faults (AtPlace k y)) e d
 
   pub run_done : (r : BlockProgress) → length w.candidates ≤ r.at → HasRun clock o w r → RanTo clock o w.block.now (ran.Done r)
   run_done r l h = (
     h.matched,
-    (λ s shows. block_comes clock o w.block.now w.ends.now w.edge s shows is.ends is.edge w.candidates is.candidates ∙ all),
+    (λ s shows. block_comes clock o w.block.now w.leaves.ends.now w.leaves.edge s shows is.ends is.edge w.candidates is.candidates ∙ all),
     record {
       fed = h.fed;
       sources = sources_over (come clock o w) w.candidates h.matched r.found.sources r.at l all h.sources;

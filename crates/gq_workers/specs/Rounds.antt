@@ -20,7 +20,7 @@ use Rattle.gq_workers.specs.Running.{come, matches_by, sources_of, targets_of, M
 
 -- what is left of a chunk; without a fault its matches have their marks among these words
 pub record IsLeft (clock : Calendar) (o : Over) (w : Work) (starts ends : List ℕ) (l : ChunkOutput) : Type 0 where
-  pub came : Came (come clock o w) w.candidates o l.start l.end l.batches l.ints l.fault
+  pub came : Came (come clock o w) w.candidates o l.start l.end l.batches l.inputs l.fault
   pub sources : CoverWhole sources_of (come clock o w) w.candidates l.start l.end starts l.fault
   pub targets : CoverWhole targets_of (come clock o w) w.candidates l.start l.end ends l.fault
 
@@ -65,7 +65,7 @@ pub record MarksPart (p : WorkerOutput) (old new : MatchBuffer) : Type 0 where
   pub sources : Joins old.sources p.sources new.sources
   pub targets : Joins old.targets p.targets new.targets
   pub batches : new.batches ≡ old.batches
-  pub ints : new.ints ≡ old.ints
+  pub inputs : new.inputs ≡ old.inputs
 
 -- what each worker has left is there
 abbrev pub AreLefts : Calendar → Over → Work → List ℕ → List ℕ → List (Result WorkerOutput OutOfMemory) → Type 0

@@ -30,10 +30,10 @@ use Rattle.gq_exec_contribute.specs.declared.candidate.Outcome.{Outcome}
 use Rattle.gq_workers.specs.declared.found.MatchBuffer.{MatchBuffer}
 use Rattle.gq_workers.specs.declared.work.Work.{Work}
 use Rattle.gq_workers.specs.declared.run.BlockProgress.{BlockProgress}
-use Rattle.gq_exec_feed.specs.Ints.{as_inputs}
-use Rattle.gq_workers.specs.declared.direct.Simple.{Simple}
-use Rattle.gq_workers.specs.Aliases.{bound_to}
-use Rattle.gq_workers.specs.Direct.{IsDirect}
+use Rattle.gq_exec_prepared.specs.Inputs.{as_inputs}
+use Rattle.gq_exec_prepared.specs.Aliases.{bound_to}
+use Rattle.gq_exec_prepared.specs.Prepared.{AreFound}
+use Rattle.gq_exec_prepared.specs.declared.inputs.ScalarInput.{ScalarInput}
 
 -- ---- candidates
 
@@ -77,8 +77,8 @@ sources_of ms = map (λ (m : Match). m.candidate.source) ms
 abbrev pub targets_of : List Match → List ℕ
 targets_of ms = filter_map (λ (m : Match). m.candidate.target) ms
 
--- what these matches contribute waits in the one batch, and behind it as INTs at hand
-pub record Wait (o : Over) (ms : List Match) (batches : List (List (ℕ × Input))) (ints : List (ℕ × ℤ)) : Type 0 where
+-- what these matches contribute waits in the one batch, and behind it as INTs and truths
+pub record Wait (o : Over) (ms : List Match) (batches : List (List (ℕ × Input))) (ints : List (ℕ × ScalarInput)) : Type 0 where
   pub may : All (MayTake o.frame.accums.slots) (gives_of ms)
   pub batch : List (ℕ × Input)
   pub waiting : batches ≡ batch ∷ []
@@ -92,7 +92,7 @@ pub record AreFedTo (o : Over) (ms : List Match) (accums : Accums) (fed : ℕ) :
   pub within : All (λ (m : Match). IsWithin (length o.vertices) m.candidate) ms
 
 -- whatever was fed before, what waits is fed behind it
-pub record FedFrom (old new : Accums) (fed : ℕ) (batches : List (List (ℕ × Input))) (ints : List (ℕ × ℤ)) (now : ℕ) : Type 0 where
+pub record FedFrom (old new : Accums) (fed : ℕ) (batches : List (List (ℕ × Input))) (ints : List (ℕ × ScalarInput)) (now : ℕ) : Type 0 where
   pub each : (o : Over) (ms more : List Match) → AreFedTo o ms old fed → Wait o more batches ints → AreFedTo o (ms ++ more) new now
 
 -- ---- which vertices are marked
@@ -138,7 +138,7 @@ pub record IsShaped (vertices : ℕ) (found : MatchBuffer) : Type 0 where
 -- nothing waits
 pub record IsEmpty (found : MatchBuffer) : Type 0 where
   pub batches : found.batches ≡ [] ∷ []
-  pub ints : found.ints ≡ []
+  pub inputs : found.inputs ≡ []
 
 -- nothing was found yet
 pub record IsOpened (vertices : ℕ) (found : MatchBuffer) : Type 0 where
@@ -147,14 +147,14 @@ pub record IsOpened (vertices : ℕ) (found : MatchBuffer) : Type 0 where
   pub sources : (v : ℕ) → is_marked found.sources v ≡ false
   pub targets : (v : ℕ) → is_marked found.targets v ≡ false
 
--- these INTs are added to the one batch, as inputs
-pub record AddsInts (ints : List (ℕ × ℤ)) (old new : List (List (ℕ × Input))) : Type 0 where
+-- these INTs and truths are added to the one batch, as inputs
+pub record AddsInputs (ints : List (ℕ × ScalarInput)) (old new : List (List (ℕ × Input))) : Type 0 where
   pub each : (batch : List (ℕ × Input)) → old ≡ batch ∷ [] → new ≡ (batch ++ as_inputs ints) ∷ []
 
 -- what waits goes on waiting, and the marks are the same
 pub record Settles (old new : MatchBuffer) : Type 0 where
   pub shaped : (vertices : ℕ) → IsShaped vertices old → IsShaped vertices new
-  pub wait : (o : Over) (ms : List Match) → Wait o ms old.batches old.ints → Wait o ms new.batches new.ints
+  pub wait : (o : Over) (ms : List Match) → Wait o ms old.batches old.inputs → Wait o ms new.batches new.inputs
   pub sources : new.sources ≡ old.sources
   pub targets : new.targets ≡ old.targets
 
@@ -162,14 +162,13 @@ pub record Settles (old new : MatchBuffer) : Type 0 where
 
 -- what comes of a candidate waits behind what waited, and its ends are marked; one that faults marks nothing
 abbrev pub Tried : Over → Answer Wrong (List Match) → MatchBuffer → MatchBuffer → Option Wrong → Type 0
-Tried o go old new None = (m : List Match) × (go ≡ Gives m) × ((ms : List Match) → Wait o ms old.batches old.ints → Wait o (ms ++ m) new.batches new.ints) × MarkThose sources_of m old.sources new.sources × MarkThose targets_of m old.targets new.targets
+Tried o go old new None = (m : List Match) × (go ≡ Gives m) × ((ms : List Match) → Wait o ms old.batches old.inputs → Wait o (ms ++ m) new.batches new.inputs) × MarkThose sources_of m old.sources new.sources × MarkThose targets_of m old.targets new.targets
 Tried o go old new (Some w) = (go ≡ Faults w) × (new.sources ≡ old.sources) × (new.targets ≡ old.targets)
 
--- a candidate whose acts feed INTs that are at hand is done; else nothing has changed
-abbrev pub Done : Calendar → Over → Candidate → Option (List Simple) → MatchBuffer → MatchBuffer → Bool → Type 0
-Done clock o c None old new true = ⊥
-Done clock o c (Some ss) old new true = ((block : Block) (ends : Ends) (edge : Option ℕ) → IsDirect ends edge o.frame.accums.slots block ss → Tried o (comes clock o block ends edge c) old new None) × IsShaped (length o.vertices) new
-Done clock o c ss old new false = new ≡ old
+-- a candidate that is read is done; else nothing has changed
+abbrev pub Done : Over → Answer Wrong (List Match) → MatchBuffer → MatchBuffer → Bool → Type 0
+Done o go old new true = Tried o go old new None × IsShaped (length o.vertices) new
+Done o go old new false = new ≡ old
 
 -- whether a vertex is that at an end
 abbrev pub marks_end : Option ℕ → ℕ → Bool
@@ -178,24 +177,19 @@ marks_end (Some w) v = v == w
 
 -- ---- some candidates one after another
 
--- acts that stand for those of the block, if there are any
-abbrev pub AreDirect : Ends → Option ℕ → Slots → Block → Option (List Simple) → Type 0
-AreDirect ends edge slots block None = Unit {0}
-AreDirect ends edge slots block (Some ss) = IsDirect ends edge slots block ss
-
 -- what a run goes through
 pub record IsWork (o : Over) (w : Work) : Type 0 where
-  pub ends : HasEnds o.schema o.plan o.frame.things w.block.now w.ends.now
-  pub edge : option_map Place w.edge ≡ edge_alias (view_walk w.block.now.walk)
+  pub ends : HasEnds o.schema o.plan o.frame.things w.block.now w.leaves.ends.now
+  pub edge : option_map Place w.leaves.edge ≡ edge_alias (view_walk w.block.now.walk)
   pub candidates : AreCandidates o w.block.now w.candidates
-  pub direct : AreDirect w.ends.now w.edge o.frame.accums.slots w.block.now w.direct
+  pub found : AreFound o w.leaves
   pub some : 1 ≤ w.size
 
 abbrev pub come : Calendar → Over → Work → Candidate → Answer Wrong (List Match)
-come clock o w = comes clock o w.block.now w.ends.now w.edge
+come clock o w = comes clock o w.block.now w.leaves.ends.now w.leaves.edge
 
 -- what the candidates from one place to another leave: what their matches contribute waits, or there is a first fault
-abbrev pub Came : (Candidate → Answer Wrong (List Match)) → List Candidate → Over → ℕ → ℕ → List (List (ℕ × Input)) → List (ℕ × ℤ) → Option (ℕ × Wrong) → Type 0
+abbrev pub Came : (Candidate → Answer Wrong (List Match)) → List Candidate → Over → ℕ → ℕ → List (List (ℕ × Input)) → List (ℕ × ScalarInput) → Option (ℕ × Wrong) → Type 0
 Came go cs o start end batches ints None = (ms : List Match) × GoOn go cs start end ms × Wait o ms batches ints
 Came go cs o start end batches ints (Some fault) = FaultAt go cs start fault.0 fault.1
 
@@ -206,7 +200,7 @@ CoverWhole ends_of go cs start end words (Some fault) = Unit {0}
 
 -- all of them are tried, or all up to the first fault
 pub record GoneThrough (go : Candidate → Answer Wrong (List Match)) (cs : List Candidate) (o : Over) (start end : ℕ) (old new : MatchBuffer) (fault : Option (ℕ × Wrong)) : Type 0 where
-  pub came : Came go cs o start end new.batches new.ints fault
+  pub came : Came go cs o start end new.batches new.inputs fault
   pub shaped : IsShaped (length o.vertices) new
   pub sources : Mark sources_of go cs start end old.sources new.sources
   pub targets : Mark targets_of go cs start end old.targets new.targets

@@ -1,17 +1,12 @@
 // The aliases of a candidate.
 ghost use Rattle.std.specs.Prelude.{◌≡◌, ◌++◌, ◌<◌, ◌≤◌, ◌+◌, length, map, take};
 ghost use Rattle.std.specs.Option.{option_map, option_to_list};
-ghost use Rattle.gq_rules_typing.specs.Patterns.{edge_alias};
-ghost use Rattle.gq_rules_typing.specs.Selecting as plain;
-ghost use Rattle.gq_plan_ir.specs.BlockView.{view_path_step, view_walk};
-ghost use Rattle.gq_plan_ir.specs.Reference.{Place};
 ghost use Rattle.gq_frame.specs.Names.{alias_of};
-ghost use Rattle.gq_workers.specs.Aliases.{edge_bound, target_bound, bound_to};
+ghost use Rattle.gq_exec_prepared.specs.Aliases.{edge_bound, target_bound, bound_to};
 
 use gq_exec_source::{End, Ends};
 use gq_frame::{Alias, Bound};
 use gq_graph::Candidate;
-use gq_plan_ir::{PathStep, Walk};
 
 /// An alias of no candidate, in a row that isn't filled yet.
 pub(crate) fn no_alias<'a>() -> Alias<'a> {
@@ -79,26 +74,5 @@ fn edge_alias<'a>(place: Option<u32>, row: Option<u32>, kind: Option<u32>) -> Op
                 }),
             },
         },
-    }
-}
-
-/// The place of the edge's alias: that of a hop, or of a path's last step.
-pub(crate) fn edge_place(walk: &Walk) -> Option<u32>
-    ensures { option_map Place result ≡ edge_alias (view_walk walk.now) }
-{
-    match walk {
-        Walk::Nowhere => None,
-        Walk::Hop(hop) => hop.edge_alias,
-        Walk::Path(steps) => last_place(steps.as_slice()),
-    }
-}
-
-#[tactic(auto, using(crate::proofs::AliasLemmas::last_laws))]
-fn last_place(steps: &[PathStep]) -> Option<u32>
-    ensures { option_map Place result ≡ edge_alias (plain.Path (map view_path_step steps.now)) }
-{
-    match steps.last() {
-        None => None,
-        Some(step) => step.edge_alias,
     }
 }

@@ -5,14 +5,13 @@ ghost use Rattle.gq_exec_source.specs.Ends.{HasEnds};
 ghost use Rattle.gq_workers.specs.Results.{Answers, IsWorkOf, Leaves, RanTo};
 ghost use Rattle.gq_workers.specs.Running.{IsWork, HasRun, Steps};
 
-use crate::aliases::edge_place;
 use crate::chunk::try_chunk;
-use crate::direct::direct_of;
 use crate::run::{BlockProgress, feed, judged};
 use crate::work::Work;
 use crate::workers::next_round;
 use gq_base::OutOfMemory;
 use gq_eval_context::{After, BlockContext, BlockFault};
+use gq_exec_prepared::leaves_of;
 use gq_exec_source::{Ends, candidates_of};
 use gq_io::{Gate, Shape};
 use gq_plan_ir::Block;
@@ -86,13 +85,10 @@ fn work_of<'b>(
     ensures { IfOk result (IsWorkOf over.now block.entry.now) }
 {
     let candidates = candidates_of(alloc, block, over, ends)?;
-    let edge = edge_place(&block.walk);
-    let direct = direct_of(alloc, block, ends, edge, &over.frame.accums.slots)?;
+    let leaves = leaves_of(alloc, &over.frame.accums.slots, &block.walk, ends)?;
     Ok(Work {
         block,
-        ends,
-        edge,
-        direct,
+        leaves,
         candidates,
         size: shape.chunk.max(1),
     })
@@ -168,10 +164,10 @@ fn next_chunk<G: Gate>(
         &mut run.accums,
         run.fed,
         &found.batches,
-        found.ints.as_slice(),
+        found.inputs.as_slice(),
     )?;
     found.batches.clear();
-    found.ints.truncate(0);
+    found.inputs.truncate(0);
     run.at = end;
     Ok(None)
 }

@@ -1,21 +1,25 @@
 // What a candidate leaves.
-ghost use Rattle.std.specs.Prelude.{◌≡◌, ◌||◌, ◌*◌, ℕ, [], Some, length, map, IfOk};
+ghost use Rattle.std.specs.Prelude.{◌≡◌, ◌||◌, ◌*◌, ℕ, [], true, length, map, IfOk};
 ghost use Rattle.gq_rules_calendar.specs.Gregorian.{gregorian};
 ghost use Rattle.gq_exec_contribute.specs.Passing.{Comes};
 ghost use Rattle.gq_exec_source.specs.Marks.{is_marked};
 ghost use Rattle.gq_exec_source.specs.Starts.{IsBelow, IsWithin};
 ghost use Rattle.gq_frame.specs.Names.{alias_of};
-ghost use Rattle.gq_workers.specs.Running.{AreDirect, ComesUnder, Done, IsShaped, Tried, come, comes, marks_end};
+ghost use Rattle.std.specs.Option.{option_map};
+ghost use Rattle.gq_rules_meaning.specs.Answers.{Gives};
+ghost use Rattle.gq_rules_meaning.specs.Blocks.{passes};
+ghost use Rattle.gq_plan_ir.specs.ExprView.{view};
+ghost use Rattle.gq_exec_prepared.specs.Prepared.{AreFound, sees};
+ghost use Rattle.gq_workers.specs.Running.{ComesUnder, Done, IsShaped, Tried, come, comes, marks_end};
 
 use crate::aliases::{bind, no_alias};
-use crate::direct::Simple;
 use crate::found::MatchBuffer;
-use crate::gather::gather;
 use crate::work::Work;
 use gq_base::{List, OutOfMemory};
 use gq_core::Batches;
 use gq_eval_context::BlockContext;
 use gq_exec_contribute::{Outcome, Room, contribute};
+use gq_exec_prepared::{gather, passes};
 use gq_exec_source::{Ends, mark};
 use gq_frame::Alias;
 use gq_graph::Candidate;
@@ -23,66 +27,80 @@ use gq_plan_ir::Block;
 use gq_value::Wrong;
 use std::alloc::Global;
 
-/// Tries a candidate: what a match contributes waits, and its ends are marked; the fault of one that faults is told. Where acts stand for
-/// the block's, what they read is all that it contributes; they are asked where INTs are at hand.
+/// How many candidates of a chunk are evaluated before those that follow aren't read any more.
+const MOST_EVALUATED: u32 = 8;
+
+/// Tries a candidate: what a match contributes waits, and its ends are marked; the fault of one that faults is told. It is read where the
+/// block's expressions are such as can be read (`gq_exec_prepared`), and else evaluated; those of the chunk that were evaluated are counted.
 pub(crate) fn try_one(
     alloc: Global,
     work: &Work<'_>,
     over: &BlockContext<'_>,
-    at_hand: bool,
     candidate: Candidate,
+    evaluated: &mut u32,
     found: &mut MatchBuffer,
 ) -> Result<Option<Wrong>, OutOfMemory>
     requires within { IsWithin (length over.now.vertices) candidate }
     requires shaped { IsShaped (length over.now.vertices) found.old }
-    requires direct { AreDirect work.now.ends.now work.now.edge over.now.frame.accums.slots work.now.block.now work.now.direct }
+    requires prepared { AreFound over.now work.now.leaves }
     ensures tried { IfOk result (Tried over.now (come gregorian over.now work.now candidate) found.old found.new) }
     ensures shaped { IfOk result (λ _. IsShaped (length over.now.vertices) found.new) }
 {
-    if is_done(&work.direct, at_hand, over, candidate, found)? {
+    if is_read(work, over, candidate, *evaluated, found)? {
         return Ok(None);
     }
+    *evaluated = evaluated.saturating_add(1);
     found.settle()?;
     try_candidate(
-        alloc, work.block, over, work.ends, work.edge, candidate, found,
+        alloc,
+        work.block,
+        over,
+        work.leaves.ends,
+        work.leaves.edge,
+        candidate,
+        found,
     )
 }
 
-/// Whether acts feed INTs that are at hand: then the candidate is done, and else nothing has changed.
-fn is_done(
-    direct: &Option<List<Simple<'_>>>,
-    at_hand: bool,
+/// Whether all that comes of a candidate could be read: then it is done, and else nothing has changed.
+#[tactic(auto, using(crate::proofs::ComesLemmas::read_laws))]
+fn is_read(
+    work: &Work<'_>,
     over: &BlockContext<'_>,
     candidate: Candidate,
+    evaluated: u32,
     found: &mut MatchBuffer,
 ) -> Result<bool, OutOfMemory>
     requires within { IsWithin (length over.now.vertices) candidate }
     requires shaped { IsShaped (length over.now.vertices) found.old }
-    ensures { IfOk result (Done gregorian over.now candidate direct.now found.old found.new) }
+    requires prepared { AreFound over.now work.now.leaves }
+    ensures { IfOk result (Done over.now (come gregorian over.now work.now candidate) found.old found.new) }
 {
-    match direct {
-        Some(simple) => {
-            if !at_hand {
-                return Ok(false);
-            }
-            by_ints(simple.as_slice(), over, candidate, found)
-        }
+    if evaluated >= MOST_EVALUATED {
+        return Ok(false);
+    }
+    match passes(&work.block.filter, over, &work.leaves, &candidate) {
         None => Ok(false),
+        Some(false) => Ok(true),
+        Some(true) => is_gathered(work, over, candidate, found),
     }
 }
 
-/// Gathers the INTs that acts feed, and marks the ends; or changes nothing, where one of them feeds something else.
-fn by_ints(
-    simple: &[Simple<'_>],
+/// Gathers what acts feed, and marks the ends; or changes nothing, where one of them feeds something that can't be read.
+fn is_gathered(
+    work: &Work<'_>,
     over: &BlockContext<'_>,
     candidate: Candidate,
     found: &mut MatchBuffer,
 ) -> Result<bool, OutOfMemory>
     requires within { IsWithin (length over.now.vertices) candidate }
     requires shaped { IsShaped (length over.now.vertices) found.old }
-    ensures { IfOk result (Done gregorian over.now candidate (Some simple.now) found.old found.new) }
+    requires prepared { AreFound over.now work.now.leaves }
+    requires passed { passes (sees gregorian over.now work.now.leaves candidate) (option_map view work.now.block.now.filter) ≡ Gives true }
+    ensures { IfOk result (Done over.now (come gregorian over.now work.now candidate) found.old found.new) }
 {
-    if !gather(simple, over.graph, candidate, &mut found.ints)? {
+    let acts = work.block.accum.as_slice();
+    if !gather(acts, over, &work.leaves, &candidate, &mut found.inputs)? {
         return Ok(false);
     }
     mark(&mut found.sources, candidate.source);
@@ -102,7 +120,7 @@ fn try_candidate(
     candidate: Candidate,
     found: &mut MatchBuffer,
 ) -> Result<Option<Wrong>, OutOfMemory>
-    requires settled { found.old.ints ≡ [] }
+    requires settled { found.old.inputs ≡ [] }
     requires within { IsWithin (length over.now.vertices) candidate }
     requires shaped { IsShaped (length over.now.vertices) found.old }
     ensures tried { IfOk result (Tried over.now (comes gregorian over.now block.now ends.now edge candidate) found.old found.new) }

@@ -4,14 +4,13 @@ ghost use Rattle.gq_rules_calendar.specs.Gregorian.{gregorian};
 ghost use Rattle.gq_workers.specs.Running.{GoneThrough, IsEmpty, IsShaped, IsWork, come};
 
 use crate::candidate::try_one;
-use crate::direct::{AliasRole, Leaf, Simple};
 use crate::found::MatchBuffer;
 use crate::work::Work;
 use gq_base::{List, OutOfMemory};
 use gq_eval_context::BlockContext;
 use gq_graph::EdgeRow;
 use gq_index::{Candidates, Cursor, Graph};
-use gq_plan_ir::Field;
+use gq_plan_ir::{Act, Behind, Change, Expr, Feed, Field};
 use gq_value::{Value, Wrong};
 use std::alloc::Global;
 
@@ -32,11 +31,12 @@ pub(crate) fn try_chunk(
     requires shaped { IsShaped (length over.now.vertices) found.old }
     ensures { IfOk result (GoneThrough (come gregorian over.now work.now) work.now.candidates over.now start end found.old found.new) }
 {
-    let at_hand = has_ints_at_hand(work, over.graph, start, end, &mut found.edges)?;
+    read_ahead(work, over.graph, start, end, &mut found.edges)?;
     let mut cursor = Cursor::new();
+    let mut evaluated = 0u32;
     for place in start..end {
         let candidate = work.candidates.near(place, &mut cursor);
-        match try_one(alloc, work, over, at_hand, candidate, found)? {
+        match try_one(alloc, work, over, candidate, &mut evaluated, found)? {
             Some(fault) => return Ok(Some((place, fault))),
             None => {}
         }
@@ -44,24 +44,22 @@ pub(crate) fn try_chunk(
     Ok(None)
 }
 
-/// Whether INTs that acts feed are at hand for these candidates. Where acts feed an attribute of the edge, the rows of the edges are
-/// read ahead.
-fn has_ints_at_hand(
+/// Reads the rows of these candidates' edges ahead, where the block feeds an attribute of the edge.
+fn read_ahead(
     work: &Work<'_>,
     graph: Graph<'_>,
     start: u64,
     end: u64,
     edges: &mut List<u32>,
-) -> Result<bool, OutOfMemory> {
-    match &work.direct {
-        None => Ok(false),
-        Some(simple) => match edge_attribute(simple.as_slice()) {
-            None => Ok(true),
-            Some(field) => {
-                list_edges(&work.candidates, start, end, edges)?;
-                Ok(has_ints(graph.store.edges.rows(), edges.as_slice(), field))
-            }
-        },
+) -> Result<(), OutOfMemory> {
+    match edge_attribute(work.block.accum.as_slice(), work.leaves.edge) {
+        None => Ok(()),
+        Some(field) => {
+            list_edges(&work.candidates, start, end, edges)?;
+            // What is found is of no use: the rows are near from then on.
+            let _found = has_ints(graph.store.edges.rows(), edges.as_slice(), field);
+            Ok(())
+        }
     }
 }
 
@@ -83,10 +81,10 @@ fn list_edges(
     Ok(())
 }
 
-/// The first attribute of an edge that acts feed.
-fn edge_attribute<'b>(simple: &[Simple<'b>]) -> Option<&'b Field> {
-    for act in simple {
-        match attribute_fed(act) {
+/// The first attribute of the edge that acts feed.
+fn edge_attribute(acts: &[Act], edge: Option<u32>) -> Option<&Field> {
+    for act in acts {
+        match attribute_fed(act, edge) {
             Some(field) => return Some(field),
             None => {}
         }
@@ -94,13 +92,28 @@ fn edge_attribute<'b>(simple: &[Simple<'b>]) -> Option<&'b Field> {
     None
 }
 
-fn attribute_fed<'b>(act: &Simple<'b>) -> Option<&'b Field> {
-    match act.feed.from {
-        Leaf::Number(_) => None,
-        Leaf::Attribute(name, field) => match name.part {
-            AliasRole::Edge => Some(field),
-            AliasRole::Source | AliasRole::Target => None,
+/// The attribute of the edge that an act feeds.
+fn attribute_fed(act: &Act, edge: Option<u32>) -> Option<&Field> {
+    match act {
+        Act::Attached(_, _, change) | Act::Global(_, change) => match change {
+            Change::Feed(Feed::One(expr)) => attribute_in(expr, edge?),
+            Change::Feed(Feed::Keyed(_, _)) | Change::Set(_) => None,
         },
+        Act::If(_, _) => None,
+    }
+}
+
+/// The attribute behind the name at a place.
+fn attribute_in(expr: &Expr, place: u32) -> Option<&Field> {
+    match expr {
+        Expr::Post(first, parts) => match first.get() {
+            Expr::Name(named) => match parts.as_slice() {
+                [Behind::Field(field)] if *named == place => Some(field),
+                _ => None,
+            },
+            _ => None,
+        },
+        _ => None,
     }
 }
 

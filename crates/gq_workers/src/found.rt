@@ -1,12 +1,13 @@
 // What was found so far.
 ghost use Rattle.std.specs.Prelude.{◌≡◌, [], length, IfOk, OnOk};
-ghost use Rattle.gq_workers.specs.Running.{AddsInts, IsOpened, Settles};
+ghost use Rattle.gq_workers.specs.Running.{AddsInputs, IsOpened, Settles};
 
 use gq_base::{List, OutOfMemory};
 use gq_core::Batches;
 use gq_exec_contribute::Room;
+use gq_exec_prepared::{ScalarInput, value_of};
 use gq_exec_source::unmarked;
-use gq_value::{Input, Value};
+use gq_value::Input;
 use std::alloc::Global;
 
 /// What candidates have left: inputs that wait to be fed, and marks of the matched vertices.
@@ -14,8 +15,8 @@ use std::alloc::Global;
 pub(crate) struct MatchBuffer {
     pub batches: Batches,
 
-    /// INTs that were at hand, each with the number of its target. They come behind what is in the batch.
-    pub ints: List<(u64, i64)>,
+    /// INTs and truths, each with the number of its target. They come behind what is in the batch.
+    pub inputs: List<(u64, ScalarInput)>,
     pub room: Room,
     pub sources: List<u64>,
     pub targets: List<u64>,
@@ -32,7 +33,7 @@ impl MatchBuffer {
     {
         Ok(MatchBuffer {
             batches: Batches::new(alloc, 1)?,
-            ints: List::new(alloc),
+            inputs: List::new(alloc),
             room: Room::new(alloc),
             sources: unmarked(alloc, vertices)?,
             targets: unmarked(alloc, vertices)?,
@@ -40,29 +41,29 @@ impl MatchBuffer {
         })
     }
 
-    /// Puts the INTs that wait behind what is in the batch, as inputs, so that the batch may take more.
+    /// Puts the inputs that wait behind what is in the batch, as inputs, so that the batch may take more.
     #[tactic(auto, using(crate::proofs::FoundLemmas::settle_laws))]
     pub fn settle(&mut self) -> Result<(), OutOfMemory>
         requires { length self.old.batches ≡ 1 }
         ensures kept { OnOk result (Settles self.old self.new) }
-        ensures none { OnOk result (self.new.ints ≡ []) }
+        ensures none { OnOk result (self.new.inputs ≡ []) }
     {
-        if self.ints.len() > 0 {
-            add_ints(self.ints.as_slice(), &mut self.batches)?;
-            self.ints.truncate(0);
+        if self.inputs.len() > 0 {
+            add_inputs(self.inputs.as_slice(), &mut self.batches)?;
+            self.inputs.truncate(0);
         }
         Ok(())
     }
 }
 
-/// Adds INTs to the one batch, as inputs.
+/// Adds INTs and truths to the one batch, as inputs.
 #[tactic(auto, using(crate::proofs::FoundLemmas::ints_laws))]
-fn add_ints(ints: &[(u64, i64)], into: &mut Batches) -> Result<(), OutOfMemory>
+fn add_inputs(inputs: &[(u64, ScalarInput)], into: &mut Batches) -> Result<(), OutOfMemory>
     requires { length into.old ≡ 1 }
-    ensures { OnOk result (AddsInts ints.now into.old into.new) }
+    ensures { OnOk result (AddsInputs inputs.now into.old into.new) }
 {
-    for (target, x) in ints {
-        into.add(*target, Input::One(Value::Int(*x)))?;
+    for input in inputs {
+        into.add(input.0, Input::One(value_of(input.1)))?;
     }
     Ok(())
 }

@@ -94,7 +94,7 @@ fn feed_left(
         &mut run.accums,
         run.fed,
         &left.batches,
-        left.ints.as_slice(),
+        left.inputs.as_slice(),
     )?;
     run.at = left.end;
     Ok(None)

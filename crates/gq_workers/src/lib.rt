@@ -6,16 +6,14 @@
 //!
 //! Read `Blocks.antt` of `gq_rules_meaning` first, then `specs/Running.antt` (the invariant while a block
 //! runs), `specs/Rounds.antt` (what several workers leave) and `specs/Results.antt` (how a block ends). The
-//! code begins in `src/block.rt`; `src/workers.rt` has the threads, `src/direct.rt` the fast path for INTs.
+//! code begins in `src/block.rt`; `src/candidate.rt` tries one candidate, `src/workers.rt` has the threads.
 #![tactic(auto)]
 
 mod aliases;
 mod block;
 mod candidate;
 mod chunk;
-mod direct;
 mod found;
-mod gather;
 mod joining;
 mod order;
 mod run;

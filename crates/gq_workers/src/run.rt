@@ -7,7 +7,8 @@ use crate::found::MatchBuffer;
 use gq_base::OutOfMemory;
 use gq_core::Batches;
 use gq_eval_context::{After, BlockContext, BlockFault};
-use gq_exec_feed::{feed_all, feed_ints, first_unfit, slot_number};
+use gq_exec_feed::{feed_all, first_unfit, slot_number};
+use gq_exec_prepared::{ScalarInput, feed_scalars};
 use gq_exec_source::listed;
 use gq_frame::Accums;
 use gq_index::VertexList;
@@ -51,9 +52,9 @@ pub(crate) fn feed(
     accums: &mut Accums,
     fed: u64,
     batches: &Batches,
-    ints: &[(u64, i64)],
+    inputs: &[(u64, ScalarInput)],
 ) -> Result<u64, OutOfMemory>
-    ensures { IfOk result (FedFrom accums.old accums.new fed batches.now ints.now) }
+    ensures { IfOk result (FedFrom accums.old accums.new fed batches.now inputs.now) }
 {
     if batches.stripes() > 1 {
         return Err(OutOfMemory);
@@ -62,12 +63,12 @@ pub(crate) fn feed(
     if batch.len() as u64 >= MOST_INPUTS || fed >= MOST_INPUTS {
         return Err(OutOfMemory);
     }
-    if ints.len() as u64 >= MOST_INPUTS {
+    if inputs.len() as u64 >= MOST_INPUTS {
         return Err(OutOfMemory);
     }
     feed_all(alloc, accums, batch)?;
-    feed_ints(accums, ints)?;
-    Ok(fed + batch.len() as u64 + ints.len() as u64)
+    feed_scalars(alloc, accums, inputs)?;
+    Ok(fed + batch.len() as u64 + inputs.len() as u64)
 }
 
 /// What the block leaves once all is fed, or the first accumulator with a sum out of range.

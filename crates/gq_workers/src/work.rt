@@ -1,9 +1,8 @@
 // What a run goes through, and what workers leave.
-use crate::direct::Simple;
 use gq_base::List;
 use gq_core::Batches;
 use gq_eval_attributes::TupleType;
-use gq_exec_source::Ends;
+use gq_exec_prepared::{Leaves, ScalarInput};
 use gq_frame::Frame;
 use gq_index::{Candidates, Graph};
 use gq_plan_ir::{Block, Plan};
@@ -13,13 +12,9 @@ use gq_value::Wrong;
 #[derive(Drop)]
 pub(crate) struct Work<'b> {
     pub block: &'b Block,
-    pub ends: &'b Ends,
 
-    /// The place of the edge's alias.
-    pub edge: Option<u32>,
-
-    /// What stands for the acts, where each of them feeds an INT that is at hand.
-    pub direct: Option<List<Simple<'b>>>,
+    /// What the names and accumulators of its expressions stand for.
+    pub leaves: Leaves<'b>,
     pub candidates: Candidates,
 
     /// How many candidates a chunk has, at least 1.
@@ -46,7 +41,7 @@ pub(crate) struct ChunkOutput {
     pub batches: Batches,
 
     /// They come behind what is in the batch.
-    pub ints: List<(u64, i64)>,
+    pub inputs: List<(u64, ScalarInput)>,
     pub fault: Option<(u64, Wrong)>,
 }
 

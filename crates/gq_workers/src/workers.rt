@@ -172,12 +172,12 @@ fn work_chunk(
     let fault = try_chunk(alloc, work, over, start, end, found)?;
     let none = Batches::new(alloc, 1)?;
     let batches = mem::replace(&mut found.batches, none);
-    let ints = mem::replace(&mut found.ints, List::new(alloc));
+    let inputs = mem::replace(&mut found.inputs, List::new(alloc));
     Ok(ChunkOutput {
         start,
         end,
         batches,
-        ints,
+        inputs,
         fault,
     })
 }

@@ -3,7 +3,7 @@ use Rattle.gq_workers.specs.declared.found.MatchBuffer.{MatchBuffer}
 use Rattle.gq_workers.proofs.FoundLemmas.{settled}
 use Rattle.gq_workers.proofs.found.MatchBuffer.settle.Goals as goal
 
-pub returns-in_ok-add_ints-clause-kept : goal.returns-in_ok-add_ints-clause-kept
-returns-in_ok-add_ints-clause-kept c =
-    let new : MatchBuffer = record { batches = c.add_ints.new.into; ints = c.truncate.new.self; room = c.args.self.now.room; sources = c.args.self.now.sources; targets = c.args.self.now.targets; edges = c.args.self.now.edges } in
-    settled c.args.self.now new c.as_slice.result.now c.requires c.as_slice.ensures c.in_ok-add_ints.ensures (search rules) refl refl
+pub returns-in_ok-add_inputs-clause-kept : goal.returns-in_ok-add_inputs-clause-kept
+returns-in_ok-add_inputs-clause-kept c =
+    let new : MatchBuffer = record { batches = c.add_inputs.new.into; inputs = c.truncate.new.self; room = c.args.self.now.room; sources = c.args.self.now.sources; targets = c.args.self.now.targets; edges = c.args.self.now.edges } in
+    settled c.args.self.now new c.as_slice.result.now c.requires c.as_slice.ensures c.in_ok-add_inputs.ensures (search rules) refl refl

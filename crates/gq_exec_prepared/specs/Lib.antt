@@ -1,0 +1,3 @@
+pub mod Aliases
+pub mod Prepared
+pub mod Inputs
