@@ -1,4 +1,4 @@
-//! The same work as `script.gsql` by a plain program: load two files, then four queries. It knows its types and shapes beforehand,
+//! The same work as `script.gsql` by a plain program: load two files, then six queries. It knows its types and shapes beforehand,
 //! which an engine for scripts can't. Prints a line once the files are loaded, and then the lines that gsql prints.
 use std::collections::{BTreeMap, BinaryHeap, HashMap};
 use std::{cmp::Reverse, fs};
@@ -103,10 +103,63 @@ fn top(bank: &Bank) -> String {
     format!("{{\"top\":[{}]}}", listed.join(","))
 }
 
+/// What a value was added to at each account that was reached: how many were, the number of ways, and the greatest value.
+struct Reached {
+    values: Vec<Option<i64>>,
+    ways: u64,
+}
+
+impl Reached {
+    fn none(bank: &Bank) -> Reached {
+        Reached { values: vec![None; bank.ids.len()], ways: 0 }
+    }
+
+    fn add(&mut self, account: usize, value: i64) {
+        *self.values[account].get_or_insert(0) += value;
+        self.ways += 1;
+    }
+
+    fn line(&self) -> String {
+        let reached = self.values.iter().flatten().count();
+        let most = self.values.iter().flatten().max().unwrap_or(&i64::MIN);
+        format!("{{\"reached\":{reached},\"ways\":{},\"most\":{most}}}", self.ways)
+    }
+}
+
+fn also_bought(bank: &Bank) -> String {
+    let mut senders = vec![vec![]; bank.ids.len()];
+    for (from, sent) in bank.sends.iter().enumerate() {
+        sent.iter().for_each(|&(to, _)| senders[to].push(from));
+    }
+    let mut found = Reached::none(bank);
+    for source in (0..bank.ids.len()).filter(|v| bank.regions[*v] < 10) {
+        for &(middle, _) in &bank.sends[source] {
+            for &other in &senders[middle] {
+                for &(to, _) in bank.sends[other].iter().filter(|x| x.0 != source) {
+                    found.add(to, 1);
+                }
+            }
+        }
+    }
+    found.line()
+}
+
+fn two_payments_away(bank: &Bank) -> String {
+    let mut found = Reached::none(bank);
+    for sent in &bank.sends {
+        for &(middle, _) in sent {
+            for &(to, amount) in &bank.sends[middle] {
+                found.add(to, amount);
+            }
+        }
+    }
+    found.line()
+}
+
 fn main() {
     let bank = load();
     println!("loaded");
-    for query in [sums, groups, hops, top] {
+    for query in [sums, groups, hops, top, also_bought, two_payments_away] {
         println!("{{\"error\":false,\"message\":\"\",\"results\":[{}]}}", query(&bank));
     }
 }

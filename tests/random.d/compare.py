@@ -81,7 +81,9 @@ def parts(node):
         if "k" in node:
             yield {"feed": "+=", "attfeed": ".@ +=", "attput": ".@ =", "put": "@@ ="}.get(node["k"], node["k"])
         if node.get("k") == "select":
-            yield from (name for name in ("hop", "where", "accum", "post", "having", "order", "limit") if node[name])
+            yield from (name for name in ("where", "accum", "post", "having", "order", "limit") if node[name])
+            if node["hop"]:
+                yield f"path of {len(node['hop']['steps'])}" if "steps" in node["hop"] else "hop"
     for it in node.values() if isinstance(node, dict) else node if isinstance(node, (list, tuple)) else ():
         yield from parts(it)
 

@@ -46,17 +46,21 @@ class Graph:
             self.edges.append({"type": type_name, "from": ends[0], "to": ends[1]})
         self.edges[self.pairs[name]]["values"] = {attr["name"]: value for attr, value in zip(attrs, values[2:])}
 
-    def walks(self, number, type_name):
-        """The edges of a type, each with its other end, that can be walked from a vertex, in their order."""
+    def walks(self, number, type_name, ways=None):
+        """The edges of a type, each with its other end, that can be walked from a vertex in these ways, in their order.
+
+        Ways are ">", "<" and, for an undirected type, "". Without them the type is walked its own way."""
         type_, found = self.types[type_name], []
+        ways = ways or {">" if type_["directed"] else ""}
         for at, edge in enumerate(self.edges):
             if edge["type"] != type_.get("of", type_name):
                 continue
-            backwards = type_["k"] == "reverse"
-            if not backwards and edge["from"] == number:
-                found.append((at, edge["to"]))
-            elif (backwards or not type_["directed"]) and edge["to"] == number:
-                found.append((at, edge["from"]))
+            near, far = (edge["to"], edge["from"]) if type_["k"] == "reverse" else (edge["from"], edge["to"])
+            for way in (it for it in (">", "<", "") if it in ways):
+                if way != "<" and near == number:
+                    found.append((at, far))
+                elif way != ">" and far == number:
+                    found.append((at, near))
         return found
 
 

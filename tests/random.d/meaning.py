@@ -331,14 +331,28 @@ class Body(Run):
         hop = it["hop"]
         if hop is None:
             return [{it["source"]: ("V", s)} for s in sources]
+        walk = self.along if "steps" in hop else self.over
+        return [{it["source"]: ("V", s), hop["edge"]: ("E", edge, type_), hop["target"]: ("V", t)}
+                for s in sources for edge, type_, t in walk(s, hop.get("steps", hop))]
+
+    def over(self, s, hop):
+        """What one hop leads to from a vertex: the edge, its type and the other end."""
         types = hop["types"] if isinstance(hop["types"], list) else self.world.edge_types()
+        return [(edge, type_, t) for type_ in self.world.edge_types() if type_ in types
+                for edge, t in self.world.graph.walks(s, type_) if self.may_be(t, hop["to"])]
+
+    def along(self, s, steps):
+        """What a path leads to from a vertex: its last edge, the type of that and the vertex."""
         found = []
-        for s in sources:
-            for type_ in (name for name in self.world.edge_types() if name in types):
-                for edge, t in self.world.graph.walks(s, type_):
-                    if self.world.vertices[t]["type"] in (hop["to"] if isinstance(hop["to"], list) else self.world.types):
-                        found.append({it["source"]: ("V", s), hop["edge"]: ("E", edge, type_), hop["target"]: ("V", t)})
+        for type_ in self.world.edge_types():
+            ways = {way for way, name in steps[0]["ways"] if name == type_}
+            for edge, t in self.world.graph.walks(s, type_, ways) if ways else ():
+                if self.may_be(t, steps[0]["to"]):
+                    found += self.along(t, steps[1:]) if steps[1:] else [(edge, type_, t)]
         return found
+
+    def may_be(self, t, types):
+        return self.world.vertices[t]["type"] in (types if isinstance(types, list) else self.world.types)
 
     def do_select(self, it):
         matched, inputs = [], []

@@ -4,6 +4,8 @@ from spell import item_name
 NUMBERS = (0, 1, 2, 3, 5, 7, 10, 100)
 WIDE = (9223372036854775807, 9223372036854775808, 18446744073709551615, 4611686018427387904)
 NUM = ("INT", "UINT")
+HOPS = ("", "", "", ' API ("v2")', " SYNTAX v1", ' SYNTAX V1 API ("v2")')
+PATHS = (" SYNTAX v2", " SYNTAX V2", ' API ("v2") SYNTAX v2', ' SYNTAX v2 API ("v2")')
 READS = {"Sum": None, "Min": None, "Max": None, "BitOr": "INT", "BitAnd": "INT", "Or": "BOOL", "And": "BOOL", "Avg": "AVG"}
 
 
@@ -183,6 +185,7 @@ class QueryMaker(Expressions):
     def query(self, k, name):
         self.tuples, self.accs, self.wide, self.exact, rng = {}, [], set(), set(), self.rng
         self.edge_names = [it for type_ in self.maker.edge_types for it in (type_["name"], type_["reverse"]) if it]
+        self.paths = self.some(0.35)
         params = [self.param() for _ in range(rng.choice((0, 1, 2, 3)))] if k == "query" else []
         view = View()
         view.values = [(it["type"].split("<")[0], ("name", it["name"])) for it in params]
@@ -198,7 +201,7 @@ class QueryMaker(Expressions):
         body.append(self.last_print(view))
         graph = self.maker.graph if self.some(0.7) or self.maker.graph == "h" else None
         return {"k": k, "name": name, "params": params, "graph": graph, "tuples": tuples, "accs": accs, "body": body,
-                "modes": rng.choice(("", "", "", ' API ("v2")', " SYNTAX v1", ' SYNTAX V1 API ("v2")')), "replace": self.some(0.2)}
+                "modes": rng.choice(PATHS if self.paths else HOPS), "replace": self.some(0.2)}
 
     def param(self):
         rng = self.rng
@@ -425,17 +428,57 @@ class QueryMaker(Expressions):
         rng = self.rng
         if not self.edge_names or self.some(0.3):
             return None
+        if self.paths:
+            return self.path()
         types = rng.choice(("ANY", "_", "")) if self.some(0.2) else rng.sample(self.edge_names, rng.randint(1, min(2, len(self.edge_names))))
         to = rng.choice(("ANY", "_", "")) if self.some(0.3) else rng.sample(self.all_types(), rng.randint(1, min(2, len(self.all_types()))))
         return {"types": types, "edge": self.fresh("e"), "to": to, "target": self.fresh("t")}
 
+    def path(self):
+        """A path of one to three steps; its last step is that of the aliases."""
+        steps = [self.step() for _ in range(self.rng.choice((1, 1, 2, 2, 2, 3)))]
+        types = list(dict.fromkeys(name for _, name in steps[-1]["ways"]))
+        return {"steps": steps, "types": types, "edge": self.fresh("e"), "to": steps[-1]["to"], "target": self.fresh("t")}
+
+    def step(self):
+        rng, ways = self.rng, []
+        for name in rng.choices(self.edge_names, k=rng.choice((1, 1, 2, 3))):
+            ways.append((rng.choice("><") if self.directed(name) else "", name))
+        return {"ways": ways, "to": rng.choice(("ANY", "_")) if self.some(0.5) else rng.sample(self.all_types(), rng.randint(1, min(2, len(self.all_types()))))}
+
+    def directed(self, name):
+        return all(it["directed"] for it in self.maker.edge_types if name in (it["name"], it["reverse"]))
+
+    def step_pairs(self, step, sources):
+        """The types of both ends of what a step can walk."""
+        found = []
+        for it in self.maker.edge_types:
+            forwards, backwards = (it["from"], it["to"]), (it["to"], it["from"])
+            for way, name in step["ways"]:
+                if name in (it["name"], it["reverse"]):
+                    turned = (way == "<") != (name == it["reverse"])
+                    found += [forwards, backwards] if way == "" else [backwards if turned else forwards]
+        return [(s, t) for s, t in found if s in sources and (not isinstance(step["to"], list) or t in step["to"])]
+
+    def path_pairs(self, path, sources):
+        """Those of the last step, from where the steps before it lead."""
+        for step in path["steps"][:-1]:
+            sources = {t for _, t in self.step_pairs(step, sources)}
+        return self.step_pairs(path["steps"][-1], sources)
+
     def pairs(self, hop, sources):
         """The types of both ends of what a hop can walk."""
+        if "steps" in hop:
+            return self.path_pairs(hop, sources)
         names, found = hop["types"] if isinstance(hop["types"], list) else self.edge_names, []
         for it in self.maker.edge_types:
             forwards, backwards = (it["from"], it["to"]), (it["to"], it["from"])
             found += ([forwards] + ([] if it["directed"] else [backwards])) * (it["name"] in names) + [backwards] * (it["reverse"] in names)
         return [(s, t) for s, t in found if s in sources and (not isinstance(hop["to"], list) or t in hop["to"])]
+
+    def last_pairs(self, hop):
+        """Those of the hop, or of the last step, from wherever it begins."""
+        return self.step_pairs(hop["steps"][-1], self.all_types()) if "steps" in hop else self.pairs(hop, self.all_types())
 
     def edge_bound(self, view, hop):
         names = hop["types"] if isinstance(hop["types"], list) else self.edge_names
@@ -453,7 +496,7 @@ class QueryMaker(Expressions):
         pairs = self.pairs(hop, types[alias]) if hop else []
         hop = hop if pairs else None
         if hop:
-            types[hop["target"]] = hop["to"] if isinstance(hop["to"], list) else sorted({it for _, it in self.pairs(hop, self.all_types())})
+            types[hop["target"]] = hop["to"] if isinstance(hop["to"], list) else sorted({it for _, it in self.last_pairs(hop)})
         self.bound(inside, alias, types[alias])
         if hop:
             self.bound(inside, hop["target"], types[hop["target"]])

@@ -159,11 +159,26 @@ def types_text(types):
     return types if isinstance(types, str) else "|".join(types) if len(types) < 2 else "(" + "|".join(types) + ")"
 
 
+def hop_text(hop):
+    return f" -({types_text(hop['types'])}:{hop['edge']})-> {types_text(hop['to'])}:{hop['target']}"
+
+
+def path_text(path):
+    text = ""
+    for at, step in enumerate(needed(path["steps"])):
+        edge, target = (f":{path[it]}" if at + 1 == len(path["steps"]) else "" for it in ("edge", "target"))
+        text += f" -({'|'.join(way_text(it) for it in needed(step['ways']))}{edge})- {types_text(step['to'])}{target}"
+    return text
+
+
+def way_text(it):
+    return it[0] + it[1] if it[0] == "<" else it[1] + it[0]
+
+
 def select_text(it):
     text = f"SELECT {it['alias']} FROM {it['from']}:{it['source']}"
     if it["hop"]:
-        hop = it["hop"]
-        text += f" -({types_text(hop['types'])}:{hop['edge']})-> {types_text(hop['to'])}:{hop['target']}"
+        text += path_text(it["hop"]) if "steps" in it["hop"] else hop_text(it["hop"])
     for name, word in (("where", "WHERE"), ("accum", "ACCUM"), ("post", "POST-ACCUM"), ("having", "HAVING")):
         if it[name]:
             text += f"\n    {word} " + (acts_text if name in ("accum", "post") else expr)(it[name])

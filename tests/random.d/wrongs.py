@@ -24,7 +24,7 @@ WRONG_STATEMENTS = (
     ("OddSet = SELECT odd_vertex FROM nosuch:odd_vertex", "unknown name nosuch"),
     ('OddSet = SELECT odd_vertex FROM {T}:odd_vertex LIMIT "a"', "type mismatch"),
     ("OddSet = SELECT odd_vertex FROM {T}:odd_vertex ORDER BY TRUE", "type mismatch"),
-    ("OddSet = SELECT odd_vertex FROM {T}:odd_vertex -(nosuch:odd_edge)-> :odd_end", "unknown name nosuch"),
+    ("OddSet = SELECT odd_vertex FROM {T}:odd_vertex -(nosuch:odd_edge)-{>} ANY:odd_end", "unknown name nosuch"),
     ("OddSet = {{T}.*}; OddSet = {{T}.*, nosuch}", "unknown name nosuch"),
     ('PRINT datetime_add(to_datetime("2024-01-01"), 1, "WEEK") AS odd_item', "unknown name WEEK"),
     ("OddSet = SELECT odd_vertex FROM {T}:odd_vertex HAVING odd_vertex.type", "type mismatch"),
@@ -47,7 +47,7 @@ def in_query(maker, rng, script, queries):
     query = rng.choice(queries)
     text, message = rng.choice(WRONG_STATEMENTS)
     types = maker.part[0] if query["graph"] == "h" else maker.vertex_types
-    text = text.replace("{T}", types[0]["name"])
+    text = text.replace("{T}", types[0]["name"]).replace("{>}", "" if "syntax v2" in query["modes"].lower() else ">")
     query["body"].insert(rng.randint(0, len(query["body"])), {"k": "raw", "text": text})
     query["refused"] = message
 
@@ -106,13 +106,17 @@ def files(maker, rng, script, queries):
         jobs[0]["using"] = jobs[0]["using"] + [["nosuch", "x"]]
     elif pick == 3 and jobs:
         jobs[-1]["using"] = []
-    elif maker.edge_types:
-        edge = rng.choice(maker.edge_types)
-        step = edge["name"] + (">" if edge["directed"] else "")
-        text = f"INTERPRET QUERY () FOR GRAPH g SYNTAX v2 {{ T = SELECT t FROM {edge['from']}:s -({step})- {edge['to']}:t; }}"
-        script.append({"k": "raw", "text": text, "refused": "unsupported statement N", "gap": ""})
+    elif pick == 4 and maker.edge_types:
+        script.append({"k": "raw", "text": wrong_walk(rng, rng.choice(maker.edge_types)), "refused": "not allowed here", "gap": ""})
     else:
         maker.case["turns"] = rng.randint(1, 3)
+
+
+def wrong_walk(rng, edge):
+    """A query with a path of SYNTAX v1, a hop of SYNTAX v2, or an alias within a path."""
+    step = f"-({edge['name'] + ('>' if edge['directed'] else '')})- {edge['to']}"
+    modes, walk = rng.choice((("", f"{step}:t"), (" SYNTAX v2", f"-({edge['name']})-> {edge['to']}:t"), (" SYNTAX v2", f"{step}:m {step}:t")))
+    return f"INTERPRET QUERY () FOR GRAPH g{modes} {{ T = SELECT t FROM {edge['from']}:s {walk}; }}"
 
 
 def unread(maker, rng, script, queries):

@@ -4,7 +4,7 @@ ghost use Rattle.gq_base.specs.Keys.{number_of, numbers_of};
 ghost use Rattle.gq_base.specs.KeyChains.{IsChained};
 ghost use Rattle.gq_base.specs.Last.{IsLast};
 
-use crate::key::Key;
+use crate::key::{Key, bucket};
 use crate::key_chains::{Entry, add, drop_last, is_crowded, key_of, last_below, link_all};
 use crate::memory::OutOfMemory;
 use std::alloc::{AllocError, Global};
@@ -54,6 +54,25 @@ impl KeyIndex {
         last_below(&self.heads, &self.entries, key, self.entries.len())
     }
 
+    /// Where the search for a key begins. It is for reading ahead, with `touch`, and tells nothing of the rows.
+    ///
+    /// A search waits for memory twice or more. Neither of these two reads hangs on what another search finds, so that the processor
+    /// waits for those of many searches at once, where they come in a row before the searches themselves.
+    pub fn first(&self, key: Key) -> u32 {
+        match self.heads.get(bucket_in(key, &self.heads)) {
+            Some(place) => *place,
+            None => 0,
+        }
+    }
+
+    /// Reads what stands where a search begins, and gives some of it, so that the read isn't left out.
+    pub fn touch(&self, place: u32) -> u32 {
+        match self.entries.get((place as usize).wrapping_sub(1)) {
+            Some(entry) => entry.before,
+            None => 0,
+        }
+    }
+
     /// The row before `number` of the same key.
     pub fn before(&self, number: u32) -> Option<u32>
         requires { number < length self.now }
@@ -100,6 +119,17 @@ impl KeyIndex {
         let heads = Vec::from_slice(alloc, &self.heads)?;
         let entries = Vec::from_slice(alloc, &self.entries)?;
         Ok(KeyIndex { heads, entries })
+    }
+}
+
+/// The bucket of a key, where there are any.
+fn bucket_in(key: Key, heads: &[u32]) -> usize
+    requires { length heads.now ≤ 4294967296 }
+{
+    if heads.is_empty() {
+        0
+    } else {
+        bucket(key, heads.len())
     }
 }
 

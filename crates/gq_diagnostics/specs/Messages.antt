@@ -3,7 +3,7 @@ use Rattle.std.specs.Prelude.{ℕ, List, ◌++◌, codes}
 use Rattle.std.specs.Fmt.{decimal}
 use Rattle.gq_json.specs.Json.{error_text}
 use Rattle.gq_diagnostics.specs.declared.refusal.Refusal.{Refusal}
-use Rattle.gq_diagnostics.specs.declared.refusal.Refusal.TheVariants.{NameTaken, NoSuchType, AttributeTwice, BadDefault, TooMany, GraphExists, UnknownName, BadOption, WrongCount, NotAllowed, NoPath, MissingFile, TooLarge, NoColumn, StoreFull, Mismatch, NoAttribute, OrderDependent, WiderSet, TwoAliases, BadAccumulator, NameTwice, NotInstalled, WrongArguments, BadArgument, OutOfRange, ZeroDivisor, SumOutOfRange, LoopBound, PathBound, Unsupported}
+use Rattle.gq_diagnostics.specs.declared.refusal.Refusal.TheVariants.{NameTaken, NoSuchType, AttributeTwice, BadDefault, TooMany, GraphExists, UnknownName, BadOption, WrongCount, NotAllowed, NoPath, MissingFile, TooLarge, NoColumn, StoreFull, Mismatch, NoAttribute, OrderDependent, WiderSet, TwoAliases, BadAccumulator, NameTwice, NotInstalled, WrongArguments, BadArgument, OutOfRange, ZeroDivisor, SumOutOfRange, LoopBound, PathBound}
 
 -- the message
 abbrev pub message_of : Refusal → List ℕ
@@ -37,7 +37,6 @@ message_of ZeroDivisor = codes "division by zero"
 message_of (SumOutOfRange x) = codes "sum out of range in " ++ x
 message_of (LoopBound n) = codes "loop bound " ++ decimal n ++ codes " reached"
 message_of PathBound = codes "more than 4194304 paths"
-message_of (Unsupported n) = codes "unsupported statement " ++ decimal n
 
 -- a message with the line of the script that it speaks of in front
 abbrev pub placed_message : ℕ → List ℕ → List ℕ

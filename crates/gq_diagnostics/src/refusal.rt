@@ -100,12 +100,10 @@ pub enum Refusal {
     /// A loop's body would be entered with none of so many turns left.
     #[error("loop bound reached")]
     LoopBound(u64),
+
+    /// A FROM would have more bindings than there may be.
     #[error("too many paths")]
     PathBound,
-
-    /// The statement of this number, counted from 1, is one that isn't run yet.
-    #[error("unsupported statement")]
-    Unsupported(u64),
 }
 
 impl Refusal {
@@ -144,7 +142,6 @@ impl Refusal {
             Refusal::SumOutOfRange(name) => named(alloc, "sum out of range in ", name),
             Refusal::LoopBound(turns) => loop_bound(alloc, *turns),
             Refusal::PathBound => Txt::of(alloc, "more than 4194304 paths"),
-            Refusal::Unsupported(number) => unsupported(alloc, *number),
         }
     }
 }
@@ -178,13 +175,6 @@ fn loop_bound(alloc: Global, turns: u64) -> Result<Txt, OutOfMemory>
     ensures { IfOk result (λ text. text ≡ message_of (Refusal.LoopBound turns)) }
 {
     let text = format!(in alloc; "loop bound {turns} reached")?;
-    Ok(Txt::from_string(text))
-}
-
-fn unsupported(alloc: Global, number: u64) -> Result<Txt, OutOfMemory>
-    ensures { IfOk result (λ text. text ≡ message_of (Refusal.Unsupported number)) }
-{
-    let text = format!(in alloc; "unsupported statement {number}")?;
     Ok(Txt::from_string(text))
 }
 

@@ -21,7 +21,7 @@ use Rattle.gq_driver.specs.Messages.{message_at, name_of, fault_message}
 module _ (bytes : List ℕ) (known : Known) (turns : ℕ) where
   -- what the statements of the script mean, one after another from a new session on, with this file of arguments, if one is named
   abbrev pub StatementsMean : Option (List ℕ) → List Placed → Outcome → Type 0
-  StatementsMean arguments statements outcome = Runs bytes known (opening arguments turns) 1 statements outcome
+  StatementsMean arguments statements outcome = Runs bytes known (opening arguments turns) statements outcome
 
   -- the same, where the bytes of the file, if one is named, have to be a JSON object
   abbrev pub ArgumentsMean : Option (List ℕ) → List Placed → Outcome → Type 0

@@ -1,6 +1,5 @@
 -- Edges under their names: the walk to the row of a name.
 use Rattle.std.proofs.Common.{ℕ, ◌≡◌, ◌<◌, Bool, true, false, List, length, get_or, Option, Some, None, ap, sym, ◌∙◌, subst}
-use Rattle.std.proofs.lemmas.List.{get_or_read}
 use Rattle.gq_base.specs.Last.{IsLast}
 use Rattle.gq_base.proofs.Seeks.{Seeks, seek_starts, seek_goes, seek_none, seek_found, seek_exact}
 use Rattle.gq_graph.specs.declared.rows.EdgeRow.{EdgeRow}
@@ -26,20 +25,20 @@ edge_exact naming edge rows keys key next able ends tag is last =
     (subst (λ h. IsLast keys h (length keys) next) is last)
 
 pub edge_goes : (naming : Naming) (edge : EdgeRow) (rows : List EdgeRow) (keys : List ℕ) (n : ℕ) (old next : Option ℕ) (row : EdgeRow) (t : Bool)
-    → IsFindable naming edge rows keys → SeeksEdge naming edge rows keys old → old ≡ Some n → row ≡ get_or rows n row → t ≡ is_edge naming edge row → t ≡ false
+    → IsFindable naming edge rows keys → SeeksEdge naming edge rows keys old → old ≡ Some n → row ≡ get_or rows n no_edge → t ≡ is_edge naming edge row → t ≡ false
     → IsLast keys (get_or keys n 0) n next → SeeksEdge naming edge rows keys next
 edge_goes naming edge rows keys n old next row t able here at read test miss last =
     let this = subst (SeeksEdge naming edge rows keys) at here in
     seek_goes (is_edge naming edge) no_edge rows keys (edge_key naming edge) n next able.hits this
-    (ap (is_edge naming edge) (sym (get_or_read rows n row this.0 read no_edge)) ∙ sym test ∙ miss) last
+    (ap (is_edge naming edge) (sym read) ∙ sym test ∙ miss) last
 
 pub edge_found : (naming : Naming) (edge : EdgeRow) (rows : List EdgeRow) (keys : List ℕ) (n : ℕ) (old : Option ℕ) (row : EdgeRow) (t : Bool)
-    → IsFindable naming edge rows keys → SeeksEdge naming edge rows keys old → old ≡ Some n → row ≡ get_or rows n row → t ≡ is_edge naming edge row → t ≡ true
+    → IsFindable naming edge rows keys → SeeksEdge naming edge rows keys old → old ≡ Some n → row ≡ get_or rows n no_edge → t ≡ is_edge naming edge row → t ≡ true
     → Some n ≡ edge_number rows naming edge
 edge_found naming edge rows keys n old row t able here at read test is =
     let this = subst (SeeksEdge naming edge rows keys) at here in
     sym (seek_found (is_edge naming edge) no_edge n rows this.0
-    (ap (is_edge naming edge) (sym (get_or_read rows n row this.0 read no_edge)) ∙ sym test ∙ is) able.one)
+    (ap (is_edge naming edge) (sym read) ∙ sym test ∙ is) able.one)
 
 pub edge_missing : (naming : Naming) (edge : EdgeRow) (rows : List EdgeRow) (keys : List ℕ) (old : Option ℕ)
     → SeeksEdge naming edge rows keys old → old ≡ None → None ≡ edge_number rows naming edge

@@ -1,4 +1,5 @@
 pub mod EdgeLemmas
 pub mod EdgeNames
+pub mod JoinLemmas
 pub mod SortedLemmas
 pub mod TableLemmas

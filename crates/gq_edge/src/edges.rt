@@ -1,5 +1,5 @@
 // The table of edges.
-ghost use Rattle.std.specs.Prelude.{◌≡◌, ◌<◌, ◌≤◌, ◌↔◌, ◌++◌, [], ◌∷◌, length, map, slice_set, take, is_some, vec_len, vec_capacity, Some, None, Err, IfOk, MatchResult};
+ghost use Rattle.std.specs.Prelude.{ℕ, ◌≡◌, ◌<◌, ◌≤◌, ◌↔◌, ◌++◌, [], ◌∷◌, length, map, slice_set, take, is_some, true, false, vec_len, vec_capacity, Some, None, Err, IfOk, MatchResult};
 ghost use Rattle.std.specs.Option.{unwrap_or};
 ghost use Rattle.gq_base.specs.Keys.{number_of};
 ghost use Rattle.gq_graph.specs.Edges.{Agrees, edge_with, naming_with, edge_number, upsert_edge, edge_at, noted, naming_of, most_edges};
@@ -7,11 +7,12 @@ ghost use Rattle.gq_edge.specs.Named.{AreNamed};
 ghost use Rattle.gq_edge.specs.Sorted.{AreSorted, row_name};
 
 use crate::find::find;
-use crate::key::edge_key;
+use crate::key::{edge_key, plain_key};
 use crate::names::{Names, insert, sorted};
+use crate::rows::{EdgeEnds, EdgeRows, lent};
 use gq_base::{Key, KeyIndex, OutOfMemory};
-use gq_graph::{EdgeRow, Naming, StoreFault};
-use gq_value::{Row, duplicate_row};
+use gq_graph::{Naming, StoreFault};
+use gq_value::{Row, Value};
 use std::alloc::Global;
 use std::marker::Model;
 
@@ -21,7 +22,7 @@ pub const MOST_EDGES: usize = 16_777_216;
 /// The edges of a store. Contracts see their rows, and how the edges of each type that has rows are named.
 #[derive(Drop)]
 pub struct Edges {
-    rows: Vec<EdgeRow>,
+    rows: EdgeRows,
     namings: Vec<Naming>,
     index: KeyIndex,
     /// Kept from when so many rows first shared a bucket that their names must have been chosen for it.
@@ -40,11 +41,11 @@ impl Model for Edges {
 
     ghost coded = { Prim.hlevel (codes, value.the_row.coded) };
 
-    ghost view = { λ e. record { rows = e.rows.items; namings = e.namings.items } };
+    ghost view = { λ e. record { rows = e.rows; namings = e.namings.items } };
 
     ghost invariant = { λ e. record {
-      named : AreNamed e.rows.items e.namings.items e.index;
-      sorted : AreSorted (map (row_name e.namings.items) e.rows.items) e.names;
+      named : AreNamed e.rows e.namings.items e.index;
+      sorted : AreSorted (map (row_name e.namings.items) e.rows) e.names;
     } };
 }
 
@@ -54,7 +55,7 @@ impl Edges {
         ensures { result ≡ record { rows = []; namings = [] } }
     {
         Edges {
-            rows: Vec::new(alloc),
+            rows: EdgeRows::new(alloc),
             namings: Vec::new(alloc),
             index: KeyIndex::new(alloc),
             names: None,
@@ -69,24 +70,28 @@ impl Edges {
         self.rows.len() as u32
     }
 
-    /// An edge, by its number.
-    pub fn row(&self, edge: u32) -> &EdgeRow
-        requires { edge < length self.now.rows }
-        ensures { result.now ≡ edge_at self.now.rows edge }
-    {
-        &self.rows[edge as usize]
-    }
-
-    /// All edges, by their numbers.
-    pub fn rows(&self) -> &[EdgeRow]
-        ensures rows { result.now ≡ self.now.rows }
+    /// The types and ends of all edges, by their numbers. Contracts see edges without attributes.
+    pub fn ends(&self) -> &[EdgeEnds]
+        ensures long { length result.now ≡ length self.now.rows }
+        ensures kinds { (r : ℕ) → r < length self.now.rows → (edge_at result.now r).kind ≡ (edge_at self.now.rows r).kind }
+        ensures froms { (r : ℕ) → r < length self.now.rows → (edge_at result.now r).from ≡ (edge_at self.now.rows r).from }
+        ensures tos { (r : ℕ) → r < length self.now.rows → (edge_at result.now r).to ≡ (edge_at self.now.rows r).to }
         ensures few { length self.now.rows ≤ most_edges }
     {
-        self.rows.as_slice()
+        self.rows.ends()
+    }
+
+    /// The attributes of an edge, by its number.
+    pub fn attributes(&self, edge: u32) -> &[Value]
+        requires { edge < length self.now.rows }
+        ensures { result.now ≡ (edge_at self.now.rows edge).attributes }
+    {
+        self.rows.attributes(edge)
     }
 
     /// Gives the edge of that name the attributes, or puts it last. The first `key` attributes belong to the name, and the
-    /// ends have no order where the edge isn't directed. Unchanged after a refusal.
+    /// ends have no order where the edge isn't directed. The values are moved out of the row, of whose content nothing is said
+    /// then. Unchanged after a refusal.
     pub fn upsert(
         &mut self,
         kind: u32,
@@ -94,16 +99,16 @@ impl Edges {
         from: u32,
         to: u32,
         key: u32,
-        attributes: Row,
+        attributes: &mut Row,
     ) -> Result<u32, StoreFault>
-        requires within { key ≤ length attributes }
+        requires within { key ≤ length attributes.old }
         requires agrees { Agrees self.old.namings (naming_with kind directed key) }
-        ensures done { let naming = naming_with kind directed key in let edge = edge_with kind from to attributes in
+        ensures done { let naming = naming_with kind directed key in let edge = edge_with kind from to attributes.old in
             MatchResult result
             (λ n. (n ≡ unwrap_or (edge_number self.old.rows naming edge) (length self.old.rows))
             × (self.new ≡ upsert_edge self.old naming edge))
             (λ _. self.new ≡ self.old) }
-        ensures full { let naming = naming_with kind directed key in let edge = edge_with kind from to attributes in
+        ensures full { let naming = naming_with kind directed key in let edge = edge_with kind from to attributes.old in
             (result ≡ Err StoreFault.Full)
             ↔ ((edge_number self.old.rows naming edge ≡ None) × (most_edges ≤ length self.old.rows)) }
     {
@@ -112,16 +117,19 @@ impl Edges {
             directed,
             key,
         };
-        let edge = EdgeRow {
-            kind,
-            from,
-            to,
-            attributes,
-        };
-        let alloc = *self.rows.allocator();
-        match find(&self.rows, &self.index, &self.names, alloc, naming, &edge) {
+        let alloc = self.rows.allocator();
+        match find(
+            &self.rows,
+            &self.index,
+            &self.names,
+            alloc,
+            naming,
+            lent(kind, from, to, attributes),
+        ) {
             Some(number) => {
-                replace(&mut self.rows, number, edge);
+                if !replace(&mut self.rows, number, attributes) {
+                    return Err(StoreFault::OutOfMemory);
+                }
                 Ok(number)
             }
             None => {
@@ -134,7 +142,9 @@ impl Edges {
                     &mut self.index,
                     &mut self.names,
                     naming,
-                    edge,
+                    from,
+                    to,
+                    attributes,
                 ) {
                     Ok(number) => Ok(number),
                     Err(OutOfMemory) => Err(StoreFault::OutOfMemory),
@@ -143,17 +153,28 @@ impl Edges {
         }
     }
 
+    /// Where the search begins for an edge that has no discriminators. It is for reading ahead, with `touch`, and tells nothing of the
+    /// edges; with discriminators the search begins elsewhere.
+    pub fn first(&self, kind: u32, directed: bool, from: u32, to: u32) -> u32 {
+        self.index.first(plain_key(kind, directed, from, to))
+    }
+
+    /// Reads what stands where a search begins, and gives some of it, so that the read isn't left out.
+    pub fn touch(&self, place: u32) -> u32 {
+        self.index.touch(place)
+    }
+
     /// An equal table with memory of its own.
     pub fn duplicate(&self) -> Result<Edges, OutOfMemory>
         ensures { IfOk result (λ copy. copy ≡ self.now) }
     {
-        let alloc = *self.rows.allocator();
+        let alloc = self.rows.allocator();
         let names = match self.names {
             Some(_) => Some(sorted(alloc, &self.rows, &self.namings, &self.index)?),
             None => None,
         };
         Ok(Edges {
-            rows: copied(alloc, &self.rows)?,
+            rows: self.rows.duplicate()?,
             namings: Vec::from_slice(alloc, &self.namings)?,
             index: self.index.duplicate()?,
             names,
@@ -161,75 +182,104 @@ impl Edges {
     }
 }
 
-fn copied(alloc: Global, rows: &[EdgeRow]) -> Result<Vec<EdgeRow>, OutOfMemory>
-    ensures { IfOk result (λ copy. copy.items ≡ rows.now) }
-{
-    let mut copy = Vec::with_capacity(alloc, rows.len())?;
-    for row in rows {
-        copy.push(EdgeRow {
-            kind: row.kind,
-            from: row.from,
-            to: row.to,
-            attributes: duplicate_row(alloc, row.attributes.as_slice())?,
-        })?;
-    }
-    Ok(copy)
-}
-
 /// Puts an edge of a new name last.
 fn add(
-    rows: &mut Vec<EdgeRow>,
+    rows: &mut EdgeRows,
     namings: &mut Vec<Naming>,
     index: &mut KeyIndex,
     names: &mut Option<Names>,
     naming: Naming,
-    edge: EdgeRow,
+    from: u32,
+    to: u32,
+    attributes: &mut Row,
 ) -> Result<u32, OutOfMemory>
-    requires named { AreNamed rows.old.items namings.old.items index.old }
-    requires sorted { AreSorted (map (row_name namings.old.items) rows.old.items) names.old }
+    requires named { AreNamed rows.old namings.old.items index.old }
+    requires sorted { AreSorted (map (row_name namings.old.items) rows.old) names.old }
     requires agrees { Agrees namings.old.items naming }
-    requires kind { edge.kind ≡ naming.kind }
-    requires within { naming.key ≤ length edge.attributes }
-    requires new { edge_number rows.old.items naming edge ≡ None }
-    requires room { vec_len rows.old < most_edges }
-    ensures named { AreNamed rows.new.items namings.new.items index.new }
-    ensures sorted { AreSorted (map (row_name namings.new.items) rows.new.items) names.new }
+    requires within { naming.key ≤ length attributes.old }
+    requires new { edge_number rows.old naming (edge_with naming.kind from to attributes.old) ≡ None }
+    requires room { length rows.old < most_edges }
+    ensures named { AreNamed rows.new namings.new.items index.new }
+    ensures sorted { AreSorted (map (row_name namings.new.items) rows.new) names.new }
     ensures done { MatchResult result
-        (λ n. (n ≡ length rows.old.items) × (rows.new.items ≡ rows.old.items ++ edge ∷ []) × (namings.new.items ≡ noted namings.old.items naming))
-        (λ _. (rows.new.items ≡ rows.old.items) × (namings.new.items ≡ namings.old.items)) }
+        (λ n. (n ≡ length rows.old) × (rows.new ≡ rows.old ++ edge_with naming.kind from to attributes.old ∷ []) × (namings.new.items ≡ noted namings.old.items naming))
+        (λ _. (rows.new ≡ rows.old) × (namings.new.items ≡ namings.old.items)) }
 {
     let number = rows.len() as u32;
-    rows.reserve(1)?;
+    let key = edge_key(naming, lent(naming.kind, from, to, attributes));
     namings.reserve(1)?;
     insert(
         names,
-        *rows.allocator(),
+        rows.allocator(),
         rows,
         namings,
         index,
         naming,
-        &edge,
+        lent(naming.kind, from, to, attributes),
     )?;
-    push(index, names, edge_key(naming, &edge))?;
+    push(rows, index, names, key, naming.kind, from, to, attributes)?;
     note(namings, naming);
-    put(rows, edge);
     Ok(number)
 }
 
-/// Puts the key of a new row last. Where there is no memory for it, the tree, which has the name already, is given up.
-fn push(index: &mut KeyIndex, names: &mut Option<Names>, key: Key) -> Result<(), OutOfMemory>
-    requires { length index.old < 2147483648 }
+/// Puts a new row and its key last. Where there is no memory for them, the tree, which has the name already, is given up.
+fn push(
+    rows: &mut EdgeRows,
+    index: &mut KeyIndex,
+    names: &mut Option<Names>,
+    key: Key,
+    kind: u32,
+    from: u32,
+    to: u32,
+    attributes: &mut Row,
+) -> Result<(), OutOfMemory>
+    requires few { length index.old < 2147483648 }
     ensures { MatchResult result
-        (λ _. (index.new ≡ index.old ++ number_of key ∷ []) × (names.new ≡ names.old))
-        (λ _. (index.new ≡ index.old) × (names.new ≡ None)) }
+        (λ _. (rows.new ≡ rows.old ++ edge_with kind from to attributes.old ∷ []) × (index.new ≡ index.old ++ number_of key ∷ []) × (names.new ≡ names.old))
+        (λ _. (rows.new ≡ rows.old) × (index.new ≡ index.old) × (names.new ≡ None)) }
 {
-    match index.push(key) {
+    match push_both(rows, index, key, kind, from, to, attributes) {
         Ok(()) => Ok(()),
         Err(OutOfMemory) => {
             *names = None;
             Err(OutOfMemory)
         }
     }
+}
+
+/// Puts a new row and its key last. Unchanged after OutOfMemory.
+fn push_both(
+    rows: &mut EdgeRows,
+    index: &mut KeyIndex,
+    key: Key,
+    kind: u32,
+    from: u32,
+    to: u32,
+    attributes: &mut Row,
+) -> Result<(), OutOfMemory>
+    requires few { length index.old < 2147483648 }
+    ensures { MatchResult result
+        (λ _. (rows.new ≡ rows.old ++ edge_with kind from to attributes.old ∷ []) × (index.new ≡ index.old ++ number_of key ∷ []))
+        (λ _. (rows.new ≡ rows.old) × (index.new ≡ index.old)) }
+{
+    let len = index.len();
+    index.push(key)?;
+    match rows.push(kind, from, to, attributes) {
+        Ok(()) => Ok(()),
+        Err(OutOfMemory) => {
+            index.cut(len);
+            Err(OutOfMemory)
+        }
+    }
+}
+
+/// Gives an edge other attributes, if there is memory for them.
+fn replace(rows: &mut EdgeRows, number: u32, attributes: &mut Row) -> bool
+    requires { number < length rows.old }
+    ensures done { result ≡ true → rows.new ≡ slice_set rows.old number (record (edge_at rows.old number) { attributes = attributes.old }) }
+    ensures stays { result ≡ false → rows.new ≡ rows.old }
+{
+    rows.set(number, attributes).is_ok()
 }
 
 /// Keeps how the edges of a type are named, where there is room for it.
@@ -254,24 +304,4 @@ fn is_noted(namings: &[Naming], kind: u32) -> bool
         }
     }
     false
-}
-
-/// Puts an edge last where there is room for it.
-fn put(rows: &mut Vec<EdgeRow>, edge: EdgeRow)
-    requires { vec_len rows.old < vec_capacity rows.old }
-    ensures { rows.new.items ≡ rows.old.items ++ edge ∷ [] }
-{
-    match rows.push(edge) {
-        Ok(()) => {}
-        Err(_) => unreachable!(),
-    }
-}
-
-/// Gives an edge other attributes.
-fn replace(rows: &mut Vec<EdgeRow>, number: u32, edge: EdgeRow)
-    requires { number < vec_len rows.old }
-    ensures { rows.new.items ≡ slice_set rows.old.items number (record (edge_at rows.old.items number) { attributes = edge.attributes }) }
-{
-    let row = &mut rows[number as usize];
-    row.attributes = edge.attributes;
 }

@@ -2,28 +2,30 @@
 ghost use Rattle.std.specs.Prelude.{◌≡◌, ◌≤◌, length, take};
 ghost use Rattle.gq_graph.specs.Edges as edges;
 ghost use Rattle.gq_edge.specs.Named.{IsFindable};
+ghost use Rattle.gq_edge.specs.Flat.{edge_of};
 ghost use Rattle.gq_edge.specs.Sorted.{IsSorted};
 
 use crate::key::{HASHED, edge_key};
 use crate::names::{Names, name_of};
+use crate::rows::{EdgeRef, EdgeRows};
 use gq_base::KeyIndex;
-use gq_graph::{EdgeRow, Naming};
+use gq_graph::Naming;
 use std::alloc::Global;
 
 /// The number of the row of an edge's name: by the tree of names, if there is one and memory for the name, and else by
 /// the keys of the rows.
 pub(crate) fn find(
-    rows: &[EdgeRow],
+    rows: &EdgeRows,
     index: &KeyIndex,
     names: &Option<Names>,
     alloc: Global,
     naming: Naming,
-    edge: &EdgeRow,
+    edge: EdgeRef<'_>,
 ) -> Option<u32>
-    requires within { naming.key ≤ length edge.now.attributes }
-    requires findable { IsFindable naming edge.now rows.now index.now }
-    requires sorted { IsSorted naming edge.now rows.now names.now }
-    ensures { result ≡ edges.edge_number rows.now naming edge.now }
+    requires within { naming.key ≤ length edge.attributes.now }
+    requires findable { IsFindable naming (edge_of edge) rows.now index.now }
+    requires sorted { IsSorted naming (edge_of edge) rows.now names.now }
+    ensures { result ≡ edges.edge_number rows.now naming (edge_of edge.entry) }
 {
     if let Some(tree) = names {
         if let Ok(name) = name_of(alloc, naming, edge) {
@@ -34,10 +36,10 @@ pub(crate) fn find(
 }
 
 /// The same by the keys of the rows. No row is read where the key is the whole name.
-fn find_by_key(rows: &[EdgeRow], index: &KeyIndex, naming: Naming, edge: &EdgeRow) -> Option<u32>
-    requires within { naming.key ≤ length edge.now.attributes }
-    requires findable { IsFindable naming edge.now rows.now index.now }
-    ensures { result ≡ edges.edge_number rows.now naming edge.now }
+fn find_by_key(rows: &EdgeRows, index: &KeyIndex, naming: Naming, edge: EdgeRef<'_>) -> Option<u32>
+    requires within { naming.key ≤ length edge.attributes.now }
+    requires findable { IsFindable naming (edge_of edge) rows.now index.now }
+    ensures { result ≡ edges.edge_number rows.now naming (edge_of edge.entry) }
 {
     let key = edge_key(naming, edge);
     let mut next = index.last(key);
@@ -45,7 +47,7 @@ fn find_by_key(rows: &[EdgeRow], index: &KeyIndex, naming: Naming, edge: &EdgeRo
         return next;
     }
     while let Some(number) = next {
-        if is_edge(naming, edge, &rows[number as usize]) {
+        if is_edge(naming, edge, rows.row(number)) {
             return Some(number);
         }
         next = index.before(number);
@@ -53,24 +55,23 @@ fn find_by_key(rows: &[EdgeRow], index: &KeyIndex, naming: Naming, edge: &EdgeRo
     None
 }
 
-fn is_edge(naming: Naming, edge: &EdgeRow, row: &EdgeRow) -> bool
-    ensures { result ≡ edges.is_edge naming edge.now row.now }
+fn is_edge(naming: Naming, edge: EdgeRef<'_>, row: EdgeRef<'_>) -> bool
+    ensures { result ≡ edges.is_edge naming (edge_of edge.entry) (edge_of row.entry) }
 {
     row.kind == edge.kind
         && same_ends(naming.directed, edge, row)
         && same_key(naming.key as usize, edge, row)
 }
 
-fn same_ends(directed: bool, a: &EdgeRow, b: &EdgeRow) -> bool
-    ensures { result ≡ edges.same_ends directed a.now b.now }
+fn same_ends(directed: bool, a: EdgeRef<'_>, b: EdgeRef<'_>) -> bool
+    ensures { result ≡ edges.same_ends directed (edge_of a.entry) (edge_of b.entry) }
 {
     b.from == a.from && b.to == a.to || !directed && b.from == a.to && b.to == a.from
 }
 
-fn same_key(key: usize, a: &EdgeRow, b: &EdgeRow) -> bool
-    ensures { result ≡ edges.same_values (take key a.now.attributes) (take key b.now.attributes) }
+fn same_key(key: usize, a: EdgeRef<'_>, b: EdgeRef<'_>) -> bool
+    ensures { result ≡ edges.same_values (take key a.entry.attributes.now) (take key b.entry.attributes.now) }
 {
-    let a = a.attributes.as_slice();
-    let b = b.attributes.as_slice();
+    let (a, b) = (a.attributes, b.attributes);
     a[..key.min(a.len())] == b[..key.min(b.len())]
 }

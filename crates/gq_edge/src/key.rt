@@ -2,25 +2,35 @@
 ghost use Rattle.std.specs.Prelude.{◌≡◌, ◌+◌, ◌*◌, ◌<◌, ◌≤◌, length, map};
 ghost use Rattle.gq_value.specs.Views.{val};
 ghost use Rattle.gq_base.specs.Keys.{number_of};
+ghost use Rattle.gq_edge.specs.Flat.{edge_of};
 ghost use Rattle.gq_edge.specs.Keyed as spec;
 
+use crate::rows::EdgeRef;
 use gq_base::{Key, mixed, text_hash, wide_hash};
-use gq_graph::{EdgeRow, Naming};
+use gq_graph::Naming;
 use gq_value::Value;
 
 /// Tags from here on are hashes.
 pub(crate) const HASHED: u32 = 0x8000_0000;
 
 /// What an edge is found by: its ends are the word, and its type is the tag where nothing else belongs to the name.
-pub(crate) fn edge_key(naming: Naming, edge: &EdgeRow) -> Key
-    requires { naming.key ≤ length edge.now.attributes }
-    ensures number { number_of result ≡ spec.edge_key naming edge.now }
-    ensures tag { result.tag ≡ spec.edge_tag naming edge.now }
-    ensures ends { spec.HasEnds edge.now }
+pub(crate) fn edge_key(naming: Naming, edge: EdgeRef<'_>) -> Key
+    requires { naming.key ≤ length edge.attributes.now }
+    ensures number { number_of result ≡ spec.edge_key naming (edge_of edge.entry) }
+    ensures tag { result.tag ≡ spec.edge_tag naming (edge_of edge.entry) }
+    ensures ends { spec.HasEnds (edge_of edge.entry) }
 {
     Key {
         word: ends(naming.directed, edge.from, edge.to),
         tag: edge_tag(naming, edge),
+    }
+}
+
+/// The key of an edge without discriminators.
+pub(crate) fn plain_key(kind: u32, directed: bool, from: u32, to: u32) -> Key {
+    Key {
+        word: ends(directed, from, to),
+        tag: kind,
     }
 }
 
@@ -42,14 +52,14 @@ fn pair(first: u32, second: u32) -> u64
     first as u64 * 4_294_967_296 + second as u64
 }
 
-fn edge_tag(naming: Naming, edge: &EdgeRow) -> u32
-    requires { naming.key ≤ length edge.now.attributes }
-    ensures { result ≡ spec.edge_tag naming edge.now }
+fn edge_tag(naming: Naming, edge: EdgeRef<'_>) -> u32
+    requires { naming.key ≤ length edge.attributes.now }
+    ensures { result ≡ spec.edge_tag naming (edge_of edge.entry) }
 {
     if naming.key == 0 && edge.kind < HASHED {
         return edge.kind;
     }
-    let values = &edge.attributes.as_slice()[..naming.key as usize];
+    let values = &edge.attributes[..naming.key as usize];
     HASHED + values_hash(mixed(0, edge.kind), values) % HASHED
 }
 

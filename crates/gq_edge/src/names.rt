@@ -4,12 +4,14 @@ ghost use Rattle.std.specs.BTreeMap.{Updates, IsUnchanged};
 ghost use Rattle.gq_value.specs.Views.{val};
 ghost use Rattle.gq_graph.specs.Edges.{edge_number, most_edges, Agrees};
 ghost use Rattle.gq_edge.specs.Keyed.{first_end, second_end};
+ghost use Rattle.gq_edge.specs.Flat.{edge_of};
 ghost use Rattle.gq_edge.specs.Named as named;
 ghost use Rattle.gq_edge.specs.Sorted as spec;
 
 use crate::key::edge_key;
+use crate::rows::{EdgeRef, EdgeRows};
 use gq_base::{Key, KeyIndex, OutOfMemory};
-use gq_graph::{EdgeRow, Naming};
+use gq_graph::Naming;
 use gq_value::Value;
 use std::alloc::Global;
 use std::collections::BTreeMap;
@@ -21,9 +23,9 @@ pub(crate) type Names = BTreeMap<Vec<Value>, u32>;
 pub(crate) fn name_of(
     alloc: Global,
     naming: Naming,
-    edge: &EdgeRow,
+    edge: EdgeRef<'_>,
 ) -> Result<Vec<Value>, OutOfMemory>
-    ensures { IfOk result (λ name. map val name.items ≡ spec.name_row naming edge.now) }
+    ensures { IfOk result (λ name. map val name.items ≡ spec.name_row naming (edge_of edge.entry)) }
 {
     let values = discriminators(naming, edge);
     let mut name = Vec::with_capacity(alloc, values.len().saturating_add(3))?;
@@ -46,10 +48,10 @@ fn ends(directed: bool, from: u32, to: u32) -> (u32, u32)
     }
 }
 
-fn discriminators(naming: Naming, edge: &EdgeRow) -> &[Value]
-    ensures { result.now ≡ take naming.key edge.now.attributes }
+fn discriminators<'a>(naming: Naming, edge: EdgeRef<'a>) -> &'a [Value]
+    ensures { result.now ≡ take naming.key edge.entry.attributes.now }
 {
-    let values = edge.attributes.as_slice();
+    let values = edge.attributes;
     &values[..(naming.key as usize).min(values.len())]
 }
 
@@ -75,20 +77,20 @@ fn add(name: &mut Vec<Value>, value: Value) -> Result<(), OutOfMemory>
 pub(crate) fn insert(
     names: &mut Option<Names>,
     alloc: Global,
-    rows: &[EdgeRow],
+    rows: &EdgeRows,
     namings: &[Naming],
     keys: &KeyIndex,
     naming: Naming,
-    edge: &EdgeRow,
+    edge: EdgeRef<'_>,
 ) -> Result<(), OutOfMemory>
     requires named { named.AreNamed rows.now namings.now keys.now }
     requires agrees { Agrees namings.now naming }
-    requires kind { edge.now.kind ≡ naming.kind }
-    requires within { naming.key ≤ length edge.now.attributes }
-    requires new { edge_number rows.now naming edge.now ≡ None }
+    requires kind { edge.kind ≡ naming.kind }
+    requires within { naming.key ≤ length edge.attributes.now }
+    requires new { edge_number rows.now naming (edge_of edge) ≡ None }
     requires sorted { spec.AreSorted (map (spec.row_name namings.now) rows.now) names.old }
     requires room { length rows.now < most_edges }
-    ensures put { OnOk result (spec.AreSorted (map (spec.row_name namings.now) rows.now ++ spec.name_row naming edge.now ∷ []) names.new) }
+    ensures put { OnOk result (spec.AreSorted (map (spec.row_name namings.now) rows.now ++ spec.name_row naming (edge_of edge.entry) ∷ []) names.new) }
     ensures stays { OnErr result (spec.AreSorted (map (spec.row_name namings.now) rows.now) names.new) }
 {
     make_if_crowded(names, alloc, rows, namings, keys, edge_key(naming, edge))?;
@@ -102,7 +104,7 @@ pub(crate) fn insert(
 fn make_if_crowded(
     names: &mut Option<Names>,
     alloc: Global,
-    rows: &[EdgeRow],
+    rows: &EdgeRows,
     namings: &[Naming],
     keys: &KeyIndex,
     key: Key,
@@ -120,7 +122,7 @@ fn make_if_crowded(
 /// The names of all rows.
 pub(crate) fn sorted(
     alloc: Global,
-    rows: &[EdgeRow],
+    rows: &EdgeRows,
     namings: &[Naming],
     keys: &KeyIndex,
 ) -> Result<Names, OutOfMemory>
@@ -128,11 +130,12 @@ pub(crate) fn sorted(
     ensures { IfOk result (λ tree. spec.AreSorted (map (spec.row_name namings.now) rows.now) (Some tree)) }
 {
     let mut names = BTreeMap::new(alloc);
-    for (number, row) in rows.iter().enumerate() {
+    for number in 0..rows.len() as u32 {
+        let row = rows.row(number);
         put(
             &mut names,
             name_of(alloc, naming_at(namings, row.kind), row)?,
-            number as u32,
+            number,
         )?;
     }
     Ok(names)

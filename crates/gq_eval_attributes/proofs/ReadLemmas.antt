@@ -28,7 +28,8 @@ use Rattle.gq_plan_ir.specs.References.{is_type, in_table, place_in}
 use Rattle.gq_plan_ir.specs.ExprView.{field_of}
 use Rattle.gq_plan_ir.specs.declared.expr.Field.TheVariants as field
 use Rattle.gq_plan_ir.specs.declared.expr.FieldPlaces.{FieldPlaces}
-use Rattle.gq_eval_attributes.specs.Attributes.{attribute_at}
+use Rattle.gq_eval_attributes.specs.Attributes.{attribute_at, attributes_of}
+use Rattle.gq_eval_attributes.proofs.EdgeLemmas.{values_at}
 use Rattle.gq_eval_attributes.proofs.VertexLemmas.{attribute_there}
 use Rattle.gq_eval_attributes.specs.Reads.{value_meant, IsReadInt}
 
@@ -64,18 +65,18 @@ Named rows f r t sort =
 abbrev Whole : List EdgeType → List EdgeRow → Reference → ℕ → ℕ → Outcome
 Whole types rows f r t = found (slice_get (map edge_sort types) t) >>= Named rows f r t
 
-whole_at : (types : List EdgeType) (rows : List EdgeRow) (c : FieldPlaces) (r t i : ℕ) (u : EdgeType) (row : EdgeRow) → slice_get types t ≡ Some u → slice_get rows r ≡ Some row → Some i ≡ option_flatten (slice_get c.edges t)
-    → Whole types rows (field_of (field.Named c)) r t ≡ attribute_at u.attributes row.attributes (Some i)
+whole_at : (types : List EdgeType) (rows : List EdgeRow) (c : FieldPlaces) (r t i : ℕ) (u : EdgeType) (row : List Value) → slice_get types t ≡ Some u → option_map attributes_of (slice_get rows r) ≡ Some row → Some i ≡ option_flatten (slice_get c.edges t)
+    → Whole types rows (field_of (field.Named c)) r t ≡ attribute_at u.attributes row (Some i)
 whole_at types rows c r t i u row e f p =
     go (slice_get (map edge_sort types) t) (Named rows (field_of (field.Named c)) r t) (edge_sort u) (slice_get-map edge_sort types t ∙ ap (option_map edge_sort) e)
-    ∙ go (slice_get (values rows) r) (λ vs. value_at (bases_of (edge_sort u).fields) vs (place_in c (OfEdgeType t) (names_of (edge_sort u).fields))) (map val row.attributes) (slice_get-map (λ (r : EdgeRow). map val r.attributes) rows r ∙ ap (option_map (λ (r : EdgeRow). map val r.attributes)) f)
-    ∙ ap (attribute_at u.attributes row.attributes) (in_the_table c.edges t i (names_of (edge_sort u).fields) c.name p)
+    ∙ go (slice_get (values rows) r) (λ vs. value_at (bases_of (edge_sort u).fields) vs (place_in c (OfEdgeType t) (names_of (edge_sort u).fields))) (map val row) (values_at rows r (Some row) f)
+    ∙ ap (attribute_at u.attributes row) (in_the_table c.edges t i (names_of (edge_sort u).fields) c.name p)
 
 pub nothing_read : (g : code.Graph) (meaning : World Reference → Outcome) → IsReadInt g meaning None
 nothing_read g meaning = record { each = λ vertices edges names tuples clock. tt }
 
-pub edge_read : (g : code.Graph) (c : FieldPlaces) (r t i : ℕ) (u : EdgeType) (row : EdgeRow) (result : Option ℤ) → slice_get g.catalog.now.edge_types t ≡ Some u → slice_get g.store.now.edges.rows r ≡ Some row → Some i ≡ option_flatten (slice_get c.edges t)
-    → IfSome result (λ x. value_meant (attribute_at u.attributes row.attributes (Some i)) ≡ Gives (Int x)) → IsReadInt g (λ world. states.edge_field world (field_of (field.Named c)) r t) result
+pub edge_read : (g : code.Graph) (c : FieldPlaces) (r t i : ℕ) (u : EdgeType) (row : List Value) (result : Option ℤ) → slice_get g.catalog.now.edge_types t ≡ Some u → option_map attributes_of (slice_get g.store.now.edges.rows r) ≡ Some row → Some i ≡ option_flatten (slice_get c.edges t)
+    → IfSome result (λ x. value_meant (attribute_at u.attributes row (Some i)) ≡ Gives (Int x)) → IsReadInt g (λ world. states.edge_field world (field_of (field.Named c)) r t) result
 edge_read g c r t i u row result e f p h = record { each = λ vertices edges names tuples clock. subst (λ o. IfSome result (λ x. value_meant o ≡ Gives (Int x))) (sym (whole_at g.catalog.now.edge_types g.store.now.edges.rows c r t i u row e f p)) h }
 
 pub ruleset edge_laws = (nothing_read, edge_read)

@@ -3,6 +3,7 @@ use Rattle.std.specs.Prelude.{ℕ, List, map, Option, Some}
 use Rattle.gq_graph.specs.declared.types.Attribute.{Attribute}
 use Rattle.gq_graph.specs.declared.types.IdShape.{IdShape}
 use Rattle.gq_graph.specs.declared.types.VertexType.{VertexType}
+use Rattle.gq_graph.specs.declared.rows.EdgeRow.{EdgeRow}
 use Rattle.gq_graph.specs.declared.rows.VertexRow.{VertexRow}
 use Rattle.gq_value.specs.declared.value.Value.{Value}
 use Rattle.gq_value.specs.Views.{val}
@@ -15,6 +16,10 @@ use Rattle.gq_rules_meaning.specs.States.{value_at}
 -- the value at a place of a row, of the attribute there
 abbrev pub attribute_at : List Attribute → List Value → Option ℕ → Outcome
 attribute_at attributes row place = value_at (bases_of (attribute_fields attributes)) (map val row) place
+
+-- the attributes of an edge
+abbrev pub attributes_of : EdgeRow → List Value
+attributes_of row = row.attributes
 
 -- the same of a vertex of a type
 abbrev pub vertex_value : VertexType → VertexRow → Option ℕ → Outcome

@@ -22,7 +22,7 @@ pub fn edge_int(graph: Graph<'_>, field: &Field, edge: u32, kind: u32) -> Option
                 None => None,
                 Some(row) => match graph.catalog.edge_by_number(kind) {
                     None => None,
-                    Some(of) => int_at(&of.attributes, &row.attributes, place),
+                    Some(of) => int_at(&of.attributes, row, place),
                 },
             },
         },

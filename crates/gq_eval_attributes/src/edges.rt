@@ -1,6 +1,6 @@
 // Fields of edges.
 ghost use Rattle.std.specs.Prelude.{◌≡◌, IfOk, Some, slice_get};
-ghost use Rattle.std.specs.Option.{option_copied};
+ghost use Rattle.std.specs.Option.{option_copied, option_map};
 ghost use Rattle.gq_rules_typing.specs.Sorts.{names_of, attribute_fields};
 ghost use Rattle.gq_rules_typing.specs.Words.{OfEdgeType};
 ghost use Rattle.gq_rules_meaning.specs.States as states;
@@ -8,15 +8,17 @@ ghost use Rattle.gq_plan_ir.specs.ExprView.{field_of};
 ghost use Rattle.gq_plan_ir.specs.References.{place_in};
 ghost use Rattle.gq_eval_operand.specs.Meant.{meant, Tells};
 ghost use Rattle.gq_eval_operand.specs.Sound.{Sound};
-ghost use Rattle.gq_eval_attributes.specs.Attributes.{attribute_at};
+ghost use Rattle.gq_eval_attributes.specs.Attributes.{attribute_at, attributes_of};
 ghost use Rattle.gq_eval_attributes.specs.Worlds.{InWorld};
 
+use crate::int_items::value_in;
 use crate::names::attribute_place;
 use gq_edge::Edges;
 use gq_eval_operand::{Halt, Operand, Seen, Sort};
-use gq_graph::{EdgeRow, EdgeType};
+use gq_graph::EdgeType;
 use gq_index::Graph;
 use gq_plan_ir::{Field, FieldPlaces};
+use gq_value::Value;
 
 /// `e.f`: an attribute of an edge, or the name of the type under which it was walked. Takes no memory.
 #[tactic(auto, using(crate::proofs::EdgeLemmas::field_laws))]
@@ -44,11 +46,14 @@ pub fn edge_field<'a>(
     }
 }
 
-/// An edge by its number, if there is one.
-pub(crate) fn edge_row(edges: &Edges, edge: u32) -> Option<&EdgeRow>
-    ensures { slice_get edges.now.rows edge ≡ option_copied result }
+/// The attributes of an edge by its number, if there is one.
+pub(crate) fn edge_row(edges: &Edges, edge: u32) -> Option<&[Value]>
+    ensures { option_map attributes_of (slice_get edges.now.rows edge) ≡ option_copied result }
 {
-    edges.rows().get(edge as usize)
+    if edge < edges.len() {
+        return Some(edges.attributes(edge));
+    }
+    None
 }
 
 /// Where a field stands among those of an edge type: as the plan says, or by its name.
@@ -64,15 +69,15 @@ fn place_of_field(places: &FieldPlaces, of: &EdgeType, kind: u32) -> Option<usiz
 
 /// The attribute at a place of an edge of a type.
 #[tactic(auto, using(crate::proofs::EdgeLemmas::value_laws))]
-fn attribute<'a>(of: &'a EdgeType, row: &'a EdgeRow, place: Option<usize>) -> Result<Seen<'a>, Halt>
-    ensures told { Tells meant (attribute_at of.entry.now.attributes row.entry.now.attributes place) result }
+fn attribute<'a>(of: &'a EdgeType, row: &'a [Value], place: Option<usize>) -> Result<Seen<'a>, Halt>
+    ensures told { Tells meant (attribute_at of.entry.now.attributes row.entry.now place) result }
     ensures sound { IfOk result Sound }
 {
     match place {
         None => Err(Halt::Stuck),
         Some(place) => match of.attributes.get(place) {
             None => Err(Halt::Stuck),
-            Some(attribute) => match row.attributes.get(place) {
+            Some(attribute) => match value_in(row, place) {
                 None => Err(Halt::Stuck),
                 Some(value) => Ok(Seen::Value(Sort::of(&attribute.kind), Operand::Lent(value))),
             },

@@ -1,6 +1,6 @@
 // INTs at places of rows.
 ghost use Rattle.std.specs.Prelude.{◌≡◌, IfSome, Some, slice_get};
-ghost use Rattle.std.specs.Option.{option_flatten};
+ghost use Rattle.std.specs.Option.{option_copied, option_flatten};
 ghost use Rattle.gq_value.specs.Val.{Int};
 ghost use Rattle.gq_rules_meaning.specs.Answers.{Gives};
 ghost use Rattle.gq_eval_attributes.specs.Attributes.{attribute_at};
@@ -21,12 +21,19 @@ pub(crate) fn place_in(table: &List<Option<u32>>, kind: u32) -> Option<u32>
     }
 }
 
+/// The value at a place of a row, if it has one.
+pub(crate) fn value_in(row: &[Value], place: usize) -> Option<&Value>
+    ensures { slice_get row.now place ≡ option_copied result }
+{
+    row.get(place)
+}
+
 /// The INT at a place of a row, of the attribute there.
 #[tactic(auto, using(crate::proofs::ReadLemmas::value_laws))]
-pub(crate) fn int_at(attributes: &List<Attribute>, row: &List<Value>, place: u32) -> Option<i64>
+pub(crate) fn int_at(attributes: &List<Attribute>, row: &[Value], place: u32) -> Option<i64>
     ensures { IfSome result (λ x. value_meant (attribute_at attributes.now row.now (Some place)) ≡ Gives (Int x)) }
 {
-    match row.get(place as usize) {
+    match value_in(row, place as usize) {
         Some(Value::Int(x)) => match attributes.get(place as usize) {
             Some(_) => Some(*x),
             None => None,

@@ -1,3 +1,10 @@
 pub mod InputLemmas
 pub mod ActLemmas
 pub mod PassLemmas
+pub mod EdgeLemmas
+pub mod NameLemmas
+pub mod CellLemmas
+pub mod ReadLemmas
+pub mod TruthLemmas
+pub mod ScalarLemmas
+pub mod GatherLemmas

@@ -5,14 +5,36 @@
 //! Read `Blocks.antt` of `gq_rules_meaning` first, then `specs/Passing.antt`: the result of a candidate, and
 //! what the batches gain. `specs/Feeds.antt` and `specs/Taking.antt` say what an input means. The code begins
 //! in `src/candidate.rt`; `src/acts.rt` runs the statements of ACCUM and `src/inputs.rt` evaluates inputs.
+//!
+//! INTs, truths and vertices are read without values in memory, where the whole match is made of such. What the names
+//! and accumulators of a block's expressions stand for is found once, at its start: which end of a candidate an alias
+//! is, and where the contents of each accumulator stand. An expression is then read from the plan's own tree, its leaves
+//! straight from the candidate, the graph and the contents, its answers in registers. An answer is what the evaluation
+//! gives. Where there is none nothing is said, and the caller evaluates: so faults, overflows, and all that is no INT,
+//! truth or vertex, are the evaluation's alone. Read `specs/Prepared.antt` first; the code begins in `src/gathering.rt`
+//! (ACCUM) and `src/truths.rt` (WHERE), and `src/leaves.rt` has what is found once.
 #![tactic(auto)]
 
 mod acts;
+mod aliases;
 mod candidate;
+mod cells;
 mod feeding;
+mod gathering;
+mod held;
 mod inputs;
+mod ints;
 mod kinds;
+mod leaves;
+mod names;
+mod scalars;
+mod truths;
 
 pub use candidate::{Outcome, contribute};
+pub use cells::{Cells, Taken};
 pub use feeding::Room;
+pub use gathering::gather;
 pub use inputs::run_feed;
+pub use leaves::{Leaves, leaves_of};
+pub use scalars::{ScalarInput, feed_scalars, value_of};
+pub use truths::passes;

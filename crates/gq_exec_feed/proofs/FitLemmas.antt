@@ -3,7 +3,9 @@ use Rattle.std.proofs.Common.{if◌then◌else◌, ◌≡◌, ℕ, zero, suc, �
 use Rattle.std.proofs.lemmas.List.Elements.{All-cons}
 use Rattle.std.specs.List.{All, list_all}
 use Rattle.gq_value.specs.declared.kind.Slot.{Slot}
-use Rattle.gq_value.specs.Accums.{Accum}
+use Rattle.gq_value.specs.Accums.{Accum, SumAccum, MinAccum, MaxAccum, OrAccum, AndAccum, BitwiseOrAccum, BitwiseAndAccum, AvgAccum, SetAccum, BagAccum, ListAccum, MapAccum, GroupByAccum, HeapAccum}
+use Rattle.gq_accum_laws.specs.Holds.{Holds}
+use Rattle.gq_value.specs.Val.{Val}
 use Rattle.gq_value.specs.AccumViews.{accum_of}
 use Rattle.gq_accum_laws.specs.Fits.{fits}
 use Rattle.gq_accum_laws.proofs.FedLaws.{fed_law}
@@ -15,7 +17,7 @@ use Rattle.gq_rules_meaning.specs.Blocks.{first_unfit}
 use Rattle.gq_eval_operand.specs.Sound.{IsSound}
 use Rattle.gq_frame.specs.Slots.{slots_from, slots_are, AreSound}
 use Rattle.gq_exec_feed.specs.Feeding.{IsFed, AreFed}
-use Rattle.gq_exec_feed.specs.Steps.{AllFit}
+use Rattle.gq_exec_feed.specs.Steps.{AllFit, AllFitAs, has_no_sum}
 use Rattle.gq_exec_feed.proofs.PlaceLemmas.{drop_item, get_some, drop_all}
 use Rattle.gq_exec_feed.proofs.SlotLemmas.{Every, EachSlot, seen_in, slots_of_targets, targets_of_slots}
 
@@ -77,6 +79,40 @@ fit_not cs i c b l is t e h = record { each = λ k f p. sym (h.each k f p ∙ te
 pub fit_all : (cs : List Content) (i : ℕ) → length cs ≤ i → FitFrom cs i → AllFit cs true
 fit_all cs i l h = record { each = λ k f p. sym (h.each k f p ∙ ap (λ d. list_all (fits k) (map (seen_in k) d)) (drop_all cs i l)) }
 
+-- ---- kinds without sums
+
+no_sum_fits : (k : Accum) → has_no_sum k ≡ true → (h : Holds k) → fits k h ≡ true
+no_sum_fits (SumAccum n) e h = absurd (cc e)
+no_sum_fits (MinAccum n) e h = refl
+no_sum_fits (MaxAccum n) e h = refl
+no_sum_fits OrAccum e h = refl
+no_sum_fits AndAccum e h = refl
+no_sum_fits BitwiseOrAccum e h = refl
+no_sum_fits BitwiseAndAccum e h = refl
+no_sum_fits AvgAccum e h = absurd (cc e)
+no_sum_fits (SetAccum b) e h = refl
+no_sum_fits (BagAccum b) e h = refl
+no_sum_fits (ListAccum b) e h = refl
+no_sum_fits (MapAccum b k) e h = at (no_sum_fits k e) h.0
+  where
+    at : ((d : Holds k) → fits k d ≡ true) → (qs : List (List Val)) → list_all (λ q. fits k (h.1 q)) qs ≡ true
+    at each [] = refl
+    at each (q ∷ qs) = ap (λ c. c && list_all (λ r. fits k (h.1 r)) qs) (each (h.1 q)) ∙ at each qs
+no_sum_fits (GroupByAccum keys ps) e h = absurd (cc e)
+no_sum_fits (HeapAccum b n by) e h = refl
+
+pub without_sums : (k : Accum) (cs : List Content) → has_no_sum k ≡ true → AllFitAs k cs true
+without_sums k cs e = record { each = λ f h. sym (at cs) }
+  where
+    at : (cs : List Content) → list_all (fits k) (map (seen_in k) cs) ≡ true
+    at [] = refl
+    at (c ∷ cs) = ap (λ b. b && list_all (fits k) (map (seen_in k) cs)) (no_sum_fits k e (seen_in k c)) ∙ at cs
+
+pub of_any : (k : Accum) (cs : List Content) (b : Bool) → AllFit cs b → AllFitAs k cs b
+of_any k cs b h = record { each = λ f p. h.each k f p }
+
+pub ruleset kind_laws = (without_sums, of_any)
+
 -- ---- the loop over the slots
 
 all_of_every : {A : Type 0} (P : A → Type 0) (xs : List A) → Every P xs → All P xs
@@ -124,7 +160,7 @@ pub unfit_first : (a : Accums) → UnfitFrom a 0 0
 unfit_first a = record { within = omega arith; each = λ f h. (slots_of_targets (λ k c. IsFed k f c) a.slots.vertices a.slots.declared a.contents h.each, refl) }
 
 -- one slot
-slot_first : (a : Accums) (n : ℕ) (s : Slot) (rest own : List Content) (b : Bool) → n < length a.slots.declared → s ≡ get_or a.slots.declared n s → own ≡ take (targets_of a.slots.vertices s) rest → AllFit own b → (f : ℕ) → UnfitRest a n rest f
+slot_first : (a : Accums) (n : ℕ) (s : Slot) (rest own : List Content) (b : Bool) → n < length a.slots.declared → s ≡ get_or a.slots.declared n s → own ≡ take (targets_of a.slots.vertices s) rest → AllFitAs (accum_of s.kind) own b → (f : ℕ) → UnfitRest a n rest f
     → EachSlot (λ k c. IsFed k f c) a.slots.vertices (drop (n + 1) a.slots.declared) (drop (targets_of a.slots.vertices s) rest)
     × (first_unfit 0 (slots_are a) ≡ (if b then first_unfit (n + 1) (slots_from a.slots.vertices (n + 1) (drop (n + 1) a.slots.declared) (drop (targets_of a.slots.vertices s) rest)) else Some n))
 slot_first a n s rest own b l is e fit f so = let e1 : suc n ≡ n + 1 = omega arith in
@@ -143,14 +179,14 @@ slot_first a n s rest own b l is e fit f so = let e1 : suc n ≡ n + 1 = omega a
 
     judged : list_all (fits (accum_of s.kind)) (map (seen_in (accum_of s.kind)) (take (targets_of a.slots.vertices s) rest)) ≡ b
     judged = ap (λ (c : List Content). list_all (fits (accum_of s.kind)) (map (seen_in (accum_of s.kind)) c)) (sym e)
-        ∙ sym (fit.each (accum_of s.kind) f (subst (All (IsFed (accum_of s.kind) f)) (sym e) (all_of_every (IsFed (accum_of s.kind) f) (take (targets_of a.slots.vertices s) rest) opened.0)))
+        ∙ sym (fit.each f (subst (All (IsFed (accum_of s.kind) f)) (sym e) (all_of_every (IsFed (accum_of s.kind) f) (take (targets_of a.slots.vertices s) rest) opened.0)))
 
 -- the contents of a slot, where the code cuts them out
 cut : (cs : List Content) (start end t : ℕ) → start ≤ length cs → end ≡ min (start + t) (length cs) → end - start ≡ min (length (drop start cs)) t
 cut cs start end t low e = let d = length-drop start cs in omega (arith, d, e, low)
 
 pub unfit_more : (a : Accums) (n start end t : ℕ) (s : Slot) (own : List Content) (b : Bool) → n < length a.slots.declared → s ≡ get_or a.slots.declared n s → t ≡ targets_of a.slots.vertices s → end ≡ min (start + t) (length a.contents)
-    → own ≡ take (end - start) (drop start a.contents) → AllFit own b → b ≡ true → UnfitFrom a n start → UnfitFrom a (n + 1) end
+    → own ≡ take (end - start) (drop start a.contents) → AllFitAs (accum_of s.kind) own b → b ≡ true → UnfitFrom a n start → UnfitFrom a (n + 1) end
 unfit_more a n start end t s own b l is e low o fit yes_fit so = record {
   within = omega (arith, low);
   each = λ f h.
@@ -163,7 +199,7 @@ unfit_more a n start end t s own b l is e low o fit yes_fit so = record {
         ∙ drop_min (drop start a.contents) t (end - start) (cut a.contents start end t w low) ∙ ap (λ (i : ℕ). drop i (drop start a.contents)) e
 
 pub unfit_here : (a : Accums) (n start end t : ℕ) (s : Slot) (own : List Content) (b : Bool) → n < length a.slots.declared → s ≡ get_or a.slots.declared n s → t ≡ targets_of a.slots.vertices s → end ≡ min (start + t) (length a.contents)
-    → own ≡ take (end - start) (drop start a.contents) → AllFit own b → b ≡ false → UnfitFrom a n start → (f : ℕ) → AreFed f a → Some n ≡ first_unfit 0 (slots_are a)
+    → own ≡ take (end - start) (drop start a.contents) → AllFitAs (accum_of s.kind) own b → b ≡ false → UnfitFrom a n start → (f : ℕ) → AreFed f a → Some n ≡ first_unfit 0 (slots_are a)
 unfit_here a n start end t s own b l is e low o fit not_fit so f h =
     let r = slot_first a n s (drop start a.contents) own b l is (o ∙ take_min (drop start a.contents) t (end - start) (cut a.contents start end t so.within low) ∙ ap (λ (i : ℕ). take i (drop start a.contents)) e) fit f (so.each f h) in
     sym (r.1 ∙ ap (λ c. if c then first_unfit (n + 1) (slots_from a.slots.vertices (n + 1) (drop (n + 1) a.slots.declared) (drop (targets_of a.slots.vertices s) (drop start a.contents))) else Some n) not_fit)

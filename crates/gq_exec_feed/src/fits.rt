@@ -3,10 +3,12 @@ ghost use Rattle.std.specs.Prelude.{◌≡◌, ℕ, IfSome};
 ghost use Rattle.gq_rules_meaning.specs.Blocks.{first_unfit};
 ghost use Rattle.gq_frame.specs.Slots.{slots_are};
 ghost use Rattle.gq_exec_feed.specs.Feeding.{AreFed};
-ghost use Rattle.gq_exec_feed.specs.Steps.{AllFit};
+ghost use Rattle.gq_value.specs.AccumViews.{accum_of};
+ghost use Rattle.gq_exec_feed.specs.Steps.{AllFit, AllFitAs, has_no_sum};
 
 use gq_frame::Accums;
 use gq_nest::Content;
+use gq_value::Kind;
 
 /// The first accumulator with a content that doesn't fit, by its number. Takes no memory.
 #[tactic(auto, using(crate::proofs::FitLemmas::unfit_laws))]
@@ -18,7 +20,7 @@ pub fn first_unfit(accums: &Accums) -> Option<usize>
     for (number, slot) in accums.slots.declared.as_slice().iter().enumerate() {
         let targets = accums.slots.targets(slot) as usize;
         let end = (start + targets).min(contents.len());
-        if !all_fit(&contents[start..end]) {
+        if !slot_fits(&slot.kind, &contents[start..end]) {
             return Some(number);
         }
         start = end;
@@ -34,6 +36,32 @@ pub fn slot_number(number: usize) -> Option<u32>
         return None;
     }
     Some(number as u32)
+}
+
+/// Whether all contents of a slot fit. Where its kind has no sum nothing is looked at.
+#[tactic(auto, using(crate::proofs::FitLemmas::kind_laws))]
+fn slot_fits(kind: &Kind, contents: &[Content]) -> bool
+    ensures { AllFitAs (accum_of kind.now) contents.now result }
+{
+    if has_no_sum(kind) {
+        return true;
+    }
+    all_fit(contents)
+}
+
+/// Whether contents of a kind fit whatever they hold: they have no sum and no average.
+#[cycle(sums)]
+#[tactic(auto, using(gq_value::proofs::AccumLemmas::accum_laws))]
+fn has_no_sum(kind: &Kind) -> bool
+    ensures { result ≡ has_no_sum (accum_of kind.now) }
+{
+    match kind {
+        Kind::Min(_) | Kind::Max(_) | Kind::Or | Kind::And | Kind::BitOr | Kind::BitAnd => true,
+        Kind::Set(_) | Kind::Bag(_) | Kind::List(_) | Kind::Heap(_) => true,
+        Kind::Sum(_) | Kind::Avg => false,
+        Kind::Map(_, inner) => has_no_sum(inner.get()),
+        Kind::Group(_) => false,
+    }
 }
 
 /// Whether all contents fit.

@@ -29,8 +29,9 @@ use Rattle.gq_exec_feed.proofs.PlaceLemmas.{same_some, none_apart, take_set_fron
 use Rattle.gq_exec_feed.proofs.SlotLemmas.{Every, EachSlot, EachTarget, seen_in, with_contents, slots_of_targets, targets_of_slots}
 use Rattle.gq_exec_post.specs.declared.making.Made.{Made}
 use Rattle.gq_exec_post.specs.declared.making.Made.TheVariants as made
-use Rattle.gq_exec_post.specs.Changing.{Becomes, CanTake, Changed, ChangesOne, MayChange, MaySuit}
+use Rattle.gq_exec_post.specs.Changing.{Becomes, CanTake, Changed, ChangesOne, MayChange, MaySuit, fits_after}
 use Rattle.gq_exec_post.specs.Making.{making_of}
+use Rattle.gq_exec_post.proofs.JudgingLaws.{still_fits}
 
 -- ---- contents of one slot
 
@@ -173,6 +174,11 @@ now_sound k m was now sound suited becomes fit =
       fit = fit;
     }
 
+-- where it fitted before, what is judged tells of the whole
+judged_whole : (k : Accum) (h : Holds k) (m : Made) → IsProper k h → fits k h ≡ true → fits_after m k (making_of m k h) ≡ fits k (making_of m k h)
+judged_whole k h (made.Input x) proper fit = still_fits k h (given x) proper fit
+judged_whole k h (made.Value v) proper fit = refl
+
 -- ---- the accumulators
 
 pub can_take : (old : Accums) (n v t : ℕ) (m : Made) → AreSound old → t ≡ number_of old.slots n v → MayChange old.slots n v m → (c : Content) → slice_get old.contents t ≡ Some c → CanTake m c
@@ -223,6 +229,8 @@ changed_is old new n v t m fit sound is may one = record {
 
     fit_is : fit ≡ fits (accum_of may.slot.kind) (seen_in (accum_of may.slot.kind) one.now)
     fit_is = one.judged.each (accum_of may.slot.kind) (seen_in (accum_of may.slot.kind) one.now) (record { of_kind = shown.of_kind; holds = refl; proper = subst (IsProper (accum_of may.slot.kind)) (sym shown.holds) shown.proper })
+        ∙ subst (λ (h : Holds (accum_of may.slot.kind)). fits_after m (accum_of may.slot.kind) h ≡ fits (accum_of may.slot.kind) h) (sym shown.holds)
+        (judged_whole (accum_of may.slot.kind) (seen_in (accum_of may.slot.kind) one.was) m was_sound.shows.proper was_sound.fit)
 
     there : (slot : states.Slot Reference) × (slice_get (slots_are old) n ≡ Some slot) × (fits_at v (slot_changed (making_of m) v slot) ≡ fits (accum_of may.slot.kind) (seen_in (accum_of may.slot.kind) one.now))
     there = slot_there old.slots.vertices v (making_of m) one.was one.now 0 n old.slots.declared may.slot old.contents at stood

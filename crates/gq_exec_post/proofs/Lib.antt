@@ -1,5 +1,7 @@
 pub mod NamingLemmas
 pub mod MadeLemmas
+pub mod JudgingLaws
+pub mod JudgingSteps
 pub mod ChangeLemmas
 pub mod WriteLaws
 pub mod Steps

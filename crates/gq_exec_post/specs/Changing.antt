@@ -20,6 +20,7 @@ use Rattle.gq_frame.specs.Slots.{AreSound, slots_are}
 use Rattle.gq_exec_post.specs.declared.making.Made.{Made}
 use Rattle.gq_exec_post.specs.declared.making.Made.TheVariants as made
 use Rattle.gq_exec_post.specs.Making.{making_of}
+use Rattle.gq_exec_post.specs.Judging.{fits_where}
 
 -- a kind takes what is made
 abbrev pub MaySuit : Accum → Made → Type 0
@@ -42,13 +43,18 @@ CanTake (made.Value v) c = CanBeSet c (val v)
 pub record Becomes (m : Made) (old new : Content) : Type 0 where
   pub each : (k : Accum) (h : Holds k) → Shows k old h → HasRoom k h → MaySuit k m → Shows k new (making_of m k h)
 
+-- what is judged once that is made: what an input reaches, or the whole
+abbrev pub fits_after : Made → (k : Accum) → Holds k → Bool
+fits_after (made.Input x) k h = fits_where k h (given x)
+fits_after (made.Value v) k h = fits k h
+
 -- the content at a target becomes so, and the others stay
 pub record ChangesOne (m : Made) (old new : Accums) (target : ℕ) (fit : Bool) : Type 0 where
   pub was : Content
   pub now : Content
   pub stood : slice_get old.contents target ≡ Some was
   pub becomes : Becomes m was now
-  pub judged : Tells now fit fits
+  pub judged : Tells now fit (fits_after m)
   pub slots : new.slots ≡ old.slots
   pub contents : new.contents ≡ slice_set old.contents target now
 

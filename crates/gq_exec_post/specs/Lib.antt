@@ -1,5 +1,6 @@
 pub mod Naming
 pub mod Making
+pub mod Judging
 pub mod Changing
 pub mod Writing
 pub mod Sights

@@ -1,13 +1,13 @@
 // Changes put into accumulators.
 ghost use Rattle.std.specs.Prelude.{◌≡◌, IfOk, IfSome, OnOk, Some, slice_get, true, false};
 ghost use Rattle.gq_value.specs.AccumViews.{accum_of};
-ghost use Rattle.gq_accum_laws.specs.Fits.{fits as all_fit};
 ghost use Rattle.gq_nest.specs.declared.content.Content as content;
 ghost use Rattle.gq_nest.specs.Tells.{Tells, is_settable};
 ghost use Rattle.gq_frame.specs.Targets.{number_of};
 ghost use Rattle.gq_frame.specs.Slots.{AreSound};
-ghost use Rattle.gq_exec_post.specs.Changing.{Becomes, CanTake, Changed, ChangesOne, MayChange, MaySuit};
+ghost use Rattle.gq_exec_post.specs.Changing.{Becomes, CanTake, Changed, ChangesOne, MayChange, MaySuit, fits_after};
 
+use crate::judging::still_fits;
 use crate::making::Made;
 use gq_base::OutOfMemory;
 use gq_exec_feed::{suits, takes};
@@ -24,7 +24,7 @@ pub enum ChangeFault {
     OutOfMemory,
 }
 
-/// Changes the accumulator of a slot at a vertex, which is 0 for a global one, and judges its content. After a fault that content is
+/// Changes the accumulator of a slot at a vertex, which is 0 for a global one, and judges what has changed in its content. After a fault that content is
 /// unspecified. There is no memory for a vertex that has no such accumulator, and for what its kind doesn't take.
 #[tactic(auto, using(crate::proofs::ChangeLemmas::change_laws))]
 pub fn change_at(
@@ -88,7 +88,7 @@ fn is_settable(kind: &Kind) -> bool
     }
 }
 
-/// Makes the change at a target, and judges what stands there.
+/// Makes the change at a target, and judges what has changed there.
 fn put_in(alloc: Global, accums: &mut Accums, target: u64, made: &Made) -> Result<bool, OutOfMemory>
     requires { (c : content.Content) → slice_get accums.old.contents target ≡ Some c → CanTake made.now c }
     ensures { IfOk result (ChangesOne made.now accums.old accums.new target) }
@@ -99,15 +99,20 @@ fn put_in(alloc: Global, accums: &mut Accums, target: u64, made: &Made) -> Resul
     make(alloc, accums.at_mut(target), made)
 }
 
-/// Makes the change of a content, and judges it.
+/// Makes the change of a content that fits, and judges what has changed in it.
 fn make(alloc: Global, content: &mut Content, made: &Made) -> Result<bool, OutOfMemory>
     requires { CanTake made.now content.old }
     ensures becomes { OnOk result (Becomes made.now content.old content.new) }
-    ensures judged { IfOk result (λ fit. Tells content.new fit all_fit) }
+    ensures judged { IfOk result (λ fit. Tells content.new fit (fits_after made.now)) }
 {
     match made {
-        Made::Input(input) => content.feed(alloc, input)?,
-        Made::Value(value) => content.set(value),
+        Made::Input(input) => {
+            content.feed(alloc, input)?;
+            Ok(still_fits(input, content))
+        }
+        Made::Value(value) => {
+            content.set(value);
+            Ok(content.fits())
+        }
     }
-    Ok(content.fits())
 }

@@ -15,6 +15,7 @@ mod acts;
 mod changed;
 mod exprs;
 mod feeding;
+mod judging;
 mod making;
 mod phases;
 mod post_accum;

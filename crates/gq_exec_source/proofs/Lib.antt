@@ -4,3 +4,13 @@ pub mod SortLemmas
 pub mod StepLemmas
 pub mod EndLemmas
 pub mod StartLemmas
+pub mod ListLemmas
+pub mod WayLemmas
+pub mod HopLemmas
+pub mod RowLemmas
+pub mod HopSortLemmas
+pub mod BindingLemmas
+pub mod WithinLemmas
+pub mod PathLemmas
+pub mod EntryLemmas
+pub mod LookupLemmas

@@ -49,7 +49,7 @@ module _ {A B : Type 0} (W : A → Option B) where
   pub no_more : (xs : List A) (i : ℕ) (done : List B) → filter_map W xs ≡ done ++ filter_map W (drop i xs) → length xs ≤ i → done ≡ filter_map W xs
   no_more xs i done h l = sym (h ∙ ap (λ ys. done ++ filter_map W ys) (drop_all i xs l) ∙ append-nil done)
 
-mapped_filter : {A B C : Type 0} (W : B → Option C) (f : A → B) (xs : List A) → filter_map W (map f xs) ≡ filter_map (λ x. W (f x)) xs
+pub mapped_filter : {A B C : Type 0} (W : B → Option C) (f : A → B) (xs : List A) → filter_map W (map f xs) ≡ filter_map (λ x. W (f x)) xs
 mapped_filter W f [] = refl
 mapped_filter W f (x ∷ xs) = ap (cons_option (W (f x))) (mapped_filter W f xs)
 

@@ -1,7 +1,7 @@
 -- StartLemmas: the source of a block, its pattern, and its candidates.
-use Rattle.std.proofs.Common.{if◌then◌else◌, ◌≡◌, ℕ, zero, suc, ◌+◌, ◌<◌, ◌≤◌, ◌==◌, ◌||◌, Bool, true, false, List, [], ◌∷◌, ◌++◌, map, length, slice_get, cond, take, get_or, append-nil, Result, Ok, Err, IfOk, Option, Some, None, refl, sym, ap, ap₂, ◌∙◌, subst, arith}
+use Rattle.std.proofs.Common.{if◌then◌else◌, ◌≡◌, ℕ, zero, suc, ◌+◌, ◌<◌, ◌≤◌, ◌==◌, ◌||◌, Bool, true, false, List, [], ◌∷◌, ◌++◌, map, length, cond, take, get_or, append-nil, Result, Ok, Err, IfOk, Option, Some, None, refl, sym, ap, ap₂, ◌∙◌, subst, arith}
 use Rattle.std.specs.Prelude.{filter, filter_map, flat_map}
-use Rattle.std.specs.List.{All, list_any, range_with_len}
+use Rattle.std.specs.List.{All, range_with_len}
 use Rattle.std.specs.List.{AllByRecursion}
 use Rattle.std.proofs.lemmas.List.Elements.{All-nil, All-cons, recursion_from_All, filter-append}
 use Rattle.std.proofs.lemmas.Bool.Decides.{nat_tests}
@@ -24,27 +24,25 @@ use Rattle.gq_rules_meaning.specs.States as states
 use Rattle.gq_rules_meaning.specs.States.{Thing, Variable, SetOf, Member, State, thing_named}
 use Rattle.gq_rules_meaning.specs.Statements.{is_set}
 use Rattle.gq_rules_meaning.specs.Sources as sources
-use Rattle.gq_rules_meaning.specs.Sources.{source_of, from, hop_pattern}
+use Rattle.gq_rules_meaning.specs.Sources.{source_of, from, hop_pattern, within_bound}
 use Rattle.gq_plan_ir.specs.declared.block.Block.{Block}
 use Rattle.gq_plan_ir.specs.declared.block.Hop.{Hop}
 use Rattle.gq_plan_ir.specs.declared.block.Types.{Types}
 use Rattle.gq_plan_ir.specs.declared.block.Types.TheVariants as types
-use Rattle.gq_plan_ir.specs.declared.block.Walk.{Walk}
 use Rattle.gq_plan_ir.specs.declared.block.Walk.TheVariants as walk
-use Rattle.gq_plan_ir.specs.declared.block.SelectSource.{SelectSource}
 use Rattle.gq_plan_ir.specs.declared.block.SelectSource.TheVariants as source
 use Rattle.gq_plan_ir.specs.BlockView.{view_block, view_walk, view_hop, view_types}
 use Rattle.gq_plan_ir.specs.PlanView.{accum_names}
 use Rattle.gq_eval_attributes.specs.Tuples.{tuples_are}
 use Rattle.gq_plan_ir.specs.Reference as reference
 use Rattle.gq_plan_ir.specs.Reference.{Reference, Place, VertexType}
-use Rattle.gq_frame.specs.Names.{thing_in, thing_for}
+use Rattle.gq_frame.specs.Names.{thing_in}
 use Rattle.gq_frame.specs.Shows.{Shows}
 use Rattle.gq_eval_context.specs.Viewed.{Over}
 use Rattle.gq_eval_context.specs.Looks.{world_over}
 use Rattle.gq_exec_source.specs.declared.ends.Ends.{Ends}
 use Rattle.gq_exec_source.specs.Ends.{HasEnds}
-use Rattle.gq_exec_source.specs.Starts.{listed_at, all_under, vertices_under, types_in, IsBelow, IsWithin, AreFrom, AreCandidates}
+use Rattle.gq_exec_source.specs.Starts.{listed_at, all_under, vertices_under, types_in, IsWithin, AreFrom, FromTooMany, AreCandidates, AreTooMany}
 
 -- ---- the source
 
@@ -100,7 +98,7 @@ target_below [] targets w h = absurd (cc h)
 target_below (k ∷ kinds) targets zero h = omega arith
 target_below (k ∷ kinds) targets (suc w) h = let l = target_below kinds targets w h in omega (arith, l)
 
-numbers_below : (n : ℕ) (ks : List ℕ) (p : ℕ → Bool) (m : ℕ) → n + length ks ≤ m → AllByRecursion (λ v. v < m) (filter p (map (λ (v : ℕ × ℕ). v.0) (numbered n ks)))
+pub numbers_below : (n : ℕ) (ks : List ℕ) (p : ℕ → Bool) (m : ℕ) → n + length ks ≤ m → AllByRecursion (λ v. v < m) (filter p (map (λ (v : ℕ × ℕ). v.0) (numbered n ks)))
 numbers_below n [] p m l = tt
 numbers_below n (k ∷ ks) p m l = by (p n) (numbers_below (suc n) ks p m (omega (arith, l)))
   where
@@ -147,27 +145,23 @@ pub from_nowhere : (o : Over) (block : Block) (set : List ℕ) (cs : List Candid
 from_nowhere o block set cs e is = record {
   each = λ clock s shows. is ∙ ap (λ w. sources.candidates_of (world_over clock o) set (view_walk w)) (sym e);
   within = subst (All (IsWithin (length o.vertices))) (sym is) (within_rows o set None);
+  bounded = ap (λ w. within_bound (view_walk w) cs) e;
 }
 
-pub from_hop : (o : Over) (block : Block) (ends : Ends) (set : List ℕ) (hop : Hop) (pattern : Pattern) (cs : List Candidate) → HasEnds o.schema o.plan o.frame.things block ends → block.walk ≡ walk.Hop hop → pattern.edges ≡ types_in o.plan.edges hop.edges → pattern.targets ≡ ends.target.types
-    → cs ≡ candidates (sight_of o.schema o.vertices o.edges) set (Some pattern) → AreFrom o block set cs
-from_hop o block ends set hop pattern cs has e edges targets is = record {
+pub from_hop : (o : Over) (block : Block) (ends : Ends) (set : List ℕ) (hop : Hop) (cs : List Candidate) → HasEnds o.schema o.plan o.frame.things block ends → block.walk ≡ walk.Hop hop
+    → cs ≡ candidates (sight_of o.schema o.vertices o.edges) set (Some (record { edges = types_in o.plan.edges hop.edges; targets = ends.target.types })) → AreFrom o block set cs
+from_hop o block ends set hop cs has e is = record {
   each = λ clock s shows. is ∙ ap (λ p. candidates (sight_of o.schema o.vertices o.edges) set (Some p)) (same clock s shows) ∙ ap (λ w. sources.candidates_of (world_over clock o) set (view_walk w)) (sym e);
   within = subst (All (IsWithin (length o.vertices))) (sym is) (within_rows o set (Some pattern));
+  bounded = ap (λ w. within_bound (view_walk w) cs) e;
 }
   where
+    pattern : Pattern
+    pattern = record { edges = types_in o.plan.edges hop.edges; targets = ends.target.types }
+
     same : (clock : Calendar) (s : State Reference) → Shows o.plan.places o.frame s → pattern ≡ hop_pattern (setting (world_over clock o)) (view_hop hop)
-    same clock s shows = ap₂ (λ es ts. record { edges = es; targets = ts }) (edges ∙ sym (types_are clock o hop.edges))
-        (targets ∙ (has.each (accum_names o.plan) (tuples_are o.tuples) o.vertices o.edges.rows clock s.names shows.names).target_types ∙ ap (λ w. Rattle.gq_rules_typing.specs.Patterns.end_types (setting (world_over clock o)) (view_walk w)) e)
-
-pub from_nowhere_if : {E : Type 0} (o : Over) (block : Block) (set : List ℕ) (result : Result (List Candidate) E) → block.walk ≡ walk.Nowhere → IfOk result (λ cs. cs ≡ candidates (sight_of o.schema o.vertices o.edges) set None) → IfOk result (AreFrom o block set)
-from_nowhere_if o block set (Ok cs) e is = from_nowhere o block set cs e is
-from_nowhere_if o block set (Err x) e is = tt
-
-pub from_hop_if : {E : Type 0} (o : Over) (block : Block) (ends : Ends) (set : List ℕ) (hop : Hop) (pattern : Pattern) (result : Result (List Candidate) E) → HasEnds o.schema o.plan o.frame.things block ends → block.walk ≡ walk.Hop hop → pattern.edges ≡ types_in o.plan.edges hop.edges
-    → pattern.targets ≡ ends.target.types → IfOk result (λ cs. cs ≡ candidates (sight_of o.schema o.vertices o.edges) set (Some pattern)) → IfOk result (AreFrom o block set)
-from_hop_if o block ends set hop pattern (Ok cs) has e edges targets is = from_hop o block ends set hop pattern cs has e edges targets is
-from_hop_if o block ends set hop pattern (Err x) has e edges targets is = tt
+    same clock s shows = ap₂ (λ es ts. record { edges = es; targets = ts }) (sym (types_are clock o hop.edges))
+        ((has.each (accum_names o.plan) (tuples_are o.tuples) o.vertices o.edges.rows clock s.names shows.names).target_types ∙ ap (λ w. Rattle.gq_rules_typing.specs.Patterns.end_types (setting (world_over clock o)) (view_walk w)) e)
 
 -- where no set is in view, nothing is listed
 pub no_set_listed : (t : Option Thing) → is_set t ≡ false → [] ≡ listed_at t
@@ -175,27 +169,35 @@ no_set_listed None h = refl
 no_set_listed (Some (SetOf ts vs)) h = absurd (cc h)
 no_set_listed (Some thing) h = refl
 
-pub start_set : (o : Over) (block : Block) (n : ℕ) (set : List ℕ) (cs : List Candidate) → block.source ≡ source.Set n → set ≡ listed_at (thing_in o.plan.places o.frame.things n) → AreFrom o block set cs → AreCandidates o block cs
-start_set o block n set cs e is h = record {
-  each = λ clock s shows. h.each clock s shows ∙ ap (λ (l : List ℕ). sources.candidates_of (world_over clock o) l (view_walk block.walk)) (is ∙ sym (start_place clock o s.names n (thing_in o.plan.places o.frame.things n) (shows.names (Place n)))
-      ∙ ap (λ q. (source_of (world_over clock o) s.names (Rattle.gq_plan_ir.specs.BlockView.view_source q)).1) (sym e));
-  within = h.within;
+-- the vertices that a block starts from, whatever state the frame shows
+pub record Begins (o : Over) (block : Block) (set : List ℕ) : Type 0 where
+  pub each : (clock : Calendar) (s : State Reference) → Shows o.plan.places o.frame s → set ≡ (from (world_over clock o) s.names (view_block block)).start
+
+pub begins_set : (o : Over) (block : Block) (n : ℕ) (set : List ℕ) → block.source ≡ source.Set n → set ≡ listed_at (thing_in o.plan.places o.frame.things n) → Begins o block set
+begins_set o block n set e is = record {
+  each = λ clock s shows. is ∙ sym (start_place clock o s.names n (thing_in o.plan.places o.frame.things n) (shows.names (Place n)))
+      ∙ ap (λ q. (source_of (world_over clock o) s.names (Rattle.gq_plan_ir.specs.BlockView.view_source q)).1) (sym e);
 }
 
-pub start_all : (o : Over) (block : Block) (t : ℕ) (set : List ℕ) (cs : List Candidate) → block.source ≡ source.Type t → set ≡ vertices_under o.vertices o.plan.vertices t → AreFrom o block set cs → AreCandidates o block cs
-start_all o block t set cs e is h = record {
-  each = λ clock s shows. h.each clock s shows ∙ ap (λ (l : List ℕ). sources.candidates_of (world_over clock o) l (view_walk block.walk)) (is ∙ sym (start_type clock o s.names t (shows.names (VertexType t)))
-      ∙ ap (λ q. (source_of (world_over clock o) s.names (Rattle.gq_plan_ir.specs.BlockView.view_source q)).1) (sym e));
-  within = h.within;
+pub begins_all : (o : Over) (block : Block) (t : ℕ) (set : List ℕ) → block.source ≡ source.Type t → set ≡ vertices_under o.vertices o.plan.vertices t → Begins o block set
+begins_all o block t set e is = record {
+  each = λ clock s shows. is ∙ sym (start_type clock o s.names t (shows.names (VertexType t)))
+      ∙ ap (λ q. (source_of (world_over clock o) s.names (Rattle.gq_plan_ir.specs.BlockView.view_source q)).1) (sym e);
 }
 
-pub start_set_if : {E : Type 0} (o : Over) (block : Block) (n : ℕ) (set : List ℕ) (result : Result (List Candidate) E) → block.source ≡ source.Set n → set ≡ listed_at (thing_in o.plan.places o.frame.things n) → IfOk result (AreFrom o block set) → IfOk result (AreCandidates o block)
-start_set_if o block n set (Ok cs) e is h = start_set o block n set cs e is h
-start_set_if o block n set (Err x) e is h = tt
+pub found_if : {E : Type 0} (o : Over) (block : Block) (set : List ℕ) (result : Result (List Candidate) E) → Begins o block set → IfOk result (AreFrom o block set) → IfOk result (AreCandidates o block)
+found_if o block set (Ok cs) begins are = record {
+  each = λ clock s shows. are.each clock s shows ∙ ap (λ (l : List ℕ). sources.candidates_of (world_over clock o) l (view_walk block.walk)) (begins.each clock s shows);
+  within = are.within;
+  bounded = are.bounded;
+}
+found_if o block set (Err x) begins are = tt
 
-pub start_all_if : {E : Type 0} (o : Over) (block : Block) (t : ℕ) (set : List ℕ) (result : Result (List Candidate) E) → block.source ≡ source.Type t → set ≡ vertices_under o.vertices o.plan.vertices t → IfOk result (AreFrom o block set) → IfOk result (AreCandidates o block)
-start_all_if o block t set (Ok cs) e is h = start_all o block t set cs e is h
-start_all_if o block t set (Err x) e is h = tt
+pub many_if : (o : Over) (block : Block) (set : List ℕ) → Begins o block set → FromTooMany o block set → AreTooMany o block
+many_if o block set begins many = record {
+  each = λ clock s shows.
+      ap (λ (l : List ℕ). within_bound (view_walk block.walk) (sources.candidates_of (world_over clock o) l (view_walk block.walk))) (sym (begins.each clock s shows)) ∙ many.each clock s shows;
+}
 
 -- ---- all vertices of a type
 

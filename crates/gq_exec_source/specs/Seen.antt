@@ -1,6 +1,7 @@
 -- Seen: which types a plan sees of a catalog, and what stands behind FROM.
 use Rattle.std.specs.Prelude.{ℕ, List, [], Option, Some}
-use Rattle.std.specs.Option.{option_to_list}
+use Rattle.std.specs.Option.{option_map, option_to_list}
+use Rattle.gq_tree.specs.declared.select.Way.{Way}
 use Rattle.gq_graph.specs.Catalog.{Schema}
 use Rattle.gq_rules_typing.specs.Sorts.{Sorts, sorts_of}
 use Rattle.gq_rules_typing.specs.Words.{Setting, if_own}
@@ -24,6 +25,10 @@ setting_for schema p = record { words = by_reference (sorts_for schema p) []; so
 -- a type, if it is among those of the graph
 abbrev pub own_of : List ℕ → ℕ → Option ℕ
 own_of own t = if_own own (Some t)
+
+-- a way of a type, if that is among those of the graph
+abbrev pub own_way_of : List ℕ → Way × ℕ → Option (Way × ℕ)
+own_way_of own w = option_map (λ t. (w.0, t)) (own_of own w.1)
 
 abbrev pub set_types : Option states.Thing → List ℕ
 set_types (Some (SetOf types vs)) = types

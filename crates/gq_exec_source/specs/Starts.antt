@@ -1,5 +1,5 @@
 -- Starts: where a block begins: the vertices that its source stands for, and which candidates are meant.
-use Rattle.std.specs.Prelude.{◌≡◌, ℕ, ◌<◌, if◌then◌else◌, List, [], ◌∷◌, filter, length, Option, Some, None}
+use Rattle.std.specs.Prelude.{◌≡◌, ℕ, ◌<◌, true, false, if◌then◌else◌, List, [], ◌∷◌, filter, length, Option, Some, None}
 use Rattle.std.specs.List.{All, range_with_len}
 use Rattle.gq_graph.specs.declared.rows.Candidate.{Candidate}
 use Rattle.gq_graph.specs.declared.rows.VertexRow.{VertexRow}
@@ -7,7 +7,7 @@ use Rattle.gq_graph.specs.Candidates.{among, is_target}
 use Rattle.gq_index.specs.Sights.{vertex_kinds}
 use Rattle.gq_rules_meaning.specs.Calendars.{Calendar}
 use Rattle.gq_rules_meaning.specs.States.{Thing, SetOf, State}
-use Rattle.gq_rules_meaning.specs.Sources.{from, candidates_of}
+use Rattle.gq_rules_meaning.specs.Sources.{from, candidates_of, within_bound}
 use Rattle.gq_plan_ir.specs.declared.block.Block.{Block}
 use Rattle.gq_plan_ir.specs.declared.block.Types.{Types}
 use Rattle.gq_plan_ir.specs.declared.block.Types.TheVariants as types
@@ -44,13 +44,24 @@ pub record IsWithin (n : ℕ) (c : Candidate) : Type 0 where
   pub source : c.source < n
   pub target : IsBelow n c.target
 
--- the candidates from a set, whatever state the frame shows
+-- the candidates from a set, whatever state the frame shows; along a path as few as it may have
 pub record AreFrom (o : Over) (block : Block) (set : List ℕ) (cs : List Candidate) : Type 0 where
   pub each : (clock : Calendar) (s : State Reference) → Shows o.plan.places o.frame s → cs ≡ candidates_of (world_over clock o) set (view_walk block.walk)
   pub within : All (IsWithin (length o.vertices)) cs
+  pub bounded : within_bound (view_walk block.walk) cs ≡ true
 
--- the candidates of a block
+-- from a set there are more than a path may have
+pub record FromTooMany (o : Over) (block : Block) (set : List ℕ) : Type 0 where
+  pub each : (clock : Calendar) (s : State Reference) → Shows o.plan.places o.frame s → within_bound (view_walk block.walk) (candidates_of (world_over clock o) set (view_walk block.walk)) ≡ false
+
+-- the candidates of a block; along a path as few as it may have
 pub record AreCandidates (o : Over) (block : Block) (cs : List Candidate) : Type 0 where
   pub each : (clock : Calendar) (s : State Reference) → Shows o.plan.places o.frame s
       → cs ≡ candidates_of (world_over clock o) (from (world_over clock o) s.names (view_block block)).start (view_block block).walk
   pub within : All (IsWithin (length o.vertices)) cs
+  pub bounded : within_bound (view_block block).walk cs ≡ true
+
+-- a block has more than a path may have
+pub record AreTooMany (o : Over) (block : Block) : Type 0 where
+  pub each : (clock : Calendar) (s : State Reference) → Shows o.plan.places o.frame s
+      → within_bound (view_block block).walk (candidates_of (world_over clock o) (from (world_over clock o) s.names (view_block block)).start (view_block block).walk) ≡ false

@@ -1,9 +1,19 @@
 // Candidates.
-ghost use Rattle.std.specs.Prelude.{IfOk};
+ghost use Rattle.std.specs.Prelude.{◌≡◌, ◌<◌, ◌≤◌, length, map, IfOk, Err, Some};
+ghost use Rattle.gq_graph.specs.Candidates.{candidates};
+ghost use Rattle.gq_index.specs.Sights.{sight_of};
+ghost use Rattle.gq_rules_typing.specs.Patterns.{path_step};
+ghost use Rattle.gq_rules_meaning.specs.Paths.{bindings};
+ghost use Rattle.gq_plan_ir.specs.BlockView.{view_path_step};
+ghost use Rattle.gq_exec_source.specs.declared.path_types.PathsFault.TheVariants as fault;
 ghost use Rattle.gq_exec_source.specs.Ends.{HasEnds};
-ghost use Rattle.gq_exec_source.specs.Starts.{AreCandidates, AreFrom};
+ghost use Rattle.gq_exec_source.specs.Seen.{setting_for};
+ghost use Rattle.gq_exec_source.specs.Starts.{types_in, AreCandidates, AreFrom, AreTooMany, FromTooMany};
 
 use crate::ends::Ends;
+use crate::path_types::PathsFault;
+use crate::paths::Paths;
+use crate::patterns::path_steps;
 use crate::starts::vertices_of;
 use crate::types::edge_types;
 use gq_base::{List, OutOfMemory};
@@ -11,19 +21,21 @@ use gq_eval_context::BlockContext;
 use gq_frame::set_at;
 use gq_graph::Pattern;
 use gq_index::{Candidates, VertexList};
-use gq_plan_ir::{Block, SelectSource, Walk};
+use gq_plan_ir::{Block, Hop, PathStep, SelectSource, Walk};
 use std::alloc::Global;
 
-/// The candidates of a block whose ends these are. A set is walked from where it lies; from a type all of its vertices are listed. Along
-/// a path it answers OutOfMemory.
+/// The candidates of a block whose ends these are: along a path its bindings. A set is walked from where it lies; from a
+/// type all of its vertices are listed. Only a path has too many: more than 4,194,304 bindings, which are counted before
+/// anything is known of a condition on them.
 pub fn candidates_of(
     alloc: Global,
     block: &Block,
     over: &BlockContext<'_>,
     ends: &Ends,
-) -> Result<Candidates, OutOfMemory>
+) -> Result<Candidates, PathsFault>
     requires { HasEnds over.now.schema over.now.plan over.now.frame.things block.now ends.now }
-    ensures { IfOk result (AreCandidates over.now block.now) }
+    ensures found { IfOk result (AreCandidates over.now block.now) }
+    ensures many { result ≡ Err fault.TooMany → AreTooMany over.now block.now }
 {
     match block.source {
         SelectSource::Set(place) => {
@@ -35,10 +47,49 @@ pub fn candidates_of(
         }
         SelectSource::Type(kind) => {
             let vertices = &over.graph.store.vertices;
-            let all = vertices_of(alloc, vertices, over.plan.vertices.as_slice(), kind)?;
-            candidates_from(alloc, block, over, ends, &all)
+            match vertices_of(alloc, vertices, over.plan.vertices.as_slice(), kind) {
+                Ok(all) => candidates_from(alloc, block, over, ends, &all),
+                Err(OutOfMemory) => Err(PathsFault::OutOfMemory),
+            }
         }
     }
+}
+
+/// The candidates along a path.
+pub(crate) fn along_path(
+    alloc: Global,
+    over: &BlockContext<'_>,
+    set: &VertexList,
+    steps: &[PathStep],
+) -> Result<Candidates, PathsFault>
+    ensures listed { IfOk result (λ cs. cs ≡ bindings (sight_of over.now.schema over.now.vertices over.now.edges) set.now (map (path_step (setting_for over.now.schema over.now.plan)) (map view_path_step steps.now))) }
+    ensures few { IfOk result (λ cs. length cs ≤ 4194304) }
+    ensures many { result ≡ Err fault.TooMany → 4194304 < length (bindings (sight_of over.now.schema over.now.vertices over.now.edges) set.now (map (path_step (setting_for over.now.schema over.now.plan)) (map view_path_step steps.now))) }
+{
+    match path_steps(alloc, over.graph.catalog, over.plan, steps) {
+        Ok(pattern) => match Paths::of(alloc, &over.graph, set, &pattern) {
+            Ok(paths) => Ok(paths.into_candidates()),
+            Err(fault) => Err(fault),
+        },
+        Err(OutOfMemory) => Err(PathsFault::OutOfMemory),
+    }
+}
+
+/// The candidates along one hop.
+fn along_hop(
+    alloc: Global,
+    over: &BlockContext<'_>,
+    ends: &Ends,
+    set: &VertexList,
+    hop: &Hop,
+) -> Result<Candidates, OutOfMemory>
+    ensures { IfOk result (λ cs. cs ≡ candidates (sight_of over.now.schema over.now.vertices over.now.edges) set.now (Some (record { edges = types_in over.now.plan.edges hop.now.edges; targets = ends.now.target.types }))) }
+{
+    let pattern = Pattern {
+        edges: edge_types(alloc, over.plan.edges.as_slice(), &hop.edges)?,
+        targets: List::from_slice(alloc, ends.target.types.as_slice())?,
+    };
+    Candidates::of(alloc, &over.graph, set, Some(&pattern))
 }
 
 /// The candidates from a set.
@@ -48,19 +99,20 @@ fn candidates_from(
     over: &BlockContext<'_>,
     ends: &Ends,
     set: &VertexList,
-) -> Result<Candidates, OutOfMemory>
+) -> Result<Candidates, PathsFault>
     requires { HasEnds over.now.schema over.now.plan over.now.frame.things block.now ends.now }
-    ensures { IfOk result (AreFrom over.now block.now set.now) }
+    ensures found { IfOk result (AreFrom over.now block.now set.now) }
+    ensures many { result ≡ Err fault.TooMany → FromTooMany over.now block.now set.now }
 {
     match &block.walk {
-        Walk::Nowhere => Candidates::of(alloc, &over.graph, set, None),
-        Walk::Hop(hop) => {
-            let pattern = Pattern {
-                edges: edge_types(alloc, over.plan.edges.as_slice(), &hop.edges)?,
-                targets: List::from_slice(alloc, ends.target.types.as_slice())?,
-            };
-            Candidates::of(alloc, &over.graph, set, Some(&pattern))
-        }
-        Walk::Path(_) => Err(OutOfMemory),
+        Walk::Nowhere => match Candidates::of(alloc, &over.graph, set, None) {
+            Ok(all) => Ok(all),
+            Err(OutOfMemory) => Err(PathsFault::OutOfMemory),
+        },
+        Walk::Hop(hop) => match along_hop(alloc, over, ends, set, hop) {
+            Ok(all) => Ok(all),
+            Err(OutOfMemory) => Err(PathsFault::OutOfMemory),
+        },
+        Walk::Path(steps) => along_path(alloc, over, set, steps.as_slice()),
     }
 }

@@ -7,19 +7,39 @@
 //! and which candidates), `specs/Ends.antt` (the types of the aliases) and `specs/Marks.antt` (bit sets).
 //! `src/candidates.rt` finds the candidates, `src/starts.rt` the starting vertices, `src/ends.rt` the types;
 //! `src/marks.rt` and `src/sets.rt` have bit sets and their operators.
+//!
+//! Along a path the candidates are its bindings. Mostly the kept index has the walks of all steps: then they are looked
+//! up from vertex to vertex. A search that looks at many walks begins again once it is marked from where nothing goes on, so
+//! the time goes with what is found. A step that goes along a type otherwise, as both ways along a directed type, has a list
+//! of walks for each vertex, a hop. Hops are made from the last step to the first, and a row that leads nowhere is left out.
+//!
+//! Read `Paths.antt` of `gq_rules_meaning` first, then `specs/Entries.antt` (under which types the index has the walks of a
+//! step) and `specs/Indexed.antt` (dead ends), `specs/Ways.antt` (the walks of a step along all rows) and `specs/Hops.antt`
+//! (what is listed, and what it leads to). `src/lookups.rt` goes along the index, `src/entries.rt` finds the types and
+//! `src/indexed.rt` the dead ends; `src/walks.rt` finds the walks of a step, `src/hop.rt` sorts them by vertex, and
+//! `src/paths.rt` goes from hop to hop.
 #![tactic(auto)]
 
 mod candidates;
 mod ends;
+mod entries;
+mod hop;
+mod indexed;
+mod lookups;
 mod marks;
+mod path_types;
+mod paths;
 mod patterns;
 mod sets;
 mod sources;
 mod starts;
 mod types;
+mod walks;
 
 pub use candidates::candidates_of;
 pub use ends::{End, Ends, ends_of, selects_target};
 pub use marks::{is_marked, listed, mark, unmarked};
+pub use path_types::{PathPattern, PathStep, PathsFault};
+pub use paths::{MOST_PATHS, Paths};
 pub use sets::{difference, intersection, union};
 pub use types::is_own;

@@ -5,8 +5,10 @@ ghost use Rattle.std.specs.Option.{option_to_list};
 ghost use Rattle.gq_rules_typing.specs.Patterns as spec;
 ghost use Rattle.gq_plan_ir.specs.BlockView.{view_hop, view_path_step, view_types, view_walk};
 ghost use Rattle.gq_plan_ir.specs.Reference as reference;
-ghost use Rattle.gq_exec_source.specs.Seen.{own_of, setting_for, sorts_for};
+ghost use Rattle.gq_exec_source.specs.Ways.{step_of};
+ghost use Rattle.gq_exec_source.specs.Seen.{own_of, own_way_of, setting_for, sorts_for};
 
+use crate::path_types::{PathPattern, PathStep as WalkedStep};
 use crate::types::is_own;
 use gq_base::{List, OutOfMemory};
 use gq_check_from::{by_number, hop_far, or_all, push_ends};
@@ -138,6 +140,58 @@ fn step_ends(
         }
         Types::These(types) => named_vertices(alloc, catalog, plan, types.as_slice()),
     }
+}
+
+/// Those of a step's ways whose types are among the graph's.
+#[tactic(auto, using(crate::proofs::PathLemmas::way_laws))]
+fn ways_named(
+    alloc: Global,
+    own: &[u32],
+    ways: &[(Way, u32)],
+) -> Result<Vec<(Way, u32)>, OutOfMemory>
+    ensures { IfOk result (λ v. v.items ≡ filter_map (own_way_of own.now) ways.now) }
+{
+    let mut named = Vec::new(alloc);
+    for way in ways {
+        if is_own(own, way.1) {
+            named.push(*way)?;
+        }
+    }
+    Ok(named)
+}
+
+/// A step as it is walked: by the numbers of types.
+fn walked_step(
+    alloc: Global,
+    catalog: &Catalog,
+    plan: &Plan,
+    step: &PathStep,
+) -> Result<WalkedStep, OutOfMemory>
+    ensures { IfOk result (λ s. step_of s ≡ spec.path_step (setting_for catalog.now plan.now) (view_path_step step.now)) }
+{
+    let edges = ways_named(alloc, plan.edges.as_slice(), step.ways.as_slice())?;
+    let targets = step_ends(alloc, catalog, plan, step)?;
+    Ok(WalkedStep {
+        edges: List::from_vec(edges),
+        targets,
+    })
+}
+
+/// The steps of a path as they are walked.
+#[tactic(auto, using(crate::proofs::PathLemmas::steps_more))]
+pub(crate) fn path_steps(
+    alloc: Global,
+    catalog: &Catalog,
+    plan: &Plan,
+    steps: &[PathStep],
+) -> Result<PathPattern, OutOfMemory>
+    ensures { IfOk result (λ p. map step_of p ≡ map (spec.path_step (setting_for catalog.now plan.now)) (map view_path_step steps.now)) }
+{
+    let mut walked = List::new(alloc);
+    for step in steps {
+        walked.push(walked_step(alloc, catalog, plan, step)?)?;
+    }
+    Ok(walked)
 }
 
 /// Where a path leads: the end of its last step.

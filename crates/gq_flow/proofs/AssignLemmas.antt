@@ -7,7 +7,6 @@ use Rattle.gq_rules_typing.specs.Selecting.{Select}
 use Rattle.gq_rules_typing.specs.Statements as plain
 use Rattle.gq_rules_typing.specs.Statements.{SetTypes}
 use Rattle.gq_value.specs.declared.kind.BaseType.{BaseType}
-use Rattle.gq_graph.specs.declared.rows.Candidate.{Candidate}
 use Rattle.gq_graph.specs.declared.rows.VertexRow.{VertexRow}
 use Rattle.gq_value.specs.declared.value.Value.{Value}
 use Rattle.gq_value.specs.declared.value.Wrong.{Wrong}
@@ -29,11 +28,9 @@ use Rattle.gq_rules_meaning.specs.Statements.{Fault, Evaluation, PathBound, is_s
 use Rattle.gq_rules_meaning.specs.Tails as tails
 use Rattle.gq_rules_meaning.specs.Tails.{select}
 use Rattle.gq_plan_ir.specs.declared.block.Block.{Block}
-use Rattle.gq_plan_ir.specs.declared.block.Walk.{Walk}
-use Rattle.gq_plan_ir.specs.declared.block.Walk.TheVariants as walk
 use Rattle.gq_plan_ir.specs.declared.plan.PlaceType.{PlaceType}
 use Rattle.gq_plan_ir.specs.declared.plan.PlaceType.TheVariants as held
-use Rattle.gq_plan_ir.specs.BlockView.{view_block, view_walk}
+use Rattle.gq_plan_ir.specs.BlockView.{view_block}
 use Rattle.gq_plan_ir.specs.Reference.{Reference, Place}
 use Rattle.gq_plan_ir.specs.References.{same}
 use Rattle.gq_eval_operand.specs.declared.halt.Halt.{Halt}
@@ -48,26 +45,23 @@ use Rattle.gq_frame.specs.Slots.{AreSound, slots_are}
 use Rattle.gq_frame.specs.declared.live.Live.{Live}
 use Rattle.gq_frame.specs.Lives.{Lives, Unwinds}
 use Rattle.gq_frame.proofs.LookupLemmas.{seen_there}
-use Rattle.gq_eval_context.specs.declared.after.BlockFault.{BlockFault}
-use Rattle.gq_eval_context.specs.declared.after.BlockFault.TheVariants as block
-use Rattle.gq_eval_context.specs.Answered.{EndsAs}
 use Rattle.gq_exec_control.specs.declared.running.RunFault.{RunFault}
 use Rattle.gq_exec_control.specs.declared.running.RunFault.TheVariants as fault
-use Rattle.gq_exec_control.specs.Standing.{Ends, Says}
+use Rattle.gq_exec_control.specs.Standing.{Says}
 use Rattle.gq_exec_control.proofs.FaultLemmas.{ends_bind, ends_same, leads_same}
 use Rattle.gq_exec_vars.specs.declared.lookup.Lookup.{Lookup}
 use Rattle.gq_exec_vars.specs.declared.typed.TypedSet.{TypedSet}
 use Rattle.gq_exec_vars.specs.Lookups.{IsOver, IsSeen}
 use Rattle.gq_exec_vars.specs.Written.{typed}
 use Rattle.gq_flow.specs.declared.selects.Selected.{Selected}
-use Rattle.gq_flow.specs.Selecting.{Chosen, Selects, chosen, chosen_by}
+use Rattle.gq_flow.specs.Selecting.{Chosen, Selects, chosen, chosen_if, selected_by}
 use Rattle.gq_exec_control.specs.Contexts.{Basis, over_of, world_on}
-use Rattle.gq_exec_control.specs.Faults.{fault_of_block, faults_of}
+use Rattle.gq_exec_control.specs.Faults.{faults_of}
 use Rattle.gq_exec_control.specs.Changes.{Change, Becomes, Reads}
 use Rattle.gq_exec_control.specs.Places.{IsVariable}
 use Rattle.gq_exec_control.proofs.ContextLemmas.{says_told, shows_of}
 use Rattle.gq_exec_control.proofs.Steps.{bound}
-use Rattle.gq_flow.specs.Assigning.{Fixed, IsNoName, Kept, is_path}
+use Rattle.gq_flow.specs.Assigning.{Fixed, IsNoName, Kept}
 
 -- ---- what set expressions look at
 
@@ -236,27 +230,9 @@ module _ (clock : Calendar) (b : Basis) (place : ℕ) (t : Tree Reference) (base
 
 -- ---- SELECT
 
-no_path : (w : Walk) (cs : List Candidate) → is_path w ≡ false → within_bound (view_walk w) cs ≡ true
-no_path walk.Nowhere cs h = refl
-no_path (walk.Hop hop) cs h = refl
-no_path (walk.Path steps) cs h = absurd (let no : ⊥ = cc in no)
-
-ends_block : {A : Type 0} (o : Answer blocks.BlockFault A) (e : BlockFault) → EndsAs o e → Ends (blaming of_block o) (fault_of_block e)
-ends_block o (block.Eval at w) h = ap (blaming of_block) h
-ends_block o (block.SumRange n) h = ap (blaming of_block) h
-ends_block o block.OutOfMemory h = tt
-
 -- the vertices are given, with the accumulators
 abbrev given_to : World Reference → Reference → Option (SetTypes Reference) → State Reference → Chosen → State Reference
 given_to world x types s c = set_assigned world x types c.0 (record s { slots = c.1 })
-
--- as it is once bindings are counted
-abbrev bounded : World Reference → State Reference → Reference → Option (SetTypes Reference) → Select Reference → Bool → Answer Fault (State Reference)
-bounded world s x types q w =
-    elim w [
-      | false ↦ Faults PathBound
-      | true ↦ blaming of_block (select world s q) >>= λ r. Gives (set_assigned world x types (types_at (from world s.names q) (selects_target world q), r.vertices) (record s { slots = r.slots }))
-    ]
 
 given_joined : (world : World Reference) (x : Reference) (types : Option (SetTypes Reference)) (s : State Reference) (found : List ℕ) (o : Answer blocks.BlockFault (tails.Selected Reference))
     → (blaming of_block o >>= λ r. Gives (set_assigned world x types (found, r.vertices) (record s { slots = r.slots }))) ≡ (blaming of_block (o >>= λ r. Gives ((found, r.vertices), r.slots)) >>= λ c. Gives (given_to world x types s c))
@@ -264,7 +240,20 @@ given_joined world x types s found (Gives r) = refl
 given_joined world x types s found (Faults e) = refl
 given_joined world x types s found Stuck = refl
 
-module _ (clock : Calendar) (b : Basis) (place : ℕ) (types : Option (SetTypes Reference)) (q : Block) (hop : is_path q.walk ≡ false) where
+-- the definition of the assignment, by whether the bindings are as few as they may be
+abbrev bounded : World Reference → State Reference → Reference → Option (SetTypes Reference) → Select Reference → Bool → Answer Fault (State Reference)
+bounded world s x types q few =
+    elim few [
+      | false ↦ Faults PathBound
+      | true ↦ blaming of_block (select world s q) >>= λ r. Gives (set_assigned world x types (types_at (from world s.names q) (selects_target world q), r.vertices) (record s { slots = r.slots }))
+    ]
+
+bounded_joined : (world : World Reference) (s : State Reference) (x : Reference) (types : Option (SetTypes Reference)) (q : Select Reference) (few : Bool)
+    → bounded world s x types q few ≡ (chosen_if world s q few >>= λ c. Gives (given_to world x types s c))
+bounded_joined world s x types q false = refl
+bounded_joined world s x types q true = given_joined world x types s (types_at (from world s.names q) (selects_target world q)) (select world s q)
+
+module _ (clock : Calendar) (b : Basis) (place : ℕ) (types : Option (SetTypes Reference)) (q : Block) where
   -- what the definitions do
   abbrev selecting : Change
   selecting s = select_assigned (world_on clock b) s (Place place) types (view_block q)
@@ -272,24 +261,23 @@ module _ (clock : Calendar) (b : Basis) (place : ℕ) (types : Option (SetTypes 
   abbrev given_so : State Reference → Chosen → State Reference
   given_so s c = given_to (world_on clock b) (Place place) types s c
 
-  select_is : (s : State Reference) → selecting s ≡ (blaming of_block (chosen_by (world_on clock b) s (view_block q)) >>= λ c. Gives (given_so s c))
+  select_is : (s : State Reference) → selecting s ≡ (selected_by (world_on clock b) s (view_block q) >>= λ c. Gives (given_so s c))
   select_is s =
-      ap (bounded (world_on clock b) s (Place place) types (view_block q)) (no_path q.walk (candidates_of (world_on clock b) (from (world_on clock b) s.names (view_block q)).start (view_block q).walk) hop)
-      ∙ given_joined (world_on clock b) (Place place) types s (types_at (from (world_on clock b) s.names (view_block q)) (selects_target (world_on clock b) (view_block q))) (select (world_on clock b) s (view_block q))
+      bounded_joined (world_on clock b) s (Place place) types (view_block q)
+      (within_bound (view_block q).walk (candidates_of (world_on clock b) (from (world_on clock b) s.names (view_block q)).start (view_block q).walk))
 
-  pub select_stops : (old new : Live) (e : BlockFault) (other : RunFault) → other ≡ fault_of_block e → Selects clock (over_of b old.frame) q (Err e) → Becomes b.plan.places selecting old new (Err other)
-  select_stops old new e other is d = record {
+  pub select_stops : (old new : Live) (e : RunFault) → Selects clock (over_of b old.frame) q (Err e) → Becomes b.plan.places selecting old new (Err e)
+  select_stops old new e d = record {
     each = λ s l.
-        ends_same (selecting s) (blaming of_block (chosen_by (world_on clock b) s (view_block q)) >>= λ c. Gives (given_so s c)) other (select_is s)
-        (ends_bind (blaming of_block (chosen_by (world_on clock b) s (view_block q))) (λ c. Gives (given_so s c)) other
-        (subst (Ends (blaming of_block (chosen_by (world_on clock b) s (view_block q)))) (sym is) (ends_block (chosen_by (world_on clock b) s (view_block q)) e (d.each s (shows_of b.plan.places old s l)))));
+        ends_same (selecting s) (selected_by (world_on clock b) s (view_block q) >>= λ c. Gives (given_so s c)) e (select_is s)
+        (ends_bind (selected_by (world_on clock b) s (view_block q)) (λ c. Gives (given_so s c)) e (d.each s (shows_of b.plan.places old s l)));
   }
 
   pub select_given : (old new : Live) (r : Selected) → Selects clock (over_of b old.frame) q (Ok r) → Kept clock b place types r old new (Ok tt) → Becomes b.plan.places selecting old new (Ok tt)
   select_given old new r d k = record {
     each = λ s l. (
       given_so s (chosen r),
-      select_is s ∙ ap (λ o. blaming of_block o >>= λ c. Gives (given_so s c)) (d.each s (shows_of b.plan.places old s l)),
+      select_is s ∙ ap (λ o. o >>= λ c. Gives (given_so s c)) (d.each s (shows_of b.plan.places old s l)),
       k s l,
     );
   }

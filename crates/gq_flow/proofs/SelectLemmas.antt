@@ -1,16 +1,18 @@
 -- SelectLemmas: a SELECT from its block to its vertices.
 use Rattle.std.proofs.Common.{◌≡◌, ℕ, Bool, true, false, List, Result, Ok, Err, refl, sym, ap, subst, ◌∙◌, nat_eq}
 use Rattle.std.specs.List.{IsDistinct}
+use Rattle.gq_graph.specs.declared.rows.Candidate.{Candidate}
 use Rattle.gq_rules_typing.specs.Patterns.{is_alias, target_alias}
 use Rattle.gq_rules_typing.specs.Selecting.{Select}
-use Rattle.gq_rules_meaning.specs.Answers.{Answer, Gives, Faults, Stuck, ◌>>=◌}
+use Rattle.gq_rules_meaning.specs.Answers.{Answer, Gives, Faults, Stuck, ◌>>=◌, blaming}
 use Rattle.gq_rules_meaning.specs.Blocks as blocks
 use Rattle.gq_rules_meaning.specs.Blocks.{accumulated}
 use Rattle.gq_rules_meaning.specs.Calendars.{Calendar}
 use Rattle.gq_rules_meaning.specs.Expressions.{World}
 use Rattle.gq_rules_meaning.specs.Posts.{posted}
-use Rattle.gq_rules_meaning.specs.Sources.{From, from, selects_target, types_at}
+use Rattle.gq_rules_meaning.specs.Sources.{From, from, selects_target, types_at, within_bound}
 use Rattle.gq_rules_meaning.specs.States.{State}
+use Rattle.gq_rules_meaning.specs.Statements.{of_block}
 use Rattle.gq_rules_meaning.specs.Tails as tails
 use Rattle.gq_rules_meaning.specs.Tails.{tail}
 use Rattle.gq_plan_ir.specs.declared.block.Block.{Block}
@@ -29,12 +31,18 @@ use Rattle.gq_eval_context.specs.declared.after.BlockFault.{BlockFault}
 use Rattle.gq_eval_context.specs.declared.after.BlockFault.TheVariants as fault
 use Rattle.gq_eval_context.specs.Answered.{Answered, EndsAs, after_is}
 use Rattle.gq_eval_context.proofs.FaultLemmas.{ends_with}
-use Rattle.gq_exec_source.specs.declared.ends.Ends.{Ends}
+use Rattle.gq_exec_source.specs.declared.ends.Ends as ends
 use Rattle.gq_exec_source.specs.Ends.{HasEnds, AreEnds, end_at}
+use Rattle.gq_exec_source.specs.Starts.{AreCandidates, AreTooMany}
+use Rattle.gq_exec_control.specs.declared.running.RunFault.{RunFault}
+use Rattle.gq_exec_control.specs.declared.running.RunFault.TheVariants as run
+use Rattle.gq_exec_control.specs.Faults.{fault_of_block}
+use Rattle.gq_exec_control.specs.Standing.{Ends}
+use Rattle.gq_exec_control.proofs.FaultLemmas.{ends_same}
 use Rattle.gq_workers.specs.Results.{Answers}
 use Rattle.gq_exec_post.specs.Phases.{KeepsAll}
 use Rattle.gq_flow.specs.declared.selects.Selected.{Selected}
-use Rattle.gq_flow.specs.Selecting.{Chosen, chosen, chosen_by, chosen_after, Selects, Posts, HasTypes}
+use Rattle.gq_flow.specs.Selecting.{Chosen, chosen, chosen_by, chosen_after, chosen_if, selected_by, Chooses, Selects, Posts, HasTypes}
 
 -- ---- faults
 
@@ -78,7 +86,7 @@ by_block types p t Stuck = refl
 chosen_is : (world : World Reference) (s : State Reference) (q : Select Reference) → chosen_by world s q ≡ (accumulated world s q >>= chosen_after world s q)
 chosen_is world s q = by_block (types_there world s q) (posted world s q) (tail world s q) (accumulated world s q)
 
-pub block_stops : (clock : Calendar) (o : Over) (block : Block) (e : BlockFault) → Answers clock o block (Err e) → Selects clock o block (Err e)
+pub block_stops : (clock : Calendar) (o : Over) (block : Block) (e : BlockFault) → Answers clock o block (Err e) → Chooses clock o block (Err e)
 block_stops clock o block e a = record {
   each = λ s shows.
       let world = world_over clock o in
@@ -86,13 +94,42 @@ block_stops clock o block e a = record {
       same_end (chosen_by world s q) (accumulated world s q >>= chosen_after world s q) e (chosen_is world s q) (ends_with (accumulated world s q) (chosen_after world s q) e (a.each s shows));
 }
 
-pub block_goes : (clock : Calendar) (o : Over) (block : Block) (after : After) (r : Result Selected BlockFault) → Answers clock o block (Ok after) → Posts clock o block after r → Selects clock o block r
+pub block_goes : (clock : Calendar) (o : Over) (block : Block) (after : After) (r : Result Selected BlockFault) → Answers clock o block (Ok after) → Posts clock o block after r → Chooses clock o block r
 block_goes clock o block after r a p = record {
   each = λ s shows.
       let world = world_over clock o in
       let q = view_block block in
       answered_same chosen (chosen_by world s q) (chosen_after world s q (after_is after)) r (chosen_is world s q ∙ ap (λ x. x >>= chosen_after world s q) (a.each s shows)) (p.each s shows);
 }
+
+-- ---- the bound
+
+ends_block : {A : Type 0} (o : Answer blocks.BlockFault A) (e : BlockFault) → EndsAs o e → Ends (blaming of_block o) (fault_of_block e)
+ends_block o (fault.Eval at w) h = ap (blaming of_block) h
+ends_block o (fault.SumRange n) h = ap (blaming of_block) h
+ends_block o fault.OutOfMemory h = tt
+
+module _ (clock : Calendar) (o : Over) (block : Block) where
+  pub too_many : AreTooMany o block → Selects clock o block (Err run.PathBound)
+  too_many many = record { each = λ s shows. ap (chosen_if (world_over clock o) s (view_block block)) (many.each clock s shows) }
+
+  -- candidates that are listed are as few as they may be
+  few_enough : (cs : List Candidate) → AreCandidates o block cs → (s : State Reference) → Shows o.plan.places o.frame s
+      → selected_by (world_over clock o) s (view_block block) ≡ blaming of_block (chosen_by (world_over clock o) s (view_block block))
+  few_enough cs are s shows =
+      ap (chosen_if (world_over clock o) s (view_block block)) (ap (within_bound (view_block block).walk) (sym (are.each clock s shows)) ∙ are.bounded)
+
+  pub choice_stops : (cs : List Candidate) (e : BlockFault) (other : RunFault) → AreCandidates o block cs → other ≡ fault_of_block e → Chooses clock o block (Err e) → Selects clock o block (Err other)
+  choice_stops cs e other are is d = record {
+    each = λ s shows.
+        let world = world_over clock o in
+        let q = view_block block in
+        ends_same (selected_by world s q) (blaming of_block (chosen_by world s q)) other (few_enough cs are s shows)
+        (subst (Ends (blaming of_block (chosen_by world s q))) (sym is) (ends_block (chosen_by world s q) e (d.each s shows)));
+  }
+
+  pub choice_goes : (cs : List Candidate) (r : Selected) → AreCandidates o block cs → Chooses clock o block (Ok r) → Selects clock o block (Ok r)
+  choice_goes cs r are d = record { each = λ s shows. few_enough cs are s shows ∙ ap (blaming of_block) (d.each s shows) }
 
 -- ---- POST-ACCUM and the tail
 
@@ -136,11 +173,11 @@ selected_sound r new types vertices is h = subst (λ (x : Selected). AreSound x.
 
 -- ---- the types
 
-types_at_end : (e : Ends) (f : From Reference) (b : Bool) → AreEnds e f → (end_at e b).types ≡ types_at f b
+types_at_end : (e : ends.Ends) (f : From Reference) (b : Bool) → AreEnds e f → (end_at e b).types ≡ types_at f b
 types_at_end e f true a = a.target_types
 types_at_end e f false a = a.source_types
 
-pub types_are : (clock : Calendar) (o : Over) (block : Block) (e : Ends) (b : Bool) (types : List ℕ) → HasEnds o.schema o.plan o.frame.things block e
+pub types_are : (clock : Calendar) (o : Over) (block : Block) (e : ends.Ends) (b : Bool) (types : List ℕ) → HasEnds o.schema o.plan o.frame.things block e
     → b ≡ is_alias same (target_alias (view_block block).walk) (view_block block).selected → types ≡ (end_at e b).types → HasTypes clock o block types
 types_are clock o block e b types has is t = record {
   each = λ s shows.

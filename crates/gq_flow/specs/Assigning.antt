@@ -1,5 +1,5 @@
 -- Assigning: what an assignment leaves, step by step.
-use Rattle.std.specs.Prelude.{◌≡◌, ℕ, Bool, true, false, Option, Some, None, Result, OnOk}
+use Rattle.std.specs.Prelude.{◌≡◌, ℕ, false, Option, Some, None, Result, OnOk}
 use Rattle.gq_tree.specs.Tree.{Tree, Name}
 use Rattle.gq_rules_typing.specs.Statements.{SetTypes}
 use Rattle.gq_rules_meaning.specs.Calendars.{Calendar}
@@ -8,8 +8,6 @@ use Rattle.gq_rules_meaning.specs.Sets.{set_assigned}
 use Rattle.gq_rules_meaning.specs.States.{Thing, SetOf, State}
 use Rattle.gq_rules_meaning.specs.Statements.{is_set}
 use Rattle.gq_base.specs.declared.memory.OutOfMemory.{OutOfMemory}
-use Rattle.gq_plan_ir.specs.declared.block.Walk.{Walk}
-use Rattle.gq_plan_ir.specs.declared.block.Walk.TheVariants as walk
 use Rattle.gq_plan_ir.specs.Reference.{Reference, Place}
 use Rattle.gq_frame.specs.Slots.{slots_are}
 use Rattle.gq_frame.specs.declared.live.Live.{Live}
@@ -17,10 +15,6 @@ use Rattle.gq_frame.specs.Lives.{Lives}
 use Rattle.gq_exec_vars.specs.declared.typed.TypedSet.{TypedSet}
 use Rattle.gq_flow.specs.declared.selects.Selected.{Selected}
 use Rattle.gq_exec_control.specs.Contexts.{Basis, world_on}
-
-abbrev pub is_path : Walk → Bool
-is_path (walk.Path steps) = true
-is_path w = false
 
 abbrev pub IsNoName : Tree Reference → Type 0
 IsNoName (Name x) = ⊥

@@ -10,20 +10,19 @@ ghost use Rattle.gq_frame.specs.Slots.{AreSound};
 ghost use Rattle.gq_flow.specs.Selecting.{Selects};
 ghost use Rattle.gq_exec_control.specs.Changes.{Becomes};
 ghost use Rattle.gq_exec_control.specs.Contexts.{over_of, world_on};
-ghost use Rattle.gq_flow.specs.Assigning.{Kept, is_path};
+ghost use Rattle.gq_flow.specs.Assigning.{Kept};
 
 use crate::selects::{Selected, Workers, select};
 use crate::sets::give_set;
 use gq_base::OutOfMemory;
-use gq_eval_context::BlockFault;
-use gq_exec_control::{RunContext, RunFault, block_fault};
+use gq_exec_control::{RunContext, RunFault};
 use gq_exec_vars::TypedSet;
 use gq_frame::{Frame, Live};
-use gq_plan_ir::{Block, SetTypes, Walk};
+use gq_plan_ir::{Block, SetTypes};
 use std::alloc::Global;
 use std::thread::Threads;
 
-/// Assigns what a SELECT selects, and keeps its accumulators. Along a path it answers OutOfMemory.
+/// Assigns what a SELECT selects, and keeps its accumulators.
 pub(crate) fn assign_select<R: Threads + Sync>(
     workers: &Workers<'_, R>,
     alloc: Global,
@@ -37,24 +36,12 @@ pub(crate) fn assign_select<R: Threads + Sync>(
     ensures names { Becomes context.now.plan.places (λ s. assigned (world_on gregorian context.now) s (Place place) (option_map view_set_types types) (view_right (right.Select block.now))) live.old live.new result }
     ensures sound { OnOk result (AreSound live.new.frame.accums) }
 {
-    if is_path(&block.walk) {
-        return Err(RunFault::OutOfMemory);
-    }
     match select_over(workers, alloc, context, block, &live.frame) {
-        Err(fault) => Err(block_fault(fault)),
+        Err(fault) => Err(fault),
         Ok(selected) => match keep(context, place, types, selected, live) {
             Err(_) => Err(RunFault::OutOfMemory),
             Ok(()) => Ok(()),
         },
-    }
-}
-
-fn is_path(walk: &Walk) -> bool
-    ensures { result ≡ is_path walk.now }
-{
-    match walk {
-        Walk::Path(_) => true,
-        Walk::Nowhere | Walk::Hop(_) => false,
     }
 }
 
@@ -64,7 +51,7 @@ fn select_over<R: Threads + Sync>(
     context: &RunContext<'_>,
     block: &Block,
     frame: &Frame,
-) -> Result<Selected, BlockFault>
+) -> Result<Selected, RunFault>
     requires { AreSound frame.now.accums }
     ensures selects { Selects gregorian (over_of context.now frame.now) block.now result }
     ensures sound { IfOk result (λ selected. AreSound selected.accums) }

@@ -3,16 +3,18 @@ ghost use Rattle.std.specs.Prelude.{◌≡◌, IfOk};
 ghost use Rattle.gq_rules_calendar.specs.Gregorian.{gregorian};
 ghost use Rattle.gq_frame.specs.Slots.{AreSound};
 ghost use Rattle.gq_exec_source.specs.Ends.{HasEnds, end_at};
+ghost use Rattle.gq_exec_source.specs.Starts.{AreCandidates};
 ghost use Rattle.gq_workers.specs.Results.{Leaves};
-ghost use Rattle.gq_flow.specs.Selecting.{Posts, Selects};
+ghost use Rattle.gq_flow.specs.Selecting.{Chooses, Posts, Selects};
 
 use gq_after::tail;
 use gq_base::{List, OutOfMemory};
 use gq_eval_context::{After, BlockContext, BlockFault};
+use gq_exec_control::{RunFault, block_fault};
 use gq_exec_post::post;
-use gq_exec_source::{Ends, ends_of, selects_target};
+use gq_exec_source::{Ends, PathsFault, candidates_of, ends_of, selects_target};
 use gq_frame::Accums;
-use gq_index::VertexList;
+use gq_index::{Candidates, VertexList};
 use gq_io::{AnyGate, Shape};
 use gq_plan_ir::Block;
 use gq_workers::run_block;
@@ -37,30 +39,56 @@ pub struct Selected {
 
 /// A whole SELECT: WHERE and ACCUM of all candidates, then POST-ACCUM, then HAVING, ORDER BY and LIMIT. The frame stays as it is.
 ///
-/// Along a path it answers OutOfMemory.
+/// The candidates are listed before any of it, and along a path they are counted: `PathBound` where it has more than
+/// 4,194,304 bindings, whatever WHERE would keep of them.
 pub fn select<R: Threads + Sync>(
     workers: &Workers<'_, R>,
     alloc: Global,
     block: &Block,
     over: &BlockContext<'_>,
-) -> Result<Selected, BlockFault>
+) -> Result<Selected, RunFault>
     ensures selects { Selects gregorian over.now block.now result }
     ensures sound { IfOk result (λ selected. AreSound selected.accums) }
 {
     match ends_over(alloc, block, over) {
-        Err(_) => Err(BlockFault::OutOfMemory),
-        Ok(ends) => match run_block(
-            workers.rt,
-            alloc,
-            block,
-            over,
-            &ends,
-            &workers.shape,
-            &workers.gate,
-        ) {
-            Err(fault) => Err(fault),
-            Ok(after) => posted(alloc, block, over, ends, after),
+        Err(_) => Err(RunFault::OutOfMemory),
+        Ok(ends) => match candidates_of(alloc, block, over, &ends) {
+            Err(PathsFault::TooMany) => Err(RunFault::PathBound),
+            Err(PathsFault::OutOfMemory) => Err(RunFault::OutOfMemory),
+            Ok(candidates) => match select_among(workers, alloc, block, over, ends, candidates) {
+                Err(fault) => Err(block_fault(fault)),
+                Ok(selected) => Ok(selected),
+            },
         },
+    }
+}
+
+/// A SELECT of a block with these ends and candidates.
+fn select_among<R: Threads + Sync>(
+    workers: &Workers<'_, R>,
+    alloc: Global,
+    block: &Block,
+    over: &BlockContext<'_>,
+    ends: Ends,
+    candidates: Candidates,
+) -> Result<Selected, BlockFault>
+    requires ends { HasEnds over.now.schema over.now.plan over.now.frame.things block.now ends }
+    requires candidates { AreCandidates over.now block.now candidates }
+    ensures chooses { Chooses gregorian over.now block.now result }
+    ensures sound { IfOk result (λ selected. AreSound selected.accums) }
+{
+    match run_block(
+        workers.rt,
+        alloc,
+        block,
+        over,
+        &ends,
+        candidates,
+        &workers.shape,
+        &workers.gate,
+    ) {
+        Err(fault) => Err(fault),
+        Ok(after) => posted(alloc, block, over, ends, after),
     }
 }
 

@@ -82,6 +82,10 @@ SameEach [] (y ∷ ys) = ⊥
 SameEach (x ∷ xs) [] = ⊥
 SameEach (x ∷ xs) (y ∷ ys) = ShowsTheSame x y × SameEach xs ys
 
+-- a content that is the other
+pub shows_itself : (c d : Content) → c ≡ d → ShowsTheSame c d
+shows_itself c d e = record { each = λ k h s. subst (λ x. Shows k x h) e s }
+
 pub same_first : (cs : List Content) → cs ≡ [] → SameEach [] cs
 same_first cs e = subst (SameEach []) (sym e) tt
 

@@ -1,6 +1,7 @@
 // The contents of all targets.
 ghost use Rattle.std.specs.Prelude.{◌≡◌, ◌<◌, length, slice_get, Some, IfOk};
 ghost use Rattle.std.specs.Borrow.{sem};
+ghost use Rattle.gq_nest.specs.Shows.{ShowsTheSame};
 ghost use Rattle.gq_frame.specs.Targets.{AreOpen, ShowTheSame};
 
 use crate::slots::Slots;
@@ -93,9 +94,20 @@ fn copied(alloc: Global, contents: &[Content]) -> Result<List<Content>, OutOfMem
 {
     let mut copy = List::from_vec(Vec::with_capacity(alloc, contents.len())?);
     for content in contents {
-        copy.push(content.duplicate(alloc)?)?;
+        copy.push(copy_of(alloc, content)?)?;
     }
     Ok(copy)
+}
+
+/// A content that shows the same. Most are one number or truth, which is copied as it is.
+#[tactic(auto, using(crate::proofs::OpenSteps::shows_itself))]
+fn copy_of(alloc: Global, content: &Content) -> Result<Content, OutOfMemory>
+    ensures { IfOk result (ShowsTheSame content.now) }
+{
+    match content {
+        Content::Scalar(scalar) => Ok(Content::Scalar(*scalar)),
+        _ => content.duplicate(alloc),
+    }
 }
 
 // A million vertices have a million contents of each attached accumulator.

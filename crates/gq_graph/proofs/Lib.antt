@@ -1,1 +1,2 @@
 pub mod CandidateExamples
+pub mod SpanLemmas

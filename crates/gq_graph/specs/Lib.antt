@@ -4,3 +4,4 @@ pub mod Edges
 pub mod Defaults
 pub mod Catalog
 pub mod SortLaws
+pub mod Spans

@@ -168,6 +168,38 @@ puts_grow old new steps (Ok a) done = done_grows old new steps done
 puts_grow old new steps (Err fault.Full) refused = done_grows old new refused.first refused.done
 puts_grow old new steps (Err fault.OutOfMemory) begun = done_grows old new begun.first begun.done
 
+-- ---- edges without their attributes
+
+-- a list has the types and ends of all rows
+pub record AreEnds (ends rows : List EdgeRow) : Type 0 where
+  pub long : length ends ≡ length rows
+  pub same : (r : ℕ) → r < length rows → SameWay (edge_at rows r) (edge_at ends r)
+
+pub are_ends : (ends rows : List EdgeRow) → length ends ≡ length rows → ((r : ℕ) → r < length rows → (edge_at ends r).kind ≡ (edge_at rows r).kind)
+    → ((r : ℕ) → r < length rows → (edge_at ends r).from ≡ (edge_at rows r).from) → ((r : ℕ) → r < length rows → (edge_at ends r).to ≡ (edge_at rows r).to) → AreEnds ends rows
+are_ends ends rows long kinds froms tos = record { long = long; same = λ r h. record { kind = kinds r h; from = froms r h; to = tos r h } }
+
+-- a store of the same vertices, with other edges
+abbrev pub with_edges : Store → List EdgeRow → Store
+with_edges store rows = record store { edges = record store.edges { rows = rows } }
+
+-- walks depend on no attribute
+pub ends_walks : (types : List EdgeType) (ends rows : List EdgeRow) (n : ℕ) → AreEnds ends rows → map (walks_from types ends) (below n) ≡ map (walks_from types rows) (below n)
+ends_walks types ends rows n are = map_below_agree (walks_from types ends) (walks_from types rows) n (λ v _. sym (walks_same types rows ends v (sym are.long) are.same))
+
+pub ends_kept : (kept : KeptIndex) (schema : Schema) (store : Store) (ends : List EdgeRow) → AreEnds ends store.edges.rows → IsKept kept schema store → IsKept kept schema (with_edges store ends)
+ends_kept kept schema store ends are was =
+    kept_grows kept schema schema store (with_edges store ends) (catalog_same schema)
+    (record { vertices = omega arith; edges = omega (arith, are.long); same = are.same }) was
+
+pub rows_kept : (kept : KeptIndex) (schema : Schema) (store : Store) (ends : List EdgeRow) → AreEnds ends store.edges.rows → IsKept kept schema (with_edges store ends) → IsKept kept schema store
+rows_kept kept schema store ends are was =
+    kept_grows kept schema schema (with_edges store ends) store (catalog_same schema)
+    (record { vertices = omega arith; edges = omega (arith, are.long); same = λ r h. turned (edge_at store.edges.rows r) (edge_at ends r) (are.same r (omega (arith, h, are.long))) }) was
+  where
+    turned : (x y : EdgeRow) → SameWay x y → SameWay y x
+    turned x y same = record { kind = sym same.kind; from = sym same.from; to = sym same.to }
+
 -- ---- ends that are there
 
 pub within_more : (n i : ℕ) (edges : List EdgeRow) (edge : EdgeRow) → AllWithin n i edges → EndsWithin n edge → edge ≡ edge_at edges i → AllWithin n (i + 1) edges

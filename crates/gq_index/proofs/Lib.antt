@@ -11,3 +11,4 @@ pub mod GatherLemmas
 pub mod StepLemmas
 pub mod KeptLemmas
 pub mod NamingLemmas
+pub mod NumberLemmas

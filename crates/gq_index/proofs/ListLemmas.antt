@@ -2,7 +2,7 @@
 use Rattle.std.proofs.Common.{inl, inr, ℕ, suc, ◌+◌, ◌-◌, ◌<◌, ◌≤◌, ◌≡◌, ◌≢◌, Bool, true, false, cond, set, List, [], ◌∷◌, ◌++◌, ◌==◌, length, get_or, take, drop, map, replicate, refl, ap, ap₂, sym, ◌∙◌, subst, arith, leb, leb-true, le-leb, eq-eqb, append-nil, length-append, length-set}
 use Rattle.std.specs.List.{filter, All, insert}
 use Rattle.std.specs.List.Sorted.{IsPartitionPoint, IsPartitionedBy}
-use Rattle.std.proofs.lemmas.List.{append_assoc, map-append, get_or_append_left, get_or-append_right, get_or-replicate, length-replicate, get_or-map, length-map, take-map, drop-map, get_or-set_same, get_or-set_other, map-set, replicate-append-replicate}
+use Rattle.std.proofs.lemmas.List.{get_or_default, append_assoc, map-append, get_or_append_left, get_or-append_right, get_or-replicate, length-replicate, get_or-map, length-map, take-map, drop-map, get_or-set_same, get_or-set_other, map-set, replicate-append-replicate}
 use Rattle.std.proofs.lemmas.List.Elements.{filter-append, All-nil, All-cons, All-append, All-weaker, All-get_or}
 use Rattle.std.proofs.Math.Seq.{take-append_seam, drop-append_seam}
 use Rattle.std.proofs.lemmas.Bool.Decides.{nat_tests}
@@ -114,6 +114,12 @@ parted k walks w is = nat_up P (λ h. absurd (omega arith)) step
       | inl low ↦ after n low (before low)
       | inr high ↦ let same : k ≡ n = omega arith in subst (λ (m : ℕ). Parted k (m + 1) walks w) same first
     ]
+
+-- the place behind a list whose last element passes
+pub last_place : {X : Type 0} (p : X → Bool) (xs : List X) (last : ℕ) (x : X) → length xs ≡ last + 1 → p (get_or xs last x) ≡ true
+    → IsPartitionedBy p xs → IsPartitionPoint (λ y. p y ≡ true) (λ y. p y ≡ false) xs (length xs)
+last_place p xs last x long passes parts =
+    ((λ i d low within. parts i last d (omega (arith, long)) (omega (arith, long)) (ap p (get_or_default xs last d x (omega (arith, long))) ∙ passes)), λ i d high within. absurd (omega arith))
 
 -- ---- a way is inserted
 

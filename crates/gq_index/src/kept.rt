@@ -9,7 +9,8 @@ ghost use Rattle.gq_index.specs.Walks.{adjacency};
 use crate::index::Index;
 use crate::store::Store;
 use gq_base::OutOfMemory;
-use gq_graph::{EdgeRow, EdgeType};
+use gq_edge::EdgeEnds;
+use gq_graph::EdgeType;
 use gq_schema::Catalog;
 use std::alloc::Global;
 use std::mem;
@@ -30,14 +31,14 @@ pub struct KeptIndex {
 }
 
 /// Whether both ends of an edge are among the first vertices.
-fn is_within(edge: &EdgeRow, vertices: u32) -> bool
+fn is_within(edge: &EdgeEnds, vertices: u32) -> bool
     ensures { result ≡ true → EndsWithin vertices edge.now }
 {
-    edge.from < vertices && edge.to < vertices
+    edge.from() < vertices && edge.to() < vertices
 }
 
 /// Whether the ends of all edges behind the first ones are among the first vertices.
-fn are_within(edges: &[EdgeRow], known: u32, vertices: u32) -> bool
+fn are_within(edges: &[EdgeEnds], known: u32, vertices: u32) -> bool
     requires before { AllWithin vertices known edges.now }
     ensures { result ≡ true → AllWithin vertices (length edges.now) edges.now }
 {
@@ -64,11 +65,11 @@ fn type_back(types: &[EdgeType], kind: u32) -> u32 {
 }
 
 /// How many ways move when these edges are added.
-fn moves(index: &Index, types: &[EdgeType], edges: &[EdgeRow]) -> u64 {
+fn moves(index: &Index, types: &[EdgeType], edges: &[EdgeEnds]) -> u64 {
     let mut moved = 0u64;
     for edge in edges {
-        moved = moved.saturating_add(behind(index, edge.from, edge.kind));
-        moved = moved.saturating_add(behind(index, edge.to, type_back(types, edge.kind)));
+        moved = moved.saturating_add(behind(index, edge.from(), edge.kind()));
+        moved = moved.saturating_add(behind(index, edge.to(), type_back(types, edge.kind())));
     }
     moved
 }
@@ -104,7 +105,7 @@ impl KeptIndex {
     }
 
     /// Whether adding what is new costs less than beginning anew.
-    fn goes_on(&self, types: &[EdgeType], edges: &[EdgeRow]) -> bool
+    fn goes_on(&self, types: &[EdgeType], edges: &[EdgeEnds]) -> bool
         requires { self.now.edges ≤ length edges.now }
         ensures types { result ≡ true → self.now.types ≡ length types.now }
         ensures whole { result ≡ true → self.now.whole ≡ true }
@@ -131,7 +132,7 @@ impl KeptIndex {
         ensures kept { IsKept self.new catalog.now store.now }
     {
         let types = catalog.edge_types();
-        if self.goes_on(types, store.edges.rows()) {
+        if self.goes_on(types, store.edges.ends()) {
             return self.extend(alloc, catalog, store);
         }
         *self = KeptIndex::of_types(alloc, types.len() as u32);
@@ -146,7 +147,7 @@ impl KeptIndex {
         ensures index { IfOk result (λ _. self.new.index ≡ adjacency (sight_of catalog.now store.now.vertices store.now.edges)) }
         ensures kept { IsKept self.new catalog.now store.now }
     {
-        let edges = store.edges.rows();
+        let edges = store.edges.ends();
         let vertices = store.vertices.len();
         let known = self.edges;
         let index = mem::replace(&mut self.index, Index::new(alloc));

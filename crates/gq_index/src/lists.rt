@@ -1,12 +1,30 @@
 // Lists of ways, one for each vertex.
-ghost use Rattle.std.specs.Prelude.{◌≡◌, ℕ, ◌+◌, ◌-◌, ◌<◌, ◌≤◌, ◌++◌, [], ◌∷◌, List, length, map, IfOk, replicate};
+ghost use Rattle.std.specs.Prelude.{◌≡◌, ℕ, ◌+◌, ◌-◌, ◌<◌, ◌≤◌, ◌++◌, [], ◌∷◌, List, length, map, nat_le, true, false, IfOk, replicate};
+ghost use Rattle.std.specs.List.Sorted.{IsPartitionedBy, IsPartitionPoint};
+ghost use Rattle.gq_index.specs.declared.walks.Neighbor.{Neighbor};
 ghost use Rattle.gq_index.specs.declared.walks.Traversal.{Traversal};
 ghost use Rattle.gq_index.specs.Walks.{AreListed, by_type, walked};
 
 use crate::walks::{Neighbor, Traversal};
 use gq_base::OutOfMemory;
-use gq_graph::{EdgeRow, EdgeType};
+use gq_edge::EdgeEnds;
+use gq_graph::EdgeType;
 use std::alloc::Global;
+
+/// Where a way of this type goes: behind those of its type and of lower ones.
+///
+/// Ways come by type, but for those that are put behind an index that is kept. So the last one is looked at first.
+fn place_for(list: &[Neighbor], kind: u32) -> usize
+    ensures bound { result ≤ length list.now }
+    ensures place { IsPartitionedBy (λ (other : Neighbor). nat_le other.kind kind) list.now
+        → IsPartitionPoint (λ (other : Neighbor). nat_le other.kind kind ≡ true) (λ (other : Neighbor). nat_le other.kind kind ≡ false) list.now result }
+{
+    let behind = list.len();
+    if behind > 0 && list[behind - 1].kind <= kind {
+        return behind;
+    }
+    list.partition_point(|other| other.kind <= kind)
+}
 
 /// Puts a way behind those of its type and of lower ones.
 fn insert(list: &mut Vec<Neighbor>, way: Neighbor) -> Result<(), OutOfMemory>
@@ -14,7 +32,7 @@ fn insert(list: &mut Vec<Neighbor>, way: Neighbor) -> Result<(), OutOfMemory>
         → map (walked v) list.old.items ≡ by_type count walks
         → map (walked v) list.new.items ≡ by_type count (walks ++ walked v way ∷ [])) }
 {
-    let place = list.partition_point(|other| other.kind <= way.kind);
+    let place = place_for(list, way.kind);
     list.insert(place, way)?;
     Ok(())
 }
@@ -61,7 +79,7 @@ fn is_walked_back(types: &[EdgeType], kind: u32) -> bool {
 pub fn room_for(
     alloc: Global,
     types: &[EdgeType],
-    edges: &[EdgeRow],
+    edges: &[EdgeEnds],
     first: u32,
     vertices: u32,
 ) -> Result<Vec<u32>, OutOfMemory>
@@ -70,9 +88,9 @@ pub fn room_for(
 {
     let mut room = vec![in alloc; 0u32; (vertices - first) as usize]?;
     for edge in edges {
-        count(&mut room, first, edge.from);
-        if is_walked_back(types, edge.kind) {
-            count(&mut room, first, edge.to);
+        count(&mut room, first, edge.from());
+        if is_walked_back(types, edge.kind()) {
+            count(&mut room, first, edge.to());
         }
     }
     Ok(room)

@@ -6,7 +6,7 @@ ghost use Rattle.gq_index.specs.Steps as spec;
 ghost use Rattle.gq_index.specs.Steps.{Puts};
 ghost use Rattle.gq_graph.specs.declared.types.EdgeType.{EdgeType};
 ghost use Rattle.gq_index.specs.Namings.{naming_in, AreNamedBy};
-ghost use Rattle.gq_index.specs.Ends.{row_of, edge_steps};
+ghost use Rattle.gq_index.specs.Ends.{row_of, edge_steps, IsAt};
 
 use crate::store::Store;
 use gq_base::OutOfMemory;
@@ -19,12 +19,19 @@ use std::alloc::Global;
 pub struct EndpointRef<'a> {
     pub kind: u32,
     pub id: &'a str,
+    /// The number of the vertex, where it is known to be there. With None it is looked for.
+    pub at: Option<u32>,
     pub missing: &'a [Value],
 }
 
-/// Puts a vertex into the store. Unchanged after a refusal.
-pub fn put_vertex(store: &mut Store, kind: u32, id: &str, attributes: Row) -> Result<(), StoreFault>
-    ensures puts { Puts store.old (spec.Vertex (record { kind = kind; id = id.now; attributes = attributes }) ∷ []) store.new result }
+/// Puts a vertex into the store. The values are moved out of the row, of whose content nothing is said then. Unchanged after a refusal.
+pub fn put_vertex(
+    store: &mut Store,
+    kind: u32,
+    id: &str,
+    attributes: &mut Row,
+) -> Result<(), StoreFault>
+    ensures puts { Puts store.old (spec.Vertex (record { kind = kind; id = id.now; attributes = attributes.old }) ∷ []) store.new result }
     ensures edges { store.new.edges ≡ store.old.edges }
     ensures refused { OnErr result (store.new ≡ store.old) }
 {
@@ -35,18 +42,20 @@ pub fn put_vertex(store: &mut Store, kind: u32, id: &str, attributes: Row) -> Re
 }
 
 /// Puts an edge into the store, and before it those of its ends that aren't there: first the FROM vertex, then the TO vertex. After a
-/// refusal the ends that were put stay.
+/// refusal the ends that were put stay. The values are moved out of the row, of whose content nothing is said then.
 pub fn put_edge(
     alloc: Global,
     store: &mut Store,
     naming: Naming,
     from: EndpointRef<'_>,
     to: EndpointRef<'_>,
-    attributes: Row,
+    attributes: &mut Row,
 ) -> Result<(), StoreFault>
-    requires within { naming.key ≤ length attributes }
+    requires within { naming.key ≤ length attributes.old }
     requires agrees { Agrees store.old.edges.namings naming }
-    ensures puts { Puts store.old (edge_steps naming (row_of from.entry) (row_of to.entry) attributes) store.new result }
+    requires from { IsAt store.old.vertices from }
+    requires to { IsAt store.old.vertices to }
+    ensures puts { Puts store.old (edge_steps naming (row_of from.entry) (row_of to.entry) attributes.old) store.new result }
     // What the edges of each type are named by stays so.
     ensures named { (type_at : ℕ → EdgeType) → naming ≡ naming_in type_at naming.kind →
         AreNamedBy type_at store.old.edges.namings → AreNamedBy type_at store.new.edges.namings }
@@ -77,6 +86,7 @@ pub fn put_edge(
 
 /// Puts an end of an edge into the store where it isn't there, and gives its number.
 fn put_end(alloc: Global, store: &mut Store, end: EndpointRef<'_>) -> Result<u32, StoreFault>
+    requires { IsAt store.old.vertices end }
     ensures puts { Puts store.old (spec.End (row_of end.entry) ∷ []) store.new result }
     ensures number { IfOk result (λ n. vertex_number store.new.vertices end.entry.kind end.entry.id.now ≡ Some n) }
     ensures others { IfOk result (λ _. (kind : ℕ) (id : List ℕ) (n : ℕ) → vertex_number store.old.vertices kind id ≡ Some n →
@@ -84,17 +94,28 @@ fn put_end(alloc: Global, store: &mut Store, end: EndpointRef<'_>) -> Result<u32
     ensures edges { store.new.edges ≡ store.old.edges }
     ensures vertices { take (length store.old.vertices) store.new.vertices ≡ store.old.vertices }
 {
-    match store.vertices.find(end.kind, end.id) {
+    match number_of(store, end) {
         Some(number) => Ok(number),
         None => {
-            let attributes = match duplicate_row(alloc, end.missing) {
+            let mut attributes = match duplicate_row(alloc, end.missing) {
                 Ok(attributes) => attributes,
                 Err(OutOfMemory) => return Err(StoreFault::OutOfMemory),
             };
-            match store.vertices.upsert(end.kind, end.id, attributes) {
+            match store.vertices.upsert(end.kind, end.id, &mut attributes) {
                 Ok(number) => Ok(number),
                 Err(fault) => Err(fault),
             }
         }
+    }
+}
+
+/// The number of the vertex that an end is, where it is there.
+fn number_of(store: &Store, end: EndpointRef<'_>) -> Option<u32>
+    requires { IsAt store.now.vertices end }
+    ensures { result ≡ vertex_number store.now.vertices end.entry.kind end.entry.id.now }
+{
+    match end.at {
+        Some(number) => Some(number),
+        None => store.vertices.find(end.kind, end.id),
     }
 }

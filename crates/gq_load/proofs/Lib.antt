@@ -4,3 +4,5 @@ pub mod ListLemmas
 pub mod PlaceLemmas
 pub mod RowLemmas
 pub mod LoadLemmas
+pub mod BatchLemmas
+pub mod FoundLemmas

@@ -10,7 +10,7 @@ use Rattle.gq_load_csv.specs.Fields.{TellsTimes}
 use Rattle.gq_index.specs.Steps.{Step, Done, Begun, Puts}
 use Rattle.gq_index.proofs.StepLemmas.{done_more, err_before, err_more, begun_all}
 use Rattle.gq_load.specs.declared.route.Route.{Route}
-use Rattle.gq_load.specs.declared.record.Verdict.{Verdict}
+use Rattle.gq_load.specs.declared.record.ReadRecord.{ReadRecord}
 use Rattle.csv.specs.Machine.{next_record}
 use Rattle.csv.specs.Reading.{records_from, strip_bom}
 use Rattle.gq_load_csv.specs.Records.{records_of}
@@ -20,7 +20,8 @@ use Rattle.gq_load_check.specs.Fits.{IntoFits}
 use Rattle.gq_load.specs.declared.fault.LoadFault.{LoadFault}
 use Rattle.gq_load.specs.Routes.{route_of}
 use Rattle.gq_load.specs.Columns.{Fields}
-use Rattle.gq_load.specs.Records.{Judged, judged, steps_from, verdict_of, IsThere}
+use Rattle.gq_load.specs.Records.{Judged, judged, steps_from, IsThere}
+use Rattle.gq_load.specs.Batches.{judged_of, steps_in, ReadsOn}
 use Rattle.gq_load.proofs.RowLemmas.{Reading}
 use Rattle.gq_load.specs.declared.report.Report.{Report}
 use Rattle.gq_load.specs.Reports.{report_of}
@@ -39,30 +40,34 @@ starts schema routes records before = record {
   each = λ read tells. record { done = record { taken = tt; leads = refl }; counted = refl };
 }
 
--- the steps of the records up to one, and of that one
-steps_last : (read : Reading) (schema : Schema) (routes : List Route) (behind : List Fields) (fields : Fields)
-    → all_steps read schema routes (behind ++ fields ∷ []) ≡ all_steps read schema routes behind ++ steps_from (judged read schema routes fields)
-steps_last read schema routes behind fields =
-    flat_map-append (λ f. steps_from (judged read schema routes f)) behind (fields ∷ [])
-    ∙ ap (λ (s : List Step). all_steps read schema routes behind ++ s) (append-nil (steps_from (judged read schema routes fields)))
+-- the steps of records are those of what they are judged
+steps_judged : (read : Reading) (schema : Schema) (routes : List Route) (records : List Fields) → all_steps read schema routes records ≡ steps_in (map (judged read schema routes) records)
+steps_judged read schema routes [] = refl
+steps_judged read schema routes (r ∷ rs) = ap (λ (s : List Step). steps_from (judged read schema routes r) ++ s) (steps_judged read schema routes rs)
 
-split_more : (records behind left rest : List Fields) (fields : Fields) → records ≡ behind ++ left → left ≡ fields ∷ rest → records ≡ (behind ++ fields ∷ []) ++ rest
-split_more records behind left rest fields split next = split ∙ ap (λ ls. behind ++ ls) next ∙ sym (append_assoc behind (fields ∷ []) rest)
+-- the steps of the records up to a batch, and of the batch
+steps_last : (read : Reading) (schema : Schema) (routes : List Route) (behind taken : List Fields) (judgements : List Judged) → judgements ≡ map (judged read schema routes) taken
+    → all_steps read schema routes (behind ++ taken) ≡ all_steps read schema routes behind ++ steps_in judgements
+steps_last read schema routes behind taken judgements are =
+    flat_map-append (λ f. steps_from (judged read schema routes f)) behind taken
+    ∙ ap (λ (s : List Step). all_steps read schema routes behind ++ s) (steps_judged read schema routes taken ∙ ap steps_in (sym are))
 
-pub goes_on : (schema : Schema) (routes : List Route) (records : List Fields) (before : Store) (left rest : List Fields) (now later : Store) (report more : Report) (fields : Fields) (verdict : Verdict)
-    → IsUnderWay schema routes records before left now report → left ≡ fields ∷ rest
-    → ((read : Reading) → TellsTimes read → Done now (steps_from (judged read schema routes fields)) later)
-    → ((read : Reading) → TellsTimes read → verdict ≡ verdict_of (judged read schema routes fields))
-    → ((js : List Judged) (j : Judged) → report ≡ report_of js → verdict ≡ verdict_of j → more ≡ report_of (js ++ j ∷ []))
+split_more : (records behind left taken rest : List Fields) → records ≡ behind ++ left → left ≡ taken ++ rest → records ≡ (behind ++ taken) ++ rest
+split_more records behind left taken rest split next = split ∙ ap (λ ls. behind ++ ls) next ∙ sym (append_assoc behind taken rest)
+
+pub goes_on : (schema : Schema) (routes : List Route) (records : List Fields) (before : Store) (left rest : List Fields) (now later : Store) (report more : Report) (batch : List ReadRecord)
+    → IsUnderWay schema routes records before left now report → ReadsOn schema routes left rest batch
+    → Done now (steps_in (map (judged_of schema routes) batch)) later
+    → ((js : List Judged) → report ≡ report_of js → more ≡ report_of (js ++ map (judged_of schema routes) batch))
     → IsUnderWay schema routes records before rest later more
-goes_on schema routes records before left rest now later report more fields verdict way next put told count = record {
-  behind = way.behind ++ fields ∷ [];
-  split = split_more records way.behind left rest fields way.split next;
+goes_on schema routes records before left rest now later report more batch way on put count = record {
+  behind = way.behind ++ on.taken;
+  split = split_more records way.behind left on.taken rest way.split on.split;
   each = λ read tells. record {
-    done = subst (λ (s : List Step). Done before s later) (sym (steps_last read schema routes way.behind fields))
-        (done_more before now later (all_steps read schema routes way.behind) (steps_from (judged read schema routes fields)) (way.each read tells).done (put read tells));
-    counted = count (map (judged read schema routes) way.behind) (judged read schema routes fields) (way.each read tells).counted (told read tells)
-        ∙ ap report_of (sym (map-append (judged read schema routes) way.behind (fields ∷ [])));
+    done = subst (λ (s : List Step). Done before s later) (sym (steps_last read schema routes way.behind on.taken (map (judged_of schema routes) batch) (on.judged read tells)))
+        (done_more before now later (all_steps read schema routes way.behind) (steps_in (map (judged_of schema routes) batch)) (way.each read tells).done put);
+    counted = count (map (judged read schema routes) way.behind) (way.each read tells).counted
+        ∙ ap report_of (ap (λ (js : List Judged). map (judged read schema routes) way.behind ++ js) (on.judged read tells) ∙ sym (map-append (judged read schema routes) way.behind on.taken));
   };
 }
 
@@ -83,26 +88,16 @@ wants_memory read schema routes records before left now report tells way =
     subst (λ (s : List Step). Begun before s now) (sym (steps_split read schema routes records way.behind left way.split))
     (begun_all before now (all_steps read schema routes way.behind) (all_steps read schema routes left) (way.each read tells).done)
 
--- OutOfMemory behind a record that was put
-pub wants_memory_behind : (read : Reading) (schema : Schema) (routes : List Route) (records : List Fields) (before : Store) (left rest : List Fields) (now later : Store) (report : Report) (fields : Fields)
-    → TellsTimes read → IsUnderWay schema routes records before left now report → left ≡ fields ∷ rest
-    → Done now (steps_from (judged read schema routes fields)) later → Begun before (all_steps read schema routes records) later
-wants_memory_behind read schema routes records before left rest now later report fields tells way next put =
-    subst (λ (s : List Step). Begun before s later)
-    (sym (steps_split read schema routes records (way.behind ++ fields ∷ []) rest (split_more records way.behind left rest fields way.split next)))
-    (begun_all before later (all_steps read schema routes (way.behind ++ fields ∷ [])) (all_steps read schema routes rest)
-    (subst (λ (s : List Step). Done before s later) (sym (steps_last read schema routes way.behind fields))
-    (done_more before now later (all_steps read schema routes way.behind) (steps_from (judged read schema routes fields)) (way.each read tells).done put)))
-
-pub stops : (A : Type 0) (read : Reading) (schema : Schema) (routes : List Route) (records : List Fields) (before : Store) (left rest : List Fields) (now later : Store) (report : Report) (fields : Fields) (f : StoreFault)
-    → TellsTimes read → IsUnderWay schema routes records before left now report → left ≡ fields ∷ rest
-    → Puts {A = A} now (steps_from (judged read schema routes fields)) later (Err f) → Puts {A = Report} before (all_steps read schema routes records) later (Err f)
-stops A read schema routes records before left rest now later report fields f tells way next put =
+pub stops : (A : Type 0) (read : Reading) (schema : Schema) (routes : List Route) (records : List Fields) (before : Store) (left rest : List Fields) (now later : Store) (report : Report) (batch : List ReadRecord) (f : StoreFault)
+    → TellsTimes read → IsUnderWay schema routes records before left now report → ReadsOn schema routes left rest batch
+    → Puts {A = A} now (steps_in (map (judged_of schema routes) batch)) later (Err f) → Puts {A = Report} before (all_steps read schema routes records) later (Err f)
+stops A read schema routes records before left rest now later report batch f tells way on put =
+    let steps : List Step = steps_in (map (judged_of schema routes) batch) in
     subst (λ (s : List Step). Puts {A = Report} before s later (Err f))
-    (ap (λ (s : List Step). s ++ all_steps read schema routes rest) (sym (steps_last read schema routes way.behind fields))
-    ∙ sym (steps_split read schema routes records (way.behind ++ fields ∷ []) rest (split_more records way.behind left rest fields way.split next)))
-    (err_before A Report before later (all_steps read schema routes way.behind ++ steps_from (judged read schema routes fields)) (all_steps read schema routes rest) f
-    (err_more A A before now later (all_steps read schema routes way.behind) (steps_from (judged read schema routes fields)) f (way.each read tells).done put))
+    (ap (λ (s : List Step). s ++ all_steps read schema routes rest) (sym (steps_last read schema routes way.behind on.taken (map (judged_of schema routes) batch) (on.judged read tells)))
+    ∙ sym (steps_split read schema routes records (way.behind ++ on.taken) rest (split_more records way.behind left on.taken rest way.split on.split)))
+    (err_before A Report before later (all_steps read schema routes way.behind ++ steps) (all_steps read schema routes rest) f
+    (err_more A A before now later (all_steps read schema routes way.behind) steps f (way.each read tells).done put))
 
 -- ---- a line
 

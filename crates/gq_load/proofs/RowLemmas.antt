@@ -50,20 +50,20 @@ value_more whole read keys i attributes sources fields a s values v at_a at_s is
 
 pub value_none : (whole : Option (List Value)) (read : Reading) (keys i : ℕ) (attributes : List Attribute) (sources : List (Option ℕ)) (fields : Fields) (a : Attribute) (s : Option ℕ) (values : List Value)
     → slice_get attributes i ≡ Some a → slice_get sources i ≡ Some s → None ≡ value_of read (nat_lt i keys) a s fields
-    → whole ≡ before values (rest_of read keys attributes sources fields i) → None ≡ whole
+    → whole ≡ before values (rest_of read keys attributes sources fields i) → whole ≡ None
 value_none whole read keys i attributes sources fields a s values at_a at_s is so_far =
-    sym (so_far ∙ ap (before values) (here read keys i attributes sources fields a s at_a at_s ∙ ap (λ (o : Option Value). option_and_then (λ v. and_values v (rest_of read keys attributes sources fields (i + 1))) o) (sym is)))
+    so_far ∙ ap (before values) (here read keys i attributes sources fields a s at_a at_s ∙ ap (λ (o : Option Value). option_and_then (λ v. and_values v (rest_of read keys attributes sources fields (i + 1))) o) (sym is))
 
 pub source_none : (whole : Option (List Value)) (read : Reading) (keys i : ℕ) (attributes : List Attribute) (sources : List (Option ℕ)) (fields : Fields) (a : Attribute) (values : List Value)
     → slice_get attributes i ≡ Some a → length sources ≤ i
-    → whole ≡ before values (rest_of read keys attributes sources fields i) → None ≡ whole
+    → whole ≡ before values (rest_of read keys attributes sources fields i) → whole ≡ None
 source_none whole read keys i attributes sources fields a values at_a none so_far =
-    sym (so_far ∙ ap (before values) (ap₂ (λ (as_ : List Attribute) (ss : List (Option ℕ)). values_of read (keys - i) as_ ss fields) (from_place attributes i a at_a) (at_end sources i none)))
+    so_far ∙ ap (before values) (ap₂ (λ (as_ : List Attribute) (ss : List (Option ℕ)). values_of read (keys - i) as_ ss fields) (from_place attributes i a at_a) (at_end sources i none))
 
 pub value_end : (whole : Option (List Value)) (read : Reading) (keys i : ℕ) (attributes : List Attribute) (sources : List (Option ℕ)) (fields : Fields) (values : List Value)
-    → length attributes ≤ i → whole ≡ before values (rest_of read keys attributes sources fields i) → Some values ≡ whole
+    → length attributes ≤ i → whole ≡ before values (rest_of read keys attributes sources fields i) → whole ≡ Some values
 value_end whole read keys i attributes sources fields values high so_far =
-    sym (so_far ∙ ap (before values) (ap (λ (as_ : List Attribute). values_of read (keys - i) as_ (drop i sources) fields) (at_end attributes i high)) ∙ ap (λ (vs : List Value). Some vs) (append-nil values))
+    so_far ∙ ap (before values) (ap (λ (as_ : List Attribute). values_of read (keys - i) as_ (drop i sources) fields) (at_end attributes i high)) ∙ ap (λ (vs : List Value). Some vs) (append-nil values)
 
 -- before the first value
 pub value_start : (read : Reading) (keys : ℕ) (attributes : List Attribute) (sources : List (Option ℕ)) (fields : Fields)

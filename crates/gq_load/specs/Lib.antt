@@ -2,6 +2,8 @@ pub mod Columns
 pub mod Routes
 pub mod Rows
 pub mod Drafts
+pub mod Found
+pub mod Batches
 pub mod Records
 pub mod Loads
 pub mod Reports

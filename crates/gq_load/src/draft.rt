@@ -7,9 +7,11 @@ ghost use Rattle.gq_index.specs.Steps.{Puts};
 ghost use Rattle.gq_index.specs.Namings.{AreNamedBy};
 ghost use Rattle.gq_load.specs.declared.route.Route.{Route};
 ghost use Rattle.gq_load.specs.Rows.{steps_along, steps_by};
+ghost use Rattle.gq_load.specs.Found.{IsFound};
 ghost use Rattle.gq_load.specs.Drafts.{drafted, drafted_as, if_read, IsSized};
 ghost use Rattle.gq_load.specs.Records.{HasEnds, AllHaveEnds};
 
+use crate::ahead::FoundEnds;
 use crate::route::Route;
 use crate::value::{read_name, read_values};
 use csv::ByteRecord;
@@ -20,9 +22,8 @@ use gq_load_check::Target;
 use gq_schema::Catalog;
 use gq_value::Row;
 use std::alloc::Global;
-use std::mem;
 
-/// The values of one row: a vertex's id, or both ids of an edge, and the attributes. The memory of the ids is used again.
+/// The values of one row: a vertex's id, or both ids of an edge, and the attributes. Its memory is used again.
 #[derive(Drop)]
 pub struct Draft {
     /// A vertex's id, or that of an edge's FROM vertex.
@@ -98,14 +99,14 @@ fn read_vertex(
         Ok(false) => return Ok(false),
         Err(OutOfMemory) => return Err(OutOfMemory),
     }
-    match read_values(alloc, 0, shape.attributes.as_slice(), sources, row) {
-        Ok(Some(values)) => {
-            draft.row = values;
-            Ok(true)
-        }
-        Ok(None) => Ok(false),
-        Err(OutOfMemory) => Err(OutOfMemory),
-    }
+    read_values(
+        alloc,
+        0,
+        shape.attributes.as_slice(),
+        sources,
+        row,
+        &mut draft.row,
+    )
 }
 
 fn read_edge(
@@ -143,20 +144,14 @@ fn read_edge(
         Ok(false) => return Ok(false),
         Err(OutOfMemory) => return Err(OutOfMemory),
     }
-    match read_values(
+    read_values(
         alloc,
         edge.discriminators,
         edge.attributes.as_slice(),
         sources,
         row,
-    ) {
-        Ok(Some(values)) => {
-            draft.row = values;
-            Ok(true)
-        }
-        Ok(None) => Ok(false),
-        Err(OutOfMemory) => Err(OutOfMemory),
-    }
+        &mut draft.row,
+    )
 }
 
 /// A vertex type, by its number.
@@ -168,31 +163,32 @@ fn vertex_at(catalog: &Catalog, kind: u32) -> &VertexType
 }
 
 /// An edge type, by its number.
-fn edge_at(catalog: &Catalog, kind: u32) -> &EdgeType
+pub(crate) fn edge_at(catalog: &Catalog, kind: u32) -> &EdgeType
     requires { kind < length catalog.now.edge_types }
     ensures { result.now ≡ edge_type_at catalog.now kind }
 {
     catalog.edge_at(kind)
 }
 
-/// Puts the row of a draft into the store. What the edges of each type are named by stays so.
+/// Puts the row of a draft into the store. What the edges of each type are named by stays so. `ends` were found before.
 pub(crate) fn put_draft(
     alloc: Global,
     catalog: &Catalog,
     route: &Route,
     draft: &mut Draft,
+    ends: FoundEnds,
     store: &mut Store,
 ) -> Result<(), StoreFault>
     requires there { HasTarget catalog.now route.now.target }
     requires ends { AllHaveEnds catalog.now }
     requires sized { IsSized catalog.now route.now draft.old }
     requires named { AreNamedBy (edge_type_at catalog.now) store.old.edges.namings }
+    requires found { IsFound catalog.now store.old.vertices route.now.target draft.old ends }
     ensures puts { Puts store.old (drafted catalog.now route.now draft.old) store.new result }
     ensures named { AreNamedBy (edge_type_at catalog.now) store.new.edges.namings }
 {
-    let values = mem::replace(&mut draft.row, List::new(alloc));
     match route.target {
-        Target::Vertex(kind) => put_vertex(store, kind, draft.from.as_str(), values),
+        Target::Vertex(kind) => put_vertex(store, kind, draft.from.as_str(), &mut draft.row),
         Target::Edge(kind) => {
             let edge = edge_at(catalog, kind);
             let naming = Naming {
@@ -203,14 +199,16 @@ pub(crate) fn put_draft(
             let from = EndpointRef {
                 kind: edge.from,
                 id: draft.from.as_str(),
+                at: ends.from,
                 missing: route.from.as_slice(),
             };
             let to = EndpointRef {
                 kind: edge.to,
                 id: draft.to.as_str(),
+                at: ends.to,
                 missing: route.to.as_slice(),
             };
-            put_edge(alloc, store, naming, from, to, values)
+            put_edge(alloc, store, naming, from, to, &mut draft.row)
         }
     }
 }

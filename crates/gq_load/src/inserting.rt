@@ -1,5 +1,5 @@
 // Rows inserted into a store.
-ghost use Rattle.std.specs.Prelude.{◌≡◌, ◌≤◌, [], ◌∷◌, length};
+ghost use Rattle.std.specs.Prelude.{◌≡◌, ◌≤◌, [], ◌∷◌, length, None};
 ghost use Rattle.gq_graph.specs.Edges.{Agrees};
 ghost use Rattle.gq_index.specs.Steps as step;
 ghost use Rattle.gq_index.specs.Ends.{edge_steps, row_of};
@@ -52,11 +52,11 @@ fn insert_vertex(
 ) -> Result<(), StoreFault>
     ensures { PutsAll store.old (step.Vertex (record { kind = kind; id = id.now; attributes = attributes.now }) ∷ []) store.new result }
 {
-    let attributes = match duplicate_row(alloc, attributes) {
+    let mut attributes = match duplicate_row(alloc, attributes) {
         Ok(attributes) => attributes,
         Err(OutOfMemory) => return Err(StoreFault::OutOfMemory),
     };
-    match put_vertex(store, kind, id, attributes) {
+    match put_vertex(store, kind, id, &mut attributes) {
         Ok(()) => Ok(()),
         Err(fault) => Err(fault),
     }
@@ -75,11 +75,11 @@ fn insert_edge(
     ensures { PutsAll store.old (edge_steps naming (end_row from.now) (end_row to.now) attributes.now) store.new result }
 {
     let count = store.vertices.len();
-    let attributes = match duplicate_row(alloc, attributes) {
+    let mut attributes = match duplicate_row(alloc, attributes) {
         Ok(attributes) => attributes,
         Err(OutOfMemory) => return Err(StoreFault::OutOfMemory),
     };
-    match put_edge(alloc, store, naming, lent(from), lent(to), attributes) {
+    match put_edge(alloc, store, naming, lent(from), lent(to), &mut attributes) {
         Ok(()) => Ok(()),
         Err(fault) => {
             store.vertices.cut(count);
@@ -90,11 +90,13 @@ fn insert_edge(
 
 /// An end as it is put.
 fn lent(end: &Endpoint) -> gq_index::EndpointRef<'_>
-    ensures { row_of result ≡ end_row end.now }
+    ensures row { row_of result ≡ end_row end.now }
+    ensures unknown { result.at ≡ None }
 {
     gq_index::EndpointRef {
         kind: end.kind,
         id: end.id.as_str(),
+        at: None,
         missing: end.missing.as_slice(),
     }
 }

@@ -8,9 +8,11 @@
 //! Read `specs/Loads.antt` first, then `specs/Columns.antt`, `specs/Routes.antt`, `specs/Rows.antt` and
 //! `specs/Records.antt` (what a record puts) and `specs/Reports.antt`. `specs/Puts.antt` has upserts as a
 //! function and `specs/Keeping.antt` the invariant of a store. The code begins in `src/loading.rt` and
-//! `src/record.rt`; `src/inserting.rt` puts the row of an INSERT.
+//! `src/batch.rt`; `src/inserting.rt` puts the row of an INSERT.
 #![tactic(auto)]
 
+mod ahead;
+mod batch;
 mod column;
 mod draft;
 mod fault;

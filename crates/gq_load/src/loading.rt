@@ -9,13 +9,13 @@ ghost use Rattle.gq_load.specs.Columns.{header_in};
 ghost use Rattle.gq_load.specs.Records.{AllHaveEnds, IsThere};
 ghost use Rattle.gq_load.specs.Loads.{Loads, LoadsBy, LoadsAlong, records_in};
 
-use crate::draft::drafts;
+use crate::ahead::{AHEAD, look_ahead};
+use crate::batch::{batch, put_batch, read_batch};
 use crate::fault::LoadFault;
-use crate::record::put_record;
-use crate::report::{Report, with_record};
+use crate::report::Report;
 use crate::route::{Route, routes};
 use csv::ByteRecord;
-use gq_base::OutOfMemory;
+use gq_base::{List, OutOfMemory};
 use gq_graph::StoreFault;
 use gq_index::Store;
 use gq_load_check::LoadLine;
@@ -98,25 +98,32 @@ fn load_records(
         LoadsAlong read catalog.now routes.now records.old store.old store.new result }
     ensures named { AreNamedBy (edge_type_at catalog.now) store.new.edges.namings }
 {
-    let mut drafts = match drafts(alloc, routes.len()) {
-        Ok(drafts) => drafts,
+    let mut batch = match batch(alloc, AHEAD, routes) {
+        Ok(batch) => batch,
         Err(OutOfMemory) => return Err(StoreFault::OutOfMemory),
     };
     let mut row = ByteRecord::new(alloc);
+    let mut places = List::new(alloc);
+    let mut found = List::new(alloc);
     let mut report = Report::none();
     'reading: loop {
-        match records.next(&mut row) {
-            Ok(true) => {}
-            Ok(false) => return Ok(report),
+        let count = match read_batch(alloc, catalog, routes, records, &mut row, &mut batch) {
+            Ok(count) => count,
+            Err(OutOfMemory) => return Err(StoreFault::OutOfMemory),
+        };
+        match look_ahead(catalog, routes, &batch, store, &mut places, &mut found) {
+            Ok(()) => {}
             Err(OutOfMemory) => return Err(StoreFault::OutOfMemory),
         }
-        let verdict = match put_record(alloc, catalog, routes, &mut drafts, &row, store) {
-            Ok(verdict) => verdict,
+        let ends = found.as_slice();
+        report = match put_batch(
+            alloc, catalog, routes, &mut batch, count, ends, store, report,
+        ) {
+            Ok(report) => report,
             Err(fault) => return Err(fault),
         };
-        report = match with_record(report, verdict) {
-            Ok(report) => report,
-            Err(OutOfMemory) => return Err(StoreFault::OutOfMemory),
-        };
+        if count < AHEAD {
+            return Ok(report);
+        }
     }
 }

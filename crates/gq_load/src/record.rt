@@ -9,8 +9,11 @@ ghost use Rattle.std.specs.List.{list_any};
 ghost use Rattle.gq_load.specs.declared.route.Route.{Route};
 ghost use Rattle.gq_load.specs.Rows as spec;
 ghost use Rattle.gq_load.specs.Drafts.{all_drafted, if_read, AreSized};
-ghost use Rattle.gq_load.specs.Records.{AllHaveEnds, IsThere, judged, steps_from, verdict_of};
+ghost use Rattle.gq_load.specs.Records.{AllHaveEnds, IsThere, judged, steps_from};
+ghost use Rattle.gq_load.specs.Found.{AreFoundFor};
+ghost use Rattle.gq_load.specs.Batches.{judged_by, IsWhole};
 
+use crate::ahead::{FoundEnds, ends_at};
 use crate::draft::{Draft, put_draft, read_draft};
 use crate::route::Route;
 use csv::ByteRecord;
@@ -30,39 +33,65 @@ pub enum Verdict {
     Loaded,
 }
 
-/// Puts the rows of a record into the store, along all routes in order, and tells what became of it. A record that isn't loaded
-/// changes nothing. After a refusal the upserts before it stay.
-///
-/// There is a draft for each route. What the edges of each type are named by stays so.
-pub fn put_record(
+/// A record as it was read, before any row of it is put: what became of it, and a draft for each route, whose memory is used again.
+#[derive(Drop)]
+pub(crate) struct ReadRecord {
+    pub verdict: Verdict,
+    pub drafts: Vec<Draft>,
+}
+
+/// Judges a record, and reads its rows where it is loaded. There is a draft for each route.
+pub(crate) fn judge(
     alloc: Global,
     catalog: &Catalog,
     routes: &[Route],
     drafts: &mut [Draft],
     row: &ByteRecord,
-    store: &mut Store,
-) -> Result<Verdict, StoreFault>
+) -> Result<Verdict, OutOfMemory>
     requires there { All (IsThere catalog.now) routes.now }
     requires ends { AllHaveEnds catalog.now }
     requires count { length drafts.old ≡ length routes.now }
-    requires named { AreNamedBy (edge_type_at catalog.now) store.old.edges.namings }
-    ensures puts { (read : List ℕ → Option ℤ) → TellsTimes read →
-        Puts store.old (steps_from (judged read catalog.now routes.now (fields_of row.now))) store.new result }
-    ensures verdict { IfOk result (λ verdict. (read : List ℕ → Option ℤ) → TellsTimes read → verdict ≡
-        verdict_of (judged read catalog.now routes.now (fields_of row.now))) }
-    ensures named { AreNamedBy (edge_type_at catalog.now) store.new.edges.namings }
+    ensures judged { IfOk result (λ verdict. (read : List ℕ → Option ℤ) → TellsTimes read →
+        judged_by catalog.now routes.now verdict drafts.new ≡ judged read catalog.now routes.now (fields_of row.now)) }
+    ensures whole { IfOk result (λ verdict. IsWhole catalog.now routes.now verdict drafts.new) }
 {
     if is_short(routes, row.len()) {
         return Ok(Verdict::Short);
     }
     match read_drafts(alloc, catalog, routes, drafts, row) {
-        Ok(true) => {}
-        Ok(false) => return Ok(Verdict::Unreadable),
-        Err(OutOfMemory) => return Err(StoreFault::OutOfMemory),
+        Ok(true) => Ok(Verdict::Loaded),
+        Ok(false) => Ok(Verdict::Unreadable),
+        Err(OutOfMemory) => Err(OutOfMemory),
     }
-    match put_drafts(alloc, catalog, routes, drafts, store) {
-        Ok(()) => Ok(Verdict::Loaded),
-        Err(fault) => Err(fault),
+}
+
+/// Puts the rows of a record that was read, along all routes in order. A record that isn't loaded changes nothing. After a refusal
+/// the upserts before it stay.
+///
+/// There is a draft for each route. What the edges of each type are named by stays so. `found` has the ends that were found for the
+/// records of the batch, of which this is the nth.
+pub(crate) fn put_record(
+    alloc: Global,
+    catalog: &Catalog,
+    routes: &[Route],
+    verdict: Verdict,
+    drafts: &mut [Draft],
+    found: &[FoundEnds],
+    nth: usize,
+    store: &mut Store,
+) -> Result<(), StoreFault>
+    requires there { All (IsThere catalog.now) routes.now }
+    requires ends { AllHaveEnds catalog.now }
+    requires count { length drafts.old ≡ length routes.now }
+    requires whole { IsWhole catalog.now routes.now verdict drafts.old }
+    requires named { AreNamedBy (edge_type_at catalog.now) store.old.edges.namings }
+    requires found { AreFoundFor catalog.now routes.now drafts.old nth store.old.vertices found.now }
+    ensures puts { Puts store.old (steps_from (judged_by catalog.now routes.now verdict drafts.old)) store.new result }
+    ensures named { AreNamedBy (edge_type_at catalog.now) store.new.edges.namings }
+{
+    match verdict {
+        Verdict::Short | Verdict::Unreadable => Ok(()),
+        Verdict::Loaded => put_drafts(alloc, catalog, routes, drafts, found, nth, store),
     }
 }
 
@@ -122,6 +151,8 @@ fn put_drafts(
     catalog: &Catalog,
     routes: &[Route],
     drafts: &mut [Draft],
+    found: &[FoundEnds],
+    nth: usize,
     store: &mut Store,
 ) -> Result<(), StoreFault>
     requires there { All (IsThere catalog.now) routes.now }
@@ -129,11 +160,20 @@ fn put_drafts(
     requires count { length drafts.old ≡ length routes.now }
     requires sized { AreSized catalog.now routes.now drafts.old }
     requires named { AreNamedBy (edge_type_at catalog.now) store.old.edges.namings }
+    requires found { AreFoundFor catalog.now routes.now drafts.old nth store.old.vertices found.now }
     ensures puts { Puts store.old (all_drafted catalog.now routes.now drafts.old) store.new result }
     ensures named { AreNamedBy (edge_type_at catalog.now) store.new.edges.namings }
 {
     for place in 0..routes.len() {
-        match put_draft(alloc, catalog, &routes[place], &mut drafts[place], store) {
+        let ends = ends_at(found, place, nth);
+        match put_draft(
+            alloc,
+            catalog,
+            &routes[place],
+            &mut drafts[place],
+            ends,
+            store,
+        ) {
             Ok(()) => {}
             Err(fault) => return Err(fault),
         }

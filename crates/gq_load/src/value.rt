@@ -1,42 +1,44 @@
 // The values of a record's fields.
-ghost use Rattle.std.specs.Prelude.{◌≡◌, ◌≤◌, ℕ, ℤ, List, Option, Some, None, length, string_bytes, true, IfOk, IfSome, if◌then◌else◌};
+ghost use Rattle.std.specs.Prelude.{◌≡◌, ◌≤◌, ℕ, ℤ, List, Option, Some, None, length, string_bytes, true, IfOk, if◌then◌else◌};
 ghost use Rattle.csv.specs.Records.{fields_of};
 ghost use Rattle.gq_load_csv.specs.Fields.{TellsTimes};
 ghost use Rattle.gq_load.specs.Rows as spec;
 
 use csv::ByteRecord;
-use gq_base::{List, OutOfMemory};
+use gq_base::OutOfMemory;
 use gq_graph::{Attribute, IdKind};
 use gq_load_csv::{default_value, read_id, read_key, read_value};
 use gq_value::{Row, Value};
 use std::alloc::Global;
 
-/// The values of attributes in order, of which the first `keys` are discriminators.
+/// Reads the values of attributes in order, of which the first `keys` are discriminators, into `values`, whose memory is used again.
+/// False is a row with a value that can't be read.
 pub(crate) fn read_values(
     alloc: Global,
     keys: u32,
     attributes: &[Attribute],
     sources: &[Option<u64>],
     row: &ByteRecord,
-) -> Result<Option<Row>, OutOfMemory>
-    ensures values { IfOk result (λ values. (read : List ℕ → Option ℤ) → TellsTimes read → values ≡
-        spec.values_of read keys attributes.now sources.now (fields_of row.now)) }
-    ensures sized { IfOk result (λ values. IfSome values (λ vs. length vs ≡ length attributes.now)) }
+    values: &mut Row,
+) -> Result<bool, OutOfMemory>
+    ensures values { IfOk result (λ ok. (read : List ℕ → Option ℤ) → TellsTimes read →
+        spec.values_of read keys attributes.now sources.now (fields_of row.now) ≡ (if ok then Some values.new else None)) }
+    ensures sized { IfOk result (λ ok. ok ≡ true → length values.new ≡ length attributes.now) }
 {
-    let mut values = List::from_vec(Vec::with_capacity(alloc, attributes.len())?);
+    values.truncate(0);
     for (place, attribute) in attributes.iter().enumerate() {
         let source = match sources.get(place) {
             Some(source) => *source,
-            None => return Ok(None),
+            None => return Ok(false),
         };
         let value = match read_one(alloc, place < keys as usize, attribute, source, row) {
             Ok(Some(value)) => value,
-            Ok(None) => return Ok(None),
+            Ok(None) => return Ok(false),
             Err(OutOfMemory) => return Err(OutOfMemory),
         };
         values.push(value)?;
     }
-    Ok(Some(values))
+    Ok(true)
 }
 
 fn read_one(

@@ -1,3 +1,4 @@
 pub mod TextLemmas
 pub mod RecordLemmas
 pub mod DigitLemmas
+pub mod PartLemmas

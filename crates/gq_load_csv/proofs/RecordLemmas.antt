@@ -17,7 +17,7 @@ use Rattle.gq_load_csv.specs.Unread.{left, unread, is_ready}
 -- ---- turns enough
 
 -- what a record leaves: fewer bytes, or, where none were left, nothing
-data Leaves (xs : List ℕ) (q : Read) : Type 0 where
+pub data Leaves (xs : List ℕ) (q : Read) : Type 0 where
   fewer : length q.2 < length xs → Leaves xs q
   nothing : q.1 ≡ st.StartRecord → q.2 ≡ [] → Leaves xs q
 
@@ -28,7 +28,7 @@ some-inj {A} {x} {y} e = ap (λ (o : Option A). or o x) e
     or None d = d
     or (Some a) d = a
 
-leaves : (cfg : Config) (xs : List ℕ) (s : State) (f : List (List ℕ)) (p : List ℕ) (q : Read) → next_record cfg s f p xs ≡ Some q → Leaves xs q
+pub leaves : (cfg : Config) (xs : List ℕ) (s : State) (f : List (List ℕ)) (p : List ℕ) (q : Read) → next_record cfg s f p xs ≡ Some q → Leaves xs q
 unfolding next_record
 leaves cfg [] s f p q e = go (ends_at_end s) e
   where
@@ -47,7 +47,7 @@ leaves cfg (c ∷ rest) s f p q e = go (is_end (step cfg s c).1) (λ h. leaves c
     go false rec h = deeper (rec h)
 
 -- at the end of a text nothing is left, whatever the turns
-at_end : (cfg : Config) (n : ℕ) → records_from cfg n st.StartRecord [] ≡ []
+pub at_end : (cfg : Config) (n : ℕ) → records_from cfg n st.StartRecord [] ≡ []
 unfolding records_from next_record
 at_end cfg zero = refl
 at_end cfg (suc n) = refl

@@ -14,7 +14,7 @@ use std::alloc::Global;
 
 /// Whether INTERPRET QUERY is refused, with the graph that is in use, by its number: for its modes, else for a graph that isn't
 /// there, else by the first rule on queries that fails.
-pub fn judge_interpreted(
+pub(crate) fn judge_interpreted(
     alloc: Global,
     catalog: &Catalog,
     in_use: Option<u32>,

@@ -25,7 +25,6 @@ mod stored;
 pub use create::create_query;
 pub use install::install_queries;
 pub use interpret::interpret_query;
-pub use judge::judge_interpreted;
 pub use run::run_query;
 pub use runner::{QueryFault, Runner, RunsQueries};
-pub use stored::{Stored, query_named};
+pub use stored::Stored;

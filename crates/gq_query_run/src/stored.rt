@@ -52,7 +52,7 @@ impl<'s> Stored<'s> {
 }
 
 /// The query of a name.
-pub fn query_named<'q, 's>(queries: &'q [Stored<'s>], name: &str) -> Option<&'q Stored<'s>>
+pub(crate) fn query_named<'q, 's>(queries: &'q [Stored<'s>], name: &str) -> Option<&'q Stored<'s>>
     ensures { option_copied result ≡ find (spec.is_named name.now) queries.now }
 {
     queries.iter().find(|query| query.name == name)

@@ -30,26 +30,26 @@ prefix_of_lines old new lines others some = subst (AppendsPrefix old new) (sym (
 module _ (bytes : List ℕ) where
   -- ---- one statement
 
-  module _ (s : State) (number : ℕ) (p : Placed) (others : List Placed) where
-    pub runs_refused : (known : Known) (message : List ℕ) → Does known s number p.statement (Refused message) → Runs bytes known s number (p ∷ others) (ended_by (refusal_text (line_of bytes p.from) message))
+  module _ (s : State) (p : Placed) (others : List Placed) where
+    pub runs_refused : (known : Known) (message : List ℕ) → Does known s p.statement (Refused message) → Runs bytes known s (p ∷ others) (ended_by (refusal_text (line_of bytes p.from) message))
     runs_refused known message does = (Refused message, does, refl)
 
-    pub runs_on : (known : Known) (t : State) (lines : List (List ℕ)) (rest : Outcome) → Does known s number p.statement (Becomes t lines) → Runs bytes known t (number + 1) others rest → Runs bytes known s number (p ∷ others) (lines_then lines rest)
+    pub runs_on : (known : Known) (t : State) (lines : List (List ℕ)) (rest : Outcome) → Does known s p.statement (Becomes t lines) → Runs bytes known t others rest → Runs bytes known s (p ∷ others) (lines_then lines rest)
     runs_on known t lines rest does runs = (Becomes t lines, does, (rest, runs, refl))
 
-    module _ (pairs : Listing) (outcome : Outcome) (runs : Runs bytes (Told pairs) s number (p ∷ others) outcome) where
-      pub refused_runs : (message : List ℕ) → Does (Told pairs) s number p.statement (Refused message) → outcome ≡ ended_by (refusal_text (line_of bytes p.from) message)
+    module _ (pairs : Listing) (outcome : Outcome) (runs : Runs bytes (Told pairs) s (p ∷ others) outcome) where
+      pub refused_runs : (message : List ℕ) → Does (Told pairs) s p.statement (Refused message) → outcome ≡ ended_by (refusal_text (line_of bytes p.from) message)
       refused_runs message does =
-          subst (λ e. Follows (line_of bytes p.from) e (λ t. Runs bytes (Told pairs) t (number + 1) others) outcome)
-          (does_one pairs s number p.statement runs.0 (Refused message) runs.1 does) runs.2
+          subst (λ e. Follows (line_of bytes p.from) e (λ t. Runs bytes (Told pairs) t others) outcome)
+          (does_one pairs s p.statement runs.0 (Refused message) runs.1 does) runs.2
 
-      pub on_runs : (t : State) (lines : List (List ℕ)) → Does (Told pairs) s number p.statement (Becomes t lines) → (rest : Outcome) × Runs bytes (Told pairs) t (number + 1) others rest × (outcome ≡ lines_then lines rest)
+      pub on_runs : (t : State) (lines : List (List ℕ)) → Does (Told pairs) s p.statement (Becomes t lines) → (rest : Outcome) × Runs bytes (Told pairs) t others rest × (outcome ≡ lines_then lines rest)
       on_runs t lines does =
-          subst (λ e. Follows (line_of bytes p.from) e (λ u. Runs bytes (Told pairs) u (number + 1) others) outcome)
-          (does_one pairs s number p.statement runs.0 (Becomes t lines) runs.1 does) runs.2
+          subst (λ e. Follows (line_of bytes p.from) e (λ u. Runs bytes (Told pairs) u others) outcome)
+          (does_one pairs s p.statement runs.0 (Becomes t lines) runs.1 does) runs.2
 
       -- a run that ends before the lines of its statement are written
-      pub keeps_unwritten : (t : State) (lines : List (List ℕ)) → Does (Told pairs) s number p.statement (Becomes t lines) → (status : Status) (old new : Option (List ℕ)) (A B : Type 0)
+      pub keeps_unwritten : (t : State) (lines : List (List ℕ)) → Does (Told pairs) s p.statement (Becomes t lines) → (status : Status) (old new : Option (List ℕ)) (A B : Type 0)
           → ((rest : Outcome) → KeepsTo (lines_then lines rest) status old new A B) → KeepsTo outcome status old new A B
       keeps_unwritten t lines does status old new A B keeps =
           let more = on_runs t lines does in
@@ -63,10 +63,10 @@ module _ (bytes : List ℕ) where
       pub lines : List (List ℕ)
       pub wrote : Appends old now (concat lines)
       pub whole : (before now met : ℕ) (rest : Outcome)
-          → Runs bytes (known_of held before now met) s (place + 1) (drop place statements) rest
-          → Runs bytes (known_of held before now met) first 1 statements (lines_then lines rest)
-      pub only : (pairs : Listing) → held ≡ Some pairs → (outcome : Outcome) → Runs bytes (Told pairs) first 1 statements outcome
-          → (rest : Outcome) × Runs bytes (Told pairs) s (place + 1) (drop place statements) rest × (outcome ≡ lines_then lines rest)
+          → Runs bytes (known_of held before now met) s (drop place statements) rest
+          → Runs bytes (known_of held before now met) first statements (lines_then lines rest)
+      pub only : (pairs : Listing) → held ≡ Some pairs → (outcome : Outcome) → Runs bytes (Told pairs) first statements outcome
+          → (rest : Outcome) × Runs bytes (Told pairs) s (drop place statements) rest × (outcome ≡ lines_then lines rest)
 
     pub come_first : (old : Option (List ℕ)) → HasCome 0 first old old
     come_first old = record {
@@ -79,49 +79,49 @@ module _ (bytes : List ℕ) where
     module _ (place : ℕ) (s : State) (old mid : Option (List ℕ)) (come : HasCome place s old mid)
         (p : Placed) (next : drop place statements ≡ p ∷ drop (place + 1) statements) where
       pub come_next : (t : State) (lines : List (List ℕ)) (new : Option (List ℕ))
-          → ((before now met : ℕ) → Does (known_of held before now met) s (place + 1) p.statement (Becomes t lines))
+          → ((before now met : ℕ) → Does (known_of held before now met) s p.statement (Becomes t lines))
           → Appends mid new (concat lines) → HasCome (place + 1) t old new
       come_next t lines new does wrote = record {
         lines = come.lines ++ lines;
         wrote = appends_after come.lines old mid new come.wrote lines wrote;
         whole = λ before now met rest runs.
-            subst (Runs bytes (known_of held before now met) first 1 statements) (lines_then_more come.lines lines rest)
+            subst (Runs bytes (known_of held before now met) first statements) (lines_then_more come.lines lines rest)
             (come.whole before now met (lines_then lines rest)
-            (subst (λ ps. Runs bytes (known_of held before now met) s (place + 1) ps (lines_then lines rest)) (sym next)
-            (runs_on s (place + 1) p (drop (place + 1) statements) (known_of held before now met) t lines rest (does before now met) runs)));
+            (subst (λ ps. Runs bytes (known_of held before now met) s ps (lines_then lines rest)) (sym next)
+            (runs_on s p (drop (place + 1) statements) (known_of held before now met) t lines rest (does before now met) runs)));
         only = λ pairs is outcome runs.
             let left = come.only pairs is outcome runs in
-            let told = subst (λ k. Does k s (place + 1) p.statement (Becomes t lines)) (told_is_known held pairs 0 0 0 is) (does 0 0 0) in
-            let more = on_runs s (place + 1) p (drop (place + 1) statements) pairs left.0
-            (subst (λ ps. Runs bytes (Told pairs) s (place + 1) ps left.0) next left.1) t lines told in
+            let told = subst (λ k. Does k s p.statement (Becomes t lines)) (told_is_known held pairs 0 0 0 is) (does 0 0 0) in
+            let more = on_runs s p (drop (place + 1) statements) pairs left.0
+            (subst (λ ps. Runs bytes (Told pairs) s ps left.0) next left.1) t lines told in
             (more.0, more.1, left.2 ∙ ap (lines_then come.lines) more.2 ∙ lines_then_more come.lines lines more.0);
       }
 
       -- the run ends at this statement
       pub keeps_here : (status : Status) (new : Option (List ℕ)) (A B C D : Type 0) → (A → C) → (B → D) → (pairs : Listing) → held ≡ Some pairs
-          → ((outcome : Outcome) → Runs bytes (Told pairs) s (place + 1) (p ∷ drop (place + 1) statements) outcome → KeepsTo outcome status mid new A B)
-          → (outcome : Outcome) → Runs bytes (Told pairs) first 1 statements outcome → KeepsTo outcome status old new C D
+          → ((outcome : Outcome) → Runs bytes (Told pairs) s (p ∷ drop (place + 1) statements) outcome → KeepsTo outcome status mid new A B)
+          → (outcome : Outcome) → Runs bytes (Told pairs) first statements outcome → KeepsTo outcome status old new C D
       keeps_here status new A B C D f g pairs is keeps outcome runs =
           let left = come.only pairs is outcome runs in
           keeps_same (lines_then come.lines left.0) outcome status old new C D left.2
           (keeps_more (lines_then come.lines left.0) status old new A B C D f g
           (keeps_after come.lines old mid new come.wrote left.0 status A B
-          (keeps left.0 (subst (λ ps. Runs bytes (Told pairs) s (place + 1) ps left.0) next left.1))))
+          (keeps left.0 (subst (λ ps. Runs bytes (Told pairs) s ps left.0) next left.1))))
 
       pub meant_here : (status : Status) (new : Option (List ℕ)) (before now met : ℕ)
-          → (outcome : Outcome) × Runs bytes (known_of held before now met) s (place + 1) (p ∷ drop (place + 1) statements) outcome × Ends outcome status mid new
-          → (outcome : Outcome) × Runs bytes (known_of held before now met) first 1 statements outcome × Ends outcome status old new
+          → (outcome : Outcome) × Runs bytes (known_of held before now met) s (p ∷ drop (place + 1) statements) outcome × Ends outcome status mid new
+          → (outcome : Outcome) × Runs bytes (known_of held before now met) first statements outcome × Ends outcome status old new
       meant_here status new before now met (outcome, runs, ends) = (
         lines_then come.lines outcome,
-        come.whole before now met outcome (subst (λ ps. Runs bytes (known_of held before now met) s (place + 1) ps outcome) (sym next) runs),
+        come.whole before now met outcome (subst (λ ps. Runs bytes (known_of held before now met) s ps outcome) (sym next) runs),
         ends_after come.lines old mid new come.wrote outcome status ends,
       )
 
     -- the run ends behind the last statement
     pub meant_last : (place : ℕ) (s : State) (old now : Option (List ℕ)) → HasCome place s old now → length statements ≤ place → (before absent met : ℕ)
-        → (outcome : Outcome) × Runs bytes (known_of held before absent met) first 1 statements outcome × Ends outcome Done old now
+        → (outcome : Outcome) × Runs bytes (known_of held before absent met) first statements outcome × Ends outcome Done old now
     meant_last place s old now come end before absent met = (
       lines_then come.lines done,
-      come.whole before absent met done (subst (λ ps. Runs bytes (known_of held before absent met) s (place + 1) ps done) (sym (drop_all place statements end)) refl),
+      come.whole before absent met done (subst (λ ps. Runs bytes (known_of held before absent met) s ps done) (sym (drop_all place statements end)) refl),
       (refl, subst (Appends old now) (ap concat (sym (append-nil come.lines))) come.wrote),
     )

@@ -1,5 +1,5 @@
 -- Runs: what the statements of a script print, one after another, by what each of them does.
-use Rattle.std.specs.Prelude.{◌≡◌, ℕ, ◌+◌, List, [], ◌∷◌}
+use Rattle.std.specs.Prelude.{◌≡◌, ℕ, List, [], ◌∷◌}
 use Rattle.gq_token.specs.Lines.{line_of}
 use Rattle.gq_tree.specs.declared.statement.Placed.{Placed}
 use Rattle.gq_diagnostics.specs.Messages.{refusal_text}
@@ -14,9 +14,9 @@ Follows line (Refused message) Rest outcome = outcome ≡ ended_by (refusal_text
 Follows line (Becomes t lines) Rest outcome = (others : Outcome) × Rest t others × (outcome ≡ lines_then lines others)
 
 module _ (bytes : List ℕ) (known : Known) where
-  -- from a state, these statements of the script with these bytes, the first of which has this number, print and answer so
-  abbrev pub Runs : State → ℕ → List Placed → Outcome → Type 0
-  Runs s number [] outcome = outcome ≡ done
-  Runs s number (p ∷ others) outcome =
-      (effect : Effect State) × Does known s number p.statement effect
-      × Follows (line_of bytes p.from) effect (λ t. Runs t (number + 1) others) outcome
+  -- from a state, these statements of the script with these bytes print and answer so
+  abbrev pub Runs : State → List Placed → Outcome → Type 0
+  Runs s [] outcome = outcome ≡ done
+  Runs s (p ∷ others) outcome =
+      (effect : Effect State) × Does known s p.statement effect
+      × Follows (line_of bytes p.from) effect (λ t. Runs t others) outcome

@@ -1,5 +1,5 @@
 -- StatementLaws: over files that are told a statement does one thing.
-use Rattle.std.proofs.Common.{◌≡◌, ℕ, sym, ap, ◌∙◌}
+use Rattle.std.proofs.Common.{◌≡◌, sym, ap, ◌∙◌}
 use Rattle.gq_io.specs.Listing.{Listing}
 use Rattle.gq_tree.specs.declared.job.RunJobTree.{RunJobTree}
 use Rattle.gq_tree.specs.declared.statement.Statement.{Statement}
@@ -13,17 +13,17 @@ job_does_one : (pairs : Listing) (s : State) (tree : RunJobTree) (e f : Effect S
 job_does_one pairs s tree e f (x, does, is) (y, other, as_well) =
     is ∙ ap (store_done s) (job_determined pairs s.schema s.jobs s.store tree x y does other) ∙ sym as_well
 
-pub does_one : (pairs : Listing) (s : State) (number : ℕ) (statement : Statement) (e f : Effect State) → Does (Told pairs) s number statement e → Does (Told pairs) s number statement f → e ≡ f
-does_one pairs s number (top.Vertex tree) e f one other = one ∙ sym other
-does_one pairs s number (top.Edge tree) e f one other = one ∙ sym other
-does_one pairs s number (top.Graph tree) e f one other = one ∙ sym other
-does_one pairs s number (top.Use name) e f one other = one ∙ sym other
-does_one pairs s number (top.Job tree) e f one other = one ∙ sym other
-does_one pairs s number (top.RunJob tree) e f one other = job_does_one pairs s tree e f one other
-does_one pairs s number (top.Query replace name tree) e f one other = one ∙ sym other
-does_one pairs s number (top.Install which) e f one other = one ∙ sym other
-does_one pairs s number (top.Run tree) e f one other = one ∙ sym other
-does_one pairs s number (top.Interpret tree) e f one other = one ∙ sym other
-does_one pairs s number (top.Insert tree) e f one other = one ∙ sym other
-does_one pairs s number top.Begin e f one other = one ∙ sym other
-does_one pairs s number top.End e f one other = one ∙ sym other
+pub does_one : (pairs : Listing) (s : State) (statement : Statement) (e f : Effect State) → Does (Told pairs) s statement e → Does (Told pairs) s statement f → e ≡ f
+does_one pairs s (top.Vertex tree) e f one other = one ∙ sym other
+does_one pairs s (top.Edge tree) e f one other = one ∙ sym other
+does_one pairs s (top.Graph tree) e f one other = one ∙ sym other
+does_one pairs s (top.Use name) e f one other = one ∙ sym other
+does_one pairs s (top.Job tree) e f one other = one ∙ sym other
+does_one pairs s (top.RunJob tree) e f one other = job_does_one pairs s tree e f one other
+does_one pairs s (top.Query replace name tree) e f one other = one ∙ sym other
+does_one pairs s (top.Install which) e f one other = one ∙ sym other
+does_one pairs s (top.Run tree) e f one other = one ∙ sym other
+does_one pairs s (top.Interpret tree) e f one other = one ∙ sym other
+does_one pairs s (top.Insert tree) e f one other = one ∙ sym other
+does_one pairs s top.Begin e f one other = one ∙ sym other
+does_one pairs s top.End e f one other = one ∙ sym other

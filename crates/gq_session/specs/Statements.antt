@@ -1,5 +1,5 @@
 -- Statements: what each statement of a script does to a session, what it prints, and what it leaves where it doesn't run to its end.
-use Rattle.std.specs.Prelude.{◌≡◌, ℕ, Bool, if◌then◌else◌, List, [], length, map, Option, Some, None, Result, Ok, Err, Vec, option_map}
+use Rattle.std.specs.Prelude.{◌≡◌, ℕ, Bool, List, [], length, map, Option, Some, None, Result, Ok, Err, Vec, option_map}
 use Rattle.std.specs.declared.alloc.Global.{Global}
 use Rattle.gq_graph.specs.Catalog.{Schema, graph_of}
 use Rattle.gq_index.specs.declared.store.Store.{Store}
@@ -32,13 +32,11 @@ use Rattle.gq_rules_calendar.specs.Gregorian.{gregorian}
 use Rattle.gq_arguments.specs.Given.{view_argument}
 use Rattle.gq_arguments.specs.Members.{members_for}
 use Rattle.gq_query_run.specs.Kept.{Kept}
-use Rattle.gq_query_run.specs.Judging.{interpret_refusal}
 use Rattle.gq_query_run.specs.Queries.{query_created, query_installed}
 use Rattle.gq_query_run.specs.Sessions.{session_of}
 use Rattle.gq_io.specs.Known.{Known}
 use Rattle.gq_diagnostics.specs.Effects.{Effect, Becomes, Refused, lines_of}
 use Rattle.gq_session.specs.Arguments.{object_of}
-use Rattle.gq_session.specs.Paths.{has_path, walks_path}
 
 -- what one statement leaves to the next: the catalog, the number of the graph in use, loading jobs and queries by their names, and the
 -- store; and what stays the same, the bytes of the file of arguments, where one is named, and the turns of a query
@@ -132,15 +130,6 @@ abbrev pub effect_of : Result State Refusal → Effect State
 effect_of (Ok s) = Becomes s []
 effect_of (Err r) = Refused (message_of r)
 
--- a statement that isn't run yet
-abbrev pub unsupported : ℕ → Effect State
-unsupported number = Refused (message_of (refusal.Unsupported number))
-
--- the refusal that is due, or else this
-abbrev pub unless_due : Option Refusal → Effect State → Effect State
-unless_due (Some due) effect = Refused (message_of due)
-unless_due None effect = effect
-
 -- the session of gq_rules_meaning's definitions, and what is done to it: RUN QUERY and INTERPRET QUERY leave it as it is
 abbrev pub session_in : State → sessions.Session
 session_in s = session_of s.schema s.in_use s.queries s.store
@@ -150,32 +139,29 @@ effect_in s (sessions.Becomes t lines) = Becomes s lines
 effect_in s (sessions.Refused message) = Refused message
 
 -- RUN QUERY
-abbrev pub query_ran : State → ℕ → RunTree → Effect State
-query_ran s number tree =
-    if walks_path s.queries tree.name then unsupported number
-    else effect_in s (ran (session_in s) gregorian s.turns tree.name (option_map (map view_argument) tree.arguments) (members_for (object_of s.file) tree.name))
+abbrev pub query_ran : State → RunTree → Effect State
+query_ran s tree =
+    effect_in s (ran (session_in s) gregorian s.turns tree.name (option_map (map view_argument) tree.arguments) (members_for (object_of s.file) tree.name))
 
 -- INTERPRET QUERY
-abbrev pub query_interpreted : State → ℕ → QueryTree → Effect State
-query_interpreted s number tree =
-    if has_path (view_query tree) then unless_due (interpret_refusal s.schema s.in_use tree) (unsupported number)
-    else effect_in s (interpreted (session_in s) gregorian s.turns tree.graph tree.modes (view_query tree))
+abbrev pub query_interpreted : State → QueryTree → Effect State
+query_interpreted s tree = effect_in s (interpreted (session_in s) gregorian s.turns tree.graph tree.modes (view_query tree))
 
--- what the statement of this number does, by what is known of the files
-abbrev pub Does : Known → State → ℕ → Statement → Effect State → Type 0
-Does known s number (top.Vertex tree) effect = effect ≡ effect_of (vertex_made s tree)
-Does known s number (top.Edge tree) effect = effect ≡ effect_of (edge_made s tree)
-Does known s number (top.Graph tree) effect = effect ≡ effect_of (graph_made s tree)
-Does known s number (top.Use name) effect = effect ≡ effect_of (graph_used s name)
-Does known s number (top.Job tree) effect = effect ≡ effect_of (job_made s tree)
-Does known s number (top.RunJob tree) effect = RunsJob known s tree effect
-Does known s number (top.Query replace name tree) effect = effect ≡ effect_of (query_made s replace name tree)
-Does known s number (top.Install which) effect = effect ≡ effect_of (install_made s which)
-Does known s number (top.Run tree) effect = effect ≡ query_ran s number tree
-Does known s number (top.Interpret tree) effect = effect ≡ query_interpreted s number tree
-Does known s number (top.Insert tree) effect = effect ≡ effect_of (row_made s tree)
-Does known s number top.Begin effect = effect ≡ Becomes s []
-Does known s number top.End effect = effect ≡ Becomes s []
+-- what a statement does, by what is known of the files
+abbrev pub Does : Known → State → Statement → Effect State → Type 0
+Does known s (top.Vertex tree) effect = effect ≡ effect_of (vertex_made s tree)
+Does known s (top.Edge tree) effect = effect ≡ effect_of (edge_made s tree)
+Does known s (top.Graph tree) effect = effect ≡ effect_of (graph_made s tree)
+Does known s (top.Use name) effect = effect ≡ effect_of (graph_used s name)
+Does known s (top.Job tree) effect = effect ≡ effect_of (job_made s tree)
+Does known s (top.RunJob tree) effect = RunsJob known s tree effect
+Does known s (top.Query replace name tree) effect = effect ≡ effect_of (query_made s replace name tree)
+Does known s (top.Install which) effect = effect ≡ effect_of (install_made s which)
+Does known s (top.Run tree) effect = effect ≡ query_ran s tree
+Does known s (top.Interpret tree) effect = effect ≡ query_interpreted s tree
+Does known s (top.Insert tree) effect = effect ≡ effect_of (row_made s tree)
+Does known s top.Begin effect = effect ≡ Becomes s []
+Does known s top.End effect = effect ≡ Becomes s []
 
 -- ---- answers
 

@@ -1,5 +1,5 @@
 // What is true of statements.
-ghost use Rattle.std.specs.Prelude.{◌≡◌, ℕ};
+ghost use Rattle.std.specs.Prelude.{◌≡◌};
 ghost use Rattle.gq_io.specs.Known.{Told};
 ghost use Rattle.gq_io.specs.Listing.{Listing};
 ghost use Rattle.gq_tree.specs.declared.statement.Statement.{Statement};
@@ -8,6 +8,6 @@ ghost use Rattle.gq_session.specs.Statements.{Does, State};
 
 /// Does nothing. Its contract is a law: over files that are told a statement does one thing.
 pub fn statements_do_one_thing()
-    ensures { (pairs : Listing) (s : State) (number : ℕ) (statement : Statement) (e f : Effect State)
-        → Does (Told pairs) s number statement e → Does (Told pairs) s number statement f → e ≡ f }
+    ensures { (pairs : Listing) (s : State) (statement : Statement) (e f : Effect State)
+        → Does (Told pairs) s statement e → Does (Told pairs) s statement f → e ≡ f }
 {}

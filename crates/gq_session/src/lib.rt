@@ -11,7 +11,6 @@
 
 mod file;
 mod laws;
-mod path;
 mod run;
 mod session;
 

@@ -1,5 +1,5 @@
 // One statement after another.
-ghost use Rattle.std.specs.Prelude.{◌≡◌, ◌≤◌, ◌∷◌, ◌+◌, ℕ, List, Some, All, length, IfOk, IfSome, IfNone, OnOk, OnErr, IsErrOf};
+ghost use Rattle.std.specs.Prelude.{◌≡◌, ◌≤◌, ◌∷◌, ℕ, List, Some, All, length, IfOk, IfSome, IfNone, OnOk, OnErr, IsErrOf};
 ghost use Rattle.std.specs.List.{concat};
 ghost use Rattle.gq_io.specs.Counts.{Rose};
 ghost use Rattle.gq_io.specs.Listing.{Listing};
@@ -35,26 +35,17 @@ pub fn run_statements<'s, R: Threads + Sync, M: RunsQueries, F: Files, K: Sink>(
 
     // Over files that are told: the lines and the answer are the script's, or a counted fault or `OutOfMemory` ended it sooner.
     ensures keeps { (pairs : Listing) → F.held files.old ≡ Some pairs → (outcome : Outcome)
-        → Runs bytes.now (Told pairs) session.old 1 statements.now outcome
+        → Runs bytes.now (Told pairs) session.old statements.now outcome
         → KeepsTo outcome result (K.written out.old) (K.written out.new) (Rose (F.faults files.old) (F.faults files.new)) (Rose (K.faults out.old) (K.faults out.new)) }
 
     // A run that comes to its end is one that the statements may have, over all files.
     ensures is_meant { IsFinal result → (before : ℕ) → before ≤ F.absences files.old → (outcome : Outcome)
-        × Runs bytes.now (known_of (F.held files.old) before (F.absences files.new) (F.length_met files.new)) session.old 1 statements.now outcome
+        × Runs bytes.now (known_of (F.held files.old) before (F.absences files.new) (F.length_met files.new)) session.old statements.now outcome
         × Ends outcome result (K.written out.old) (K.written out.new) }
     ensures only_runs { OnlyRuns result (Rose (F.faults files.old) (F.faults files.new)) (Rose (K.faults out.old) (K.faults out.new)) }
 {
-    for (index, placed) in statements.iter().enumerate() {
-        match run_one(
-            rt,
-            alloc,
-            bytes,
-            index as u64 + 1,
-            placed,
-            session,
-            files,
-            out,
-        ) {
+    for placed in statements {
+        match run_one(rt, alloc, bytes, placed, session, files, out) {
             None => {}
             Some(status) => return status,
         }
@@ -62,12 +53,11 @@ pub fn run_statements<'s, R: Threads + Sync, M: RunsQueries, F: Files, K: Sink>(
     Status::Done
 }
 
-// Runs the statement of this number, and tells how the run ends, if it ends there.
+// Runs a statement, and tells how the run ends, if it ends there.
 fn run_one<'s, R: Threads + Sync, M: RunsQueries, F: Files, K: Sink>(
     rt: &R,
     alloc: Global,
     bytes: &[u8],
-    number: u64,
     placed: &'s Placed,
     session: &mut Session<'s, M>,
     files: &mut F,
@@ -75,21 +65,21 @@ fn run_one<'s, R: Threads + Sync, M: RunsQueries, F: Files, K: Sink>(
 ) -> Option<Status>
     requires { placed.now.from ≤ length bytes.now }
     ensures keeps { IfSome result (λ status. (pairs : Listing) → F.held files.old ≡ Some pairs → (others : List Placed) (outcome : Outcome)
-        → Runs bytes.now (Told pairs) session.old number (placed.now ∷ others) outcome
+        → Runs bytes.now (Told pairs) session.old (placed.now ∷ others) outcome
         → KeepsTo outcome status (K.written out.old) (K.written out.new) (Rose (F.faults files.old) (F.faults files.new)) (Rose (K.faults out.old) (K.faults out.new))) }
     ensures is_meant { IfSome result (λ status. IsFinal status → (before : ℕ) → before ≤ F.absences files.old → (others : List Placed) → (outcome : Outcome)
-        × Runs bytes.now (known_of (F.held files.old) before (F.absences files.new) (F.length_met files.new)) session.old number (placed.now ∷ others) outcome
+        × Runs bytes.now (known_of (F.held files.old) before (F.absences files.new) (F.length_met files.new)) session.old (placed.now ∷ others) outcome
         × Ends outcome status (K.written out.old) (K.written out.new)) }
     ensures only_runs { IfSome result (λ status. OnlyRuns status (Rose (F.faults files.old) (F.faults files.new)) (Rose (K.faults out.old) (K.faults out.new))) }
     ensures goes_on { IfNone result ((lines : List (List ℕ))
-        × ((before now met : ℕ) → Does (known_of (F.held files.old) before now met) session.old number placed.now.statement (Becomes session.new lines))
+        × ((before now met : ℕ) → Does (known_of (F.held files.old) before now met) session.old placed.now.statement (Becomes session.new lines))
         × Appends (K.written out.old) (K.written out.new) (concat lines)) }
     ensures held { F.held files.new ≡ F.held files.old }
     ensures faults_stay { F.faults files.old ≤ F.faults files.new }
     ensures absences_stay { F.absences files.old ≤ F.absences files.new }
     ensures sink_stays { IfNone result (K.faults out.old ≤ K.faults out.new) }
 {
-    match session.run(rt, files, number, &placed.statement) {
+    match session.run(rt, files, &placed.statement) {
         Ok(line) => match print(&line, out) {
             Ok(()) => None,
             Err(SinkFault::Failed) => Some(Status::WriteFault),

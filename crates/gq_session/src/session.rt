@@ -6,12 +6,10 @@ ghost use Rattle.gq_diagnostics.specs.Answers.{Answers};
 ghost use Rattle.gq_diagnostics.specs.Messages.{message_of};
 ghost use Rattle.gq_diagnostics.specs.Effects.{Becomes, Refused, lines_of};
 ghost use Rattle.gq_io.specs.Known.{known_of};
-ghost use Rattle.gq_query_run.specs.Judging.{interpret_refusal};
 ghost use Rattle.gq_load.specs.Keeping.{no_rows as rows_of_none};
-ghost use Rattle.gq_session.specs.Statements.{Does, JobLeft, Leaves, Prints, RunsJob, State, edge_made, effect_of, graph_made, graph_used, install_made, job_made, opening, query_interpreted, query_made, query_ran, row_made, unless_due, unsupported as not_yet, vertex_made};
+ghost use Rattle.gq_session.specs.Statements.{Does, JobLeft, Leaves, Prints, RunsJob, State, edge_made, effect_of, graph_made, graph_used, install_made, job_made, opening, query_interpreted, query_made, query_ran, row_made, vertex_made};
 
 use crate::file::ArgsFile;
-use crate::path::{has_path, walks_path};
 use gq_base::{List, OutOfMemory};
 use gq_ddl::{NamedJob, create_edge, create_graph, create_job, create_vertex};
 use gq_diagnostics::{Refusal, StatementFault};
@@ -21,8 +19,7 @@ use gq_insert::insert_row;
 use gq_io::Files;
 use gq_load_run::run_job;
 use gq_query_run::{
-    Runner, RunsQueries, Stored, create_query, install_queries, interpret_query, judge_interpreted,
-    run_query,
+    Runner, RunsQueries, Stored, create_query, install_queries, interpret_query, run_query,
 };
 use gq_schema::Catalog;
 use gq_tree::{
@@ -87,7 +84,7 @@ impl<'s, M: RunsQueries> Session<'s, M> {
         }
     }
 
-    /// Runs the statement of this number, on threads of this runtime, and gives the line that it prints, if any.
+    /// Runs a statement, on threads of this runtime, and gives the line that it prints, if any.
     ///
     /// Where it doesn't run to its end the session is as it was. Only RUN LOADING JOB leaves upserts in the store: those of the LOADs
     /// that ended, and of a LOAD that didn't those before the one that was refused, or some of them for `OutOfMemory`.
@@ -95,14 +92,13 @@ impl<'s, M: RunsQueries> Session<'s, M> {
         &mut self,
         rt: &R,
         files: &mut F,
-        number: u64,
         statement: &'s Statement,
     ) -> Result<Option<Vec<u8>>, StatementFault>
         // A statement that runs got bytes for each file that it asked for, so that no count is needed.
         ensures done { (before now met : ℕ) → IfOk result (λ line.
-            Does (known_of (F.held files.old) before now met) self.old number statement.now (Becomes self.new (lines_of line))) }
+            Does (known_of (F.held files.old) before now met) self.old statement.now (Becomes self.new (lines_of line))) }
         ensures refused { (refusal : Refusal) → result ≡ Err (StatementFault.Refused refusal) → (before : ℕ) → before ≤ F.absences files.old
-            → Does (known_of (F.held files.old) before (F.absences files.new) (F.length_met files.new)) self.old number statement.now (Refused (message_of refusal)) }
+            → Does (known_of (F.held files.old) before (F.absences files.new) (F.length_met files.new)) self.old statement.now (Refused (message_of refusal)) }
         ensures left { (before : ℕ) → before ≤ F.absences files.old → IfErr result (λ fault.
             Leaves (known_of (F.held files.old) before (F.absences files.new) (F.length_met files.new)) self.old statement.now fault self.new) }
         ensures read_fault { IsErrOf result StatementFault.ReadFault → Rose (F.faults files.old) (F.faults files.new) }
@@ -119,10 +115,10 @@ impl<'s, M: RunsQueries> Session<'s, M> {
             Statement::RunJob(tree) => self.run_job(files, tree),
             Statement::Query(replace, name, tree) => silent(self.make_query(*replace, name, tree)),
             Statement::Install(which) => silent(self.install(which)),
-            Statement::Interpret(tree) => self.interpret(rt, number, tree),
+            Statement::Interpret(tree) => self.interpret(rt, tree),
             Statement::Insert(tree) => silent(self.insert(tree)),
             Statement::Begin | Statement::End => Ok(None),
-            Statement::Run(tree) => self.run_query(rt, number, tree),
+            Statement::Run(tree) => self.run_query(rt, tree),
         }
     }
 
@@ -200,16 +196,12 @@ impl<'s, M: RunsQueries> Session<'s, M> {
     fn run_query<R: Threads + Sync>(
         &mut self,
         rt: &R,
-        number: u64,
         tree: &RunTree,
     ) -> Result<Option<Vec<u8>>, StatementFault>
-        ensures prints { Prints self.old (query_ran self.old number tree.now) result }
+        ensures prints { Prints self.old (query_ran self.old tree.now) result }
         ensures same { self.new ≡ self.old }
     {
         let queries = self.queries.as_slice();
-        if walks_path(queries, tree.name.as_str()) {
-            return unsupported(number);
-        }
         let (alloc, catalog, store) = (self.alloc, &self.catalog, &self.store);
         match self.index.catch_up(alloc, catalog, store) {
             Ok(()) => {}
@@ -232,15 +224,11 @@ impl<'s, M: RunsQueries> Session<'s, M> {
     fn interpret<R: Threads + Sync>(
         &mut self,
         rt: &R,
-        number: u64,
         tree: &QueryTree,
     ) -> Result<Option<Vec<u8>>, StatementFault>
-        ensures prints { Prints self.old (query_interpreted self.old number tree.now) result }
+        ensures prints { Prints self.old (query_interpreted self.old tree.now) result }
         ensures same { self.new ≡ self.old }
     {
-        if has_path(tree) {
-            return self.judge_path(number, tree);
-        }
         match self.index.catch_up(self.alloc, &self.catalog, &self.store) {
             Ok(()) => {}
             Err(OutOfMemory) => return Err(StatementFault::OutOfMemory),
@@ -255,16 +243,6 @@ impl<'s, M: RunsQueries> Session<'s, M> {
             self.in_use,
             tree,
         ))
-    }
-
-    // A query with a path, which isn't run yet, is refused as any other, and else for that.
-    fn judge_path(&self, number: u64, tree: &QueryTree) -> Result<Option<Vec<u8>>, StatementFault>
-        ensures { Prints self.now (unless_due (interpret_refusal self.now.schema self.now.in_use tree.now) (not_yet number)) result }
-    {
-        match judge_interpreted(self.alloc, &self.catalog, self.in_use, tree) {
-            Ok(()) => unsupported(number),
-            Err(fault) => Err(fault),
-        }
     }
 
     fn insert(&mut self, tree: &InsertTree) -> Result<(), StatementFault>
@@ -332,10 +310,4 @@ fn with_line(answer: Result<Vec<u8>, StatementFault>) -> Result<Option<Vec<u8>>,
         Ok(line) => Ok(Some(line)),
         Err(fault) => Err(fault),
     }
-}
-
-fn unsupported(number: u64) -> Result<Option<Vec<u8>>, StatementFault>
-    ensures { (s : State) → Prints s (not_yet number) result }
-{
-    Err(StatementFault::Refused(Refusal::Unsupported(number)))
 }

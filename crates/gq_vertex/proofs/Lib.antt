@@ -1,3 +1,4 @@
+pub mod JoinLemmas
 pub mod KeyedLemmas
 pub mod SortedLemmas
 pub mod VertexLemmas

@@ -1,3 +1,4 @@
+pub mod Joined
 pub mod Keyed
 pub mod Named
 pub mod Sorted

@@ -4,14 +4,14 @@ ghost use Rattle.gq_graph.specs.Vertices.{is_vertex, vertex_number};
 ghost use Rattle.gq_vertex.specs.Named as spec;
 ghost use Rattle.gq_vertex.specs.declared.index.Index.TheVariants.{Hashed};
 
+use crate::heads::VertexHead;
 use crate::index::Index;
 use crate::key::{is_exact, vertex_key};
 use crate::names::number_of;
 use gq_base::KeyIndex;
-use gq_graph::VertexRow;
 
 /// The number of the vertex of a type and an id.
-pub(crate) fn find(rows: &[VertexRow], index: &Index, kind: u32, id: &str) -> Option<u32>
+pub(crate) fn find(rows: &[VertexHead], index: &Index, kind: u32, id: &str) -> Option<u32>
     requires { spec.AreNamed rows.now index.now }
     ensures { result ≡ vertex_number rows.now kind id.now }
 {
@@ -22,7 +22,7 @@ pub(crate) fn find(rows: &[VertexRow], index: &Index, kind: u32, id: &str) -> Op
 }
 
 /// The same by the keys of the rows. No row is read where the key is the whole name.
-fn find_by_key(rows: &[VertexRow], keys: &KeyIndex, kind: u32, id: &str) -> Option<u32>
+fn find_by_key(rows: &[VertexHead], keys: &KeyIndex, kind: u32, id: &str) -> Option<u32>
     requires { spec.AreNamed rows.now (Hashed keys.now) }
     ensures { result ≡ vertex_number rows.now kind id.now }
 {
@@ -40,8 +40,8 @@ fn find_by_key(rows: &[VertexRow], keys: &KeyIndex, kind: u32, id: &str) -> Opti
     None
 }
 
-fn is_vertex(row: &VertexRow, kind: u32, id: &str) -> bool
+fn is_vertex(row: &VertexHead, kind: u32, id: &str) -> bool
     ensures { result ≡ is_vertex kind id.now row.now }
 {
-    row.kind == kind && id == row.id.as_str()
+    row.kind() == kind && id == row.id()
 }

@@ -3,10 +3,10 @@ ghost use Rattle.std.specs.Prelude.{◌≡◌, ◌<◌, ◌≤◌, ◌++◌, ◌
 ghost use Rattle.gq_graph.specs.Vertices.{vertex_number, VerticesApart, most_vertices};
 ghost use Rattle.gq_vertex.specs.Named.{Finds, IsSorted, AreNamed};
 
+use crate::heads::VertexHead;
 use crate::key::vertex_key;
 use crate::names::{Names, put, take_out};
 use gq_base::{Key, KeyIndex, OutOfMemory};
-use gq_graph::VertexRow;
 use std::alloc::Global;
 use std::collections::BTreeMap;
 
@@ -18,12 +18,28 @@ pub(crate) enum Index {
     Sorted(Names),
 }
 
+/// Where the search for a key begins; 0 in a tree, of which nothing is read ahead.
+pub(crate) fn first(index: &Index, key: Key) -> u32 {
+    match index {
+        Index::Hashed(keys) => keys.first(key),
+        Index::Sorted(_) => 0,
+    }
+}
+
+/// Reads what stands where a search begins, and gives some of it, so that the read isn't left out.
+pub(crate) fn touch(index: &Index, place: u32) -> u32 {
+    match index {
+        Index::Hashed(keys) => keys.touch(place),
+        Index::Sorted(_) => 0,
+    }
+}
+
 /// Puts in the name of a new row, which is to stand behind `rows`. After OutOfMemory all rows are found as before.
 pub(crate) fn insert(
     index: &mut Index,
     alloc: Global,
-    rows: &[VertexRow],
-    row: &VertexRow,
+    rows: &[VertexHead],
+    row: &VertexHead,
 ) -> Result<(), OutOfMemory>
     requires named { AreNamed rows.now index.old }
     requires new { vertex_number rows.now row.now.kind row.now.id ≡ None }
@@ -31,11 +47,11 @@ pub(crate) fn insert(
     ensures put { OnOk result (Finds (rows.now ++ row.now ∷ []) index.new) }
     ensures stays { OnErr result (Finds rows.now index.new) }
 {
-    let key = vertex_key(row.kind, row.id.as_str());
+    let key = vertex_key(row.kind(), row.id());
     change_if_crowded(index, alloc, rows, key)?;
     match index {
         Index::Hashed(keys) => keys.push(key),
-        Index::Sorted(names) => put(alloc, names, row.kind, row.id.as_str(), rows.len() as u32),
+        Index::Sorted(names) => put(alloc, names, row.kind(), row.id(), rows.len() as u32),
     }
 }
 
@@ -43,7 +59,7 @@ pub(crate) fn insert(
 fn change_if_crowded(
     index: &mut Index,
     alloc: Global,
-    rows: &[VertexRow],
+    rows: &[VertexHead],
     key: Key,
 ) -> Result<(), OutOfMemory>
     requires { AreNamed rows.now index.old }
@@ -63,20 +79,20 @@ fn is_crowded(index: &Index, key: Key) -> bool {
 }
 
 /// The names of all rows.
-fn sorted(alloc: Global, rows: &[VertexRow]) -> Result<Names, OutOfMemory>
+fn sorted(alloc: Global, rows: &[VertexHead]) -> Result<Names, OutOfMemory>
     requires apart { VerticesApart rows.now }
     requires few { length rows.now ≤ most_vertices }
     ensures { IfOk result (IsSorted rows.now) }
 {
     let mut names = BTreeMap::new(alloc);
     for (number, row) in rows.iter().enumerate() {
-        put(alloc, &mut names, row.kind, row.id.as_str(), number as u32)?;
+        put(alloc, &mut names, row.kind(), row.id(), number as u32)?;
     }
     Ok(names)
 }
 
 /// Forgets the rows from number `len` on.
-pub(crate) fn cut(index: &mut Index, rows: &[VertexRow], len: usize)
+pub(crate) fn cut(index: &mut Index, rows: &[VertexHead], len: usize)
     requires named { AreNamed rows.now index.old }
     requires within { len ≤ length rows.now }
     ensures { Finds (take len rows.now) index.new }
@@ -87,7 +103,7 @@ pub(crate) fn cut(index: &mut Index, rows: &[VertexRow], len: usize)
     }
 }
 
-fn cut_names(names: &mut Names, rows: &[VertexRow], len: usize)
+fn cut_names(names: &mut Names, rows: &[VertexHead], len: usize)
     requires apart { VerticesApart rows.now }
     requires sorted { IsSorted rows.now names.old }
     requires within { len ≤ length rows.now }
@@ -97,7 +113,7 @@ fn cut_names(names: &mut Names, rows: &[VertexRow], len: usize)
     while left > len {
         left -= 1;
         let row = &rows[left];
-        take_out(names, row.kind, row.id.as_str());
+        take_out(names, row.kind(), row.id());
     }
 }
 
@@ -105,7 +121,7 @@ fn cut_names(names: &mut Names, rows: &[VertexRow], len: usize)
 pub(crate) fn duplicate(
     index: &Index,
     alloc: Global,
-    rows: &[VertexRow],
+    rows: &[VertexHead],
 ) -> Result<Index, OutOfMemory>
     requires { AreNamed rows.now index.now }
     ensures { IfOk result (Finds rows.now) }

@@ -1,6 +1,6 @@
 //! The vertices of a store, numbered in the order in which they are first named.
 //!
-//! `Vertices` keeps its rows in a list, each id once, and finds a row by a key of its type and id. An
+//! `Vertices` keeps types and ids in one list, each id once, and attributes in another, and finds a row by a key of its type and id. An
 //! id of at most seven bytes is its own key, so no row is read to find it; a longer one has a hash, and the
 //! rows are compared. The number of a vertex is the position of its row, so it never changes.
 //!
@@ -10,6 +10,7 @@
 #![tactic(auto)]
 
 mod find;
+mod heads;
 mod index;
 mod key;
 mod names;

@@ -1,14 +1,17 @@
 // The table of vertices.
-ghost use Rattle.std.specs.Prelude.{◌≡◌, ◌<◌, ◌≤◌, ◌↔◌, ◌++◌, [], ◌∷◌, length, slice_set, take, vec_len, vec_capacity, slice_get, Some, None, Err, IfOk, MatchResult};
+ghost use Rattle.std.specs.Prelude.{◌≡◌, ◌<◌, ◌≤◌, ◌↔◌, true, false, ◌++◌, [], ◌∷◌, length, slice_set, take, vec_len, vec_capacity, slice_get, Some, None, Err, IfOk, OnOk, OnErr, MatchResult};
 ghost use Rattle.std.specs.Option.{unwrap_or};
 ghost use Rattle.gq_graph.specs.Vertices.{vertex_number, upsert_vertex, vertex_at, most_vertices};
-ghost use Rattle.gq_vertex.specs.Named.{AreNamed};
+ghost use Rattle.gq_vertex.specs.Joined.{head_of};
+ghost use Rattle.gq_vertex.specs.Named.{AreNamed, Finds};
 
 use crate::find::find;
-use crate::index::{Index, cut, duplicate, insert};
+use crate::heads::VertexHead;
+use crate::index::{Index, cut, duplicate, first, insert, touch};
+use crate::key::vertex_key;
 use gq_base::{KeyIndex, OutOfMemory};
-use gq_graph::{StoreFault, VertexRow};
-use gq_value::{Row, Txt, Value, duplicate_row};
+use gq_graph::{Rows, StoreFault};
+use gq_value::{Row, Txt, Value};
 use std::alloc::Global;
 use std::marker::Model;
 
@@ -18,24 +21,29 @@ pub const MOST_VERTICES: usize = 4_194_304;
 /// The vertices of a store. Contracts see them as the list of their rows.
 #[derive(Drop)]
 pub struct Vertices {
-    rows: Vec<VertexRow>,
+    heads: Vec<VertexHead>,
+    attributes: Rows,
     index: Index,
 }
 
 impl Model for Vertices {
-    ghost use Rattle.std.specs.Prelude.{List};
+    ghost use Rattle.std.specs.Prelude.{◌≡◌, List, length};
     ghost use Rattle.std.specs.Coded.{codes};
     ghost use Rattle.gq_graph.specs.declared.rows.VertexRow.{VertexRow};
     ghost use Rattle.gq_value.specs.contracts.value.Value as value;
+    ghost use Rattle.gq_vertex.specs.Joined.{joined};
     ghost use Rattle.gq_vertex.specs.Named.{AreNamed};
 
     ghost Value = { List VertexRow };
 
     ghost coded = { Prim.hlevel (codes, value.the_row.coded) };
 
-    ghost view = { λ v. v.rows.items };
+    ghost view = { λ v. joined v.heads.items v.attributes };
 
-    ghost invariant = { λ v. AreNamed v.rows.items v.index };
+    ghost invariant = { λ v. record {
+      named : AreNamed v.heads.items v.index;
+      long : length v.heads.items ≡ length v.attributes;
+    } };
 }
 
 impl Vertices {
@@ -44,7 +52,8 @@ impl Vertices {
         ensures { result ≡ [] }
     {
         Vertices {
-            rows: Vec::new(alloc),
+            heads: Vec::new(alloc),
+            attributes: Rows::new(alloc),
             index: Index::Hashed(KeyIndex::new(alloc)),
         }
     }
@@ -54,7 +63,7 @@ impl Vertices {
         ensures count { result ≡ length self.now }
         ensures few { length self.now ≤ most_vertices }
     {
-        self.rows.len() as u32
+        self.heads.len() as u32
     }
 
     /// The number of the vertex of a type and an id. Takes no memory; its time doesn't grow with the table, or as the
@@ -62,7 +71,17 @@ impl Vertices {
     pub fn find(&self, kind: u32, id: &str) -> Option<u32>
         ensures { result ≡ vertex_number self.now kind id.now }
     {
-        find(&self.rows, &self.index, kind, id)
+        find(&self.heads, &self.index, kind, id)
+    }
+
+    /// Where the search for a vertex begins. It is for reading ahead, with `touch`, and tells nothing of the vertices.
+    pub fn first(&self, kind: u32, id: &str) -> u32 {
+        first(&self.index, vertex_key(kind, id))
+    }
+
+    /// Reads what stands where a search begins, and gives some of it, so that the read isn't left out.
+    pub fn touch(&self, place: u32) -> u32 {
+        touch(&self.index, place)
     }
 
     /// How many attributes the row of a vertex has.
@@ -70,7 +89,7 @@ impl Vertices {
         requires { vertex < length self.now }
         ensures { result ≡ length (vertex_at self.now vertex).attributes }
     {
-        self.rows[vertex as usize].attributes.len()
+        self.attributes.at(vertex).len()
     }
 
     /// The type of a vertex.
@@ -78,7 +97,7 @@ impl Vertices {
         requires { vertex < length self.now }
         ensures { result ≡ (vertex_at self.now vertex).kind }
     {
-        self.rows[vertex as usize].kind
+        self.heads[vertex as usize].kind()
     }
 
     /// The primary id of a vertex, as a text.
@@ -86,7 +105,7 @@ impl Vertices {
         requires { vertex < length self.now }
         ensures { result.now ≡ (vertex_at self.now vertex).id }
     {
-        self.rows[vertex as usize].id.as_str()
+        self.heads[vertex as usize].id()
     }
 
     /// An attribute of a vertex, by its place among those of the type.
@@ -95,28 +114,38 @@ impl Vertices {
         requires within { place < length (vertex_at self.now vertex).attributes }
         ensures { slice_get (vertex_at self.now vertex).attributes place ≡ Some result.now }
     {
-        self.rows[vertex as usize].attributes.at(place as usize)
+        item(self.attributes.at(vertex), place as usize)
     }
 
-    /// Gives the vertex of that name the attributes, or puts it last. Unchanged after a refusal.
-    pub fn upsert(&mut self, kind: u32, id: &str, attributes: Row) -> Result<u32, StoreFault>
+    /// Gives the vertex of that name the attributes, or puts it last. The values are moved out of the row, of whose content nothing is
+    /// said then. Unchanged after a refusal.
+    pub fn upsert(&mut self, kind: u32, id: &str, attributes: &mut Row) -> Result<u32, StoreFault>
         ensures done { MatchResult result
             (λ n. (n ≡ unwrap_or (vertex_number self.old kind id.now) (length self.old))
-            × (self.new ≡ upsert_vertex self.old (record { kind = kind; id = id.now; attributes = attributes })))
+            × (self.new ≡ upsert_vertex self.old (record { kind = kind; id = id.now; attributes = attributes.old })))
             (λ _. self.new ≡ self.old) }
         ensures full { (result ≡ Err StoreFault.Full)
             ↔ ((vertex_number self.old kind id.now ≡ None) × (most_vertices ≤ length self.old)) }
     {
-        match find(&self.rows, &self.index, kind, id) {
+        match self.find(kind, id) {
             Some(number) => {
-                replace(&mut self.rows, number, attributes);
+                if !replace(&mut self.attributes, number, attributes) {
+                    return Err(StoreFault::OutOfMemory);
+                }
                 Ok(number)
             }
             None => {
-                if self.rows.len() >= MOST_VERTICES {
+                if self.len() as usize >= MOST_VERTICES {
                     return Err(StoreFault::Full);
                 }
-                match add(&mut self.rows, &mut self.index, kind, id, attributes) {
+                match add(
+                    &mut self.heads,
+                    &mut self.attributes,
+                    &mut self.index,
+                    kind,
+                    id,
+                    attributes,
+                ) {
                     Ok(number) => Ok(number),
                     Err(OutOfMemory) => Err(StoreFault::OutOfMemory),
                 }
@@ -129,67 +158,106 @@ impl Vertices {
         requires { len ≤ length self.old }
         ensures { self.new ≡ take len self.old }
     {
-        cut(&mut self.index, &self.rows, len as usize);
-        self.rows.truncate(len as usize);
+        cut(&mut self.index, &self.heads, len as usize);
+        self.heads.truncate(len as usize);
+        self.attributes.truncate(len as usize);
     }
 
     /// An equal table with memory of its own.
     pub fn duplicate(&self) -> Result<Vertices, OutOfMemory>
         ensures { IfOk result (λ copy. copy ≡ self.now) }
     {
-        let alloc = *self.rows.allocator();
+        let alloc = *self.heads.allocator();
         Ok(Vertices {
-            rows: copied(alloc, &self.rows)?,
-            index: duplicate(&self.index, alloc, &self.rows)?,
+            heads: copied(alloc, &self.heads)?,
+            attributes: self.attributes.duplicate(alloc)?,
+            index: duplicate(&self.index, alloc, &self.heads)?,
         })
     }
 }
 
-fn copied(alloc: Global, rows: &[VertexRow]) -> Result<Vec<VertexRow>, OutOfMemory>
+fn copied(alloc: Global, rows: &[VertexHead]) -> Result<Vec<VertexHead>, OutOfMemory>
     ensures { IfOk result (λ copy. copy.items ≡ rows.now) }
 {
     let mut copy = Vec::with_capacity(alloc, rows.len())?;
     for row in rows {
-        copy.push(VertexRow {
-            kind: row.kind,
-            id: Txt::of(alloc, row.id.as_str())?,
-            attributes: duplicate_row(alloc, row.attributes.as_slice())?,
-        })?;
+        copy.push(row.duplicate(alloc)?)?;
     }
     Ok(copy)
 }
 
+/// The value at a place.
+fn item(values: &[Value], place: usize) -> &Value
+    requires { place < length values.now }
+    ensures { slice_get values.now place ≡ Some result.now }
+{
+    &values[place]
+}
+
 /// Puts a row of a new name last.
 fn add(
-    rows: &mut Vec<VertexRow>,
+    rows: &mut Vec<VertexHead>,
+    all: &mut Rows,
     index: &mut Index,
     kind: u32,
     id: &str,
-    attributes: Row,
+    attributes: &mut Row,
 ) -> Result<u32, OutOfMemory>
     requires named { AreNamed rows.old.items index.old }
     requires new { vertex_number rows.old.items kind id.now ≡ None }
     requires room { vec_len rows.old < most_vertices }
+    requires long { vec_len rows.old ≡ length all.old }
     ensures named { AreNamed rows.new.items index.new }
     ensures done { MatchResult result
-        (λ n. (n ≡ length rows.old.items)
-        × (rows.new.items ≡ rows.old.items ++ (record { kind = kind; id = id.now; attributes = attributes }) ∷ []))
-        (λ _. rows.new.items ≡ rows.old.items) }
+        (λ n. (n ≡ length rows.old.items) × (rows.new.items ≡ rows.old.items ++ head_of kind id.now ∷ []) × (all.new ≡ all.old ++ attributes.old ∷ []))
+        (λ _. (rows.new.items ≡ rows.old.items) × (all.new ≡ all.old)) }
 {
     let number = rows.len() as u32;
     rows.reserve(1)?;
-    let row = VertexRow {
-        kind,
-        id: Txt::of(*rows.allocator(), id)?,
-        attributes,
-    };
-    insert(index, *rows.allocator(), rows, &row)?;
-    put(rows, row);
+    let head = VertexHead::new(kind, Txt::of(*rows.allocator(), id)?);
+    insert_with(all, index, *rows.allocator(), rows, &head, attributes)?;
+    put(rows, head);
     Ok(number)
 }
 
+/// Puts the attributes of a new row last, and its name into the index. After OutOfMemory all rows are found as before.
+fn insert_with(
+    all: &mut Rows,
+    index: &mut Index,
+    alloc: Global,
+    rows: &[VertexHead],
+    head: &VertexHead,
+    attributes: &mut Row,
+) -> Result<(), OutOfMemory>
+    requires named { AreNamed rows.now index.old }
+    requires new { vertex_number rows.now head.now.kind head.now.id ≡ None }
+    requires room { length rows.now < most_vertices }
+    requires long { length rows.now ≡ length all.old }
+    ensures put { OnOk result (Finds (rows.now ++ head.now ∷ []) index.new) }
+    ensures stays { OnErr result (Finds rows.now index.new) }
+    ensures all { MatchResult result (λ _. all.new ≡ all.old ++ attributes.old ∷ []) (λ _. all.new ≡ all.old) }
+{
+    all.push(attributes)?;
+    match insert(index, alloc, rows, head) {
+        Ok(()) => Ok(()),
+        Err(OutOfMemory) => {
+            all.truncate(rows.len());
+            Err(OutOfMemory)
+        }
+    }
+}
+
+/// Gives a vertex other attributes, if there is memory for them.
+fn replace(all: &mut Rows, number: u32, attributes: &mut Row) -> bool
+    requires { number < length all.old }
+    ensures done { result ≡ true → all.new ≡ slice_set all.old number attributes.old }
+    ensures stays { result ≡ false → all.new ≡ all.old }
+{
+    all.set(number, attributes).is_ok()
+}
+
 /// Puts a row last where there is room for it.
-fn put(rows: &mut Vec<VertexRow>, row: VertexRow)
+fn put(rows: &mut Vec<VertexHead>, row: VertexHead)
     requires { vec_len rows.old < vec_capacity rows.old }
     ensures { rows.new.items ≡ rows.old.items ++ row ∷ [] }
 {
@@ -197,13 +265,4 @@ fn put(rows: &mut Vec<VertexRow>, row: VertexRow)
         Ok(()) => {}
         Err(_) => unreachable!(),
     }
-}
-
-/// Gives a vertex other attributes.
-fn replace(rows: &mut Vec<VertexRow>, number: u32, attributes: Row)
-    requires { number < vec_len rows.old }
-    ensures { rows.new.items ≡ slice_set rows.old.items number (record (vertex_at rows.old.items number) { attributes = attributes }) }
-{
-    let row = &mut rows[number as usize];
-    row.attributes = attributes;
 }

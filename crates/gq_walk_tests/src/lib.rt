@@ -1,15 +1,16 @@
-//! Tests of the index and its candidates, of rows put into a store, and of fields and records of CSV files.
+//! Tests of the index and its candidates, of the bindings of paths, and of rows put into a store.
 //!
 //! They are a separate crate, so that the libraries aren't proved a second time with their tests.
 //!
-//! The tests are in `src/walks.rt`, `src/rows.rt`, `src/puts.rt` and `src/fields.rt`.
+//! The tests are in `src/walks.rt`, `src/paths.rt` and `src/puts.rt`; `src/world.rt` has the persons that walks and paths
+//! go between.
 #![tactic(auto)]
 
 #[cfg(test)]
-mod fields;
+mod paths;
 #[cfg(test)]
 mod puts;
 #[cfg(test)]
-mod rows;
-#[cfg(test)]
 mod walks;
+#[cfg(test)]
+mod world;

@@ -28,9 +28,9 @@ fn number(values: &[Value]) -> Option<i64> {
 fn persons(alloc: Global, store: &mut Store) -> Result<(), Fail>
     ensures { store.new.edges ≡ store.old.edges }
 {
-    put_vertex(store, 0, "a", one(alloc, 1)?)?;
-    put_vertex(store, 0, "b", one(alloc, 2)?)?;
-    put_vertex(store, 0, "c", one(alloc, 3)?)?;
+    put_vertex(store, 0, "a", &mut one(alloc, 1)?)?;
+    put_vertex(store, 0, "b", &mut one(alloc, 2)?)?;
+    put_vertex(store, 0, "c", &mut one(alloc, 3)?)?;
     Ok(())
 }
 
@@ -48,18 +48,20 @@ fn near(alloc: Global, store: &mut Store, from: &str, to: &str, w: i64) -> Resul
     let from = EndpointRef {
         kind: 0,
         id: from,
+        at: None,
         missing: missing.as_slice(),
     };
     let to = EndpointRef {
         kind: 0,
         id: to,
+        at: None,
         missing: missing.as_slice(),
     };
-    let attributes = match one(alloc, w) {
+    let mut attributes = match one(alloc, w) {
         Ok(attributes) => attributes,
         Err(OutOfMemory) => return Err(StoreFault::OutOfMemory),
     };
-    match put_edge(alloc, store, naming, from, to, attributes) {
+    match put_edge(alloc, store, naming, from, to, &mut attributes) {
         Ok(()) => Ok(()),
         Err(fault) => Err(fault),
     }
@@ -79,11 +81,16 @@ fn loaded(alloc: Global, edges: &[(&str, &str, i64)]) -> Result<(Vec<i64>, Vec<i
     for id in ["a", "b", "c", "d", "e"] {
         places.push(place(&store, id))?;
     }
+    Ok((places, weights(alloc, &store.edges)?))
+}
+
+/// The weights of all edges.
+fn weights(alloc: Global, edges: &Edges) -> Result<Vec<i64>, OutOfMemory> {
     let mut weights = Vec::new(alloc);
-    for row in store.edges.rows() {
-        weights.push(number(row.attributes.as_slice()).unwrap_or(-1))?;
+    for edge in 0..edges.len() {
+        weights.push(number(edges.attributes(edge)).unwrap_or(-1))?;
     }
-    Ok((places, weights))
+    Ok(weights)
 }
 
 /// The number of a vertex, or -1 where it isn't there.

@@ -1,96 +1,11 @@
 // Helpers own what is built, and give numbers: proofs of tests grow with what a return drops.
-ghost use Rattle.std.specs.Prelude.{◌≡◌, All, true};
-ghost use Rattle.gq_graph.specs.Defaults.{is_plain};
-ghost use Rattle.gq_graph.specs.Edges.{Agrees, naming_with};
-
+use crate::world::{Joined, declare, set_of, store_of};
 use gq_base::List;
-use gq_edge::Edges;
-use gq_graph::{Attributes, Candidate, IdKind, IdShape, Pattern, Steps, StoreFault};
-use gq_index::{Candidates, Graph, Index, Store, VertexList, chunk};
+use gq_graph::{Candidate, Pattern, Steps};
+use gq_index::{Candidates, Graph, Index, Store, chunk};
 use gq_schema::Catalog;
-use gq_value::{Row, Txt};
-use gq_vertex::Vertices;
 use std::alloc::Global;
 use std::test::Fail;
-
-// Persons a, b and c who know each other: edges of type 0, and of its reverse type 1 where they are directed.
-#[derive(Clone, Copy)]
-struct Joined<'a> {
-    directed: bool,
-    pairs: &'a [(u32, u32)],
-}
-
-fn none(alloc: Global) -> Attributes
-    ensures { All (λ a. is_plain a ≡ true) result }
-{
-    List::new(alloc)
-}
-
-fn declare(catalog: &mut Catalog, alloc: Global, directed: bool) -> Result<(), Fail> {
-    let id = IdShape {
-        name: Txt::of(alloc, "id")?,
-        kind: IdKind::Text,
-        shown: false,
-    };
-    let none = none(alloc);
-    let person = "person";
-    let reverse = if directed { Some("known_by") } else { None };
-    catalog.add_vertex_type(person, &id, &none)?;
-    catalog.add_edge_type("knows", directed, person, person, reverse, &none, &none)?;
-    Ok(())
-}
-
-fn fill(vertices: &mut Vertices, alloc: Global) -> Result<(), Fail> {
-    for name in ["a", "b", "c"] {
-        vertices.upsert(0, name, List::new(alloc))?;
-    }
-    Ok(())
-}
-
-fn put(
-    edges: &mut Edges,
-    attributes: Row,
-    directed: bool,
-    from: u32,
-    to: u32,
-) -> Result<(), StoreFault>
-    requires { Agrees edges.old.namings (naming_with 0 directed 0) }
-    ensures { Agrees edges.new.namings (naming_with 0 directed 0) }
-{
-    match edges.upsert(0, directed, from, to, 0, attributes) {
-        Ok(_) => Ok(()),
-        Err(fault) => Err(fault),
-    }
-}
-
-fn join(edges: &mut Edges, alloc: Global, joined: Joined<'_>) -> Result<(), Fail>
-    requires { Agrees edges.old.namings (naming_with 0 joined.directed 0) }
-{
-    for (from, to) in joined.pairs {
-        put(edges, List::new(alloc), joined.directed, *from, *to)?;
-    }
-    Ok(())
-}
-
-fn store_of(alloc: Global, joined: Joined<'_>) -> Result<Store, Fail> {
-    let mut store = Store {
-        vertices: Vertices::new(alloc),
-        edges: Edges::new(alloc),
-    };
-    fill(&mut store.vertices, alloc)?;
-    join(&mut store.edges, alloc, joined)?;
-    Ok(store)
-}
-
-fn set_of(alloc: Global, numbers: &[u32]) -> Result<VertexList, Fail> {
-    let mut set = VertexList::new(alloc);
-    for number in numbers {
-        if !set.contains(*number) {
-            set.push(*number)?;
-        }
-    }
-    Ok(set)
-}
 
 // To persons, along these edge types.
 fn pattern_of(alloc: Global, edges: &[u32]) -> Result<Pattern, Fail> {
@@ -144,11 +59,13 @@ fn degree(alloc: Global, joined: Joined<'_>, vertex: u32, kind: u32) -> Result<u
 
 const KNOWS: Joined<'static> = Joined {
     directed: true,
+    persons: 3,
     pairs: &[(0, 1), (0, 2), (1, 2)],
 };
 
 const NEAR: Joined<'static> = Joined {
     directed: false,
+    persons: 3,
     pairs: &[(0, 1), (1, 1)],
 };
 

@@ -1,20 +1,16 @@
 -- AliasLemmas: the aliases of a candidate, and the names that they bring into view.
-use Rattle.std.proofs.Common.{◌≡◌, ℕ, zero, suc, ◌+◌, ◌-◌, ◌<◌, ◌≤◌, List, [], ◌∷◌, ◌++◌, map, take, set, length, get_or, Option, Some, None, refl, sym, ap, ap₂, ◌∙◌, arith, append-nil, append_assoc}
+use Rattle.std.proofs.Common.{◌≡◌, ℕ, zero, suc, ◌+◌, ◌<◌, List, [], ◌∷◌, ◌++◌, map, take, set, length, Option, Some, None, refl, sym, ap, ap₂, ◌∙◌, arith, append-nil, append_assoc}
 use Rattle.std.specs.Option.{option_map, option_to_list}
 use Rattle.std.proofs.lemmas.List.{map-append}
 use Rattle.gq_graph.specs.declared.rows.Candidate.{Candidate}
-use Rattle.gq_rules_typing.specs.Patterns.{edge_alias}
-use Rattle.gq_rules_typing.specs.Selecting as plain
 use Rattle.gq_rules_meaning.specs.States.{Thing, a_vertex}
 use Rattle.gq_rules_meaning.specs.Sources.{From, named_as, edge_thing, target_thing, with_candidate}
-use Rattle.gq_plan_ir.specs.declared.block.PathStep.{PathStep}
-use Rattle.gq_plan_ir.specs.BlockView.{view_path_step}
 use Rattle.gq_plan_ir.specs.Reference.{Reference, Place}
 use Rattle.gq_frame.specs.declared.frame.Alias.{Alias}
 use Rattle.gq_frame.specs.Names.{Placed, AVertex, alias_of, alias_named, aliases_named}
 use Rattle.gq_exec_source.specs.declared.ends.Ends.{Ends}
 use Rattle.gq_exec_source.specs.Ends.{AreEnds, end_things}
-use Rattle.gq_exec_prepared.specs.Aliases.{target_bound, edge_bound, bound_to}
+use Rattle.gq_exec_contribute.specs.Aliases.{target_bound, edge_bound, bound_to}
 
 -- ---- a row that is filled from its start
 

@@ -1,5 +1,5 @@
 -- ComesLemmas: what is read of a candidate is what comes of it.
-use Rattle.std.proofs.Common.{◌≡◌, ℕ, ◌==◌, Bool, true, false, List, [], ◌∷◌, ◌++◌, Option, Some, None, refl, ap, subst, ◌∙◌}
+use Rattle.std.proofs.Common.{◌≡◌, ℕ, ◌==◌, Bool, true, false, List, [], ◌∷◌, None, ap, subst, ◌∙◌}
 use Rattle.std.specs.Prelude.{◌||◌, length}
 use Rattle.std.specs.Option.{option_map}
 use Rattle.gq_value.specs.declared.value.Wrong.{Wrong}
@@ -15,9 +15,8 @@ use Rattle.gq_frame.specs.Slots.{slots_are}
 use Rattle.gq_eval_context.specs.Viewed.{Over}
 use Rattle.gq_exec_source.specs.Marks.{is_marked}
 use Rattle.gq_exec_source.specs.Starts.{IsWithin}
-use Rattle.gq_exec_prepared.specs.declared.inputs.ScalarInput.{ScalarInput}
-use Rattle.gq_exec_prepared.specs.declared.leaves.Leaves.{Leaves}
-use Rattle.gq_exec_prepared.specs.Prepared.{AreInputs, Gathers, sees}
+use Rattle.gq_exec_contribute.specs.declared.leaves.Leaves.{Leaves}
+use Rattle.gq_exec_contribute.specs.Prepared.{Gathers, sees}
 use Rattle.gq_workers.specs.declared.found.MatchBuffer.{MatchBuffer}
 use Rattle.gq_workers.specs.Running.{comes, Done, IsShaped, Tried, marks_end}
 use Rattle.gq_workers.proofs.FoundLemmas.{ints_passed, filtered_same, shaped_still}

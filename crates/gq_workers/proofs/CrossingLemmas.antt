@@ -13,6 +13,13 @@ use Rattle.gq_graph.specs.contracts.types.IdShape as id
 use Rattle.gq_graph.specs.contracts.types.Attribute as attribute
 use Rattle.gq_graph.specs.contracts.types.VertexType as vertex_type
 use Rattle.gq_graph.specs.contracts.types.EdgeType as edge_type
+use Rattle.gq_graph.specs.contracts.row_values.Span as span
+use Rattle.gq_graph.specs.contracts.row_list.Rows as rows
+use Rattle.gq_vertex.specs.contracts.heads.VertexHead as head
+use Rattle.gq_vertex.specs.contracts.vertices.Vertices as vertices
+use Rattle.gq_edge.specs.contracts.rows.EdgeEnds as ends_of_edge
+use Rattle.gq_edge.specs.contracts.rows.EdgeRows as edge_rows
+use Rattle.gq_edge.specs.contracts.edges.Edges as edges
 use Rattle.gq_value.proofs.value.Value.TheLaws.TheKnot as value_knot
 use Rattle.gq_value.proofs.kind.BaseType.TheLaws.TheKnot as base_knot
 use Rattle.gq_value.proofs.kind.Kind.TheLaws.TheKnot as kind_knot
@@ -28,10 +35,10 @@ use Rattle.gq_frame.specs.contracts.frame.Thing as thing
 use Rattle.gq_frame.specs.contracts.frame.Frame as frame
 use Rattle.gq_exec_source.specs.contracts.ends.End as end
 use Rattle.gq_exec_source.specs.contracts.ends.Ends as ends
-use Rattle.gq_exec_prepared.specs.contracts.cells.Taken as taken
-use Rattle.gq_exec_prepared.specs.contracts.cells.Cells as cells
-use Rattle.gq_exec_prepared.specs.contracts.inputs.ScalarInput as scalar
-use Rattle.gq_exec_prepared.specs.contracts.leaves.Leaves as leaves
+use Rattle.gq_exec_contribute.specs.contracts.cells.Taken as taken
+use Rattle.gq_exec_contribute.specs.contracts.cells.Cells as cells
+use Rattle.gq_exec_contribute.specs.contracts.scalars.ScalarInput as scalar
+use Rattle.gq_exec_contribute.specs.contracts.leaves.Leaves as leaves
 use Rattle.gq_index.specs.contracts.store.Store as store
 use Rattle.gq_index.specs.contracts.index.Index as index
 use Rattle.gq_index.specs.contracts.store.Graph as graph
@@ -105,8 +112,29 @@ cells_sync = search (taken_field, sendable) depth 30 fits 50000
 leaves_field : (l : NamedLft) → IsSync (leaves.the_field l).row
 leaves_field l = search (ends_sync, cells_sync, list_crosses.the_sync, crosses, sendable) depth 30 fits 50000
 
+span_sync : IsSync span.the_row
+span_sync = search (sendable) depth 30 fits 50000
+
+rows_field : IsSync (rows.the_field).row
+rows_field = search (span_sync, value_sync, list_crosses.the_sync, crosses, sendable) depth 30 fits 50000
+
+head_sync : IsSync head.the_row
+head_sync = search (txt_sync, sendable) depth 30 fits 50000
+
+vertices_field : IsSync (vertices.the_field).row
+vertices_field = search (head_sync, rows_field, txt_sync, list_crosses.the_sync, maps.crosses, crosses, sendable) depth 30 fits 50000
+
+edge_ends_sync : IsSync ends_of_edge.the_row
+edge_ends_sync = search (sendable) depth 30 fits 50000
+
+edge_rows_field : IsSync (edge_rows.the_field).row
+edge_rows_field = search (edge_ends_sync, rows_field, list_crosses.the_sync, crosses, sendable) depth 30 fits 50000
+
+edges_field : IsSync (edges.the_field).row
+edges_field = search (edge_rows_field, value_sync, list_crosses.the_sync, maps.crosses, crosses, sendable) depth 30 fits 50000
+
 pub store_sync : IsSync store.the_row
-store_sync = search (value_sync, txt_sync, list_crosses.the_sync, maps.crosses, crosses, sendable) depth 30 fits 50000
+store_sync = search (vertices_field, edges_field, crosses, sendable) depth 30 fits 50000
 
 pub index_sync : IsSync index.the_row
 index_sync = search (list_crosses.the_sync, maps.crosses, crosses, sendable) depth 30 fits 50000

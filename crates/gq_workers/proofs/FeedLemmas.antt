@@ -1,27 +1,25 @@
 -- FeedLemmas: what waits is fed.
-use Rattle.std.proofs.Common.{◌≡◌, ℕ, suc, ◌+◌, ◌^◌, ◌<◌, List, [], ◌∷◌, ◌++◌, map, length, slice_get, Some, refl, sym, ap, ap₂, ◌∙◌, subst, arith, length-append}
+use Rattle.std.proofs.Common.{◌≡◌, ℕ, suc, ◌+◌, ◌^◌, ◌<◌, List, [], ◌∷◌, ◌++◌, map, length, slice_get, Some, refl, sym, ap, ◌∙◌, subst, arith, length-append}
 use Rattle.std.specs.List.{All}
-use Rattle.std.specs.Prelude.{ℤ}
-use Rattle.std.proofs.lemmas.List.Elements.{All-nil, All-cons, All-head, All-tail}
+use Rattle.std.proofs.lemmas.List.Elements.{All-nil}
 use Rattle.gq_value.specs.declared.kind.Input.{Input}
 use Rattle.gq_frame.specs.declared.slots.Slots.{Slots}
 use Rattle.gq_frame.specs.declared.accums.Accums.{Accums}
 use Rattle.gq_frame.specs.Targets.{ShowTheSame}
-use Rattle.gq_rules_meaning.specs.Blocks.{Contribution, Match, slots_after}
-use Rattle.gq_frame.specs.Slots.{slots_are, AreSound}
+use Rattle.gq_rules_meaning.specs.Blocks.{Contribution, Match}
+use Rattle.gq_frame.specs.Slots.{AreSound}
 use Rattle.gq_eval_context.specs.Viewed.{Over}
 use Rattle.gq_exec_source.specs.Starts.{IsWithin}
 use Rattle.gq_exec_feed.specs.Taking.{MayTake, as_given, targeted, AreBatched}
-use Rattle.gq_exec_feed.specs.Feeding.{AreFed, AreAfter, TakesBatch}
-use Rattle.gq_exec_feed.proofs.SlotLemmas.{slots_append}
+use Rattle.gq_exec_feed.specs.Feeding.{AreAfter, TakesBatch}
 use Rattle.gq_exec_feed.proofs.FeedLemmas.{none_after}
 use Rattle.gq_exec_feed.proofs.FitLemmas.{sound_fed}
-use Rattle.gq_exec_prepared.specs.Inputs.{as_inputs}
+use Rattle.gq_exec_contribute.specs.Scalars.{as_inputs}
 use Rattle.gq_workers.specs.Running.{gives_of, Wait, AreFedTo, FedFrom}
-use Rattle.gq_exec_prepared.proofs.InputLemmas.{joined, both_taken}
+use Rattle.gq_exec_contribute.proofs.ScalarLemmas.{joined, both_taken}
 use Rattle.gq_workers.proofs.CopyLemmas.{copied}
 use Rattle.gq_workers.proofs.FoundLemmas.{flat_append, all_append}
-use Rattle.gq_exec_prepared.specs.declared.inputs.ScalarInput.{ScalarInput}
+use Rattle.gq_exec_contribute.specs.declared.scalars.ScalarInput.{ScalarInput}
 
 -- ---- a copy
 

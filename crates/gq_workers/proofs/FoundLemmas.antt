@@ -26,12 +26,12 @@ use Rattle.gq_exec_feed.specs.Taking.{MayTake, as_given, targeted, AreBatched}
 use Rattle.gq_exec_contribute.specs.Passing.{GainsAll, Comes}
 use Rattle.gq_exec_contribute.specs.declared.candidate.Outcome.{Outcome}
 use Rattle.gq_exec_contribute.specs.declared.candidate.Outcome.TheVariants as outcome
-use Rattle.gq_exec_prepared.specs.Inputs.{made_of, as_input, as_inputs}
+use Rattle.gq_exec_contribute.specs.Scalars.{made_of, as_input, as_inputs}
 use Rattle.gq_workers.specs.declared.found.MatchBuffer.{MatchBuffer}
-use Rattle.gq_exec_prepared.specs.Aliases.{bound_to}
-use Rattle.gq_exec_prepared.specs.Prepared.{AreInputs}
+use Rattle.gq_exec_contribute.specs.Aliases.{bound_to}
+use Rattle.gq_exec_contribute.specs.Prepared.{AreInputs}
 use Rattle.gq_workers.specs.Running.{comes_under, comes, ComesUnder, gives_of, sources_of, targets_of, Wait, IsShaped, IsOpened, AddsInputs, Settles, Tried, marks_end}
-use Rattle.gq_exec_prepared.specs.declared.inputs.ScalarInput.{ScalarInput}
+use Rattle.gq_exec_contribute.specs.declared.scalars.ScalarInput.{ScalarInput}
 
 -- ---- at first
 

@@ -1,5 +1,5 @@
 -- RoundLemmas: what several workers leave, brought together.
-use Rattle.std.proofs.Common.{◌≡◌, ℕ, ℤ, zero, suc, ◌+◌, ◌*◌, ◌/◌, ◌%◌, ◌^◌, ◌<◌, ◌≤◌, ◌==◌, ◌||◌, ◌⊎◌, inl, inr, not, max, true, false, List, [], ◌∷◌, ◌++◌, take, set, get_or, length, slice_index, bit_and, bit_or, Option, Some, None, Result, Ok, Err, IfOk, refl, sym, ap, ap₂, ◌∙◌, subst, arith}
+use Rattle.std.proofs.Common.{◌≡◌, ℕ, zero, suc, ◌+◌, ◌*◌, ◌/◌, ◌%◌, ◌^◌, ◌<◌, ◌≤◌, ◌==◌, ◌||◌, ◌⊎◌, inl, inr, not, max, true, false, List, [], ◌∷◌, ◌++◌, take, set, get_or, length, slice_index, bit_and, bit_or, Option, Some, None, Result, Ok, Err, IfOk, refl, sym, ap, ap₂, ◌∙◌, subst, arith}
 use Rattle.std.specs.List.{All}
 use Rattle.std.specs.Int.{bit_at}
 use Rattle.std.proofs.lemmas.List.{take_all, get_or_past, get_or-set_same, get_or-set_other}
@@ -27,7 +27,7 @@ use Rattle.gq_workers.specs.Running.{come, matches_by, sources_of, targets_of, W
 use Rattle.gq_workers.specs.Rounds.{IsLeft, Only, IsPart, LeavesChunk, Joins, MarksPart, AreLefts, MarksParts, StandsIn, InRound, Feeds, FeedsLeft, FeedsParts}
 use Rattle.gq_workers.proofs.FoundLemmas.{shaped_still}
 use Rattle.gq_workers.proofs.MarkLemmas.{below_or_not, true_or_false, or_first, or_second, of_or, not_both}
-use Rattle.gq_exec_prepared.specs.declared.inputs.ScalarInput.{ScalarInput}
+use Rattle.gq_exec_contribute.specs.declared.scalars.ScalarInput.{ScalarInput}
 
 -- ---- what a chunk leaves
 

@@ -34,12 +34,12 @@ use Rattle.gq_workers.specs.declared.block.Ran.TheVariants as ran
 use Rattle.gq_workers.specs.declared.found.MatchBuffer.{MatchBuffer}
 use Rattle.gq_workers.specs.declared.run.BlockProgress.{BlockProgress}
 use Rattle.gq_workers.specs.declared.work.Work.{Work}
-use Rattle.gq_exec_prepared.specs.Aliases.{bound_to}
+use Rattle.gq_exec_contribute.specs.Aliases.{bound_to}
 use Rattle.gq_workers.specs.Running.{comes, come, matches_by, sources_of, targets_of, MatchesTo, GoOn, FaultAt, Wait, AreFedTo, FedFrom, Mark, Cover, AreMarked, IsShaped, IsEmpty, IsOpened, Tried, IsWork, Came, GoneThrough, HasRun, Steps}
 use Rattle.gq_workers.specs.Results.{Answers, Leaves, IsJudged, IsBegun, RanTo, block_matches}
 use Rattle.gq_workers.proofs.AliasLemmas.{named_all}
 use Rattle.gq_workers.proofs.MarkLemmas.{mark_first, cover_first, mark_next, cover_next, mark_wider, marked_first, marked_more, sources_over, targets_over}
-use Rattle.gq_exec_prepared.specs.declared.inputs.ScalarInput.{ScalarInput}
+use Rattle.gq_exec_contribute.specs.declared.scalars.ScalarInput.{ScalarInput}
 
 -- ---- one candidate more
 
@@ -168,7 +168,7 @@ none_waits o found h = record {
   may = All-nil (MayTake o.frame.accums.slots);
   batch = [];
   waiting = h.batches;
-  batched = ap (λ l. Rattle.std.proofs.Common.map Rattle.gq_exec_feed.specs.Taking.as_given (Rattle.gq_exec_prepared.specs.Inputs.as_inputs l)) h.inputs;
+  batched = ap (λ l. Rattle.std.proofs.Common.map Rattle.gq_exec_feed.specs.Taking.as_given (Rattle.gq_exec_contribute.specs.Scalars.as_inputs l)) h.inputs;
   within = All-nil (λ (m : Match). IsWithin (length o.vertices) m.candidate);
 }
 

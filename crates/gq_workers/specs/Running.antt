@@ -1,5 +1,5 @@
 -- Running: what comes of candidates one after another, what of it waits, what is fed, and which vertices are marked by then.
-use Rattle.std.specs.Prelude.{◌≡◌, ◌==◌, ◌||◌, ℕ, ℤ, suc, ◌*◌, ◌<◌, ◌≤◌, Bool, true, false, List, [], ◌∷◌, ◌++◌, length, map, filter_map, take, slice_get, Option, Some, None}
+use Rattle.std.specs.Prelude.{◌≡◌, ◌==◌, ◌||◌, ℕ, suc, ◌*◌, ◌<◌, ◌≤◌, Bool, true, false, List, [], ◌∷◌, ◌++◌, length, map, filter_map, take, slice_get, Option, Some, None}
 use Rattle.std.specs.Option.{option_map}
 use Rattle.std.specs.List.{All, flat_map}
 use Rattle.gq_value.specs.declared.kind.Input.{Input}
@@ -7,7 +7,6 @@ use Rattle.gq_graph.specs.declared.rows.Candidate.{Candidate}
 use Rattle.gq_value.specs.declared.value.Wrong.{Wrong}
 use Rattle.gq_graph.specs.Candidates.{among}
 use Rattle.gq_frame.specs.declared.accums.Accums.{Accums}
-use Rattle.gq_frame.specs.declared.slots.Slots.{Slots}
 use Rattle.gq_exec_source.specs.Marks.{is_marked}
 use Rattle.gq_rules_meaning.specs.Answers.{Answer, Gives, Faults, ◌>>=◌, blaming}
 use Rattle.gq_rules_meaning.specs.Blocks.{BlockFault, AtPlace, Contribution, Match, match_of}
@@ -30,10 +29,10 @@ use Rattle.gq_exec_contribute.specs.declared.candidate.Outcome.{Outcome}
 use Rattle.gq_workers.specs.declared.found.MatchBuffer.{MatchBuffer}
 use Rattle.gq_workers.specs.declared.work.Work.{Work}
 use Rattle.gq_workers.specs.declared.run.BlockProgress.{BlockProgress}
-use Rattle.gq_exec_prepared.specs.Inputs.{as_inputs}
-use Rattle.gq_exec_prepared.specs.Aliases.{bound_to}
-use Rattle.gq_exec_prepared.specs.Prepared.{AreFound}
-use Rattle.gq_exec_prepared.specs.declared.inputs.ScalarInput.{ScalarInput}
+use Rattle.gq_exec_contribute.specs.Scalars.{as_inputs}
+use Rattle.gq_exec_contribute.specs.Aliases.{bound_to}
+use Rattle.gq_exec_contribute.specs.Prepared.{AreFound}
+use Rattle.gq_exec_contribute.specs.declared.scalars.ScalarInput.{ScalarInput}
 
 -- ---- candidates
 

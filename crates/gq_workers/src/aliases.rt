@@ -2,7 +2,7 @@
 ghost use Rattle.std.specs.Prelude.{◌≡◌, ◌++◌, ◌<◌, ◌≤◌, ◌+◌, length, map, take};
 ghost use Rattle.std.specs.Option.{option_map, option_to_list};
 ghost use Rattle.gq_frame.specs.Names.{alias_of};
-ghost use Rattle.gq_exec_prepared.specs.Aliases.{edge_bound, target_bound, bound_to};
+ghost use Rattle.gq_exec_contribute.specs.Aliases.{edge_bound, target_bound, bound_to};
 
 use gq_exec_source::{End, Ends};
 use gq_frame::{Alias, Bound};

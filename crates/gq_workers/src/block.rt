@@ -2,6 +2,7 @@
 ghost use Rattle.std.specs.Prelude.{◌<◌, length, IfOk};
 ghost use Rattle.gq_rules_calendar.specs.Gregorian.{gregorian};
 ghost use Rattle.gq_exec_source.specs.Ends.{HasEnds};
+ghost use Rattle.gq_exec_source.specs.Starts.{AreCandidates};
 ghost use Rattle.gq_workers.specs.Results.{Answers, IsWorkOf, Leaves, RanTo};
 ghost use Rattle.gq_workers.specs.Running.{IsWork, HasRun, Steps};
 
@@ -11,8 +12,9 @@ use crate::work::Work;
 use crate::workers::next_round;
 use gq_base::OutOfMemory;
 use gq_eval_context::{After, BlockContext, BlockFault};
-use gq_exec_prepared::leaves_of;
-use gq_exec_source::{Ends, candidates_of};
+use gq_exec_contribute::leaves_of;
+use gq_exec_source::Ends;
+use gq_index::Candidates;
 use gq_io::{Gate, Shape};
 use gq_plan_ir::Block;
 use gq_value::Wrong;
@@ -28,13 +30,14 @@ pub(crate) enum Ran {
     Fault(u64, Wrong),
 }
 
-/// WHERE and ACCUM of a block with these ends: the accumulators after all contributions, and the distinct matched vertices, by number.
+/// WHERE and ACCUM of a block with these ends and candidates: the accumulators after all contributions, and the distinct
+/// matched vertices, by number.
 ///
-/// Up to `shape.workers` workers, at most 64, draw chunks of `shape.chunk` candidates; a chunk of 0 counts as 1. A worker that can't be
-/// started is run by the caller. What they find is fed in the order of the candidates, so the answer is the same for each shape. The
-/// fault is that of the first candidate in order that has one; sums are judged once all inputs are fed. Each worker passes the gate
-/// after it has drawn a chunk. Along a path it answers OutOfMemory. More than 2^60 inputs are `OutOfMemory` too. The frame is lent, and stays
-/// as it is.
+/// Up to `shape.workers` workers, at most 64, draw chunks of `shape.chunk` candidates; a chunk of 0 counts as 1. A worker
+/// that can't be started is run by the caller. What they find is fed in the order of the candidates, so the answer is the
+/// same for each shape. The fault is that of the first candidate in order that has one; sums are judged once all inputs
+/// are fed. Each worker passes the gate after it has drawn a chunk. More than 2^60 inputs are `OutOfMemory` too. The frame
+/// is lent, and stays as it is.
 #[tactic(auto, using(crate::proofs::RunLemmas::end_laws))]
 pub fn run_block<R: Threads + Sync, G: Gate>(
     rt: &R,
@@ -42,34 +45,38 @@ pub fn run_block<R: Threads + Sync, G: Gate>(
     block: &Block,
     over: &BlockContext<'_>,
     ends: &Ends,
+    candidates: Candidates,
     shape: &Shape,
     gate: &G,
 ) -> Result<After, BlockFault>
-    requires { HasEnds over.now.schema over.now.plan over.now.frame.things block.now ends.now }
+    requires ends { HasEnds over.now.schema over.now.plan over.now.frame.things block.now ends.now }
+    requires candidates { AreCandidates over.now block.now candidates }
     ensures answered { Answers gregorian over.now block.now result }
     ensures left { IfOk result (Leaves over.now) }
 {
-    match run_all(rt, alloc, block, over, ends, shape, gate) {
+    match run_all(rt, alloc, block, over, ends, candidates, shape, gate) {
         Err(OutOfMemory) => Err(BlockFault::OutOfMemory),
         Ok(Ran::Fault(at, fault)) => Err(BlockFault::Eval { at, fault }),
         Ok(Ran::Done(run)) => judged(alloc, run),
     }
 }
 
-/// Finds the candidates, and goes through them.
+/// Goes through the candidates of a block.
 fn run_all<R: Threads + Sync, G: Gate>(
     rt: &R,
     alloc: Global,
     block: &Block,
     over: &BlockContext<'_>,
     ends: &Ends,
+    candidates: Candidates,
     shape: &Shape,
     gate: &G,
 ) -> Result<Ran, OutOfMemory>
-    requires { HasEnds over.now.schema over.now.plan over.now.frame.things block.now ends.now }
+    requires ends { HasEnds over.now.schema over.now.plan over.now.frame.things block.now ends.now }
+    requires candidates { AreCandidates over.now block.now candidates }
     ensures { IfOk result (RanTo gregorian over.now block.now) }
 {
-    let work = work_of(alloc, block, over, ends, shape)?;
+    let work = work_of(alloc, block, over, ends, candidates, shape)?;
     through(rt, alloc, &work, over, shape.workers, gate)
 }
 
@@ -79,12 +86,13 @@ fn work_of<'b>(
     block: &'b Block,
     over: &BlockContext<'_>,
     ends: &'b Ends,
+    candidates: Candidates,
     shape: &Shape,
 ) -> Result<Work<'b>, OutOfMemory>
-    requires { HasEnds over.now.schema over.now.plan over.now.frame.things block.now ends.now }
+    requires ends { HasEnds over.now.schema over.now.plan over.now.frame.things block.now ends.now }
+    requires candidates { AreCandidates over.now block.now candidates }
     ensures { IfOk result (IsWorkOf over.now block.entry.now) }
 {
-    let candidates = candidates_of(alloc, block, over, ends)?;
     let leaves = leaves_of(alloc, &over.frame.accums.slots, &block.walk, ends)?;
     Ok(Work {
         block,

@@ -9,7 +9,7 @@ ghost use Rattle.std.specs.Option.{option_map};
 ghost use Rattle.gq_rules_meaning.specs.Answers.{Gives};
 ghost use Rattle.gq_rules_meaning.specs.Blocks.{passes};
 ghost use Rattle.gq_plan_ir.specs.ExprView.{view};
-ghost use Rattle.gq_exec_prepared.specs.Prepared.{AreFound, sees};
+ghost use Rattle.gq_exec_contribute.specs.Prepared.{AreFound, sees};
 ghost use Rattle.gq_workers.specs.Running.{ComesUnder, Done, IsShaped, Tried, come, comes, marks_end};
 
 use crate::aliases::{bind, no_alias};
@@ -18,8 +18,7 @@ use crate::work::Work;
 use gq_base::{List, OutOfMemory};
 use gq_core::Batches;
 use gq_eval_context::BlockContext;
-use gq_exec_contribute::{Outcome, Room, contribute};
-use gq_exec_prepared::{gather, passes};
+use gq_exec_contribute::{Outcome, Room, contribute, gather, passes};
 use gq_exec_source::{Ends, mark};
 use gq_frame::Alias;
 use gq_graph::Candidate;
@@ -31,7 +30,7 @@ use std::alloc::Global;
 const MOST_EVALUATED: u32 = 8;
 
 /// Tries a candidate: what a match contributes waits, and its ends are marked; the fault of one that faults is told. It is read where the
-/// block's expressions are such as can be read (`gq_exec_prepared`), and else evaluated; those of the chunk that were evaluated are counted.
+/// block's expressions are such as can be read (`gq_exec_contribute`), and else evaluated; those of the chunk that were evaluated are counted.
 pub(crate) fn try_one(
     alloc: Global,
     work: &Work<'_>,

@@ -8,8 +8,7 @@ use crate::found::MatchBuffer;
 use crate::work::Work;
 use gq_base::{List, OutOfMemory};
 use gq_eval_context::BlockContext;
-use gq_graph::EdgeRow;
-use gq_index::{Candidates, Cursor, Graph};
+use gq_index::{Candidates, Cursor, Graph, Store};
 use gq_plan_ir::{Act, Behind, Change, Expr, Feed, Field};
 use gq_value::{Value, Wrong};
 use std::alloc::Global;
@@ -57,7 +56,7 @@ fn read_ahead(
         Some(field) => {
             list_edges(&work.candidates, start, end, edges)?;
             // What is found is of no use: the rows are near from then on.
-            let _found = has_ints(graph.store.edges.rows(), edges.as_slice(), field);
+            let _found = has_ints(graph.store, edges.as_slice(), field);
             Ok(())
         }
     }
@@ -121,44 +120,42 @@ fn attribute_in(expr: &Expr, place: u32) -> Option<&Field> {
 ///
 /// It goes through all of them twice, their rows first and then their values, and does nothing else meanwhile: so the processor waits for
 /// many rows at once, which stand in no order, and finds them near when the candidates are tried.
-fn has_ints(rows: &[EdgeRow], edges: &[u32], field: &Field) -> bool {
-    match place_in(rows, edges, field) {
+fn has_ints(store: &Store, edges: &[u32], field: &Field) -> bool {
+    match place_in(store, edges, field) {
         None => false,
-        Some(place) => attributes(rows, edges) > 0 && ints(rows, edges, place) > 0,
+        Some(place) => attributes(store, edges) > 0 && ints(store, edges, place) > 0,
     }
 }
 
 /// The place of an attribute, by the type of the first edge.
-fn place_in(rows: &[EdgeRow], edges: &[u32], field: &Field) -> Option<u32> {
-    let first = rows.get(*edges.first()? as usize)?;
+fn place_in(store: &Store, edges: &[u32], field: &Field) -> Option<u32> {
+    let first = store.edges.ends().get(*edges.first()? as usize)?;
     match field {
         Field::Type => None,
-        Field::Named(places) => *places.edges.as_slice().get(first.kind as usize)?,
+        Field::Named(places) => *places.edges.as_slice().get(first.kind() as usize)?,
     }
 }
 
 /// How many attributes these edges have.
-fn attributes(rows: &[EdgeRow], edges: &[u32]) -> usize {
+fn attributes(store: &Store, edges: &[u32]) -> usize {
     let mut count = 0usize;
     for edge in edges {
-        match rows.get(*edge as usize) {
-            Some(row) => count = count.wrapping_add(row.attributes.len()),
-            None => {}
+        if *edge < store.edges.len() {
+            count = count.wrapping_add(store.edges.attributes(*edge).len());
         }
     }
     count
 }
 
 /// How many of these edges have an INT at a place.
-fn ints(rows: &[EdgeRow], edges: &[u32], place: u32) -> usize {
+fn ints(store: &Store, edges: &[u32], place: u32) -> usize {
     let mut count = 0usize;
     for edge in edges {
-        match rows.get(*edge as usize) {
-            Some(row) => match row.attributes.as_slice().get(place as usize) {
+        if *edge < store.edges.len() {
+            match store.edges.attributes(*edge).get(place as usize) {
                 Some(Value::Int(_)) => count = count.wrapping_add(1),
                 Some(_) | None => {}
-            },
-            None => {}
+            }
         }
     }
     count

@@ -4,8 +4,7 @@ ghost use Rattle.gq_workers.specs.Running.{AddsInputs, IsOpened, Settles};
 
 use gq_base::{List, OutOfMemory};
 use gq_core::Batches;
-use gq_exec_contribute::Room;
-use gq_exec_prepared::{ScalarInput, value_of};
+use gq_exec_contribute::{Room, ScalarInput, value_of};
 use gq_exec_source::unmarked;
 use gq_value::Input;
 use std::alloc::Global;

@@ -2,7 +2,7 @@
 use gq_base::List;
 use gq_core::Batches;
 use gq_eval_attributes::TupleType;
-use gq_exec_prepared::{Leaves, ScalarInput};
+use gq_exec_contribute::{Leaves, ScalarInput};
 use gq_frame::Frame;
 use gq_index::{Candidates, Graph};
 use gq_plan_ir::{Block, Plan};

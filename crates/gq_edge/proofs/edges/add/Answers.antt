@@ -1,26 +1,29 @@
-use Rattle.std.proofs.Common.{◌≡◌, ◌∙◌, ◌<◌, ◌++◌, ◌∷◌, [], ap, sym, subst, length, arith}
+use Rattle.std.proofs.Common.{◌≡◌, ◌∙◌, ◌<◌, ◌++◌, ◌∷◌, [], List, map, refl, ap, sym, subst, length, arith}
 use Rattle.gq_base.specs.Keys.{number_of}
-use Rattle.gq_graph.specs.Edges.{noted}
-use Rattle.gq_edge.specs.Sorted.{AreSorted, name_row}
+use Rattle.gq_graph.specs.declared.rows.EdgeRow.{EdgeRow}
+use Rattle.gq_graph.specs.Edges.{noted, edge_with}
+use Rattle.gq_value.specs.Val.{Val}
+use Rattle.gq_edge.specs.Keyed.{edge_key, HasEnds}
+use Rattle.gq_edge.specs.Sorted.{AreSorted, name_row, row_name}
 use Rattle.gq_edge.proofs.TableLemmas.{named_added, known_added}
 use Rattle.gq_edge.proofs.edges.add.Goals as goal
 
 pub returns-clause-named : goal.returns-clause-named
 returns-clause-named c =
-    let rows = c.args.rows.now.items in let namings = c.args.namings.now.items in
-    let room : length rows < 16777216 = omega (arith, c.args.rows.now.ok.0) in
-    let rows_are : c.put.new.rows.items ≡ rows ++ c.args.edge ∷ [] = cc (c.put.ensures, c.reserve.ensures.items) in
-    let namings_are : c.note.new.namings.items ≡ noted namings c.args.naming = c.note.ensures ∙ ap (λ l. noted l c.args.naming) c.reserve-2.ensures.items in
-    let keys_are : c.push.new.index ≡ c.args.index.now ++ number_of c.edge_key.result ∷ [] = c.in_ok-push.ensures.0 in
-    rw (rows_are, namings_are, keys_are)
-    (named_added rows namings c.args.index.now c.args.naming c.args.edge (number_of c.edge_key.result) c.requires.agrees c.requires.kind c.requires.new room c.edge_key.ensures.number c.edge_key.ensures.ends c.requires.named)
+    let rows = c.args.rows.now in let namings = c.args.namings.now.items in let naming = c.args.naming in
+    let edge = edge_with naming.kind c.args.from c.args.to c.args.attributes.now in
+    let namings_are : c.note.new.namings.items ≡ noted namings naming = c.note.ensures ∙ ap (λ l. noted l naming) c.reserve.ensures.items in
+    rw (c.in_ok-push.ensures.0, namings_are, c.in_ok-push.ensures.1)
+    (named_added rows namings c.args.index.now naming edge (number_of c.edge_key-key.result) c.requires.agrees refl c.requires.new c.requires.room
+    (c.edge_key-key.ensures.number ∙ ap (edge_key naming) c.lent.ensures) (subst HasEnds c.lent.ensures c.edge_key-key.ensures.ends) c.requires.named)
 
 pub returns-clause-sorted : goal.returns-clause-sorted
 returns-clause-sorted c =
-    let rows = c.args.rows.now.items in let namings = c.args.namings.now.items in
-    let rows_are : c.put.new.rows.items ≡ rows ++ c.args.edge ∷ [] = cc (c.put.ensures, c.reserve.ensures.items) in
-    let namings_are : c.note.new.namings.items ≡ noted namings c.args.naming = c.note.ensures ∙ ap (λ l. noted l c.args.naming) c.reserve-2.ensures.items in
-    let more = rw (c.deref.ensures.value, c.deref-2.ensures.value, c.reserve.ensures.items, c.reserve-2.ensures.items) at c.in_ok-insert.ensures in
-    rw (rows_are, namings_are, c.in_ok-push.ensures.1)
-    (subst (λ names. AreSorted names c.insert.new.names)
-    (sym (known_added name_row rows namings c.args.index.now c.args.naming c.args.edge c.requires.named c.requires.agrees c.requires.kind)) more.put)
+    let rows = c.args.rows.now in let namings = c.args.namings.now.items in let naming = c.args.naming in
+    let edge = edge_with naming.kind c.args.from c.args.to c.args.attributes.now in
+    let namings_are : c.note.new.namings.items ≡ noted namings naming = c.note.ensures ∙ ap (λ l. noted l naming) c.reserve.ensures.items in
+    let more = rw (c.deref.ensures.value, c.reserve.ensures.items) at c.in_ok-insert.ensures.put in
+    let own = subst (λ (e : EdgeRow). AreSorted (map (row_name namings) rows ++ name_row naming e ∷ []) c.insert.new.names) c.lent-2.ensures more in
+    rw (c.in_ok-push.ensures.0, namings_are, c.in_ok-push.ensures.2)
+    (subst (λ (names : List (List Val)). AreSorted names c.insert.new.names)
+    (sym (known_added name_row rows namings c.args.index.now naming edge c.requires.named c.requires.agrees refl)) own)

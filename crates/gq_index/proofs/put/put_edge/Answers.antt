@@ -17,7 +17,7 @@ pub returns-in-Ok-upsert-clause-puts : goal.returns-in-Ok-upsert-clause-puts
 returns-in-Ok-upsert-clause-puts c =
     done_more c.args.store.now c.put_end.new.store _ _ _ c.in-Ok.ensures.puts
     (done_more c.put_end.new.store c.put_end-2.new.store _ _ _ c.in-Ok-put_end.ensures.puts
-    (edge_ok c.put_end-2.new.store c.upsert.new.self c.args.naming (name_of (row_of c.args.from)) (name_of (row_of c.args.to)) c.args.attributes c.in-Ok.number c.in-Ok-put_end.number
+    (edge_ok c.put_end-2.new.store c.upsert.new.self c.args.naming (name_of (row_of c.args.from)) (name_of (row_of c.args.to)) c.args.attributes.now c.in-Ok.number c.in-Ok-put_end.number
     (c.in-Ok-put_end.ensures.others _ _ _ c.in-Ok.ensures.number) c.in-Ok-put_end.ensures.number c.in-Ok-upsert.ensures.done.1
     (λ full. let e = c.in-Ok-upsert.ensures.full.1 full in cc)))
 
@@ -25,7 +25,7 @@ pub returns-in-Err-upsert-clause-puts : goal.returns-in-Err-upsert-clause-puts
 returns-in-Err-upsert-clause-puts c =
     err_more ℕ ℕ c.args.store.now c.put_end.new.store _ _ _ c.in-Err-upsert.fault c.in-Ok.ensures.puts
     (err_more ℕ ℕ c.put_end.new.store c.put_end-2.new.store _ _ _ c.in-Err-upsert.fault c.in-Ok-put_end.ensures.puts
-    (edge_err ℕ c.put_end-2.new.store c.upsert.new.self c.args.naming (name_of (row_of c.args.from)) (name_of (row_of c.args.to)) c.args.attributes c.in-Ok.number c.in-Ok-put_end.number c.in-Err-upsert.fault
+    (edge_err ℕ c.put_end-2.new.store c.upsert.new.self c.args.naming (name_of (row_of c.args.from)) (name_of (row_of c.args.to)) c.args.attributes.now c.in-Ok.number c.in-Ok-put_end.number c.in-Err-upsert.fault
     (c.in-Ok-put_end.ensures.others _ _ _ c.in-Ok.ensures.number) c.in-Ok-put_end.ensures.number c.in-Err-upsert.ensures.done
     (λ full. c.in-Err-upsert.ensures.full.0 (ap Err full))))
 

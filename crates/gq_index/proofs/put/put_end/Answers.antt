@@ -17,6 +17,6 @@ pub returns-in-Ok-upsert-clause-number : goal.returns-in-Ok-upsert-clause-number
 returns-in-Ok-upsert-clause-number c =
     number_new c.args.store.now.vertices c.upsert.new.self (row_of c.args.end) c.in-Ok-upsert.number (sym c.in-None.ensures) (rw c.in-Ok.ensures at c.in-Ok-upsert.ensures.done.1) c.in-Ok-upsert.ensures.done.0
 
-pub returns-in-Err-upsert-clause-puts : goal.returns-in-Err-upsert-clause-puts
-returns-in-Err-upsert-clause-puts c =
+pub returns-clause-puts : goal.returns-clause-puts
+returns-clause-puts c =
     end_err ℕ c.args.store.now c.upsert.new.self (row_of c.args.end) c.in-Err-upsert.fault c.in-Err-upsert.ensures.done (λ full. c.in-Err-upsert.ensures.full.0 (ap Err full))

@@ -1,29 +1,63 @@
-use Rattle.std.proofs.Common.{◌≡◌, ◌∷◌, ap, length, arith}
-use Rattle.std.proofs.lemmas.List.{length-take, length-append, length-drop}
-use Rattle.csv.specs.Records.{fields_of}
-use Rattle.gq_load.specs.declared.record.Verdict.{Verdict}
-use Rattle.gq_load.proofs.LoadLemmas.{goes_on, stops, wants_memory_behind}
+use Rattle.std.proofs.Common.{◌≡◌, ◌<◌, ◌≤◌, ℕ, List, length, take, min, arith, ap, subst, sym, ◌∙◌}
+use Rattle.std.specs.Vec.{with_items}
+use Rattle.std.proofs.lemmas.List.{with_items_is, length-take}
+use Rattle.gq_load.specs.Columns.{Fields}
+use Rattle.gq_load.specs.declared.record.ReadRecord.{ReadRecord}
+use Rattle.gq_load.specs.declared.report.Report.{Report}
+use Rattle.gq_load.specs.Batches.{left_behind, HaveDrafts, ReadsOn}
+use Rattle.gq_load.proofs.BatchLemmas.{left_none, left_some, fewer_left}
+use Rattle.gq_load.proofs.LoadLemmas.{IsUnderWay, goes_on, stops, ends}
 use Rattle.gq_load.proofs.loading.load_records.Goals as goal
 
-pub returns-in-Err-put_record-clause-loads : goal.returns-in-Err-put_record-clause-loads
-returns-in-Err-put_record-clause-loads c read tells =
-    let next : c.reading.records ≡ fields_of c.next.new.row ∷ c.next.new.self = rw c.in-Ok-true.field-0-test at c.in-Ok-true.ensures in
-    stops Verdict read c.args.catalog.now c.args.routes.now c.args.records.now c.args.store.now c.reading.records c.next.new.self c.reading.store c.put_record.new.store c.reading.report
-    (fields_of c.next.new.row) c.in-Err-put_record.fault tells c.reading.invariant.way next (c.in-Err-put_record.ensures.puts read tells)
+pub returns-in-Err-put_batch-clause-loads : goal.returns-in-Err-put_batch-clause-loads
+returns-in-Err-put_batch-clause-loads c read tells =
+    let size : length c.read_batch.new.batch ≡ c.reading.batch.len = omega (arith, c.read_batch.auto.batch, c.deref_mut.ensures.len) in
+    let same : c.deref_mut-in-reading.result.now ≡ c.read_batch.new.batch = c.deref_mut-in-reading.ensures.value ∙ with_items_is c.reading.batch c.read_batch.new.batch size in
+    let left : List Fields = left_behind c.in-Ok-read_batch.count (length c.read_batch.new.batch) c.read_batch.new.records in
+    let on : ReadsOn c.args.catalog.now c.args.routes.now c.reading.records left (take c.in-Ok-read_batch.count c.deref_mut-in-reading.result.now) =
+    subst (λ (b : List ReadRecord). ReadsOn c.args.catalog.now c.args.routes.now c.reading.records left (take c.in-Ok-read_batch.count b)) (sym same) c.in-Ok-read_batch.ensures.reads in
+    stops Report read c.args.catalog.now c.args.routes.now c.args.records.now c.args.store.now c.reading.records left c.reading.store c.put_batch.new.store c.reading.report
+    (take c.in-Ok-read_batch.count c.deref_mut-in-reading.result.now) c.in-Err-put_batch.fault tells c.reading.invariant.way on c.in-Err-put_batch.ensures.puts
 
-pub returns-in-Err-with_record-clause-loads : goal.returns-in-Err-with_record-clause-loads
-returns-in-Err-with_record-clause-loads c read tells =
-    let next : c.reading.records ≡ fields_of c.next.new.row ∷ c.next.new.self = rw c.in-Ok-true.field-0-test at c.in-Ok-true.ensures in
-    wants_memory_behind read c.args.catalog.now c.args.routes.now c.args.records.now c.args.store.now c.reading.records c.next.new.self c.reading.store c.put_record.new.store c.reading.report
-    (fields_of c.next.new.row) tells c.reading.invariant.way next (c.in-Ok-put_record.ensures.puts read tells)
+pub returns-then-count-lt-AHEAD-clause-loads : goal.returns-then-count-lt-AHEAD-clause-loads
+returns-then-count-lt-AHEAD-clause-loads c read tells =
+    let size : length c.read_batch.new.batch ≡ c.reading.batch.len = omega (arith, c.read_batch.auto.batch, c.deref_mut.ensures.len) in
+    let same : c.deref_mut-in-reading.result.now ≡ c.read_batch.new.batch = c.deref_mut-in-reading.ensures.value ∙ with_items_is c.reading.batch c.read_batch.new.batch size in
+    let room : c.in-Ok-read_batch.count < length c.read_batch.new.batch = omega (arith, c.read_batch.auto.batch, c.reading.invariant.room, ap length c.deref_mut.ensures.value) in
+    let left : List Fields = left_behind c.in-Ok-read_batch.count (length c.read_batch.new.batch) c.read_batch.new.records in
+    let on : ReadsOn c.args.catalog.now c.args.routes.now c.reading.records left (take c.in-Ok-read_batch.count c.deref_mut-in-reading.result.now) =
+    subst (λ (b : List ReadRecord). ReadsOn c.args.catalog.now c.args.routes.now c.reading.records left (take c.in-Ok-read_batch.count b)) (sym same) c.in-Ok-read_batch.ensures.reads in
+    let way : IsUnderWay c.args.catalog.now c.args.routes.now c.args.records.now c.args.store.now left c.put_batch.new.store c.in-Ok-put_batch.report =
+    goes_on c.args.catalog.now c.args.routes.now c.args.records.now c.args.store.now c.reading.records left c.reading.store c.put_batch.new.store c.reading.report c.in-Ok-put_batch.report
+    (take c.in-Ok-read_batch.count c.deref_mut-in-reading.result.now) c.reading.invariant.way on c.in-Ok-put_batch.ensures.puts c.in-Ok-put_batch.ensures.counts in
+    ends read c.args.catalog.now c.args.routes.now c.args.records.now c.args.store.now left c.put_batch.new.store c.in-Ok-put_batch.report tells way
+    (left_none c.in-Ok-read_batch.count (length c.read_batch.new.batch) c.read_batch.new.records room)
+
+pub reading-smaller : goal.reading-smaller
+reading-smaller c =
+    let high : length c.read_batch.new.batch ≤ c.in-Ok-read_batch.count = omega (arith, c.read_batch.auto.batch, c.reading.invariant.room, ap length c.deref_mut.ensures.value) in
+    let on : ReadsOn c.args.catalog.now c.args.routes.now c.reading.records c.read_batch.new.records (take c.in-Ok-read_batch.count c.read_batch.new.batch) =
+    subst (λ (left : List Fields). ReadsOn c.args.catalog.now c.args.routes.now c.reading.records left (take c.in-Ok-read_batch.count c.read_batch.new.batch))
+    (left_some c.in-Ok-read_batch.count (length c.read_batch.new.batch) c.read_batch.new.records high) c.in-Ok-read_batch.ensures.reads in
+    fewer_left c.args.catalog.now c.args.routes.now c.reading.records c.read_batch.new.records (take c.in-Ok-read_batch.count c.read_batch.new.batch)
+    (omega (arith, length-take c.in-Ok-read_batch.count c.read_batch.new.batch, c.read_batch.auto.batch, c.reading.invariant.room, ap length c.deref_mut.ensures.value)) on
 
 pub reading-preserved : goal.reading-preserved
 reading-preserved c =
-    let next : c.reading.records ≡ fields_of c.next.new.row ∷ c.next.new.self = rw c.in-Ok-true.field-0-test at c.in-Ok-true.ensures in
+    let size : length c.read_batch.new.batch ≡ c.reading.batch.len = omega (arith, c.read_batch.auto.batch, c.deref_mut.ensures.len) in
+    let same : c.deref_mut-in-reading.result.now ≡ c.read_batch.new.batch = c.deref_mut-in-reading.ensures.value ∙ with_items_is c.reading.batch c.read_batch.new.batch size in
+    let high : length c.read_batch.new.batch ≤ c.in-Ok-read_batch.count = omega (arith, c.read_batch.auto.batch, c.reading.invariant.room, ap length c.deref_mut.ensures.value) in
+    let first : ReadsOn c.args.catalog.now c.args.routes.now c.reading.records c.read_batch.new.records (take c.in-Ok-read_batch.count c.read_batch.new.batch) =
+    subst (λ (left : List Fields). ReadsOn c.args.catalog.now c.args.routes.now c.reading.records left (take c.in-Ok-read_batch.count c.read_batch.new.batch))
+    (left_some c.in-Ok-read_batch.count (length c.read_batch.new.batch) c.read_batch.new.records high) c.in-Ok-read_batch.ensures.reads in
+    let on : ReadsOn c.args.catalog.now c.args.routes.now c.reading.records c.read_batch.new.records (take c.in-Ok-read_batch.count c.deref_mut-in-reading.result.now) =
+    subst (λ (b : List ReadRecord). ReadsOn c.args.catalog.now c.args.routes.now c.reading.records c.read_batch.new.records (take c.in-Ok-read_batch.count b)) (sym same) first in
+    let items : (with_items (with_items c.reading.batch c.read_batch.new.batch) c.put_batch.new.batch).items ≡ c.put_batch.new.batch =
+    with_items_is (with_items c.reading.batch c.read_batch.new.batch) c.put_batch.new.batch (omega (arith, c.put_batch.auto.batch, ap length same, size)) in
     record {
-      way = goes_on c.args.catalog.now c.args.routes.now c.args.records.now c.args.store.now c.reading.records c.next.new.self c.reading.store c.put_record.new.store c.reading.report c.in-Ok-with_record.report
-          (fields_of c.next.new.row) c.in-Ok-put_record.verdict c.reading.invariant.way next (λ read tells. c.in-Ok-put_record.ensures.puts read tells) (λ read tells. c.in-Ok-put_record.ensures.verdict read tells)
-          c.in-Ok-with_record.ensures;
-      named = c.in-Ok-put_record.ensures.named;
-      count = simp (length-take, length-append, length-drop) (omega (arith, c.put_record.auto.drafts, c.deref_mut.ensures.len, c.reading.drafts.ok.0, c.reading.invariant.count, ap length c.deref_mut.ensures.value));
+      way = goes_on c.args.catalog.now c.args.routes.now c.args.records.now c.args.store.now c.reading.records c.read_batch.new.records c.reading.store c.put_batch.new.store c.reading.report c.in-Ok-put_batch.report
+          (take c.in-Ok-read_batch.count c.deref_mut-in-reading.result.now) c.reading.invariant.way on c.in-Ok-put_batch.ensures.puts c.in-Ok-put_batch.ensures.counts;
+      named = c.in-Ok-put_batch.ensures.named;
+      room = ap length items ∙ omega (arith, c.put_batch.auto.batch, ap length same, c.read_batch.auto.batch, c.reading.invariant.room, ap length c.deref_mut.ensures.value);
+      drafts = subst (HaveDrafts c.args.routes.now) (sym items) c.in-Ok-put_batch.ensures.drafts;
     }

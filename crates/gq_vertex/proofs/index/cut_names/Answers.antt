@@ -10,7 +10,7 @@ loop-left-preserved c =
     let more : left - 1 + 1 ≡ left = omega (arith, c.loop-left-test.true) in
     record {
       sorted = sorted_pop rows (left - 1) c.index-rows-left.result c.loop-left.names c.take_out.new.names c.requires.apart low c.index-rows-left.is
-          (subst (λ n. IsSorted (take n rows) c.loop-left.names) (sym more) c.loop-left.invariant.sorted) (rw c.as_str.ensures at c.take_out.ensures);
+          (subst (λ n. IsSorted (take n rows) c.loop-left.names) (sym more) c.loop-left.invariant.sorted) (rw (c.kind.ensures, c.id.ensures) at c.take_out.ensures);
       low = omega (arith, low);
       over = omega (arith, c.loop-left-test.true);
     }

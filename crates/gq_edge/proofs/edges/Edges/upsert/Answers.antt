@@ -3,41 +3,48 @@ use Rattle.gq_graph.specs.declared.rows.EdgeRow.{EdgeRow}
 use Rattle.gq_graph.specs.Edges.{EdgeTable, Agrees, edge_with, naming_with, edge_number}
 use Rattle.gq_edge.specs.Named.{IsFindable}
 use Rattle.gq_edge.specs.Sorted.{AreSorted, IsSorted}
-use Rattle.gq_edge.proofs.TableLemmas.{findable, searchable, found_row, replaced_is}
+use Rattle.gq_edge.proofs.TableLemmas.{findable, searchable, found_row, number_low, replaced_is}
 use Rattle.gq_edge.proofs.edges.Edges.upsert.Goals as goal
 
 pub find-requires-clause-findable : goal.find-requires-clause-findable
 find-requires-clause-findable c =
-    let naming = naming_with c.args.kind c.args.directed c.args.key in let edge = edge_with c.args.kind c.args.from c.args.to c.args.attributes in
+    let naming = naming_with c.args.kind c.args.directed c.args.key in let edge = edge_with c.args.kind c.args.from c.args.to c.args.attributes.now in
     let agrees = subst (λ (t : EdgeTable). Agrees t.namings naming) (sym c.self.view_is) c.requires.agrees in
-    subst (λ (l : List EdgeRow). IsFindable naming edge l c.self.inside.index) (sym c.deref.ensures.value)
-    (findable naming edge c.self.inside.rows.items c.self.inside.namings.items c.self.inside.index c.self.invariant.named agrees refl)
+    subst (λ (e : EdgeRow). IsFindable naming e c.self.inside.rows c.self.inside.index) (sym c.lent.ensures)
+    (findable naming edge c.self.inside.rows c.self.inside.namings.items c.self.inside.index c.self.invariant.named agrees refl)
 
 pub find-requires-clause-sorted : goal.find-requires-clause-sorted
 find-requires-clause-sorted c =
-    let naming = naming_with c.args.kind c.args.directed c.args.key in let edge = edge_with c.args.kind c.args.from c.args.to c.args.attributes in
+    let naming = naming_with c.args.kind c.args.directed c.args.key in let edge = edge_with c.args.kind c.args.from c.args.to c.args.attributes.now in
     let agrees = subst (λ (t : EdgeTable). Agrees t.namings naming) (sym c.self.view_is) c.requires.agrees in
-    subst (λ (l : List EdgeRow). IsSorted naming edge l c.self.inside.names) (sym c.deref.ensures.value)
-    (searchable naming edge c.self.inside.rows.items c.self.inside.namings.items c.self.inside.index c.self.inside.names c.self.invariant.named agrees refl
+    subst (λ (e : EdgeRow). IsSorted naming e c.self.inside.rows c.self.inside.names) (sym c.lent.ensures)
+    (searchable naming edge c.self.inside.rows c.self.inside.namings.items c.self.inside.index c.self.inside.names c.self.invariant.named agrees refl
     c.self.invariant.sorted)
 
-pub invariant_of-self : goal.invariant_of-self
-invariant_of-self c =
-    let naming = naming_with c.args.kind c.args.directed c.args.key in let edge = edge_with c.args.kind c.args.from c.args.to c.args.attributes in
+pub replace-requires : goal.replace-requires
+replace-requires c =
+    let naming = naming_with c.args.kind c.args.directed c.args.key in let edge = edge_with c.args.kind c.args.from c.args.to c.args.attributes.now in
+    let found : edge_number c.self.inside.rows naming edge ≡ Some c.in-Some.number =
+    ap (edge_number c.self.inside.rows naming) (sym c.lent.ensures) ∙ sym c.find.ensures ∙ c.in-Some.is in
+    (number_low c.self.inside.rows naming edge c.in-Some.number found).0
+
+pub invariant_of-self-in-Some : goal.invariant_of-self-in-Some
+invariant_of-self-in-Some c =
+    let naming = naming_with c.args.kind c.args.directed c.args.key in let edge = edge_with c.args.kind c.args.from c.args.to c.args.attributes.now in
     let agrees = subst (λ (t : EdgeTable). Agrees t.namings naming) (sym c.self.view_is) c.requires.agrees in
-    let found : edge_number c.self.inside.rows.items naming edge ≡ Some c.in-Some.number =
-    ap (λ (l : List EdgeRow). edge_number l naming edge) (sym c.deref.ensures.value) ∙ sym c.find.ensures ∙ c.in-Some.is in
-    let row = found_row c.self.inside.rows.items c.self.inside.namings.items c.self.inside.index naming edge c.in-Some.number c.self.invariant.named agrees refl found in
-    rw c.replace.ensures (record {
+    let found : edge_number c.self.inside.rows naming edge ≡ Some c.in-Some.number =
+    ap (edge_number c.self.inside.rows naming) (sym c.lent.ensures) ∙ sym c.find.ensures ∙ c.in-Some.is in
+    let row = found_row c.self.inside.rows c.self.inside.namings.items c.self.inside.index naming edge c.in-Some.number c.self.invariant.named agrees refl found in
+    rw (c.replace.ensures.done c.if-not-replace.false) (record {
       named = row.1;
       sorted = subst (λ names. AreSorted names c.self.inside.names) (sym row.3) c.self.invariant.sorted;
     })
 
-pub returns-in-Some-clause-done : goal.returns-in-Some-clause-done
-returns-in-Some-clause-done c =
-    let naming = naming_with c.args.kind c.args.directed c.args.key in let edge = edge_with c.args.kind c.args.from c.args.to c.args.attributes in
+pub returns-else-not-replace-clause-done : goal.returns-else-not-replace-clause-done
+returns-else-not-replace-clause-done c =
+    let naming = naming_with c.args.kind c.args.directed c.args.key in let edge = edge_with c.args.kind c.args.from c.args.to c.args.attributes.now in
     let agrees = subst (λ (t : EdgeTable). Agrees t.namings naming) (sym c.self.view_is) c.requires.agrees in
-    let found : edge_number c.self.inside.rows.items naming edge ≡ Some c.in-Some.number =
-    ap (λ (l : List EdgeRow). edge_number l naming edge) (sym c.deref.ensures.value) ∙ sym c.find.ensures ∙ c.in-Some.is in
-    let row = found_row c.self.inside.rows.items c.self.inside.namings.items c.self.inside.index naming edge c.in-Some.number c.self.invariant.named agrees refl found in
-    replaced_is c.self.inside.rows.items c.self.inside.namings.items c.args.self.now c.replace.new.rows.items naming edge c.in-Some.number c.self.view_is found row.2 c.replace.ensures
+    let found : edge_number c.self.inside.rows naming edge ≡ Some c.in-Some.number =
+    ap (edge_number c.self.inside.rows naming) (sym c.lent.ensures) ∙ sym c.find.ensures ∙ c.in-Some.is in
+    let row = found_row c.self.inside.rows c.self.inside.namings.items c.self.inside.index naming edge c.in-Some.number c.self.invariant.named agrees refl found in
+    replaced_is c.self.inside.rows c.self.inside.namings.items c.args.self.now c.replace.new.rows naming edge c.in-Some.number c.self.view_is found row.2 (c.replace.ensures.done c.if-not-replace.false)

@@ -1,18 +1,38 @@
-use Rattle.std.proofs.Common.{List, ℕ, length, map, ap, ap₂, subst, ◌∙◌}
+use Rattle.std.proofs.Common.{◌≡◌, List, ℕ, length, map, take, ap, sym, refl, subst, ◌∙◌, arith}
+use Rattle.std.proofs.lemmas.List.{length-map, take_all}
 use Rattle.gq_graph.specs.declared.types.EdgeType.{EdgeType}
 use Rattle.gq_graph.specs.declared.rows.EdgeRow.{EdgeRow}
+use Rattle.gq_graph.specs.declared.rows.VertexRow.{VertexRow}
+use Rattle.gq_index.specs.declared.walks.Traversal.{Traversal}
 use Rattle.gq_index.specs.Kept.{AllWithin}
 use Rattle.gq_index.specs.Places.{below}
 use Rattle.gq_index.specs.Walks.{walks_from}
-use Rattle.gq_index.proofs.KeptLemmas.{all_kept}
+use Rattle.gq_index.proofs.KeptLemmas.{all_kept, are_ends, ends_kept, ends_walks, rows_kept, with_edges}
 use Rattle.gq_index.proofs.kept.KeptIndex.extend.Goals as goal
+
+pub grown-requires-clause-walks : goal.grown-requires-clause-walks
+grown-requires-clause-walks c =
+    let types = c.args.catalog.now.edge_types in let store = c.args.store.now in let ends = c.ends-edges.result.now in let self = c.args.self.now in
+    let are = are_ends ends store.edges.rows c.ends-edges.ensures.long c.ends-edges.ensures.kinds c.ends-edges.ensures.froms c.ends-edges.ensures.tos in
+    let kept = ends_kept self c.args.catalog.now store ends are c.requires.kept in
+    let whole : take self.types types ≡ c.edge_types.result.now = take_all self.types types (omega (arith, c.requires.types)) ∙ sym c.edge_types.ensures.types in
+    subst (λ (i : List (List Traversal)). i ≡ map (walks_from c.edge_types.result.now (take self.edges ends)) (below (length i))) (sym c.replace-index.ensures.value)
+    (kept.walks ∙ ap (λ (ts : List EdgeType). map (walks_from ts (take self.edges ends)) (below (length self.index))) whole)
+
+pub returns-clause-index : goal.returns-clause-index
+returns-clause-index c =
+    let types = c.args.catalog.now.edge_types in let store = c.args.store.now in let ends = c.ends-edges.result.now in let n = c.len-vertices.result in
+    let are = are_ends ends store.edges.rows c.ends-edges.ensures.long c.ends-edges.ensures.kinds c.ends-edges.ensures.froms c.ends-edges.ensures.tos in
+    c.in_ok-self.ensures ∙ ap (λ (ts : List EdgeType). map (walks_from ts ends) (below n)) c.edge_types.ensures.types ∙ ends_walks types ends store.edges.rows n are
+    ∙ ap (λ k. map (walks_from types store.edges.rows) (below k)) (c.len-vertices.ensures.count ∙ sym (length-map store.vertices (λ (row : VertexRow). row.kind)))
 
 pub returns-clause-kept : goal.returns-clause-kept
 returns-clause-kept c =
-    let types = c.args.catalog.now.edge_types in let edges = c.args.store.now.edges.rows in let count = c.len-vertices.ensures.count in
-    all_kept _ c.args.catalog.now c.args.store.now c.requires.types (ap length c.rows-edges.ensures.rows)
+    let types = c.args.catalog.now.edge_types in let store = c.args.store.now in let ends = c.ends-edges.result.now in let count = c.len-vertices.ensures.count in
+    let are = are_ends ends store.edges.rows c.ends-edges.ensures.long c.ends-edges.ensures.kinds c.ends-edges.ensures.froms c.ends-edges.ensures.tos in
+    rows_kept _ c.args.catalog.now store ends are
+    (all_kept _ c.args.catalog.now (with_edges store ends) c.requires.types refl
     (c.in_ok-self.ensures
-    ∙ ap₂ (λ (ts : List EdgeType) (es : List EdgeRow). map (walks_from ts es) (below c.len-vertices.result)) c.edge_types.ensures.types c.rows-edges.ensures.rows
-    ∙ ap (λ n. map (walks_from types edges) (below n)) count)
-    (λ all. subst (λ (n : ℕ). AllWithin n (length edges) edges) count
-    (subst (λ (es : List EdgeRow). AllWithin c.len-vertices.result (length es) es) c.rows-edges.ensures.rows (c.are_within-self.ensures all)))
+    ∙ ap (λ (ts : List EdgeType). map (walks_from ts ends) (below c.len-vertices.result)) c.edge_types.ensures.types
+    ∙ ap (λ n. map (walks_from types ends) (below n)) count)
+    (λ all. subst (λ (n : ℕ). AllWithin n (length ends) ends) count (c.are_within-self.ensures all)))

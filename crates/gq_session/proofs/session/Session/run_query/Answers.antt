@@ -1,25 +1,16 @@
-use Rattle.std.proofs.Common.{rules, sym, ◌∙◌, ap}
+use Rattle.std.proofs.Common.{rules}
 use Rattle.gq_arguments.specs.Holds.{held}
-use Rattle.gq_session.specs.Paths.{walks_path}
 use Rattle.gq_session.specs.Statements.{State}
 use Rattle.gq_session.proofs.SessionLemmas.{is_line, session_indexed, session_indexes}
-use Rattle.gq_session.proofs.QueryLemmas.{ran_path, ran_says}
+use Rattle.gq_session.proofs.QueryLemmas.{ran_says}
 use Rattle.gq_session.proofs.session.Session.run_query.Goals as goal
-
-pub returns-then-walks_path-clause-prints : goal.returns-then-walks_path-clause-prints
-returns-then-walks_path-clause-prints g c =
-    let i = c.self.inside in
-    let v : State = record { schema = i.catalog; in_use = i.in_use; jobs = i.jobs; queries = i.queries; store = i.store; file = i.file; turns = i.runner.now.turns } in
-    ran_path c.args.self.now v c.self.view_is c.args.number c.args.tree.now c.unsupported.result c.as_slice-queries.result.now c.as_slice-queries.ensures
-    (ap (walks_path c.as_slice-queries.result.now) (sym c.as_str.ensures) ∙ sym c.walks_path.ensures ∙ c.if-walks_path.true) c.unsupported.ensures
 
 pub returns-clause-prints : goal.returns-clause-prints
 returns-clause-prints g c =
     let i = c.self.inside in
     let v : State = record { schema = i.catalog; in_use = i.in_use; jobs = i.jobs; queries = i.queries; store = i.store; file = i.file; turns = i.runner.now.turns } in
-    ran_says c.args.self.now v c.self.view_is c.args.number c.args.tree.now c.with_line.result c.as_slice-queries.result.now (held c.given-file.result.now) c.run_query.result
+    ran_says c.args.self.now v c.self.view_is c.args.tree.now c.with_line.result c.as_slice-queries.result.now (held c.given-file.result.now) c.run_query.result
     c.as_slice-queries.ensures c.given-file.ensures
-    (ap (walks_path c.as_slice-queries.result.now) (sym c.as_str.ensures) ∙ sym c.walks_path.ensures ∙ c.if-walks_path.false)
     (is_line c.run_query.result c.with_line.result c.with_line.ensures.done c.with_line.ensures.printed c.with_line.ensures.same)
     (c.run_query.ensures i.in_use)
 

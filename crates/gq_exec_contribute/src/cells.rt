@@ -1,0 +1,167 @@
+// Where the contents of accumulators stand.
+ghost use Rattle.std.specs.Prelude.{◌≡◌, IfOk, IfSome};
+ghost use Rattle.gq_value.specs.Accums.{SumAccum, MinAccum, MaxAccum};
+ghost use Rattle.gq_value.specs.AccumViews.{accum_of};
+ghost use Rattle.gq_frame.specs.Slots.{AreSound};
+ghost use Rattle.gq_exec_contribute.specs.Prepared.{AreAllCells, AreCells, HoldsInt, HoldsTruth, IsTarget, StandsAt, Takes};
+
+use gq_accum::Scalar;
+use gq_base::{List, OutOfMemory};
+use gq_exec_feed::slot_number;
+use gq_frame::{Accums, Slots};
+use gq_nest::Content;
+use gq_value::{Kind, Number};
+use std::alloc::Global;
+
+/// What a kind takes as an input.
+#[derive(Clone, Copy, Debug, PartialEq, Eq)]
+pub enum Taken {
+    Int,
+    Truth,
+
+    /// Something else, of which nothing is said.
+    Other,
+}
+
+/// Where the contents of a slot stand: the number of its first target, and how many it has. And what it is fed.
+#[derive(Clone, Copy, Debug)]
+pub struct Cells {
+    pub first: u64,
+    pub targets: u32,
+    pub takes: Taken,
+}
+
+/// The cells of each slot.
+#[tactic(auto, using(crate::proofs::CellLemmas::cells_laws))]
+pub(crate) fn cells_of(alloc: Global, slots: &Slots) -> Result<List<Cells>, OutOfMemory>
+    ensures { IfOk result (AreAllCells slots.now) }
+{
+    let mut cells = List::new(alloc);
+    for number in 0..slots.declared.len() {
+        match cells_at(slots, number) {
+            None => return Err(OutOfMemory),
+            Some(those) => cells.push(those)?,
+        }
+    }
+    Ok(cells)
+}
+
+/// The cells of a slot.
+fn cells_at(slots: &Slots, number: usize) -> Option<Cells>
+    ensures { IfSome result (AreCells slots.now number) }
+{
+    match slot_number(number) {
+        None => None,
+        Some(slot) => match slots.declared.get(number) {
+            None => None,
+            Some(declared) => Some(Cells {
+                first: slots.target(slot, 0),
+                targets: slots.targets(declared),
+                takes: taken_by(&declared.kind),
+            }),
+        },
+    }
+}
+
+/// What a kind takes.
+#[tactic(auto, using(gq_value::proofs::AccumLemmas::accum_laws, crate::proofs::CellLemmas::kind_laws))]
+fn taken_by(kind: &Kind) -> Taken
+    ensures { Takes (accum_of kind.now) result }
+{
+    match kind {
+        Kind::Sum(number) => number_taken(*number),
+        Kind::Min(number) => number_taken(*number),
+        Kind::Max(number) => number_taken(*number),
+        Kind::BitOr | Kind::BitAnd | Kind::Avg => Taken::Int,
+        Kind::Or | Kind::And => Taken::Truth,
+        Kind::Set(_) | Kind::Bag(_) | Kind::List(_) => Taken::Other,
+        Kind::Heap(_) | Kind::Map(_, _) | Kind::Group(_) => Taken::Other,
+    }
+}
+
+fn number_taken(number: Number) -> Taken
+    ensures int { Takes (SumAccum number) result }
+    ensures min { Takes (MinAccum number) result }
+    ensures max { Takes (MaxAccum number) result }
+{
+    match number {
+        Number::Int => Taken::Int,
+        Number::UInt => Taken::Other,
+    }
+}
+
+/// What stands at the target of a slot and a vertex.
+#[tactic(auto, using(crate::proofs::CellLemmas::target_laws))]
+pub(crate) fn content_in<'a>(
+    accums: &'a Accums,
+    cells: &List<Cells>,
+    slot: u32,
+    vertex: u32,
+) -> Option<&'a Content>
+    requires sound { AreSound accums.now }
+    requires cells { AreAllCells accums.now.slots cells.now }
+    ensures { IfSome result (λ content. StandsAt accums.entry.now slot vertex content.now) }
+{
+    match cells.get(slot as usize) {
+        None => None,
+        Some(cells) => match target_in(cells, vertex) {
+            None => None,
+            Some(target) => match accums.contents.get(target as usize) {
+                None => None,
+                Some(content) => Some(content),
+            },
+        },
+    }
+}
+
+/// The number of the target of a vertex.
+pub(crate) fn target_in(cells: &Cells, vertex: u32) -> Option<u64>
+    ensures { IfSome result (IsTarget cells.now vertex) }
+{
+    if vertex >= cells.targets {
+        return None;
+    }
+    cells.first.checked_add(u64::from(vertex))
+}
+
+/// The INT that a content is.
+#[tactic(auto, using(crate::proofs::CellLemmas::int_laws))]
+pub(crate) fn int_in(content: &Content) -> Option<i64>
+    ensures { IfSome result (HoldsInt content.now) }
+{
+    match content {
+        Content::Scalar(scalar) => match scalar {
+            Scalar::MinInt(x) => Some(*x),
+            Scalar::MaxInt(x) => Some(*x),
+            Scalar::BitOr(x) => Some(*x),
+            Scalar::BitAnd(x) => Some(*x),
+            Scalar::SumInt(sum) => int_of(*sum),
+            _ => None,
+        },
+        _ => None,
+    }
+}
+
+fn int_of(sum: i128) -> Option<i64>
+    ensures { IfSome result (λ x. x ≡ sum) }
+{
+    match i64::try_from(sum) {
+        Ok(x) => Some(x),
+        Err(_) => None,
+    }
+}
+
+/// The truth that a content is.
+#[tactic(auto, using(crate::proofs::CellLemmas::truth_laws))]
+pub(crate) fn truth_in(content: &Content) -> Option<bool>
+    ensures { IfSome result (HoldsTruth content.now) }
+{
+    match content {
+        Content::Scalar(scalar) => match scalar {
+            Scalar::Or(truth) => Some(*truth),
+            Scalar::And(truth) => Some(*truth),
+            _ => None,
+        },
+        _ => None,
+    }
+}

@@ -1,0 +1,154 @@
+// What acts feed.
+ghost use Rattle.std.specs.Prelude.{◌≡◌, IfOk, IfSome};
+ghost use Rattle.gq_rules_calendar.specs.Gregorian.{gregorian};
+ghost use Rattle.gq_rules_typing.specs.Selecting.{Adds as AddsTo, Plain};
+ghost use Rattle.gq_rules_meaning.specs.Blocks.{contributed, contributions, of_act};
+ghost use Rattle.gq_frame.specs.Slots.{slots_are};
+ghost use Rattle.gq_plan_ir.specs.ExprView.{view};
+ghost use Rattle.gq_plan_ir.specs.BlockView.{view_act, view_acts, view_change};
+ghost use Rattle.gq_plan_ir.specs.Reference.{Slot};
+ghost use Rattle.gq_exec_contribute.specs.Prepared.{AreFound, Gathers, IsInput, IsScalar, sees};
+
+use crate::cells::{Taken, target_in};
+use crate::ints::int;
+use crate::leaves::Leaves;
+use crate::names::vertex_at;
+use crate::scalars::ScalarInput;
+use crate::truths::truth;
+use gq_base::{List, OutOfMemory};
+use gq_eval_context::BlockContext;
+use gq_graph::Candidate;
+use gq_plan_ir::{Act, Change, Expr, Feed};
+
+/// Adds what a candidate feeds by these acts, each input with the number of its target; or nothing, where one of them feeds something else.
+#[tactic(auto, using(crate::proofs::GatherLemmas::gather_laws))]
+pub fn gather(
+    acts: &[Act],
+    over: &BlockContext<'_>,
+    leaves: &Leaves<'_>,
+    c: &Candidate,
+    into: &mut List<(u64, ScalarInput)>,
+) -> Result<bool, OutOfMemory>
+    requires { AreFound over.now leaves.now }
+    ensures { IfOk result (Gathers over.now.frame.accums.slots (contributions (sees gregorian over.now leaves.now c.now) (slots_are over.now.frame.accums) (view_acts acts.now)) into.old into.new) }
+{
+    let before = into.len();
+    for act in acts {
+        if !add_act(act, over, leaves, c, into)? {
+            into.truncate(before);
+            return Ok(false);
+        }
+    }
+    Ok(true)
+}
+
+/// Adds what an act feeds, or nothing.
+#[tactic(auto, using(gq_plan_ir::proofs::ViewLaws::step_laws, crate::proofs::GatherLemmas::act_laws))]
+fn add_act(
+    act: &Act,
+    over: &BlockContext<'_>,
+    leaves: &Leaves<'_>,
+    c: &Candidate,
+    into: &mut List<(u64, ScalarInput)>,
+) -> Result<bool, OutOfMemory>
+    requires { AreFound over.now leaves.now }
+    ensures { IfOk result (Gathers over.now.frame.accums.slots (of_act (sees gregorian over.now leaves.now c.now) (slots_are over.now.frame.accums) (view_act act.now)) into.old into.new) }
+{
+    match act {
+        Act::Attached(place, slot, change) => match vertex_at(leaves, c, *place) {
+            Some(vertex) => add_change(change, over, leaves, c, *slot, vertex, into),
+            None => Ok(false),
+        },
+        Act::Global(slot, change) => add_change(change, over, leaves, c, *slot, 0, into),
+        Act::If(_, _) => Ok(false),
+    }
+}
+
+/// Adds what a change feeds into the slot at a vertex, or nothing.
+#[tactic(auto, using(crate::proofs::GatherLemmas::change_laws))]
+fn add_change(
+    change: &Change,
+    over: &BlockContext<'_>,
+    leaves: &Leaves<'_>,
+    c: &Candidate,
+    slot: u32,
+    vertex: u32,
+    into: &mut List<(u64, ScalarInput)>,
+) -> Result<bool, OutOfMemory>
+    requires { AreFound over.now leaves.now }
+    ensures { IfOk result (Gathers over.now.frame.accums.slots (contributed (sees gregorian over.now leaves.now c.now) (slots_are over.now.frame.accums) (Slot slot) vertex (view_change change.now)) into.old into.new) }
+{
+    match input_of(change, over, leaves, c, slot, vertex) {
+        None => Ok(false),
+        Some(input) => {
+            into.push(input)?;
+            Ok(true)
+        }
+    }
+}
+
+/// What a change feeds into the slot at a vertex, with the number of the target.
+#[tactic(auto, using(crate::proofs::GatherLemmas::input_laws))]
+fn input_of(
+    change: &Change,
+    over: &BlockContext<'_>,
+    leaves: &Leaves<'_>,
+    c: &Candidate,
+    slot: u32,
+    vertex: u32,
+) -> Option<(u64, ScalarInput)>
+    requires { AreFound over.now leaves.now }
+    ensures { IfSome result (IsInput over.now.frame.accums.slots (contributed (sees gregorian over.now leaves.now c.now) (slots_are over.now.frame.accums) (Slot slot) vertex (view_change change.now))) }
+{
+    match added(change) {
+        None => None,
+        Some(expr) => match leaves.cells.get(slot as usize) {
+            None => None,
+            Some(cells) => match target_in(cells, vertex) {
+                None => None,
+                Some(target) => match scalar_of(expr, over, leaves, c, cells.takes) {
+                    None => None,
+                    Some(x) => Some((target, x)),
+                },
+            },
+        },
+    }
+}
+
+/// The input that an expression is, of a kind that takes this.
+fn scalar_of(
+    expr: &Expr,
+    over: &BlockContext<'_>,
+    leaves: &Leaves<'_>,
+    c: &Candidate,
+    takes: Taken,
+) -> Option<ScalarInput>
+    requires { AreFound over.now leaves.now }
+    ensures { IfSome result (IsScalar (sees gregorian over.now leaves.now c.now) (view expr.now) takes) }
+{
+    match takes {
+        Taken::Int => match int(expr, over, leaves, c) {
+            Some(x) => Some(ScalarInput::Int(x)),
+            None => None,
+        },
+        Taken::Truth => match truth(expr, over, leaves, c) {
+            Some(x) => Some(ScalarInput::Truth(x)),
+            None => None,
+        },
+        Taken::Other => None,
+    }
+}
+
+/// The one value that a change adds.
+#[tactic(auto, using(crate::proofs::GatherLemmas::added_laws))]
+fn added(change: &Change) -> Option<&Expr>
+    ensures { IfSome result (λ expr. view_change change.entry.now ≡ AddsTo (Plain (view expr.now))) }
+{
+    match change {
+        Change::Set(_) => None,
+        Change::Feed(feed) => match feed {
+            Feed::One(expr) => Some(expr),
+            Feed::Keyed(_, _) => None,
+        },
+    }
+}

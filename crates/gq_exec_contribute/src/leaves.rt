@@ -1,0 +1,45 @@
+// What is found once.
+ghost use Rattle.std.specs.Prelude.{◌≡◌, IfOk};
+ghost use Rattle.std.specs.Option.{option_map};
+ghost use Rattle.gq_rules_typing.specs.Patterns.{edge_alias};
+ghost use Rattle.gq_plan_ir.specs.BlockView.{view_walk};
+ghost use Rattle.gq_plan_ir.specs.Reference.{Place};
+ghost use Rattle.gq_exec_contribute.specs.Prepared.{AreAllCells};
+
+use crate::aliases::edge_place;
+use crate::cells::{Cells, cells_of};
+use gq_base::{List, OutOfMemory};
+use gq_exec_source::Ends;
+use gq_frame::Slots;
+use gq_plan_ir::Walk;
+use std::alloc::Global;
+
+/// What names and accumulators of a block's expressions stand for.
+#[derive(Drop)]
+pub struct Leaves<'b> {
+    pub ends: &'b Ends,
+
+    /// The place of the edge's alias.
+    pub edge: Option<u32>,
+
+    /// Where the contents of each slot stand.
+    pub cells: List<Cells>,
+}
+
+/// What they stand for in a block with this walk and these ends, over accumulators of these slots.
+pub fn leaves_of<'b>(
+    alloc: Global,
+    slots: &Slots,
+    walk: &Walk,
+    ends: &'b Ends,
+) -> Result<Leaves<'b>, OutOfMemory>
+    ensures ends { IfOk result (λ l. l.ends.now ≡ ends.entry.now) }
+    ensures edge { IfOk result (λ l. option_map Place l.edge ≡ edge_alias (view_walk walk.now)) }
+    ensures cells { IfOk result (λ l. AreAllCells slots.now l.cells) }
+{
+    Ok(Leaves {
+        ends,
+        edge: edge_place(walk),
+        cells: cells_of(alloc, slots)?,
+    })
+}

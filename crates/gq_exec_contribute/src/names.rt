@@ -1,0 +1,167 @@
+// What names stand for.
+ghost use Rattle.std.specs.Prelude.{◌≡◌, IfSome, true};
+ghost use Rattle.gq_value.specs.Val.{Int, Truth};
+ghost use Rattle.gq_value.specs.Views.{val};
+ghost use Rattle.gq_tree.specs.Tree as tree;
+ghost use Rattle.gq_rules_calendar.specs.Gregorian.{gregorian};
+ghost use Rattle.gq_rules_meaning.specs.Answers.{Gives};
+ghost use Rattle.gq_plan_ir.specs.ExprView.{field_of};
+ghost use Rattle.gq_exec_contribute.specs.Prepared.{IsEdge, IsHeld, IsHeldInt, IsHeldTruth, IsVertex, NoAlias, is_at, part_value, sees};
+
+use crate::leaves::Leaves;
+use gq_eval_attributes::{edge_int, vertex_int};
+use gq_eval_context::BlockContext;
+use gq_frame::Thing;
+use gq_graph::Candidate;
+use gq_plan_ir::{Field, PlaceType};
+use gq_value::Value;
+
+/// Whether an alias has this place.
+fn is_at(alias: Option<u32>, place: u32) -> bool
+    ensures { result ≡ is_at alias place }
+{
+    match alias {
+        Some(other) => other == place,
+        None => false,
+    }
+}
+
+/// The vertex that a name stands for. Where several aliases have one place, that of the target goes first, and then the edge's.
+#[tactic(auto, using(crate::proofs::NameLemmas::vertex_laws))]
+pub(crate) fn vertex_at(leaves: &Leaves<'_>, c: &Candidate, place: u32) -> Option<u32>
+    ensures { IfSome result (IsVertex leaves.now c.now place) }
+{
+    if is_at(leaves.ends.target.alias, place) {
+        return c.target;
+    }
+    if is_at(leaves.edge, place) {
+        return None;
+    }
+    if is_at(leaves.ends.source.alias, place) {
+        return Some(c.source);
+    }
+    None
+}
+
+/// Whether a name is the edge's.
+fn is_edge(leaves: &Leaves<'_>, place: u32) -> bool
+    ensures { result ≡ true → IsEdge leaves.now place }
+{
+    if is_at(leaves.ends.target.alias, place) {
+        return false;
+    }
+    is_at(leaves.edge, place)
+}
+
+/// The INT that a field of what a name stands for is.
+pub(crate) fn field_int(
+    field: &Field,
+    over: &BlockContext<'_>,
+    leaves: &Leaves<'_>,
+    c: &Candidate,
+    place: u32,
+) -> Option<i64>
+    ensures { IfSome result (λ x. part_value (sees gregorian over.now leaves.now c.now) place (tree.Field (field_of field.now)) ≡ Gives (Int x)) }
+{
+    match vertex_at(leaves, c, place) {
+        Some(vertex) => vertex_int(over.graph, field, vertex),
+        None => edge_field(field, over, leaves, c, place),
+    }
+}
+
+/// The INT that a field of the candidate's edge is.
+fn edge_field(
+    field: &Field,
+    over: &BlockContext<'_>,
+    leaves: &Leaves<'_>,
+    c: &Candidate,
+    place: u32,
+) -> Option<i64>
+    ensures { IfSome result (λ x. part_value (sees gregorian over.now leaves.now c.now) place (tree.Field (field_of field.now)) ≡ Gives (Int x)) }
+{
+    if !is_edge(leaves, place) {
+        return None;
+    }
+    match c.edge {
+        None => None,
+        Some(edge) => match c.kind {
+            None => None,
+            Some(kind) => edge_int(over.graph, field, edge, kind),
+        },
+    }
+}
+
+/// Whether a name is no alias.
+fn is_no_alias(leaves: &Leaves<'_>, place: u32) -> bool
+    ensures { result ≡ true → NoAlias leaves.now place }
+{
+    if is_at(leaves.ends.target.alias, place) {
+        return false;
+    }
+    if is_at(leaves.edge, place) {
+        return false;
+    }
+    !is_at(leaves.ends.source.alias, place)
+}
+
+/// The value of the variable at a place that is no alias.
+fn variable<'a>(over: &'a BlockContext<'_>, leaves: &Leaves<'_>, place: u32) -> Option<&'a Value>
+    ensures { IfSome result (λ value. IsHeld over.entry.now leaves.now place value.now) }
+{
+    if !is_no_alias(leaves, place) {
+        return None;
+    }
+    match over.plan.places.get(place as usize) {
+        Some(PlaceType::Variable(_base)) => match over.frame.things.get(place as usize) {
+            Some(Some(Thing::Value(value))) => Some(value),
+            _ => None,
+        },
+        _ => None,
+    }
+}
+
+/// The INT that a variable is.
+#[tactic(auto, using(crate::proofs::NameLemmas::variable_laws))]
+pub(crate) fn variable_int(over: &BlockContext<'_>, leaves: &Leaves<'_>, place: u32) -> Option<i64>
+    ensures { IfSome result (IsHeldInt over.now leaves.now place) }
+{
+    match variable(over, leaves, place) {
+        None => None,
+        Some(value) => int_of_value(value),
+    }
+}
+
+#[tactic(auto, using(gq_value::specs::ViewLaws::view_laws))]
+fn int_of_value(value: &Value) -> Option<i64>
+    ensures { IfSome result (λ x. val value.now ≡ Int x) }
+{
+    match value {
+        Value::Int(x) => Some(*x),
+        _ => None,
+    }
+}
+
+/// The truth that a variable is.
+#[tactic(auto, using(crate::proofs::NameLemmas::variable_laws))]
+pub(crate) fn variable_truth(
+    over: &BlockContext<'_>,
+    leaves: &Leaves<'_>,
+    place: u32,
+) -> Option<bool>
+    ensures { IfSome result (IsHeldTruth over.now leaves.now place) }
+{
+    match variable(over, leaves, place) {
+        None => None,
+        Some(value) => truth_of_value(value),
+    }
+}
+
+#[tactic(auto, using(gq_value::specs::ViewLaws::view_laws))]
+fn truth_of_value(value: &Value) -> Option<bool>
+    ensures { IfSome result (λ b. val value.now ≡ Truth b) }
+{
+    match value {
+        Value::Bool(truth) => Some(*truth),
+        _ => None,
+    }
+}

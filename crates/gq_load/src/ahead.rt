@@ -1,0 +1,245 @@
+// What the puts of some records will look for, read ahead.
+ghost use Rattle.std.specs.Prelude.{◌<◌, ◌≡◌, ◌+◌, ◌*◌, ℕ, length, slice_get, slice_index_or, Some, All, IfOk, IfSome};
+ghost use Rattle.gq_load_check.specs.Targets.{edge_type_at};
+ghost use Rattle.gq_load.specs.Records.{IsThere};
+ghost use Rattle.gq_load.specs.declared.draft.Draft.{Draft};
+ghost use Rattle.gq_load.specs.declared.record.ReadRecord.{ReadRecord};
+ghost use Rattle.gq_load.specs.Found.{AreFound, EndsAreFound, no_ends, KeepsThose, TellsOf};
+
+use crate::draft::edge_at;
+use crate::record::ReadRecord;
+use crate::route::Route;
+use gq_base::{List, OutOfMemory};
+use gq_index::Store;
+use gq_load_check::Target;
+use gq_schema::Catalog;
+
+/// How many records are read before the first of them is put.
+pub(crate) const AHEAD: usize = 256;
+
+/// The numbers of the vertices that an edge's ends are, where they were found. A number stays.
+#[derive(Clone, Copy)]
+pub(crate) struct FoundEnds {
+    pub from: Option<u32>,
+    pub to: Option<u32>,
+}
+
+/// Nothing was found.
+const NO_ENDS: FoundEnds = FoundEnds {
+    from: None,
+    to: None,
+};
+
+/// Reads ahead what the puts of these records will look for, and lists the ends that were found: `AHEAD` of them for each route, in order
+/// of record.
+///
+/// One record's search waits for memory, and then for memory again. Here the processor waits for those of many records at once: each of
+/// these loops is short, and none of its reads hangs on what another one found. `places` is a buffer.
+pub(crate) fn look_ahead(
+    catalog: &Catalog,
+    routes: &[Route],
+    batch: &[ReadRecord],
+    store: &Store,
+    places: &mut List<u32>,
+    found: &mut List<FoundEnds>,
+) -> Result<(), OutOfMemory>
+    requires there { All (IsThere catalog.now) routes.now }
+    requires room { length batch.now ≡ 256 }
+    ensures found { IfOk result (λ _. AreFound catalog.now routes.now batch.now store.now.vertices found.new) }
+{
+    found.truncate(0);
+    for place in 0..routes.len() {
+        match routes[place].target {
+            Target::Vertex(kind) => {
+                list_ids(kind, place, batch, store, places)?;
+                touch_vertices(store, places);
+                list_no_ends(batch, found)?;
+            }
+            Target::Edge(kind) => edges_ahead(catalog, kind, place, batch, store, places, found)?,
+        }
+    }
+    Ok(())
+}
+
+/// The same of edges: their ends first, by which they are found.
+fn edges_ahead(
+    catalog: &Catalog,
+    kind: u32,
+    place: usize,
+    batch: &[ReadRecord],
+    store: &Store,
+    places: &mut List<u32>,
+    found: &mut List<FoundEnds>,
+) -> Result<(), OutOfMemory>
+    requires { kind < length catalog.now.edge_types }
+    ensures long { IfOk result (λ _. length found.new ≡ length found.old + length batch.now) }
+    ensures others { IfOk result (λ _. KeepsThose found.old found.new) }
+    ensures ends { IfOk result (λ _. (k : ℕ) (r : ReadRecord) (draft : Draft) →
+        slice_get batch.now k ≡ Some r → slice_get r.drafts.items place ≡ Some draft →
+        EndsAreFound store.now.vertices (edge_type_at catalog.now kind).from (edge_type_at catalog.now kind).to draft
+        (slice_index_or found.new (length found.old + k) no_ends)) }
+{
+    let edge = edge_at(catalog, kind);
+    let first = found.len();
+    list_ends(edge.from, edge.to, place, batch, store, places)?;
+    touch_vertices(store, places);
+    find_ends(edge.from, edge.to, place, batch, store, found)?;
+    list_edges(kind, edge.directed, found, first, store, places)?;
+    touch_edges(store, places);
+    Ok(())
+}
+
+/// Where the searches for the vertices of a route begin.
+fn list_ids(
+    kind: u32,
+    place: usize,
+    batch: &[ReadRecord],
+    store: &Store,
+    places: &mut List<u32>,
+) -> Result<(), OutOfMemory> {
+    places.truncate(0);
+    for record in batch {
+        match record.drafts.get(place) {
+            Some(draft) => places.push(store.vertices.first(kind, draft.from.as_str()))?,
+            None => {}
+        }
+    }
+    Ok(())
+}
+
+/// Where the searches for both ends of the edges of a route begin.
+fn list_ends(
+    from: u32,
+    to: u32,
+    place: usize,
+    batch: &[ReadRecord],
+    store: &Store,
+    places: &mut List<u32>,
+) -> Result<(), OutOfMemory> {
+    places.truncate(0);
+    for record in batch {
+        match record.drafts.get(place) {
+            Some(draft) => {
+                places.push(store.vertices.first(from, draft.from.as_str()))?;
+                places.push(store.vertices.first(to, draft.to.as_str()))?;
+            }
+            None => {}
+        }
+    }
+    Ok(())
+}
+
+/// No ends, once for each record.
+fn list_no_ends(batch: &[ReadRecord], found: &mut List<FoundEnds>) -> Result<(), OutOfMemory>
+    ensures long { IfOk result (λ _. length found.new ≡ length found.old + length batch.now) }
+    ensures others { IfOk result (λ _. KeepsThose found.old found.new) }
+{
+    for _ in 0..batch.len() {
+        found.push(NO_ENDS)?;
+    }
+    Ok(())
+}
+
+/// The ends of the edges of a route.
+fn find_ends(
+    from: u32,
+    to: u32,
+    place: usize,
+    batch: &[ReadRecord],
+    store: &Store,
+    found: &mut List<FoundEnds>,
+) -> Result<(), OutOfMemory>
+    ensures long { IfOk result (λ _. length found.new ≡ length found.old + length batch.now) }
+    ensures others { IfOk result (λ _. KeepsThose found.old found.new) }
+    ensures ends { IfOk result (λ _. (k : ℕ) (r : ReadRecord) (draft : Draft) →
+        slice_get batch.now k ≡ Some r → slice_get r.drafts.items place ≡ Some draft →
+        EndsAreFound store.now.vertices from to draft (slice_index_or found.new (length found.old + k) no_ends)) }
+{
+    for record in batch {
+        found.push(ends_of(from, to, place, record, store))?;
+    }
+    Ok(())
+}
+
+/// Where the searches begin for the edges whose ends are there, among those that were found from `first` on.
+fn list_edges(
+    kind: u32,
+    directed: bool,
+    found: &List<FoundEnds>,
+    first: usize,
+    store: &Store,
+    places: &mut List<u32>,
+) -> Result<(), OutOfMemory> {
+    places.truncate(0);
+    for at in first..found.len() {
+        let ends = found.at(at);
+        if let (Some(from), Some(to)) = (ends.from, ends.to) {
+            places.push(store.edges.first(kind, directed, from, to))?;
+        }
+    }
+    Ok(())
+}
+
+/// The ends of the edge that a record has along a route.
+fn ends_of(from: u32, to: u32, place: usize, read: &ReadRecord, store: &Store) -> FoundEnds
+    ensures { (draft : Draft) → slice_get read.now.drafts.items place ≡ Some draft →
+        EndsAreFound store.now.vertices from to draft result }
+{
+    match read.drafts.get(place) {
+        Some(draft) => FoundEnds {
+            from: store.vertices.find(from, draft.from.as_str()),
+            to: store.vertices.find(to, draft.to.as_str()),
+        },
+        None => NO_ENDS,
+    }
+}
+
+/// Reads what stands at these places of the table of vertices, and then what stands before that: most searches end there.
+fn touch_vertices(store: &Store, places: &mut List<u32>) {
+    touch_each_vertex(store, places);
+    touch_each_vertex(store, places);
+}
+
+/// Reads what stands at these places. It is kept in the buffer, so that the compiler leaves the reads.
+fn touch_each_vertex(store: &Store, places: &mut List<u32>) {
+    for place in 0..places.len() {
+        let touched = store.vertices.touch(*places.at(place));
+        places.set(place, touched);
+    }
+}
+
+/// The same of the table of edges.
+fn touch_edges(store: &Store, places: &mut List<u32>) {
+    touch_each_edge(store, places);
+    touch_each_edge(store, places);
+}
+
+fn touch_each_edge(store: &Store, places: &mut List<u32>) {
+    for place in 0..places.len() {
+        let touched = store.edges.touch(*places.at(place));
+        places.set(place, touched);
+    }
+}
+
+/// The ends that were found for the edge of the nth record along a route.
+pub(crate) fn ends_at(found: &[FoundEnds], route: usize, nth: usize) -> FoundEnds
+    ensures { TellsOf (slice_index_or found.now (route * 256 + nth) no_ends) result }
+{
+    match place_of(route, nth) {
+        Some(place) => match found.get(place) {
+            Some(ends) => *ends,
+            None => NO_ENDS,
+        },
+        None => NO_ENDS,
+    }
+}
+
+/// Where they stand, if there can be such a place.
+fn place_of(route: usize, nth: usize) -> Option<usize>
+    ensures { IfSome result (λ place. place ≡ route * 256 + nth) }
+{
+    match route.checked_mul(AHEAD) {
+        Some(first) => first.checked_add(nth),
+        None => None,
+    }
+}
