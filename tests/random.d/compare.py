@@ -4,13 +4,24 @@ import json
 import os
 import re
 import shutil
-import subprocess
+import signal
 import time
 
 from script import Reference, script_text
 
-SHAPES = [["--workers", "1", "--chunk", "1000"], ["--workers", "4", "--chunk", "1"], ["--workers", "7", "--chunk", "3"]]
-SECONDS = 60
+# Of these each case has the first, and two others by its number.
+SHAPES = ((1, 1000, 16), (4, 1, 1), (7, 3, 256), (2, 2, 2), (64, 1, 16), (3, 5, 7), (4, 1024, 16), (64, 7, 64), (5, 1, 255))
+OTHERS = len(SHAPES) - 1
+SECONDS = 300
+# What is said of a script that can't be read.
+READING = re.compile(rb'"(line \d+: (not UTF-8|bad token|open comment|open text|number too big|nested too deep|syntax error)|arguments unreadable|missing file )')
+
+
+def shapes_of(seed):
+    """The words of the three shapes in which a case runs."""
+    first, second = seed % OTHERS, (seed // OTHERS) % (OTHERS - 1)
+    chosen = (SHAPES[0], SHAPES[1 + first], SHAPES[1 + (first + 1 + second) % OTHERS])
+    return [["--workers", str(workers), "--chunk", str(chunk), "--stripes", str(stripes)] for workers, chunk, stripes in chosen]
 
 
 class Difference:
@@ -36,41 +47,82 @@ def message(data):
 
 
 def words_of(case):
+    if "words" in case:
+        return case["words"]
+    if "sample" in case:
+        return ["--sample", str(case["sample"])]
     words = ["--args", "args.json"] if case["args"] is not None else []
     return words + (["--turns", str(case["turns"])] if case["turns"] else []) + ["script.gsql"]
 
 
 def write(case, folder):
-    """Writes the inputs of a case."""
-    shutil.rmtree(folder, ignore_errors=True)
-    os.makedirs(folder)
-    files = dict(case["files"], **{"script.gsql": script_text(case)[0].encode()})
+    """Writes the inputs of a case into a folder that has nothing else."""
+    os.makedirs(folder, exist_ok=True)
+    for name in os.listdir(folder):
+        os.remove(os.path.join(folder, name))
+    files = dict(case["files"], **{"script.gsql": case["bytes"] if "bytes" in case else script_text(case)[0].encode()})
     if case["args"] is not None:
-        files["args.json"] = json.dumps(case["args"], ensure_ascii=False).encode()
+        files["args.json"] = args_text(case["args"])
     for name, data in files.items():
-        with open(os.path.join(folder, name), "wb") as it:
-            it.write(data)
+        if name != {"script": "script.gsql", "args": "args.json"}.get(case.get("lacks")):
+            with open(os.path.join(folder, name), "wb") as it:
+                it.write(data)
 
 
-def ran(program, words, folder):
+def args_text(args):
+    """The file of arguments: the bytes, or the JSON text of an object."""
+    return args if isinstance(args, bytes) else json.dumps(args, ensure_ascii=False).encode()
+
+
+class Late(Exception):
+    """A run takes too long."""
+
+
+def late(*_):
+    raise Late()
+
+
+def ran(program, words, folder, more=None):
+    """What the program prints in a folder, and its status: negative where a signal ended it, None where it took too long. `more` is for its environment."""
+    signal.signal(signal.SIGALRM, late)
+    printed = os.path.join(os.path.dirname(folder), "printed")
+    actions = [(os.POSIX_SPAWN_OPEN, 0, "/dev/null", os.O_RDONLY, 0), (os.POSIX_SPAWN_OPEN, 2, "/dev/null", os.O_WRONLY, 0),
+               (os.POSIX_SPAWN_OPEN, 1, printed, os.O_WRONLY | os.O_CREAT | os.O_TRUNC, 0o600)]
+    os.chdir(folder)
+    child = os.posix_spawn(program, [program, *words], dict(os.environ, **more or {}), file_actions=actions)
+    signal.alarm(SECONDS)
     try:
-        it = subprocess.run([program, *words], cwd=folder, stdin=subprocess.DEVNULL, stdout=subprocess.PIPE, stderr=subprocess.PIPE, timeout=SECONDS)
-        return it.stdout, it.returncode
-    except subprocess.TimeoutExpired as late:
-        return late.stdout or b"", None
+        status = os.waitstatus_to_exitcode(os.waitpid(child, 0)[1])
+    except Late:
+        # It may have ended meanwhile, where this process was stopped.
+        ended, status = os.waitpid(child, os.WNOHANG)
+        if ended:
+            status = os.waitstatus_to_exitcode(status)
+        else:
+            os.kill(child, signal.SIGKILL)
+            os.waitpid(child, 0)
+            status = None
+    signal.alarm(0)
+    with open(printed, "rb") as it:
+        return it.read(), status
 
 
-def difference(program, case, room, shapes=SHAPES):
+def difference(program, case, room, shapes=None, wanted=None):
     """The first difference of a case, or None."""
     folder = os.path.join(room, "case")
     write(case, folder)
-    wanted = Reference(case).run()
-    for shape in shapes:
+    wanted = wanted or Reference(case).run()
+    for shape in [[]] if "words" in case else shapes or shapes_of(case["seed"]):
         words = shape + words_of(case)
         got = ran(program, words, folder)
+        if wanted is None and got[1] in (0, 1) and not READING.search(got[0]):
+            wanted = got
         if got != wanted:
-            return Difference(wanted, got, words)
+            return Difference(wanted or (b"is read", 0), got, words)
     return None
+
+
+ERRORS = os.path.join(os.path.dirname(os.path.dirname(os.path.dirname(os.path.realpath(__file__)))), "docs", "errors.md")
 
 
 def parts(node):
@@ -88,14 +140,25 @@ def parts(node):
         yield from parts(it)
 
 
-def tally(seen, well, case):
+def refusals():
+    """The refusals of docs/errors.md by the headings of that page, each with what its messages look like."""
+    with open(ERRORS, encoding="utf-8") as it:
+        heads = re.findall(r"^### (.*)$", it.read(), re.MULTILINE)
+    return {it: re.compile(re.sub(r"\b[A-Z]\b", ".*", it).encode()) for it in heads if not it[0].isupper()}
+
+
+REFUSALS = refusals()
+
+
+def tally(seen, well, case, wanted):
     """Counts how cases end, and what those have that end well."""
-    output, status = Reference(case).run()
+    output, status = wanted or (b"", 1)
     if status == 0:
         for name in set(parts(case["script"])):
             well[name] = well.get(name, 0) + 1
-    name = "end well" if status == 0 else (message(output) or b"").decode(errors="replace").split(" in ")[0]
-    name = re.sub(r" (nosuch|[a-z_]+\.csv|person|g|a|w|x|p|c|q)$", "", name)
+    said = re.search(rb'"error":true,"message":"(?:line \d+: )?(.*)"', output)
+    name = "end well" if status == 0 else "usage" if status == 2 else "are read" if not wanted else \
+        next((head for head, form in REFUSALS.items() if form.fullmatch(said.group(1))), said.group(1).decode())
     seen[name] = seen.get(name, 0) + 1
 
 
@@ -137,6 +200,12 @@ def changed(node, path, new):
 
 def tries_of(case):
     """Smaller cases: without some rows of a file, and without parts of the script."""
+    if "bytes" in case:
+        data = case["bytes"]
+        for size in (len(data) // 2, len(data) // 4, len(data) // 8, 16, 4, 1):
+            for at in range(0, len(data), size) if size else ():
+                yield dict(case, bytes=data[:at] + data[at + size:])
+        return
     count = len(case["script"])
     for size in (count // 2, count // 4, 1):
         for at in range(0, count, size) if size else ():
@@ -158,7 +227,7 @@ def smaller(program, case, found, room, seconds):
             if time.monotonic() > end:
                 return case, found
             try:
-                other = difference(program, it, room, [found.words[:4]])
+                other = difference(program, it, room, [found.words[:6]])
             except Exception:  # a cut that leaves no case: the reference doesn't know a name, or no text has the tree
                 continue
             if other and other.class_() == found.class_():
@@ -170,8 +239,9 @@ def smaller(program, case, found, room, seconds):
 def keep(case, found, folder):
     """Writes a case in the form of tests/cases; the folder."""
     where = os.path.join(folder, f"random-{case['seed']}")
+    shutil.rmtree(where, ignore_errors=True)
     write(case, where)
-    also = "\n".join("\t".join(shape + words_of(case)) for shape in SHAPES) + "\n"
+    also = "\n".join("\t".join(shape + words_of(case)) for shape in shapes_of(case["seed"])) + "\n"
     texts = {"words": "\n".join(words_of(case)).encode(), "expected": found.wanted[0], "status": str(found.wanted[1]).encode(), "also": also.encode()}
     for name, data in texts.items():
         with open(os.path.join(where, name), "wb") as it:

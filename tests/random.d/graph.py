@@ -14,7 +14,7 @@ class Graph:
 
     def __init__(self):
         self.types, self.graphs, self.used = {}, {}, None
-        self.vertices, self.known, self.edges, self.pairs = [], {}, [], {}
+        self.vertices, self.known, self.edges, self.pairs, self.of_type = [], {}, [], {}, {}
         self.jobs, self.queries, self.installed = {}, {}, set()
 
     def names_of(self, graph):
@@ -43,6 +43,7 @@ class Graph:
         name = (type_name, *(ends if type_["directed"] or type_["from"] != type_["to"] else sorted(ends)), told)
         if name not in self.pairs:
             self.pairs[name] = len(self.edges)
+            self.of_type.setdefault(type_name, []).append(len(self.edges))
             self.edges.append({"type": type_name, "from": ends[0], "to": ends[1]})
         self.edges[self.pairs[name]]["values"] = {attr["name"]: value for attr, value in zip(attrs, values[2:])}
 
@@ -52,9 +53,8 @@ class Graph:
         Ways are ">", "<" and, for an undirected type, "". Without them the type is walked its own way."""
         type_, found = self.types[type_name], []
         ways = ways or {">" if type_["directed"] else ""}
-        for at, edge in enumerate(self.edges):
-            if edge["type"] != type_.get("of", type_name):
-                continue
+        for at in self.of_type.get(type_.get("of", type_name), ()):
+            edge = self.edges[at]
             near, far = (edge["to"], edge["from"]) if type_["k"] == "reverse" else (edge["from"], edge["to"])
             for way in (it for it in (">", "<", "") if it in ways):
                 if way != "<" and near == number:
@@ -79,6 +79,23 @@ def defaults(type_, id_):
 
 def default_of(attr):
     return attr["default"] if attr.get("default") else DEFAULT[attr["type"]]
+
+
+def unread_literal(value, base):
+    """Whether a literal is no value of a type."""
+    if base in ("INT", "UINT"):
+        low, high = (LEAST, MOST) if base == "INT" else (0, WIDEST)
+        return value[0] not in ("I", "U") or not low <= value[1] <= high
+    if base == "DATETIME":
+        return value[0] not in ("S", "D") or moment_of(value[1]) is None
+    return value[0] != base[0]
+
+
+def literal_value(value, base):
+    """The value of a literal that is one of the type."""
+    if base == "DATETIME":
+        return ("D", moment_of(value[1]))
+    return (base[0], value[1])
 
 
 def fields_of_values(type_):
@@ -146,15 +163,16 @@ def field_at(data, at, separator, quote):
         at += 1
         while at < len(data):
             if data[at:at + 1] != quote:
-                field, at = field + data[at:at + 1], at + 1
+                end = data.find(quote, at)
+                end = len(data) if end < 0 else end
+                field, at = field + data[at:end], end
             elif data[at + 1:at + 2] == quote:
                 field, at = field + quote, at + 2
             else:
                 at += 1
                 break
-    while at < len(data) and data[at:at + 1] not in (separator, b"\n", b"\r"):
-        field, at = field + data[at:at + 1], at + 1
-    return field, at
+    end = re.compile(b"[" + re.escape(separator) + b"\n\r]|$(?!\n)").search(data, at).start()
+    return field + data[at:end], end
 
 
 def load(graph, load_, path, data):

@@ -1,8 +1,10 @@
 """Makes cases: a schema, files, jobs and queries, by a seed."""
+import functools
 import random
 
 from queries import QueryMaker
-from script import Reference
+from reading import mutated, script_at_random
+from script import Reference, script_text
 from wrongs import spoil
 
 ATTRS = {"age": "INT", "size": "UINT", "ok": "BOOL", "label": "STRING", "born": "DATETIME", "rank": "INT"}
@@ -39,18 +41,27 @@ class Maker:
         self.loads()
         for _ in range(rng.choice((0, 0, 1, 2, 4))):
             self.insert()
-        loaded = Reference(self.case)
-        loaded.run()
-        self.known = list(loaded.graph.known)
+        self.loading = list(self.case["script"])
         self.case["turns"] = rng.choice((5, 40, 300)) if self.some(0.15) else None
         for at in range(rng.choice((1, 1, 2, 3))):
             self.query(at)
         for it in self.case["script"]:
             it["gap"] = rng.choice(("", "", "", "\n", "  ", "# a note\n", "// a \"note\n", "/* two\nlines */ ", "; "))
             it["spelled"] = rng.randint(1, 1 << 30) if self.some(0.3) else None
-        if self.some(0.2):
+        if self.some(0.3):
             spoil(self)
+        if self.some(0.04):
+            self.case["bytes"] = mutated(script_text(self.case)[0].encode(), self.rng)
+            self.case["turns"], self.case["args"] = self.case["turns"] or 300, None
+            self.case.pop("lacks", None)
         return self.case
+
+    @functools.cached_property
+    def known(self):
+        """The vertices that are there once all is loaded."""
+        loaded = Reference(dict(self.case, script=self.loading))
+        loaded.run()
+        return list(loaded.graph.known)
 
     def second_graph(self):
         """A graph h of some of the types, behind which g is in use again."""
@@ -254,5 +265,22 @@ def runs_of(maker):
     return 2 if maker.some(0.1) else 1
 
 
+BAD_WORDS = ("", "script.gsql script.gsql", "--nosuch script.gsql", "--workers 0 script.gsql", "--workers 65 script.gsql", "--chunk 0 script.gsql",
+             "--chunk 1048577 script.gsql", "--stripes 0 script.gsql", "--stripes 257 script.gsql", "--turns 0 script.gsql", "--turns 1000000001 script.gsql",
+             "--sample 0", "--sample 1000001", "--sample 3 script.gsql", "--args args.json", "--args args.json --sample 3", "--workers script.gsql",
+             "--workers x script.gsql", "--workers -1 script.gsql", "--workers 1 --workers 2 script.gsql", "--chunk 4x script.gsql", "script.gsql --turns",
+             "--workers 99999999999999999999 script.gsql", "--sample x", "--help", "-h", "--stripes +4 script.gsql")
+
+
 def made(seed):
+    """The case of a number. Some are a text of statements that the grammar derives, a sample, or words that are no use of the command."""
+    rng, plain = random.Random(-seed), {"seed": seed, "script": [], "files": {}, "args": None, "turns": None}
+    pick = rng.random()
+    if pick < 0.06:
+        data = script_at_random(seed)
+        return dict(plain, bytes=mutated(data, rng) if rng.random() < 0.6 else data, turns=300)
+    if pick < 0.07:
+        return dict(plain, sample=rng.choice((1, 2, 3, 4, 7, rng.randint(5, 120))))
+    if pick < 0.08:
+        return dict(plain, words=rng.choice(BAD_WORDS).split())
     return Maker(seed).whole()

@@ -208,6 +208,9 @@ class Body(Run):
             getattr(self, "do_" + it["k"])(it)
         self.scopes.pop()
 
+    def do_raw(self, it):
+        """A part of a query that is taken, and leaves nothing that is printed."""
+
     def do_local(self, it):
         for name, e in it["vars"]:
             nothing = {"INT": ("I", 0), "UINT": ("U", 0), "BOOL": ("B", False), "STRING": ("S", "")}.get(it["type"])

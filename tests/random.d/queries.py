@@ -20,7 +20,8 @@ class View:
         self.in_block = of.in_block if of else False
 
     def of_type(self, *types):
-        return [(type_, e) for type_, e in self.values if type_ in types]
+        """Values of these types; a vertex of one type is a VERTEX too."""
+        return [(type_, e) for type_, e in self.values if type_ in types or type_.startswith("VERTEX<") and "VERTEX" in types]
 
 
 class Expressions:
@@ -40,7 +41,7 @@ class Expressions:
         if type_ in NUM:
             return self.num(view, depth)
         if type_.startswith("VERTEX"):
-            return self.rng.choice(view.of_type("VERTEX"))[1]
+            return self.rng.choice(view.of_type(type_))[1]
         if type_ in self.tuples:
             return ("make", type_, [self.expr(it[0], view, depth - 1) for it in self.tuples[type_]])
         return {"BOOL": self.truth, "STRING": self.text, "DATETIME": self.moment}[type_](view, depth)
@@ -49,7 +50,7 @@ class Expressions:
         """Whether an expression of the type can be made."""
         if type_ in self.tuples:
             return all(self.can(it[0], view) for it in self.tuples[type_])
-        return not type_.startswith("VERTEX") or bool(view.of_type("VERTEX"))
+        return not type_.startswith("VERTEX") or bool(view.of_type(type_))
 
     def number(self):
         return ("num", self.rng.choice(WIDE) if self.some(0.02) else self.rng.choice(NUMBERS))
@@ -92,7 +93,7 @@ class Expressions:
         """A size, a degree or what a map has."""
         rng = self.rng
         found = [("method", e, "size", []) for _, e in view.collections + self.inner(view, depth)]
-        vertices = [e for type_, e in view.values if type_ == "VERTEX"]
+        vertices = [e for _, e in view.of_type("VERTEX")]
         found += [("method", e, "outdegree", []) for e in vertices]
         found += [("method", e, "outdegree", [("text", it)]) for e in vertices for it in self.edge_names]
         found += [("method", ("name", it), "size", []) for it in view.sets] * (not view.in_block)
@@ -183,12 +184,12 @@ class QueryMaker(Expressions):
     """A query."""
 
     def query(self, k, name):
-        self.tuples, self.accs, self.wide, self.exact, rng = {}, [], set(), set(), self.rng
+        self.tuples, self.accs, self.wide, rng = {}, [], set(), self.rng
         self.edge_names = [it for type_ in self.maker.edge_types for it in (type_["name"], type_["reverse"]) if it]
         self.paths = self.some(0.35)
         params = [self.param() for _ in range(rng.choice((0, 1, 2, 3)))] if k == "query" else []
         view = View()
-        view.values = [(it["type"].split("<")[0], ("name", it["name"])) for it in params]
+        view.values = [(it["type"], ("name", it["name"])) for it in params]
         for it in params:
             if it["type"].startswith("VERTEX<"):
                 view.values += self.attributes(it["name"], [it["type"][7:-1]])
@@ -211,7 +212,7 @@ class QueryMaker(Expressions):
 
     def tuple_type(self):
         name = self.fresh("T")
-        fields = [[self.rng.choice(("INT", "UINT", "BOOL", "STRING", "VERTEX")), f"f{at}"] for at in range(self.rng.randint(1, 3))]
+        fields = [[self.rng.choice(("INT", "UINT", "BOOL", "STRING", self.vertex())), f"f{at}"] for at in range(self.rng.randint(1, 3))]
         self.tuples[name] = fields
         return {"name": name, "fields": fields}
 
@@ -225,7 +226,11 @@ class QueryMaker(Expressions):
             view.collections.append((kind, e))
 
     def base(self):
-        return self.rng.choice(("INT", "INT", "UINT", "BOOL", "STRING", "VERTEX"))
+        return self.rng.choice(("INT", "INT", "UINT", "BOOL", "STRING", self.vertex()))
+
+    def vertex(self):
+        """A type of vertices."""
+        return f"VERTEX<{self.rng.choice(self.all_types())}>" if self.some(0.3) else "VERTEX"
 
     def kind(self, depth=2, within=False):
         rng = self.rng
@@ -300,16 +305,22 @@ class QueryMaker(Expressions):
         return self.compound(view, depth) if depth else self.feed(view)
 
     def local(self, view):
-        type_ = self.rng.choice(("INT", "UINT", "BOOL", "STRING", "VERTEX"))
+        type_ = self.rng.choice(("INT", "UINT", "BOOL", "STRING", self.vertex()))
         if not self.can(type_, view):
             return None
         found = []
         for _ in range(self.rng.choice((1, 1, 2))):
             name = self.fresh("v")
-            found.append((name, self.expr(type_, view, 2) if type_ == "VERTEX" or self.some(0.7) else None))
-            view.values.append((type_, ("name", name)))
+            found.append((name, self.expr(type_, view, 2) if type_.startswith("VERTEX") or self.some(0.7) else None))
+            self.see_variable(view, type_, name)
             view.locals.append((type_, name))
         return {"k": "local", "type": type_, "vars": found}
+
+    def see_variable(self, view, type_, name):
+        """Puts a variable into view, with the attributes of a vertex of one type."""
+        view.values.append((type_, ("name", name)))
+        if type_.startswith("VERTEX<"):
+            view.values += self.attributes(name, [type_[7:-1]])
 
     def assign(self, view):
         if not view.locals:
@@ -339,16 +350,22 @@ class QueryMaker(Expressions):
         """A start of a set and its types."""
         rng = self.rng
         pick = rng.randint(0, 9)
-        vertices = [e[1] for type_, e in view.values if type_ == "VERTEX" and e[0] == "name"]
-        founds = [e[1] for kind, e in view.collections if kind == ["Set", "VERTEX"] and e[0] == "global"]
+        vertices = [(type_, e[1]) for type_, e in view.of_type("VERTEX") if e[0] == "name"]
+        founds = [(kind[1], e[1]) for kind, e in view.collections if kind[0] == "Set" and kind[1].startswith("VERTEX") and e[0] == "global"]
         if pick == 0:
             return ("any",), self.all_types()
         if pick == 1 and vertices:
-            return ("name", rng.choice(vertices)), self.all_types()
+            type_, name = rng.choice(vertices)
+            return ("name", name), self.types_of(type_)
         if pick == 2 and founds:
-            return ("global", rng.choice(founds)), self.all_types()
+            type_, name = rng.choice(founds)
+            return ("global", name), self.types_of(type_)
         name = rng.choice(self.all_types())
         return ("all", name), [name]
+
+    def types_of(self, type_):
+        """The vertex types that a value of VERTEX or VERTEX<T> may have."""
+        return [type_[7:-1]] if type_ != "VERTEX" else self.all_types()
 
     def part(self, view):
         if view.sets and self.some(0.5):
@@ -359,16 +376,17 @@ class QueryMaker(Expressions):
 
     def target(self, view, types):
         """The name of a set that takes vertices of the types, and what it is declared for."""
-        wide = [name for name, held in view.sets.items() if set(held) == set(self.all_types()) and name in self.exact]
+        wide = [name for name, held in view.sets.items() if set(types) <= set(held)]
         if wide and self.some(0.2):
             return self.rng.choice(wide), None
         name = self.fresh("S")
         declared = self.rng.choice(("ANY", types[0])) if len(set(types)) == 1 and self.some(0.15) else "ANY" if self.some(0.1) else None
         view.sets[name] = self.all_types() if declared == "ANY" else types
-        self.exact |= {name} if declared == "ANY" else set()
         return name, declared
 
     def seeds(self, view):
+        if self.some(0.03):
+            return self.assigned(view, {"k": "seeds", "parts": [("seeds", [])], "signs": []}, sorted(self.all_types()))
         parts = [self.part(view) for _ in range(self.rng.choice((1, 1, 2, 3)))]
         if len(parts) == 1 and parts[0][0][0] == "set":
             parts.append(self.part(view))
@@ -377,8 +395,20 @@ class QueryMaker(Expressions):
             signs.append(self.rng.choice(("UNION", "INTERSECT", "MINUS") if types & set(held) else ("UNION", "MINUS")))
             types = types | set(held) if signs[-1] == "UNION" else types
         types = sorted(types)
-        name, declared = self.target(view, types)
-        return {"k": "seeds", "name": name, "declared": declared, "parts": [it for it, _ in parts], "signs": signs}
+        it = {"k": "seeds", "parts": [it for it, _ in parts], "signs": signs}
+        return self.assigned(view, it, types)
+
+    def assigned(self, view, it, types):
+        """An assignment of a set of these types; a few have a name whose types are fewer."""
+        narrow = [name for name, held in view.sets.items() if not set(types) <= set(held)]
+        if narrow and self.some(0.01):
+            name = self.rng.choice(narrow)
+            return dict(it, name=name, declared=None, refused=f"wider set {name}")
+        if len(types) > 1 and self.some(0.01):
+            name = self.fresh("S")
+            return dict(it, name=name, declared=self.rng.choice(types), refused=f"wider set {name}")
+        it["name"], it["declared"] = self.target(view, types)
+        return it
 
     def compound(self, view, depth):
         rng = self.rng
@@ -397,9 +427,9 @@ class QueryMaker(Expressions):
         if pick == 2 and founds:
             kind, e = rng.choice(founds)
             if kind[1] in self.tuples:
-                inner.values += [(it[0].split("<")[0], ("dot", ("name", name), it[1])) for it in self.tuples[kind[1]]]
+                inner.values += [(it[0], ("dot", ("name", name), it[1])) for it in self.tuples[kind[1]]]
             else:
-                inner.values.append((kind[1], ("name", name)))
+                self.see_variable(inner, kind[1], name)
             return {"k": "each", "name": name, "over": e, "body": self.block(inner, 2, depth - 1)}
         inner.values.append(("INT", ("name", name)))
         low, high = ("num", rng.randint(0, 2)), self.number_small(view)
@@ -419,7 +449,7 @@ class QueryMaker(Expressions):
 
     def bound(self, view, alias, types):
         """Puts an alias of vertices of the types into view."""
-        view.values.append(("VERTEX", ("name", alias)))
+        view.values.append((f"VERTEX<{types[0]}>" if len(set(types)) == 1 else "VERTEX", ("name", alias)))
         view.values += self.attributes(alias, types)
         for kind, name in self.attached():
             self.see(view, kind, ("att", alias, name))
@@ -513,8 +543,20 @@ class QueryMaker(Expressions):
         keys = [(self.order_key(after), self.some(0.5)) for _ in range(rng.choice((1, 1, 2)))]
         it["order"] = keys if self.some(0.4) else None
         it["limit"] = (("neg", ("num", 1)) if self.some(0.1) else self.number_small(view)) if self.some(0.3) else None
-        it["name"], it["declared"] = self.target(view, sorted(types[chosen]))
-        return it
+        odd = self.odd_attributes(types) if self.some(0.02) else []
+        if odd:
+            alias, name = rng.choice(odd)
+            it["where"], it["refused"] = ("op", "==", ("dot", ("name", alias), name), ("num", 1)), f"no attribute {name}"
+        return self.assigned(view, it, sorted(set(types[chosen])))
+
+    def odd_attributes(self, types):
+        """Attributes that only some of an alias's types have."""
+        found = []
+        for alias, of in types.items():
+            made = [{(a["name"], a["type"]) for a in self.maker.type_named(it)["attrs"]} for it in of]
+            shared = {name for name, _ in set.intersection(*made)} | {"id"}
+            found += [(alias, name) for it in made for name, _ in sorted(it) if name not in shared]
+        return found
 
     def order_key(self, view):
         averages = view.of_type("AVG")
@@ -588,7 +630,7 @@ class QueryMaker(Expressions):
         inside = View(view)
         inside.sets = {}
         self.bound(inside, name, view.sets[name])
-        inside.values = [it for it in inside.values if it != ("VERTEX", ("name", name))]
+        inside.values = [it for it in inside.values if it[1] != ("name", name)]
         return {"set": name, "items": self.items(inside, self.rng.choice((1, 2, 3))), "as": self.fresh("n") if self.some(0.3) else None}
 
     def last_print(self, view):

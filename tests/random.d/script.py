@@ -2,9 +2,12 @@
 
 A statement that the generator made wrong carries its refusal.
 """
-from graph import Graph, default_of, fields_of_values, load
+from graph import Graph, default_of, fields_of_values, literal_value, load
 from meaning import Body, World
-from values import LEAST, MOST, WIDEST, Fault, quoted, moment_of
+from values import LEAST, MOST, WIDEST, Fault, quoted
+import reading
+import rules
+import sample
 import spell
 
 
@@ -15,52 +18,67 @@ class Reference:
         self.case, self.graph, self.lines = case, Graph(), []
 
     def run(self):
-        """The bytes and the status."""
+        """The bytes and the status; None where these pages don't tell more than that the script can be read."""
+        if "words" in self.case:
+            return b"", 2
+        if "sample" in self.case:
+            return Reference(sample.case(self.case["sample"])).run()
+        if "bytes" in self.case:
+            refused = reading.refusal(self.case["bytes"])
+            return (refused_line(refused), 1) if refused else None
         text, at = script_text(self.case)
-        last = self.case["script"][-1:]
-        if last and last[0].get("unread"):
-            return unread(text, at, last[0]), 1
-        for n, (it, line) in enumerate(zip(self.case["script"], at), 1):
+        refused = self.whole(text, at)
+        if refused:
+            return refused_line(refused), 1
+        for it, line in zip(self.case["script"], at):
             try:
-                if it.get("refused"):
-                    raise Fault(it["refused"].replace("statement N", f"statement {n}"))
+                if it["k"] == "raw" and it.get("refused"):
+                    raise Fault(it["refused"])
                 results = getattr(self, "do_" + it["k"])(it)
                 if results is not None:
                     self.lines.append('{"error":false,"message":"","results":[' + ",".join(results) + "]}\n")
             except Fault as fault:
-                self.lines.append('{"error":true,"message":' + quoted(f"line {line}: {fault}") + "}\n")
-                return "".join(self.lines).encode(), 1
+                return "".join(self.lines).encode() + refused_line(f"line {line}: {fault}"), 1
         return "".join(self.lines).encode(), 0
 
+    def whole(self, text, at):
+        """Why nothing of the script runs, or None: the files, what can't be read, and then the arguments."""
+        last, args = self.case["script"][-1:], self.case["args"]
+        if self.case.get("lacks") == "script":
+            return "missing file script.gsql"
+        if self.case.get("lacks") == "args" and args is not None:
+            return "missing file args.json"
+        if last and last[0].get("unread"):
+            return unread(text, at, last[0])
+        return "arguments unreadable" if isinstance(args, bytes) else None
+
     def do_vertex(self, it):
+        rules.vertex(self.graph, it)
         self.graph.types[it["name"]] = it
 
     def do_edge(self, it):
+        rules.edge(self.graph, it)
         ends = {end: self.graph.types[it[end]]["id_type"] for end in ("from", "to")}
         self.graph.types[it["name"]] = dict(it, id_types=ends)
         if it["reverse"]:
             self.graph.types[it["reverse"]] = {"k": "reverse", "of": it["name"], "directed": True}
 
     def do_graph(self, it):
+        rules.graph_of_types(self.graph, it)
         self.graph.graphs[it["name"]] = list(self.graph.types) if it["types"] == ["*"] else it["types"]
-        for name in it["types"]:
-            if name != "*" and name not in self.graph.types:
-                raise KeyError(name)
         self.graph.used = it["name"]
 
     def do_use(self, it):
-        self.graph.graphs[it["name"]]
+        rules.known_graph(self.graph, it["name"])
         self.graph.used = it["name"]
 
     def do_job(self, it):
-        types = self.graph.names_of(it["graph"])
-        for one in it["loads"]:
-            for dest in one["dests"]:
-                if dest["type"] not in types or len(fields_of_values(self.graph.types[dest["type"]])) != len(dest["cols"]):
-                    raise KeyError(dest["type"])
+        rules.job(self.graph, it)
         self.graph.jobs[it["name"]] = it
 
     def do_runjob(self, it):
+        if it["name"] not in self.graph.jobs:
+            raise Fault(f"unknown name {it['name']}")
         job, reports = self.graph.jobs[it["name"]], []
         paths = dict(job["files"])
         for name, path in it["using"]:
@@ -79,19 +97,21 @@ class Reference:
         return reports
 
     def do_insert(self, it):
+        rules.insert(self.graph, it)
         wanted = fields_of_values(self.graph.types[it["type"]])
-        values = []
-        for value, (base, attr) in zip(it["values"], wanted):
-            if value is None:
-                value = default_of(attr)
-            elif base == "DATETIME":
-                value = ("D", moment_of(value[1]))
-            values.append(value)
-        self.graph.put(it["type"], values)
+        self.graph.put(it["type"], [default_of(attr) if value is None else literal_value(value, base) for value, (base, attr) in zip(it["values"], wanted)])
 
     def do_query(self, it):
+        self.checked(it)
         self.graph.queries[it["name"]] = (it, it["graph"] or self.graph.used)
         self.graph.installed.discard(it["name"])
+
+    def checked(self, query):
+        """A query by its rules: those of the statement, and then the first of its parts that is refused, in order of text."""
+        rules.query(self.graph, query)
+        refused = query.get("params_refused") or first_refused(query.get("more", [])) or first_refused(query["body"])
+        if refused:
+            raise Fault(refused)
 
     def do_install(self, it):
         for name in it["names"] or list(self.graph.queries):
@@ -100,6 +120,7 @@ class Reference:
             self.graph.installed.add(name)
 
     def do_interpret(self, it):
+        self.checked(it)
         return self.body(it, it["graph"] or self.graph.used, {})
 
     def body(self, query, graph_name, arguments):
@@ -131,7 +152,7 @@ class Reference:
         return list(args) + [("default",)] * (len(params) - len(args))
 
     def from_file(self, query, name):
-        members = (self.case["args"] or {}).get(name, {})
+        members = (self.case["args"] or {}).get(name)
         found = []
         for param in query["params"]:
             if not isinstance(members, dict) or param["name"] not in members:
@@ -139,7 +160,7 @@ class Reference:
                 continue
             it = members[param["name"]]
             plain = ("B", it) if isinstance(it, bool) else ("I", it) if isinstance(it, int) else ("S", it) if isinstance(it, str) else ("none",)
-            if isinstance(it, dict) and set(it) == {"id", "type"}:
+            if isinstance(it, dict) and isinstance(it.get("id"), str) and isinstance(it.get("type"), str):
                 plain = ("V2", it["id"], it["type"])
             if param["type"].startswith("VERTEX<") and plain[0] != "S":
                 plain = ("none",)
@@ -162,12 +183,23 @@ class Reference:
         return None
 
 
+def first_refused(node):
+    """The refusal of the first part of a body, in order of text, that is refused."""
+    if isinstance(node, dict):
+        return node.get("refused") or first_refused(list(node.values()))
+    return next(filter(None, map(first_refused, node)), None) if isinstance(node, (list, tuple)) else None
+
+
+def refused_line(message):
+    return ('{"error":true,"message":' + quoted(message) + "}\n").encode()
+
+
 def unread(text, lines, it):
     """The refusal of a script whose last statement can't be read."""
     before = len(text[:text.rindex(it["text"])].encode())
     words = it["unread"].replace(" N", f" {len(lines)}").split(" byte ")
     told = f"{words[0]} byte {before + int(words[1])}" if len(words) > 1 else words[0]
-    return ('{"error":true,"message":' + quoted(f"line {lines[-1]}: {told}") + "}\n").encode()
+    return f"line {lines[-1]}: {told}"
 
 
 def script_text(case):

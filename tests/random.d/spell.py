@@ -228,6 +228,7 @@ def query_text(it):
         if group["vars"]:
             names = ", ".join(x["name"] + (f" = {expr(x['open'])}" if x["open"] else "") for x in group["vars"])
             lines.append(f"{kind_text(group['kind'])} {names};")
+    lines += [part["text"] for part in it.get("more", []) if part["text"]]
     return head + " {" + "".join(f"\n  {line}" for line in lines) + body_text(it["body"]).rstrip() + "\n}"
 
 

@@ -87,10 +87,13 @@ def moment_of(text):
     return seconds_of(year, month, day, *clock)
 
 
+ESCAPES = {it: f"\\u{it:04x}" for it in range(32)}
+ESCAPES |= {ord(it): escape for it, escape in zip('"\\\b\t\n\f\r', ('\\"', "\\\\", "\\b", "\\t", "\\n", "\\f", "\\r"))}
+
+
 def quoted(text):
     """A text in JSON."""
-    short = {'"': '\\"', "\\": "\\\\", "\b": "\\b", "\t": "\\t", "\n": "\\n", "\f": "\\f", "\r": "\\r"}
-    return '"' + "".join(short.get(c) or (f"\\u{ord(c):04x}" if ord(c) < 32 else c) for c in text) + '"'
+    return f'"{text.translate(ESCAPES)}"'
 
 
 def listed(texts):

@@ -1,21 +1,13 @@
 -- GatherLemmas: what acts feed is what they contribute.
-use Rattle.std.proofs.Common.{◌≡◌, ℕ, ◌+◌, ◌<◌, ◌≤◌, Bool, true, false, if◌then◌else◌, List, [], ◌∷◌, ◌++◌, map, take, length, get_or, Some, Result, Ok, Err, refl, sym, ap, ap₂, subst, ◌∙◌, arith, append-nil, append_assoc}
-use Rattle.std.specs.Prelude.{ℤ, IfOk, slice_get}
+use Rattle.std.proofs.Common.{◌≡◌, ℕ, ◌+◌, ◌<◌, ◌≤◌, Bool, true, false, List, [], ◌∷◌, ◌++◌, map, take, length, get_or, Some, Result, Ok, Err, refl, sym, ap, ap₂, subst, ◌∙◌, arith, append-nil, append_assoc}
+use Rattle.std.specs.Prelude.{IfOk, slice_get}
 use Rattle.std.specs.List.{All}
 use Rattle.std.specs.Option.{option_map}
-use Rattle.std.specs.Int.{w64}
-use Rattle.std.specs.Int.RustNames.{FitsSigned}
 use Rattle.std.proofs.lemmas.List.{map-append, take_all, take_more}
 use Rattle.std.proofs.lemmas.List.Elements.{All-nil, All-cons, All-head, All-tail}
-use Rattle.gq_value.specs.Val.{Val, Int, Truth}
-use Rattle.gq_value.specs.ViewLaws.{val-Int, val-Bool}
-use Rattle.gq_value.proofs.AccumLemmas.{given-One}
 use Rattle.gq_value.specs.AccumViews.{accum_of, given}
-use Rattle.gq_value.specs.Accums.{Accum, Given, One, INT, BOOL}
 use Rattle.gq_value.specs.declared.kind.Slot as code_slot
-use Rattle.gq_value.specs.declared.value.Value.TheVariants as value
 use Rattle.gq_value.specs.declared.value.Wrong.{Wrong}
-use Rattle.gq_value.specs.declared.value.Wrong.TheVariants.{Range}
 use Rattle.gq_graph.specs.declared.rows.Candidate.{Candidate}
 use Rattle.gq_frame.specs.declared.accums.Accums.{Accums}
 use Rattle.gq_frame.specs.declared.slots.Slots.{Slots}
@@ -25,79 +17,30 @@ use Rattle.gq_frame.specs.Targets.{number_of}
 use Rattle.gq_frame.proofs.SlotLemmas.{number_there, named_some}
 use Rattle.gq_rules_typing.specs.Selecting as plain
 use Rattle.gq_rules_typing.specs.Selecting.{Adds, Plain}
-use Rattle.gq_rules_meaning.specs.Answers.{Answer, Gives, Faults, Stuck, ◌>>=◌, found, of_result}
+use Rattle.gq_rules_meaning.specs.Answers.{Answer, Gives, Faults, Stuck, ◌>>=◌, found}
 use Rattle.gq_rules_meaning.specs.Blocks.{Contribution, contributions, of_act, contributed, input_of}
 use Rattle.gq_rules_meaning.specs.Calendars.{Calendar}
-use Rattle.gq_rules_meaning.specs.Expressions.{Look, value_of, truth_of, value_as}
-use Rattle.gq_rules_meaning.specs.Meanings.{converted_to, vertex_of_meant, as_truth}
+use Rattle.gq_rules_meaning.specs.Expressions.{Look}
+use Rattle.gq_rules_meaning.specs.Meanings.{vertex_of_meant}
 use Rattle.gq_rules_meaning.specs.States.{slot_named}
-use Rattle.gq_tree.specs.Tree.{Tree}
 use Rattle.gq_plan_ir.specs.declared.block.Act.{Act}
 use Rattle.gq_plan_ir.specs.declared.block.Act.TheVariants as act
 use Rattle.gq_plan_ir.specs.declared.block.Change as code_change
-use Rattle.gq_plan_ir.specs.declared.block.Change.TheVariants as change
 use Rattle.gq_plan_ir.specs.declared.block.Feed.{Feed}
-use Rattle.gq_plan_ir.specs.declared.block.Feed.TheVariants as feed
-use Rattle.gq_plan_ir.specs.declared.expr.Expr.{Expr}
-use Rattle.gq_plan_ir.specs.ExprView.{view}
 use Rattle.gq_plan_ir.specs.BlockView.{view_act, view_acts, view_change, view_feed}
-use Rattle.gq_plan_ir.proofs.ViewLaws.{view_feed-One, view_act-Attached, view_act-Global}
+use Rattle.gq_plan_ir.proofs.ViewLaws.{view_act-Attached, view_act-Global}
 use Rattle.gq_plan_ir.specs.Reference.{Reference, Slot}
 use Rattle.gq_plan_ir.specs.References.{same}
 use Rattle.gq_exec_feed.specs.Taking.{MayTake, as_given, targeted}
-use Rattle.gq_exec_feed.proofs.SuitLemmas.{within_int}
 use Rattle.gq_eval_context.specs.Viewed.{Over}
 use Rattle.gq_exec_contribute.specs.declared.cells.Cells.{Cells}
-use Rattle.gq_exec_contribute.specs.declared.cells.Taken.TheVariants as taken
 use Rattle.gq_exec_contribute.specs.declared.scalars.ScalarInput.{ScalarInput}
-use Rattle.gq_exec_contribute.specs.declared.scalars.ScalarInput.TheVariants as scalar
 use Rattle.gq_exec_contribute.specs.declared.leaves.Leaves.{Leaves}
-use Rattle.gq_exec_contribute.specs.Scalars.{scalar_value, as_input, as_inputs}
-use Rattle.gq_exec_contribute.specs.Prepared.{TakesInts, TakesTruths, AreFound, IsInt, IsTruth, IsVertex, IsTakenAs, IsInput, IsTarget, IsScalar, AreInputs, Gathers, sees}
+use Rattle.gq_exec_contribute.specs.Scalars.{made_of, as_input, as_inputs}
+use Rattle.gq_exec_contribute.specs.Prepared.{AreFound, IsVertex, IsInput, IsTarget, IsFed, AreInputs, Gathers, sees}
 use Rattle.gq_exec_contribute.proofs.NameLemmas.{named}
 
--- ---- inputs as kinds take them
-
-int_taken : (k : Accum) (x : ℤ) → TakesInts k → FitsSigned w64 x → IsTakenAs k (scalar.Int x)
-int_taken k x takes fits = record {
-  input = λ look t e.
-      ap (λ o. found o >>= λ b. value_as look b t >>= λ v. Gives (One v)) takes.typed
-      ∙ ap (λ o. (o >>= converted_to INT) >>= λ v. Gives (One v)) e
-      ∙ ap (λ b. of_result (if b then Ok (Int x) else Err Range) >>= λ v. Gives (One v)) (within_int x fits);
-  suited = takes.suited x fits;
-}
-
-truth_taken : (k : Accum) (b : Bool) → TakesTruths k → IsTakenAs k (scalar.Truth b)
-truth_taken k b takes = record {
-  input = λ look t e. ap (λ o. found o >>= λ b. value_as look b t >>= λ v. Gives (One v)) takes.typed ∙ ap (λ o. (o >>= converted_to BOOL) >>= λ v. Gives (One v)) e;
-  suited = takes.suited b;
-}
-
-pub int_scalar : (look : Look Reference) (t : Tree Reference) (x : ℤ) → FitsSigned w64 x → IsInt look t x → IsScalar look t taken.Int (scalar.Int x)
-int_scalar look t x fits is = record { is = is; taken = λ k takes. int_taken k x takes fits }
-
--- what is a truth is the value of it
-truth_value : (look : Look Reference) (t : Tree Reference) (b : Bool) → truth_of look t ≡ Gives b → value_of look t ≡ Gives (Truth b)
-truth_value look t b e = go (value_of look t) e
-  where
-    of_value : (v : Val) → as_truth v ≡ Gives b → v ≡ Truth b
-    of_value (Truth d) h = cc
-    of_value _ h = absurd (cc)
-
-    go : (o : Answer Wrong Val) → (o >>= as_truth) ≡ Gives b → o ≡ Gives (Truth b)
-    go (Gives v) h = ap Gives (of_value v h)
-    go (Faults w) h = absurd (cc)
-    go Stuck h = absurd (cc)
-
-pub truth_scalar : (look : Look Reference) (t : Tree Reference) (b : Bool) → IsTruth look t b → IsScalar look t taken.Truth (scalar.Truth b)
-truth_scalar look t b is = record { is = truth_value look t b is; taken = λ k takes. truth_taken k b takes }
-
 -- ---- what a change adds
-
-pub one_added : (c : code_change.Change) (f : Feed) (t : Expr) → c ≡ change.Feed f → f ≡ feed.One t → view_change c ≡ Adds (Plain (view t))
-one_added c f t is one = ap view_change is ∙ ap Adds (ap view_feed one ∙ view_feed-One t)
-
-pub ruleset added_laws = (one_added)
 
 added_there : (look : Look Reference) (a : Accums) (n v : ℕ) (s : code_slot.Slot) (x : plain.Input Reference) → look.world.words.same ≡ same → slice_get a.slots.declared n ≡ Some s
     → contributed look (slots_are a) (Slot n) v (Adds x) ≡ (input_of look (accum_of s.kind) x >>= λ y. Gives (record { slot = n; vertex = v; input = y } ∷ []))
@@ -105,23 +48,19 @@ added_there look a n v s x w e =
     ap (λ o. found o >>= λ m. found (slot_named look.world (slots_are a) (Slot n)) >>= λ s. input_of look s.kind x >>= λ y. Gives (record { slot = m; vertex = v; input = y } ∷ [])) (number_there look.world a n w ∙ ap (option_map (λ s. n)) e)
     ∙ ap (λ o. found o >>= λ s. input_of look s.kind x >>= λ y. Gives (record { slot = n; vertex = v; input = y } ∷ [])) (named_some look.world a n s w e)
 
-given_scalar : (x : ScalarInput) → given (as_input (0, x)).1 ≡ One (scalar_value x)
-given_scalar (scalar.Int x) = given-One (value.Int x) ∙ ap One (val-Int x)
-given_scalar (scalar.Truth b) = given-One (value.Bool b) ∙ ap One (val-Bool b)
-
 target_number : (slots : Slots) (n v t first : ℕ) → t ≡ first + v → first ≡ number_of slots n 0 → t ≡ number_of slots n v
 target_number slots n v t first e f = omega (arith, e, f)
 
-pub input_is : (clock : Calendar) (o : Over) (l : Leaves) (c : Candidate) (n v t : ℕ) (ch : code_change.Change) (e : Expr) (cells : Cells) (x : ScalarInput) → AreFound o l → view_change ch ≡ Adds (Plain (view e)) → slice_get l.cells n ≡ Some cells → IsTarget cells v t
-    → IsScalar (sees clock o l c) (view e) cells.takes x → IsInput o.frame.accums.slots (contributed (sees clock o l c) (slots_are o.frame.accums) (Slot n) v (view_change ch)) (t, x)
-input_is clock o l c n v t ch e cells x found adds there target is = let h = found.cells.each n cells there in let takes = is.taken (accum_of h.slot.kind) h.takes in let a = o.frame.accums in record {
-  contribution = record { slot = n; vertex = v; input = One (scalar_value x) };
+pub input_is : (clock : Calendar) (o : Over) (l : Leaves) (c : Candidate) (n v t : ℕ) (ch : code_change.Change) (f : Feed) (cells : Cells) (x : ScalarInput) → AreFound o l → view_change ch ≡ Adds (view_feed f) → slice_get l.cells n ≡ Some cells → IsTarget cells v t
+    → IsFed (sees clock o l c) (view_feed f) cells.takes x → IsInput o.frame.accums.slots (contributed (sees clock o l c) (slots_are o.frame.accums) (Slot n) v (view_change ch)) (t, x)
+input_is clock o l c n v t ch f cells x found adds there target is = let h = found.cells.each n cells there in let fed = is.each (accum_of h.slot.kind) h.takes in let a = o.frame.accums in record {
+  contribution = record { slot = n; vertex = v; input = given (made_of x) };
   is =
       ap (contributed (sees clock o l c) (slots_are a) (Slot n) v) adds
-      ∙ added_there (sees clock o l c) a n v h.slot (Plain (view e)) refl h.declared
-      ∙ ap (λ o. o >>= λ y. Gives (record { slot = n; vertex = v; input = y } ∷ [])) (takes.input (sees clock o l c) (view e) is.is);
-  may = record { slot = h.slot; declared = h.declared; within = subst (λ (m : ℕ). v < m) h.targets target.within; suited = takes.suited };
-  batched = ap (λ p. p ∷ []) (ap₂ (λ (m : ℕ) (y : Given). (m, y)) (target_number a.slots n v t cells.first target.number h.first) (given_scalar x));
+      ∙ added_there (sees clock o l c) a n v h.slot (view_feed f) refl h.declared
+      ∙ ap (λ o. o >>= λ y. Gives (record { slot = n; vertex = v; input = y } ∷ [])) fed.input;
+  may = record { slot = h.slot; declared = h.declared; within = subst (λ (m : ℕ). v < m) h.targets target.within; suited = fed.suited };
+  batched = ap (λ (m : ℕ). (m, given (made_of x)) ∷ []) (target_number a.slots n v t cells.first target.number h.first);
 }
 
 pub ruleset input_laws = (input_is)

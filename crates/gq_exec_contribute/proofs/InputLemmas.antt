@@ -1,7 +1,7 @@
 -- InputLemmas: how the meaning of an input goes on from that of its parts.
 use Rattle.std.proofs.Common.{◌≡◌, ℕ, zero, suc, ◌+◌, ◌<◌, ◌≤◌, List, [], ◌∷◌, ◌++◌, map, drop, length, get_or, Option, Some, None, refl, sym, ap, subst, ◌∙◌, arith}
 use Rattle.std.specs.List.{slice_get}
-use Rattle.std.specs.Prelude.{ℤ, pos, negsuc, ◌^◌, Bool, true, if◌then◌else◌, Ok, Err}
+use Rattle.std.specs.Prelude.{ℤ, pos, negsuc, ◌^◌, true, if◌then◌else◌, Ok, Err}
 use Rattle.std.specs.Int.{w64}
 use Rattle.std.specs.Int.RustNames.{FitsSigned}
 use Rattle.std.proofs.lemmas.Bool.Decides.{nat_tests}
@@ -21,7 +21,7 @@ use Rattle.gq_exec_contribute.specs.Feeds.{field_value, part_value}
 use Rattle.std.specs.Option.{option_map}
 use Rattle.std.proofs.lemmas.List.{drop_more, drop_all}
 use Rattle.std.proofs.lemmas.Option.{slice_get_within, get_or_from_slice_get}
-use Rattle.gq_tree.specs.Tree.{Tree, Trees, Post, Name, part, no_part}
+use Rattle.gq_tree.specs.Tree.{Tree, Trees, Post}
 use Rattle.gq_value.specs.declared.kind.Input.{Input}
 use Rattle.gq_value.specs.declared.kind.Input.TheVariants as input
 use Rattle.gq_value.specs.declared.kind.Kind.{Kind}

@@ -8,3 +8,7 @@ pub mod ReadLemmas
 pub mod TruthLemmas
 pub mod ScalarLemmas
 pub mod GatherLemmas
+pub mod BoundLemmas
+pub mod RowLemmas
+pub mod KindLemmas
+pub mod FedLemmas

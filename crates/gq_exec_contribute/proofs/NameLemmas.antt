@@ -1,6 +1,6 @@
 -- NameLemmas: what names stand for.
 use Rattle.std.proofs.Common.{◌≡◌, ℕ, ◌==◌, Bool, true, false, if◌then◌else◌, List, ◌++◌, Option, Some, None, refl, sym, ap, ap₂, subst, ◌∙◌}
-use Rattle.std.specs.Prelude.{ℤ, IfSome, slice_get}
+use Rattle.std.specs.Prelude.{ℤ, IfSome, slice_get, Ok}
 use Rattle.std.specs.Option.{option_map, option_or, option_to_list}
 use Rattle.gq_value.specs.Val.{Int, Truth}
 use Rattle.gq_value.specs.Views.{val}
@@ -18,7 +18,8 @@ use Rattle.gq_plan_ir.specs.declared.expr.Expr.TheVariants as expr
 use Rattle.gq_plan_ir.proofs.ViewLaws.{view-Name, view-Post, view-Cmp, view-Not, view-And, view-Or}
 use Rattle.gq_rules_meaning.specs.Answers.{Gives, ◌>>=◌}
 use Rattle.gq_rules_meaning.specs.Calendars.{Calendar}
-use Rattle.gq_rules_meaning.specs.Meanings.{Is, value_of_meant, as_truth}
+use Rattle.gq_rules_meaning.specs.Meanings.{Is, Outcome, value_of_meant, as_truth}
+use Rattle.gq_rules_meaning.specs.Expressions.{World}
 use Rattle.gq_rules_meaning.specs.States as states
 use Rattle.gq_plan_ir.specs.declared.expr.Field.{Field}
 use Rattle.gq_plan_ir.specs.declared.plan.Plan.{Plan}
@@ -30,6 +31,10 @@ use Rattle.gq_plan_ir.specs.Words.{under}
 use Rattle.gq_eval_attributes.specs.declared.tuple_type.TupleType.{TupleType}
 use Rattle.gq_eval_attributes.specs.Reads.{IsReadInt}
 use Rattle.gq_eval_attributes.specs.Tuples.{tuples_are}
+use Rattle.gq_eval_attributes.specs.Worlds.{InWorld, graph_is}
+use Rattle.gq_eval_operand.specs.Meant.{meant}
+use Rattle.gq_eval_operand.specs.declared.seen.Seen.{Seen}
+use Rattle.gq_plan_ir.specs.Belonging.{world_of}
 use Rattle.gq_frame.specs.declared.frame.Frame.{Frame}
 use Rattle.gq_frame.specs.declared.frame.Thing.TheVariants as thing
 use Rattle.gq_frame.specs.Names.{Placed, AVertex, AnEdge, thing_of, thing_in, thing_meant, held_thing}
@@ -130,6 +135,20 @@ module _ (clock : Calendar) (g : code.Graph) (plan : Plan) (tuples : List TupleT
       → IfSome r (λ x. part_value (sees clock o l c) p (tree.Field (field_of field)) ≡ Gives (Int x))
   edge_read field row kind None at e k h = tt
   edge_read field row kind (Some x) at e k h = ap (λ m. m >>= λ m. (sees clock o l c).field m (field_of field) >>= value_of_meant) (named clock o l c p (AnEdge row kind) (edge_there l.ends.now l.edge c p row kind at.0 at.1 e k)) ∙ h.each plan.vertices plan.edges (accum_names plan) (tuples_are tuples) clock
+
+-- ---- a field of a vertex that is no INT among its attributes
+
+pub field_seen : (g : code.Graph) (meaning : World Reference → Outcome) (s : Seen) (r : Option ℤ) → InWorld g meaning (Ok s) → IfSome r (λ x. value_of_meant (meant s) ≡ Gives (Int x)) → IsReadInt g meaning r
+field_seen g meaning s r h is = record { each = λ vertices edges names tuples clock. go (meaning (world_of names tuples (graph_is g vertices edges) clock)) r is (h.each vertices edges names tuples clock) }
+  where
+    go : (o : Outcome) (r : Option ℤ) → IfSome r (λ x. value_of_meant (meant s) ≡ Gives (Int x)) → o ≡ Gives (meant s) → IfSome r (λ x. (o >>= value_of_meant) ≡ Gives (Int x))
+    go o None is e = tt
+    go o (Some x) is e = ap (λ o. o >>= value_of_meant) e ∙ is
+
+pub none_read : (g : code.Graph) (meaning : World Reference → Outcome) → IsReadInt g meaning None
+none_read g meaning = record { each = λ vertices edges names tuples clock. tt }
+
+pub ruleset field_laws = (field_seen, none_read)
 
 -- ---- a variable
 

@@ -1,13 +1,13 @@
 -- ReadLemmas: leaves: literals, globals, and what stands behind a name.
-use Rattle.std.proofs.Common.{◌≡◌, ℕ, ◌<◌, ◌≤◌, ◌^◌, Bool, true, if◌then◌else◌, List, [], ◌∷◌, length, get_or, Option, Some, None, refl, sym, ap, ◌∙◌, arith}
+use Rattle.std.proofs.Common.{◌≡◌, ℕ, ◌<◌, ◌≤◌, ◌^◌, Bool, true, if◌then◌else◌, List, [], ◌∷◌, length, get_or, Option, Some, None, refl, sym, ap, subst, ◌∙◌, arith}
 use Rattle.std.specs.Prelude.{ℤ, pos, nat_lt, IfSome}
 use Rattle.std.proofs.lemmas.Bool.Decides.{nat_tests}
 use Rattle.gq_tree.specs.Tree as tree
-use Rattle.gq_tree.specs.Tree.{Post}
+use Rattle.gq_tree.specs.Tree.{Tree, Post}
 use Rattle.gq_value.specs.Val.{Int, UInt, Truth}
 use Rattle.gq_value.specs.Accums.{INT, UINT}
 use Rattle.gq_graph.specs.declared.rows.Candidate.{Candidate}
-use Rattle.gq_frame.specs.Names.{AVertex}
+use Rattle.gq_frame.specs.Names.{Placed, AVertex}
 use Rattle.gq_rules_meaning.specs.Answers.{Gives, Faults, Stuck, ◌>>=◌}
 use Rattle.gq_rules_meaning.specs.Calendars.{Calendar}
 use Rattle.gq_rules_meaning.specs.Expressions.{Look, value_of, meaning_part}
@@ -21,7 +21,9 @@ use Rattle.gq_plan_ir.specs.ExprView.{view, view_behind, view_parts, field_of}
 use Rattle.gq_plan_ir.specs.Reference.{Reference, Place, Slot}
 use Rattle.gq_plan_ir.proofs.ViewLaws.{view-Name, view_behind-Field, view_behind-Attached}
 use Rattle.gq_eval_builtins.proofs.ListSteps.{one_list}
-use Rattle.gq_eval_context.specs.Viewed.{Over}
+use Rattle.gq_eval_context.specs.Viewed.{Over, viewed}
+use Rattle.gq_eval_context.specs.Looks.{look_of}
+use Rattle.gq_exec_contribute.specs.Aliases.{bound_to}
 use Rattle.gq_exec_contribute.specs.declared.leaves.Leaves.{Leaves}
 use Rattle.gq_exec_contribute.specs.Prepared.{IsInt, IsTruth, IsVertex, ReadsInt, ReadsTruth, part_value, sees}
 use Rattle.gq_exec_contribute.proofs.NameLemmas.{named}
@@ -104,3 +106,9 @@ truth_attached clock o l c p n v b None e at h = tt
 truth_attached clock o l c p n v b (Some x) e at h = attached_is clock o l c p n v b e at ∙ ap (λ o. o >>= value_of_meant) h
 
 pub ruleset part_laws = (int_field, int_attached, truth_attached)
+
+-- ---- what is evaluated
+
+pub evaluated_own : (clock : Calendar) (o : Over) (l : Leaves) (c : Candidate) (t : Tree Reference) (aliases : List (ℕ × Placed)) (r : Option ℤ) → aliases ≡ bound_to l.ends.now l.edge c
+    → IfSome r (IsInt (look_of clock (viewed o aliases o.frame.accums o.frame.accums)) t) → IfSome r (IsInt (sees clock o l c) t)
+evaluated_own clock o l c t aliases r e h = subst (λ (names : List (ℕ × Placed)). IfSome r (IsInt (look_of clock (viewed o names o.frame.accums o.frame.accums)) t)) e h

@@ -1,16 +1,18 @@
 -- Prepared: what is read of a candidate in place of an evaluation: what it sees gives that.
-use Rattle.std.specs.Prelude.{◌≡◌, ◌==◌, ℕ, ℤ, ◌+◌, ◌<◌, Bool, true, false, List, [], ◌∷◌, ◌++◌, Option, Some, None, slice_get}
+use Rattle.std.specs.Prelude.{◌≡◌, ◌==◌, ℕ, ℤ, ◌+◌, ◌<◌, Bool, true, false, List, [], ◌∷◌, ◌++◌, map, length, Option, Some, None, slice_get}
 use Rattle.std.specs.List.{All}
 use Rattle.std.specs.Int.{w64}
 use Rattle.std.specs.Int.RustNames.{FitsSigned}
-use Rattle.gq_value.specs.Val.{Val, Int, Truth}
+use Rattle.gq_value.specs.Val.{Val, Int, Truth, Tuple, vals_of}
 use Rattle.gq_value.specs.Views.{val}
-use Rattle.gq_value.specs.Accums.{Accum, One, INT, BOOL}
+use Rattle.gq_value.specs.Accums.{Accum, GroupByAccum, HeapAccum, Bases, Givens, One, Keyed, INT, BOOL, TUPLE}
 use Rattle.gq_value.specs.declared.kind.BaseType.{BaseType}
 use Rattle.gq_plan_ir.specs.declared.plan.PlaceType.TheVariants as held
 use Rattle.gq_frame.specs.declared.frame.Thing.TheVariants as thing
-use Rattle.gq_value.specs.AccumViews.{accum_of}
+use Rattle.gq_value.specs.AccumViews.{accum_of, base_of, bases, given, givens, parts_of}
 use Rattle.gq_value.specs.Typed.{suits}
+use Rattle.gq_value.specs.declared.kind.GroupShape.{GroupShape}
+use Rattle.gq_value.specs.declared.kind.HeapShape.{HeapShape}
 use Rattle.gq_value.specs.declared.kind.Slot as code_slot
 use Rattle.gq_value.specs.declared.value.Value.{Value}
 use Rattle.gq_value.specs.declared.value.Wrong.{Wrong}
@@ -22,7 +24,8 @@ use Rattle.gq_frame.specs.declared.slots.Slots.{Slots}
 use Rattle.gq_frame.specs.Names.{AVertex}
 use Rattle.gq_frame.specs.Slots.{slots_are}
 use Rattle.gq_frame.specs.Targets.{targets_of, number_of}
-use Rattle.gq_rules_typing.specs.Kinds.{input_type}
+use Rattle.gq_rules_typing.specs.Kinds.{input_type, key_types, part_kinds}
+use Rattle.gq_rules_typing.specs.Selecting as plain
 use Rattle.gq_rules_typing.specs.Selecting.{Plain}
 use Rattle.gq_rules_meaning.specs.Answers.{Answer, Gives, ◌>>=◌}
 use Rattle.gq_rules_meaning.specs.Blocks.{Contribution, input_of}
@@ -32,9 +35,14 @@ use Rattle.gq_rules_meaning.specs.Meanings.{Is, value_of_meant}
 use Rattle.gq_rules_meaning.specs.States.{read_slot}
 use Rattle.gq_rules_meaning.specs.Tree.{Tree, Behind}
 use Rattle.gq_plan_ir.specs.Reference.{Reference, Place, Slot}
+use Rattle.gq_plan_ir.specs.declared.block.Feed.{Feed}
+use Rattle.gq_plan_ir.specs.declared.expr.Expr.{Expr}
+use Rattle.gq_plan_ir.specs.BlockView.{view_feed}
+use Rattle.gq_plan_ir.specs.ExprView.{view}
 use Rattle.gq_plan_ir.specs.Words.{under}
 use Rattle.gq_eval_operand.specs.Meant.{read_of}
 use Rattle.gq_eval_operand.specs.Sound.{IsSound}
+use Rattle.gq_eval_attributes.specs.declared.tuple_type.TupleType.{TupleType}
 use Rattle.gq_eval_context.specs.Viewed.{Over, viewed}
 use Rattle.gq_eval_context.specs.Looks.{look_of, world_over}
 use Rattle.gq_exec_feed.specs.Taking.{MayTake, AreBatched}
@@ -44,7 +52,8 @@ use Rattle.gq_exec_contribute.specs.declared.cells.Taken.TheVariants as taken
 use Rattle.gq_exec_contribute.specs.declared.scalars.ScalarInput.{ScalarInput}
 use Rattle.gq_exec_contribute.specs.declared.leaves.Leaves.{Leaves}
 use Rattle.gq_exec_contribute.specs.Aliases.{bound_to}
-use Rattle.gq_exec_contribute.specs.Scalars.{scalar_value, as_inputs}
+use Rattle.gq_exec_contribute.specs.declared.rows.Ints.{Ints}
+use Rattle.gq_exec_contribute.specs.Scalars.{ints_of, made_of, as_inputs}
 
 -- ---- what an expression of a block sees for a candidate
 
@@ -113,9 +122,38 @@ pub record TakesTruths (k : Accum) : Type 0 where
   pub typed : input_type k ≡ Some BOOL
   pub suited : (b : Bool) → suits k (One (Truth b)) ≡ true
 
+-- each tuple of so many INTs is one
+pub record TakesTuples (k : Accum) (n : ℕ) : Type 0 where
+  pub number : ℕ
+  pub fields : Bases
+  pub typed : input_type k ≡ Some (TUPLE number fields)
+  pub suited : (xs : List ℤ) → length xs ≡ n → All (FitsSigned w64) xs → suits k (One (Tuple (vals_of (map Int xs)))) ≡ true
+
+-- the inputs of parts
+abbrev pub parts_given : List ℤ → Givens
+parts_given ys = givens (map (λ y. One (Int y)) ys)
+
+-- so many INTs as keys, and an INT for each of so many parts
+pub record TakesKeyed (k : Accum) (n m : ℕ) : Type 0 where
+  pub keys : All (λ b. b ≡ INT) (key_types k)
+  pub key_count : length (key_types k) ≡ n
+  pub parts : All TakesInts (part_kinds k)
+  pub part_count : length (part_kinds k) ≡ m
+  pub suited : (xs ys : List ℤ) → length xs ≡ n → length ys ≡ m → All (FitsSigned w64) xs → All (FitsSigned w64) ys → suits k (Keyed (map Int xs) (parts_given ys)) ≡ true
+
+-- what a shape of groups and of heaps is
+abbrev pub group_of : GroupShape → Accum
+group_of s = GroupByAccum (map (λ k. (k.0, base_of k.1)) s.keys) (parts_of (map (λ p. (p.0, accum_of p.1)) s.parts))
+
+abbrev pub heap_of : HeapShape → Accum
+heap_of s = HeapAccum (TUPLE s.tuple (bases (map base_of s.fields))) s.capacity s.order
+
 abbrev pub Takes : Accum → Taken → Type 0
 Takes k taken.Int = TakesInts k
 Takes k taken.Truth = TakesTruths k
+Takes k taken.Element = TakesInts k
+Takes k (taken.Tuple n) = TakesTuples k n
+Takes k (taken.Keyed n m) = TakesKeyed k n m
 Takes k taken.Other = Unit {0}
 
 -- where the contents of a slot stand
@@ -170,10 +208,14 @@ pub record AreInputs (slots : Slots) (gives : Answer Wrong (List Contribution)) 
   pub may : All (MayTake slots) contributed
   pub batched : AreBatched slots contributed (as_inputs more)
 
--- a kind takes this input as it is
-pub record IsTakenAs (k : Accum) (x : ScalarInput) : Type 0 where
-  pub input : (look : Look Reference) (t : Tree Reference) → value_of look t ≡ Gives (scalar_value x) → input_of look k (Plain t) ≡ Gives (One (scalar_value x))
-  pub suited : suits k (One (scalar_value x)) ≡ true
+-- an input of a kind is this, and suits it
+pub record IsFedTo (look : Look Reference) (f : plain.Input Reference) (x : ScalarInput) (k : Accum) : Type 0 where
+  pub input : input_of look k f ≡ Gives (given (made_of x))
+  pub suited : suits k (given (made_of x)) ≡ true
+
+-- of each kind that takes this
+pub record IsFed (look : Look Reference) (f : plain.Input Reference) (takes : Taken) (x : ScalarInput) : Type 0 where
+  pub each : (k : Accum) → Takes k takes → IsFedTo look f x k
 
 -- this one stands for what a change contributes
 pub record IsInput (slots : Slots) (gives : Answer Wrong (List Contribution)) (x : ℕ × ScalarInput) : Type 0 where
@@ -182,10 +224,63 @@ pub record IsInput (slots : Slots) (gives : Answer Wrong (List Contribution)) (x
   pub may : MayTake slots contribution
   pub batched : AreBatched slots (contribution ∷ []) (as_inputs (x ∷ []))
 
--- an expression is this input, of a kind that takes it
-pub record IsScalar (look : Look Reference) (t : Tree Reference) (takes : Taken) (x : ScalarInput) : Type 0 where
-  pub is : value_of look t ≡ Gives (scalar_value x)
-  pub taken : (k : Accum) → Takes k takes → IsTakenAs k x
+-- ---- rows of INTs
+
+-- an expression is this INT, within its width
+pub record IsNumber (look : Look Reference) (t : Tree Reference) (x : ℤ) : Type 0 where
+  pub is : IsInt look t x
+  pub fits : FitsSigned w64 x
+
+-- a feed is one value, and that is this INT
+pub record IsPart (look : Look Reference) (f : Feed) (x : ℤ) : Type 0 where
+  pub tree : Tree Reference
+  pub one : view_feed f ≡ Plain tree
+  pub number : IsNumber look tree x
+
+-- each stands so to the one in its place
+abbrev pub AllPairs : {A B : Type 0} → (A → B → Type 0) → List A → List B → Type 0
+AllPairs R [] [] = Unit {0}
+AllPairs R (x ∷ xs) (y ∷ ys) = R x y × AllPairs R xs ys
+AllPairs R _ _ = ⊥
+
+-- an INT for each of these is put into a row
+pub record AddsInts {A : Type 0} (R : A → ℤ → Type 0) (xs : List A) (old new : Ints) : Type 0 where
+  pub ints : List ℤ
+  pub added : ints_of new ≡ ints_of old ++ ints
+  pub are : AllPairs R xs ints
+
+-- expressions that are INTs
+abbrev pub AddsKeys : Look Reference → List Expr → Ints → Ints → Type 0
+AddsKeys look keys old new = AddsInts (λ e x. IsNumber look (view e) x) keys old new
+
+-- inputs of parts that are INTs
+abbrev pub AddsParts : Look Reference → List Feed → Ints → Ints → Type 0
+AddsParts look feeds old new = AddsInts (IsPart look) feeds old new
+
+-- one of them
+pub record AddsOne (R : ℤ → Type 0) (old new : Ints) : Type 0 where
+  pub x : ℤ
+  pub is : R x
+  pub added : ints_of new ≡ ints_of old ++ x ∷ []
+
+abbrev pub AddsKey : Look Reference → Tree Reference → Ints → Ints → Type 0
+AddsKey look t old new = AddsOne (IsNumber look t) old new
+
+abbrev pub AddsPart : Look Reference → Feed → Ints → Ints → Type 0
+AddsPart look f old new = AddsOne (IsPart look f) old new
+
+-- a tuple type has so many fields, and all of them are INTs
+pub record HasInts (o : Over) (n count : ℕ) : Type 0 where
+  pub type : TupleType
+  pub there : slice_get o.tuples n ≡ Some type
+  pub many : length type.types ≡ count
+  pub ints : All (λ b. base_of b ≡ INT) type.types
+
+-- an expression is a tuple of so many INTs, with these fields
+pub record IsTuple (look : Look Reference) (t : Tree Reference) (count : ℕ) (row : Ints) : Type 0 where
+  pub is : value_of look t ≡ Gives (Tuple (vals_of (map Int (ints_of row))))
+  pub many : length (ints_of row) ≡ count
+  pub fit : All (FitsSigned w64) (ints_of row)
 
 -- all of them are added, or nothing
 abbrev pub Gathers : Slots → Answer Wrong (List Contribution) → List (ℕ × ScalarInput) → List (ℕ × ScalarInput) → Bool → Type 0

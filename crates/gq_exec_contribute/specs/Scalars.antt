@@ -1,25 +1,31 @@
--- Scalars: INTs and truths that wait to be fed, as the inputs of a batch.
-use Rattle.std.specs.Prelude.{ℕ, List, map}
+-- Scalars: inputs made of INTs or a truth that wait to be fed, as the inputs of a batch.
+use Rattle.std.specs.Prelude.{ℕ, ℤ, List, map, take, drop}
 use Rattle.gq_value.specs.declared.kind.Input.{Input}
 use Rattle.gq_value.specs.declared.kind.Input.TheVariants as input
-use Rattle.gq_value.specs.declared.value.Value.{Value}
 use Rattle.gq_value.specs.declared.value.Value.TheVariants as value
-use Rattle.gq_value.specs.Val.{Val, Int, Truth}
+use Rattle.gq_exec_contribute.specs.declared.rows.Ints.{Ints}
 use Rattle.gq_exec_contribute.specs.declared.scalars.ScalarInput.{ScalarInput}
 use Rattle.gq_exec_contribute.specs.declared.scalars.ScalarInput.TheVariants as scalar
 
--- the value that is fed, in the words of the definitions and of the code
-abbrev pub scalar_value : ScalarInput → Val
-scalar_value (scalar.Int x) = Int x
-scalar_value (scalar.Truth b) = Truth b
+-- the INTs of a row
+abbrev pub ints_of : Ints → List ℤ
+ints_of row = take row.count row.numbers
 
-abbrev pub made_of : ScalarInput → Value
-made_of (scalar.Int x) = value.Int x
-made_of (scalar.Truth b) = value.Bool b
+-- an INT as an input
+abbrev pub one_int : ℤ → Input
+one_int x = input.One (value.Int x)
 
--- with the number of its target, as an input with that number
+-- the input that is fed
+abbrev pub made_of : ScalarInput → Input
+made_of (scalar.Int x) = one_int x
+made_of (scalar.Truth b) = input.One (value.Bool b)
+made_of (scalar.Element x) = one_int x
+made_of (scalar.Tuple row) = input.One (value.Tuple (map value.Int (ints_of row)))
+made_of (scalar.Keyed n row) = input.Keyed (map value.Int (take n (ints_of row))) (map one_int (drop n (ints_of row)))
+
+-- with the number of its target
 abbrev pub as_input : ℕ × ScalarInput → ℕ × Input
-as_input x = (x.0, input.One (made_of x.1))
+as_input x = (x.0, made_of x.1)
 
 abbrev pub as_inputs : List (ℕ × ScalarInput) → List (ℕ × Input)
 as_inputs xs = map as_input xs

@@ -1,16 +1,14 @@
 // Where the contents of accumulators stand.
 ghost use Rattle.std.specs.Prelude.{◌≡◌, IfOk, IfSome};
-ghost use Rattle.gq_value.specs.Accums.{SumAccum, MinAccum, MaxAccum};
-ghost use Rattle.gq_value.specs.AccumViews.{accum_of};
 ghost use Rattle.gq_frame.specs.Slots.{AreSound};
-ghost use Rattle.gq_exec_contribute.specs.Prepared.{AreAllCells, AreCells, HoldsInt, HoldsTruth, IsTarget, StandsAt, Takes};
+ghost use Rattle.gq_exec_contribute.specs.Prepared.{AreAllCells, AreCells, HoldsInt, HoldsTruth, IsTarget, StandsAt};
 
+use crate::takes::taken_by;
 use gq_accum::Scalar;
 use gq_base::{List, OutOfMemory};
 use gq_exec_feed::slot_number;
 use gq_frame::{Accums, Slots};
 use gq_nest::Content;
-use gq_value::{Kind, Number};
 use std::alloc::Global;
 
 /// What a kind takes as an input.
@@ -18,6 +16,15 @@ use std::alloc::Global;
 pub enum Taken {
     Int,
     Truth,
+
+    /// An INT of a set, a bag or a list.
+    Element,
+
+    /// A tuple of so many INTs.
+    Tuple(usize),
+
+    /// So many INTs as keys, and an INT for each of so many parts.
+    Keyed(usize, usize),
 
     /// Something else, of which nothing is said.
     Other,
@@ -60,33 +67,6 @@ fn cells_at(slots: &Slots, number: usize) -> Option<Cells>
                 takes: taken_by(&declared.kind),
             }),
         },
-    }
-}
-
-/// What a kind takes.
-#[tactic(auto, using(gq_value::proofs::AccumLemmas::accum_laws, crate::proofs::CellLemmas::kind_laws))]
-fn taken_by(kind: &Kind) -> Taken
-    ensures { Takes (accum_of kind.now) result }
-{
-    match kind {
-        Kind::Sum(number) => number_taken(*number),
-        Kind::Min(number) => number_taken(*number),
-        Kind::Max(number) => number_taken(*number),
-        Kind::BitOr | Kind::BitAnd | Kind::Avg => Taken::Int,
-        Kind::Or | Kind::And => Taken::Truth,
-        Kind::Set(_) | Kind::Bag(_) | Kind::List(_) => Taken::Other,
-        Kind::Heap(_) | Kind::Map(_, _) | Kind::Group(_) => Taken::Other,
-    }
-}
-
-fn number_taken(number: Number) -> Taken
-    ensures int { Takes (SumAccum number) result }
-    ensures min { Takes (MinAccum number) result }
-    ensures max { Takes (MaxAccum number) result }
-{
-    match number {
-        Number::Int => Taken::Int,
-        Number::UInt => Taken::Other,
     }
 }
 

@@ -1,29 +1,29 @@
 // What acts feed.
 ghost use Rattle.std.specs.Prelude.{◌≡◌, IfOk, IfSome};
 ghost use Rattle.gq_rules_calendar.specs.Gregorian.{gregorian};
-ghost use Rattle.gq_rules_typing.specs.Selecting.{Adds as AddsTo, Plain};
+ghost use Rattle.gq_rules_typing.specs.Selecting.{Adds as AddsTo};
 ghost use Rattle.gq_rules_meaning.specs.Blocks.{contributed, contributions, of_act};
 ghost use Rattle.gq_frame.specs.Slots.{slots_are};
-ghost use Rattle.gq_plan_ir.specs.ExprView.{view};
-ghost use Rattle.gq_plan_ir.specs.BlockView.{view_act, view_acts, view_change};
+ghost use Rattle.gq_plan_ir.specs.BlockView.{view_act, view_acts, view_change, view_feed};
 ghost use Rattle.gq_plan_ir.specs.Reference.{Slot};
-ghost use Rattle.gq_exec_contribute.specs.Prepared.{AreFound, Gathers, IsInput, IsScalar, sees};
+ghost use Rattle.gq_exec_contribute.specs.Prepared.{AreFound, Gathers, IsInput, sees};
 
-use crate::cells::{Taken, target_in};
-use crate::ints::int;
+use crate::cells::target_in;
 use crate::leaves::Leaves;
 use crate::names::vertex_at;
+use crate::reading::read;
 use crate::scalars::ScalarInput;
-use crate::truths::truth;
 use gq_base::{List, OutOfMemory};
 use gq_eval_context::BlockContext;
 use gq_graph::Candidate;
-use gq_plan_ir::{Act, Change, Expr, Feed};
+use gq_plan_ir::{Act, Change, Feed};
+use std::alloc::Global;
 
 /// Adds what a candidate feeds by these acts, each input with the number of its target; or nothing, where one of them feeds something else.
 #[tactic(auto, using(crate::proofs::GatherLemmas::gather_laws))]
 pub fn gather(
     acts: &[Act],
+    alloc: Global,
     over: &BlockContext<'_>,
     leaves: &Leaves<'_>,
     c: &Candidate,
@@ -34,7 +34,7 @@ pub fn gather(
 {
     let before = into.len();
     for act in acts {
-        if !add_act(act, over, leaves, c, into)? {
+        if !add_act(act, alloc, over, leaves, c, into)? {
             into.truncate(before);
             return Ok(false);
         }
@@ -46,6 +46,7 @@ pub fn gather(
 #[tactic(auto, using(gq_plan_ir::proofs::ViewLaws::step_laws, crate::proofs::GatherLemmas::act_laws))]
 fn add_act(
     act: &Act,
+    alloc: Global,
     over: &BlockContext<'_>,
     leaves: &Leaves<'_>,
     c: &Candidate,
@@ -56,10 +57,10 @@ fn add_act(
 {
     match act {
         Act::Attached(place, slot, change) => match vertex_at(leaves, c, *place) {
-            Some(vertex) => add_change(change, over, leaves, c, *slot, vertex, into),
+            Some(vertex) => add_change(change, alloc, over, leaves, c, *slot, vertex, into),
             None => Ok(false),
         },
-        Act::Global(slot, change) => add_change(change, over, leaves, c, *slot, 0, into),
+        Act::Global(slot, change) => add_change(change, alloc, over, leaves, c, *slot, 0, into),
         Act::If(_, _) => Ok(false),
     }
 }
@@ -68,6 +69,7 @@ fn add_act(
 #[tactic(auto, using(crate::proofs::GatherLemmas::change_laws))]
 fn add_change(
     change: &Change,
+    alloc: Global,
     over: &BlockContext<'_>,
     leaves: &Leaves<'_>,
     c: &Candidate,
@@ -78,7 +80,7 @@ fn add_change(
     requires { AreFound over.now leaves.now }
     ensures { IfOk result (Gathers over.now.frame.accums.slots (contributed (sees gregorian over.now leaves.now c.now) (slots_are over.now.frame.accums) (Slot slot) vertex (view_change change.now)) into.old into.new) }
 {
-    match input_of(change, over, leaves, c, slot, vertex) {
+    match input_of(change, alloc, over, leaves, c, slot, vertex) {
         None => Ok(false),
         Some(input) => {
             into.push(input)?;
@@ -88,9 +90,9 @@ fn add_change(
 }
 
 /// What a change feeds into the slot at a vertex, with the number of the target.
-#[tactic(auto, using(crate::proofs::GatherLemmas::input_laws))]
 fn input_of(
     change: &Change,
+    alloc: Global,
     over: &BlockContext<'_>,
     leaves: &Leaves<'_>,
     c: &Candidate,
@@ -102,11 +104,11 @@ fn input_of(
 {
     match added(change) {
         None => None,
-        Some(expr) => match leaves.cells.get(slot as usize) {
+        Some(feed) => match leaves.cells.get(slot as usize) {
             None => None,
             Some(cells) => match target_in(cells, vertex) {
                 None => None,
-                Some(target) => match scalar_of(expr, over, leaves, c, cells.takes) {
+                Some(target) => match read(feed, alloc, over, leaves, c, cells.takes) {
                     None => None,
                     Some(x) => Some((target, x)),
                 },
@@ -115,40 +117,12 @@ fn input_of(
     }
 }
 
-/// The input that an expression is, of a kind that takes this.
-fn scalar_of(
-    expr: &Expr,
-    over: &BlockContext<'_>,
-    leaves: &Leaves<'_>,
-    c: &Candidate,
-    takes: Taken,
-) -> Option<ScalarInput>
-    requires { AreFound over.now leaves.now }
-    ensures { IfSome result (IsScalar (sees gregorian over.now leaves.now c.now) (view expr.now) takes) }
-{
-    match takes {
-        Taken::Int => match int(expr, over, leaves, c) {
-            Some(x) => Some(ScalarInput::Int(x)),
-            None => None,
-        },
-        Taken::Truth => match truth(expr, over, leaves, c) {
-            Some(x) => Some(ScalarInput::Truth(x)),
-            None => None,
-        },
-        Taken::Other => None,
-    }
-}
-
-/// The one value that a change adds.
-#[tactic(auto, using(crate::proofs::GatherLemmas::added_laws))]
-fn added(change: &Change) -> Option<&Expr>
-    ensures { IfSome result (λ expr. view_change change.entry.now ≡ AddsTo (Plain (view expr.now))) }
+/// What a change adds.
+fn added(change: &Change) -> Option<&Feed>
+    ensures { IfSome result (λ feed. view_change change.entry.now ≡ AddsTo (view_feed feed.now)) }
 {
     match change {
         Change::Set(_) => None,
-        Change::Feed(feed) => match feed {
-            Feed::One(expr) => Some(expr),
-            Feed::Keyed(_, _) => None,
-        },
+        Change::Feed(feed) => Some(feed),
     }
 }

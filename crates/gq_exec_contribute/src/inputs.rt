@@ -149,7 +149,7 @@ fn int_of<V: Sees>(place: u32, field: &Field, alloc: Global, sight: &V) -> Optio
 
 /// The INT, if it is one.
 #[tactic(auto, using(gq_value::specs::ViewLaws::view_laws))]
-fn int_seen(seen: &Seen<'_>) -> Option<i64>
+pub(crate) fn int_seen(seen: &Seen<'_>) -> Option<i64>
     ensures { IfSome result (λ x. value_of_meant (meant seen.now) ≡ Gives (Int x)) }
 {
     match seen {

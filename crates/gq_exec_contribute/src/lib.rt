@@ -9,14 +9,17 @@
 //! INTs, truths and vertices are read without values in memory, where the whole match is made of such. What the names
 //! and accumulators of a block's expressions stand for is found once, at its start: which end of a candidate an alias
 //! is, and where the contents of each accumulator stand. An expression is then read from the plan's own tree, its leaves
-//! straight from the candidate, the graph and the contents, its answers in registers. An answer is what the evaluation
-//! gives. Where there is none nothing is said, and the caller evaluates: so faults, overflows, and all that is no INT,
-//! truth or vertex, are the evaluation's alone. Read `specs/Prepared.antt` first; the code begins in `src/gathering.rt`
-//! (ACCUM) and `src/truths.rt` (WHERE), and `src/leaves.rt` has what is found once.
+//! straight from the candidate, the graph and the contents, its answers in registers; an INT without such a short form
+//! is a leaf that is evaluated. An answer is what the evaluation gives. Where there is none nothing is said, and the
+//! caller evaluates: so faults, overflows, and all that is no INT, truth or vertex, are the evaluation's alone. Inputs
+//! of maps, groups and heaps that are made of INTs wait as those INTs (`src/rows.rt`), and become rows of values only
+//! where they are fed. Read `specs/Prepared.antt` first; the code begins in `src/gathering.rt` (ACCUM) and
+//! `src/truths.rt` (WHERE), and `src/leaves.rt` has what is found once.
 #![tactic(auto)]
 
 mod acts;
 mod aliases;
+mod bound;
 mod candidate;
 mod cells;
 mod feeding;
@@ -27,14 +30,19 @@ mod ints;
 mod kinds;
 mod leaves;
 mod names;
+mod reading;
+mod rows;
 mod scalars;
+mod takes;
 mod truths;
 
+pub use bound::{bind, no_alias};
 pub use candidate::{Outcome, contribute};
 pub use cells::{Cells, Taken};
 pub use feeding::Room;
 pub use gathering::gather;
 pub use inputs::run_feed;
 pub use leaves::{Leaves, leaves_of};
-pub use scalars::{ScalarInput, feed_scalars, value_of};
+pub use rows::Ints;
+pub use scalars::{ScalarInput, feed_scalars, input_of};
 pub use truths::passes;

@@ -5,14 +5,19 @@ ghost use Rattle.gq_value.specs.Views.{val};
 ghost use Rattle.gq_tree.specs.Tree as tree;
 ghost use Rattle.gq_rules_calendar.specs.Gregorian.{gregorian};
 ghost use Rattle.gq_rules_meaning.specs.Answers.{Gives};
+ghost use Rattle.gq_rules_meaning.specs.States as states;
 ghost use Rattle.gq_plan_ir.specs.ExprView.{field_of};
+ghost use Rattle.gq_eval_attributes.specs.Reads.{IsReadInt};
+ghost use Rattle.gq_index.specs.Rows.{HaveAttributes};
 ghost use Rattle.gq_exec_contribute.specs.Prepared.{IsEdge, IsHeld, IsHeldInt, IsHeldTruth, IsVertex, NoAlias, is_at, part_value, sees};
 
+use crate::inputs::int_seen;
 use crate::leaves::Leaves;
-use gq_eval_attributes::{edge_int, vertex_int};
+use gq_eval_attributes::{edge_int, vertex_field, vertex_int};
 use gq_eval_context::BlockContext;
 use gq_frame::Thing;
 use gq_graph::Candidate;
+use gq_index::Graph;
 use gq_plan_ir::{Field, PlaceType};
 use gq_value::Value;
 
@@ -64,8 +69,23 @@ pub(crate) fn field_int(
     ensures { IfSome result (λ x. part_value (sees gregorian over.now leaves.now c.now) place (tree.Field (field_of field.now)) ≡ Gives (Int x)) }
 {
     match vertex_at(leaves, c, place) {
-        Some(vertex) => vertex_int(over.graph, field, vertex),
+        Some(vertex) => vertex_field_int(over.graph, field, vertex),
         None => edge_field(field, over, leaves, c, place),
+    }
+}
+
+/// The INT that a field of a vertex is: an attribute, or else its id.
+#[tactic(auto, using(crate::proofs::NameLemmas::field_laws))]
+fn vertex_field_int(graph: Graph<'_>, field: &Field, vertex: u32) -> Option<i64>
+    requires { HaveAttributes graph.catalog.now graph.store.now.vertices }
+    ensures { IsReadInt graph.entry (λ world. states.vertex_field world (field_of field.now) vertex) result }
+{
+    match vertex_int(graph, field, vertex) {
+        Some(x) => Some(x),
+        None => match vertex_field(graph, field, vertex) {
+            Ok(seen) => int_seen(&seen),
+            Err(_) => None,
+        },
     }
 }
 

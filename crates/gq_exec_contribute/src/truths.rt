@@ -21,11 +21,13 @@ use gq_eval_operand::nots;
 use gq_graph::Candidate;
 use gq_plan_ir::{Behind, Expr};
 use gq_tree::CmpSign;
+use std::alloc::Global;
 use std::cmp::Ordering;
 
-/// Whether a candidate passes WHERE. Takes no memory.
+/// Whether a candidate passes WHERE. Takes memory only meanwhile.
 pub fn passes(
     filter: &Option<Expr>,
+    alloc: Global,
     over: &BlockContext<'_>,
     leaves: &Leaves<'_>,
     c: &Candidate,
@@ -35,15 +37,16 @@ pub fn passes(
 {
     match filter {
         None => Some(true),
-        Some(expr) => truth(expr, over, leaves, c),
+        Some(expr) => truth(expr, alloc, over, leaves, c),
     }
 }
 
-/// The truth that an expression is for a candidate. Takes no memory.
+/// The truth that an expression is for a candidate. Takes memory only meanwhile.
 #[cycle(truth)]
 #[tactic(auto, using(gq_plan_ir::proofs::ViewLaws::view_laws, crate::proofs::TruthLemmas::truth_laws))]
 pub(crate) fn truth(
     expr: &Expr,
+    alloc: Global,
     over: &BlockContext<'_>,
     leaves: &Leaves<'_>,
     c: &Candidate,
@@ -53,13 +56,13 @@ pub(crate) fn truth(
 {
     match expr {
         Expr::Cmp(left, sign, right) => {
-            compared(left.get(), right.get(), *sign, over, leaves, c)
+            compared(left.get(), right.get(), *sign, alloc, over, leaves, c)
         }
         Expr::Post(first, parts) => flag_behind(first.get(), parts.as_slice(), over, leaves, c),
         Expr::Truth(truth) => Some(*truth),
         Expr::Name(place) => variable_truth(over, leaves, *place),
         Expr::Global(slot) => held_truth(over, leaves, *slot, 0),
-        Expr::Not(_, _) | Expr::And(_, _) | Expr::Or(_, _) => joined(expr, over, leaves, c),
+        Expr::Not(_, _) | Expr::And(_, _) | Expr::Or(_, _) => joined(expr, alloc, over, leaves, c),
         Expr::Number(_) | Expr::Text(_) | Expr::Call(_, _) => None,
         Expr::Neg(_, _) | Expr::Mul(_, _) | Expr::Sum(_, _) => None,
     }
@@ -68,22 +71,28 @@ pub(crate) fn truth(
 /// What NOT, AND and OR give.
 #[cycle(truth)]
 #[tactic(auto, using(gq_plan_ir::proofs::ViewLaws::view_laws, crate::proofs::TruthLemmas::joined_laws))]
-fn joined(expr: &Expr, over: &BlockContext<'_>, leaves: &Leaves<'_>, c: &Candidate) -> Option<bool>
+fn joined(
+    expr: &Expr,
+    alloc: Global,
+    over: &BlockContext<'_>,
+    leaves: &Leaves<'_>,
+    c: &Candidate,
+) -> Option<bool>
     requires { AreFound over.now leaves.now }
     ensures { IfSome result (IsTruth (sees gregorian over.now leaves.now c.now) (view expr.now)) }
 {
     match expr {
         Expr::Not(count, operand) => {
-            let holds = truth(operand.get(), over, leaves, c)?;
+            let holds = truth(operand.get(), alloc, over, leaves, c)?;
             Some(nots(*count, holds))
         }
         Expr::And(first, others) => {
-            let holds = truth(first.get(), over, leaves, c)?;
-            all(others.as_slice(), over, leaves, c, holds)
+            let holds = truth(first.get(), alloc, over, leaves, c)?;
+            all(others.as_slice(), alloc, over, leaves, c, holds)
         }
         Expr::Or(first, others) => {
-            let holds = truth(first.get(), over, leaves, c)?;
-            any(others.as_slice(), over, leaves, c, holds)
+            let holds = truth(first.get(), alloc, over, leaves, c)?;
+            any(others.as_slice(), alloc, over, leaves, c, holds)
         }
         _ => None,
     }
@@ -94,6 +103,7 @@ fn joined(expr: &Expr, over: &BlockContext<'_>, leaves: &Leaves<'_>, c: &Candida
 #[tactic(auto, using(crate::proofs::TruthLemmas::list_laws))]
 fn all(
     others: &[Expr],
+    alloc: Global,
     over: &BlockContext<'_>,
     leaves: &Leaves<'_>,
     c: &Candidate,
@@ -107,7 +117,7 @@ fn all(
         if !holds {
             return Some(false);
         }
-        holds = truth(other, over, leaves, c)?;
+        holds = truth(other, alloc, over, leaves, c)?;
     }
     Some(holds)
 }
@@ -117,6 +127,7 @@ fn all(
 #[tactic(auto, using(crate::proofs::TruthLemmas::list_laws))]
 fn any(
     others: &[Expr],
+    alloc: Global,
     over: &BlockContext<'_>,
     leaves: &Leaves<'_>,
     c: &Candidate,
@@ -130,7 +141,7 @@ fn any(
         if holds {
             return Some(true);
         }
-        holds = truth(other, over, leaves, c)?;
+        holds = truth(other, alloc, over, leaves, c)?;
     }
     Some(holds)
 }
@@ -141,6 +152,7 @@ fn compared(
     left: &Expr,
     right: &Expr,
     sign: CmpSign,
+    alloc: Global,
     over: &BlockContext<'_>,
     leaves: &Leaves<'_>,
     c: &Candidate,
@@ -148,8 +160,8 @@ fn compared(
     requires { AreFound over.now leaves.now }
     ensures { IfSome result (IsTruth (sees gregorian over.now leaves.now c.now) (tree.Cmp (view left.now) sign (view right.now))) }
 {
-    match int(left, over, leaves, c) {
-        Some(x) => match int(right, over, leaves, c) {
+    match int(left, alloc, over, leaves, c) {
+        Some(x) => match int(right, alloc, over, leaves, c) {
             Some(y) => Some(ints_related(sign, x, y)),
             None => None,
         },

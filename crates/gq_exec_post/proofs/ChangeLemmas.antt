@@ -1,5 +1,5 @@
 -- ChangeLemmas: accumulators with another content at a target, as the definitions have them.
-use Rattle.std.proofs.Common.{◌≡◌, ℕ, zero, suc, ◌+◌, ◌<◌, ◌≤◌, ◌&&◌, Bool, true, false, List, [], ◌∷◌, take, drop, length, map, set, slice_get, Some, None, refl, sym, ap, ap₂, ◌∙◌, subst, arith}
+use Rattle.std.proofs.Common.{◌≡◌, ℕ, zero, suc, ◌+◌, ◌<◌, ◌&&◌, Bool, true, List, [], ◌∷◌, take, drop, map, set, slice_get, Some, refl, sym, ap, ap₂, ◌∙◌, subst, arith}
 use Rattle.gq_value.specs.declared.kind.Slot.{Slot}
 use Rattle.gq_value.specs.Accums as kinds
 use Rattle.gq_value.specs.Accums.{Accum}
@@ -9,18 +9,16 @@ use Rattle.gq_value.specs.Val.{Val}
 use Rattle.gq_accum_laws.specs.Holds.{Holds}
 use Rattle.gq_accum_laws.specs.Fits.{fits, HasRoom, IsProper}
 use Rattle.gq_accum_laws.specs.Reads.{set_to}
-use Rattle.gq_accum_laws.specs.Targets.{target_count, target_number}
+use Rattle.gq_accum_laws.specs.Targets.{target_number}
 use Rattle.gq_accum_laws.proofs.FedLaws.{fed_law}
-use Rattle.gq_nest.specs.declared.content.Content.{Content, out-Content}
-use Rattle.gq_nest.specs.Forms.{view}
+use Rattle.gq_nest.specs.declared.content.Content.{Content}
 use Rattle.gq_nest.specs.Shows.{Shows}
-use Rattle.gq_nest.specs.Tells.{CanBeSet, is_settable}
+use Rattle.gq_nest.specs.Tells.{is_settable}
 use Rattle.gq_frame.specs.declared.slots.Slots.{Slots}
 use Rattle.gq_frame.specs.declared.accums.Accums.{Accums}
 use Rattle.gq_frame.specs.Targets.{attached_in, targets_of, number_of}
 use Rattle.gq_rules_meaning.specs.States as states
 use Rattle.gq_rules_meaning.specs.Writes.{Making, changed_at, fits_at, passes_at, slot_changed}
-use Rattle.gq_plan_ir.specs.Reference as reference
 use Rattle.gq_plan_ir.specs.Reference.{Reference}
 use Rattle.gq_eval_operand.specs.Sound.{HoldsForms, IsSound}
 use Rattle.gq_frame.specs.Slots.{AreSound, slot_seen, slots_from, slots_are}

@@ -7,7 +7,7 @@ use Rattle.std.proofs.lemmas.List.{append_assoc, append-nil, length-map, reverse
 use Rattle.gq_value.specs.declared.kind.Input.{Input}
 use Rattle.gq_value.specs.AccumViews.{given}
 use Rattle.gq_rules_meaning.specs.Answers.{Answer, Gives}
-use Rattle.gq_rules_meaning.specs.Blocks.{BlockFault, SumRange, fed_together, first_unfit, unless_unfit}
+use Rattle.gq_rules_meaning.specs.Blocks.{BlockFault, fed_together, first_unfit, unless_unfit}
 use Rattle.gq_rules_meaning.specs.States as states
 use Rattle.gq_plan_ir.specs.Reference.{Reference}
 use Rattle.gq_frame.specs.declared.accums.Accums.{Accums}

@@ -1,15 +1,15 @@
 -- JudgingLaws: where a content fitted before an input, what the input reaches tells whether it fits after it.
-use Rattle.std.proofs.Common.{if◌then◌else◌, ◌≡◌, ℕ, pos, ◌||◌, ◌&&◌, Bool, true, false, List, [], ◌∷◌, ◌++◌, map, Ordering, Less, Equal, Greater, refl, sym, ap, ap₂, ◌∙◌, subst}
+use Rattle.std.proofs.Common.{if◌then◌else◌, ◌≡◌, pos, ◌||◌, ◌&&◌, Bool, true, false, List, [], ◌∷◌, ◌++◌, map, Ordering, Less, Equal, Greater, refl, sym, ap, ap₂, ◌∙◌}
 use Rattle.std.specs.List.{list_all}
 use Rattle.std.specs.Ordering.{is_eq}
 use Rattle.gq_value.specs.declared.kind.Number.{Number}
 use Rattle.gq_value.specs.declared.kind.Number.TheVariants as number
 use Rattle.gq_value.specs.Val.{Val}
 use Rattle.gq_value.specs.Arithmetic.{is_within}
-use Rattle.gq_value.specs.Accums.{Base, Accum, SumAccum, MinAccum, MaxAccum, OrAccum, AndAccum, BitwiseOrAccum, BitwiseAndAccum, AvgAccum, SetAccum, BagAccum, ListAccum, MapAccum, GroupByAccum, HeapAccum, Parts, no_part, part_and, Given, One, Keyed, Givens}
+use Rattle.gq_value.specs.Accums.{Accum, SumAccum, MinAccum, MaxAccum, OrAccum, AndAccum, BitwiseOrAccum, BitwiseAndAccum, AvgAccum, SetAccum, BagAccum, ListAccum, MapAccum, GroupByAccum, HeapAccum, Parts, no_part, part_and, Given, One, Keyed, Givens}
 use Rattle.gq_accum_laws.specs.Gather.{among, distinct}
 use Rattle.gq_accum_laws.specs.Holds.{Holds, HoldsEach, row_cmp}
-use Rattle.gq_accum_laws.specs.Inputs.{own, own_of, rows_in, first, rest}
+use Rattle.gq_accum_laws.specs.Inputs.{own, first, rest}
 use Rattle.gq_accum_laws.specs.After.{fresh, fresh_each, after, after_each}
 use Rattle.gq_accum_laws.specs.Fits.{fits, fit, IsProper, AreProper}
 use Rattle.gq_accum_laws.proofs.GatherLaws.{itself}

@@ -1,5 +1,5 @@
 -- JudgingSteps: what stands under the keys of an input tells whether a content fits, at each variant.
-use Rattle.std.proofs.Common.{◌≡◌, ℕ, zero, suc, ◌+◌, ◌<◌, ◌≤◌, pos, ◌&&◌, Bool, true, false, List, [], ◌∷◌, map, drop, length, get_or, Option, Some, None, Bor, refl, sym, ap, ap₂, ◌∙◌, subst, arith, ltb-true}
+use Rattle.std.proofs.Common.{◌≡◌, ℕ, zero, suc, ◌+◌, ◌<◌, ◌≤◌, pos, ◌&&◌, Bool, true, false, List, [], ◌∷◌, map, drop, length, get_or, Some, None, refl, sym, ap, ap₂, ◌∙◌, subst, arith}
 use Rattle.std.specs.Ordering.{is_eq, on}
 use Rattle.std.specs.Cmp.Lexicographic.{slice_cmp}
 use Rattle.std.specs.Map.{lookup}
@@ -15,7 +15,7 @@ use Rattle.gq_value.specs.Accums.{Base, Accum, SumAccum, MinAccum, MaxAccum, OrA
 use Rattle.gq_value.specs.AccumViews.{given, givens}
 use Rattle.gq_accum_laws.specs.Holds.{Holds, HoldsEach}
 use Rattle.gq_accum_laws.specs.Inputs.{first, rest}
-use Rattle.gq_accum_laws.specs.After.{fresh, fresh_each}
+use Rattle.gq_accum_laws.specs.After.{fresh_each}
 use Rattle.gq_accum_laws.specs.Fits.{fits, AreProper}
 use Rattle.gq_accum.specs.declared.scalar.Scalar.{Scalar}
 use Rattle.gq_accum.specs.declared.scalar.Scalar.TheVariants.{SumInt, SumUInt, MinInt, MinUInt, MaxInt, MaxUInt, Or, And, BitOr, BitAnd, Avg}
@@ -155,14 +155,8 @@ module _ (c : Content) (os : List Content) (m : BTreeMap (Vec Value) (List Conte
 past_end : (xs : List Input) (i : ℕ) → length xs ≤ i → given_at xs i ≡ One (Int (pos 0))
 past_end xs i l = ap (λ ys. first (givens (map given ys))) (left_none xs i l)
 
-within : (xs : List Input) (i : ℕ) (x : Input) → i < length xs → x ≡ get_or xs i x → given_at xs i ≡ given x
-within xs i x l e = ap (λ ys. first (givens (map given ys))) (left_more xs i x l e)
-
 pub no_input : (xs : List Input) (i : ℕ) (part : Content) (r : Bool) → IsItemAt xs i None → Tells part r fits → Tells part r (λ k h. fits_where k h (given_at xs i))
 no_input xs i part r at t = let l = at.3 in tells_one part r (given_at xs i) (Int (pos 0)) (past_end xs i l) t
-
-pub an_input : (xs : List Input) (i : ℕ) (part : Content) (r : Bool) (x : Bor Input) → IsItemAt xs i (Some x) → Tells part r (λ k h. fits_where k h (given x.now)) → Tells part r (λ k h. fits_where k h (given_at xs i))
-an_input xs i part r x at t = record { each = λ k h s. t.each k h s ∙ ap (fits_where k h) (sym (within xs i x.now (ltb-true _ _ (sym at.0)) at.1)) }
 
 -- midway: what was passed fits
 pub record JudgedTo (xs : List Input) (cs : List Content) (i : ℕ) : Type 0 where

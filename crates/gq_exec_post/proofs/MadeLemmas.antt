@@ -1,5 +1,5 @@
 -- MadeLemmas: what a change makes, in the cases of the code.
-use Rattle.std.proofs.Common.{◌≡◌, Option, Some, None, Result, refl, sym, ap, subst, ◌∙◌}
+use Rattle.std.proofs.Common.{◌≡◌, Option, Some, None, refl, sym, ap, subst, ◌∙◌}
 use Rattle.gq_tree.specs.Tree.{Tree}
 use Rattle.gq_value.specs.declared.kind.Input.{Input}
 use Rattle.gq_value.specs.declared.kind.Number.{Number}
@@ -19,11 +19,10 @@ use Rattle.gq_rules_meaning.specs.Writes.{Making, made_by, with_input, with_valu
 use Rattle.gq_eval_operand.specs.declared.halt.Halt.{Halt}
 use Rattle.gq_eval_operand.specs.declared.halt.Halt.TheVariants as halt
 use Rattle.gq_eval_operand.specs.Meant.{Halts, number_to}
-use Rattle.gq_exec_post.specs.declared.making.Made.{Made}
 use Rattle.gq_exec_post.specs.declared.making.Made.TheVariants as made
 use Rattle.gq_exec_post.specs.declared.making.Putting.{Putting}
 use Rattle.gq_exec_post.specs.declared.making.Putting.TheVariants as putting
-use Rattle.gq_exec_post.specs.Making.{PutsAs, PutsBase, making_of, put_to}
+use Rattle.gq_exec_post.specs.Making.{PutsAs, making_of, put_to}
 
 stops : {A B : Type 0} (o : Answer Wrong A) (f : A → Answer Wrong B) (h : Halt) → Halts o h → Halts (o >>= f) h
 stops o f (halt.Wrong w) e = ap (λ p. p >>= f) e

@@ -1,12 +1,12 @@
 -- PostLemmas: all phases together, for each state that the frame shows.
-use Rattle.std.proofs.Common.{if◌then◌else◌, ◌≡◌, ℕ, Bool, true, false, List, [], ◌++◌, Option, Some, None, Result, refl, sym, ap, ap₂, subst, ◌∙◌}
+use Rattle.std.proofs.Common.{if◌then◌else◌, ◌≡◌, ℕ, Bool, true, false, List, ◌++◌, Option, Some, None, Result, refl, sym, ap, ap₂, subst, ◌∙◌}
 use Rattle.std.specs.Option.{option_map}
 use mathlib.Core.Path.{fun_ext}
 use Rattle.gq_rules_typing.specs.Mentions.{in_act}
 use Rattle.gq_rules_typing.specs.Patterns.{is_alias, target_alias}
 use Rattle.gq_rules_typing.specs.Selecting.{Act}
 use Rattle.gq_rules_meaning.specs.Calendars.{Calendar}
-use Rattle.gq_rules_meaning.specs.Posts.{Post, for_target, phases, post_of, posted}
+use Rattle.gq_rules_meaning.specs.Posts.{Post, for_target, post_of, posted}
 use Rattle.gq_rules_meaning.specs.Sources.{from, named_as, with_vertex}
 use Rattle.gq_rules_meaning.specs.States.{Thing, State, a_vertex, sight}
 use Rattle.gq_plan_ir.specs.declared.block.Act as code_act

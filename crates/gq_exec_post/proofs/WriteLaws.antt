@@ -1,5 +1,5 @@
 -- WriteLaws: a change made in two steps is the change of the definitions.
-use Rattle.std.proofs.Common.{◌≡◌, ℕ, Bool, true, false, List, Option, Some, None, slice_get, refl, sym, ap, ap₂, ◌∙◌}
+use Rattle.std.proofs.Common.{◌≡◌, ℕ, Bool, List, Option, Some, None, slice_get, sym, ap, ap₂, ◌∙◌}
 use Rattle.std.specs.Option.{option_map}
 use Rattle.gq_value.specs.declared.kind.Slot.{Slot}
 use Rattle.gq_value.specs.declared.value.Wrong.{Wrong}
@@ -10,7 +10,7 @@ use Rattle.gq_rules_meaning.specs.Answers.{Answer, Gives, Faults, ◌>>=◌, bla
 use Rattle.gq_rules_meaning.specs.Expressions.{Look}
 use Rattle.gq_rules_meaning.specs.States as states
 use Rattle.gq_rules_meaning.specs.States.{slot_named}
-use Rattle.gq_rules_meaning.specs.Writes.{Making, WriteFault, Wrongly, TooBig, changed_at, fits_at, if_fit, made_by, slot_changed, slots_changed}
+use Rattle.gq_rules_meaning.specs.Writes.{WriteFault, Wrongly, changed_at, fits_at, if_fit, made_by, slot_changed, slots_changed}
 use Rattle.gq_plan_ir.specs.Reference as reference
 use Rattle.gq_plan_ir.specs.Reference.{Reference}
 use Rattle.gq_plan_ir.specs.References.{same}

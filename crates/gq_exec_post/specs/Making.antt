@@ -1,15 +1,13 @@
 -- Making: what a change makes of a content, as the code has it.
-use Rattle.std.specs.Prelude.{◌≡◌, Bool, Option, Some, None}
+use Rattle.std.specs.Prelude.{◌≡◌, Option, Some, None}
 use Rattle.gq_value.specs.declared.value.Wrong.{Wrong}
 use Rattle.gq_value.specs.Val.{Val}
 use Rattle.gq_value.specs.Views.{val}
-use Rattle.gq_value.specs.Accums.{Base, Accum}
+use Rattle.gq_value.specs.Accums.{Base}
 use Rattle.gq_value.specs.AccumViews.{given}
-use Rattle.gq_value.specs.Typed.{takes, suits}
 use Rattle.gq_rules_meaning.specs.Answers.{Answer, Gives}
 use Rattle.gq_rules_meaning.specs.Meanings.{converted_to}
 use Rattle.gq_rules_meaning.specs.Writes.{Making, with_input, with_value}
-use Rattle.gq_nest.specs.Tells.{is_settable}
 use Rattle.gq_eval_operand.specs.Meant.{number_to}
 use Rattle.gq_exec_post.specs.declared.making.Made.{Made}
 use Rattle.gq_exec_post.specs.declared.making.Made.TheVariants as made

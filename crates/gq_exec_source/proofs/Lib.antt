@@ -13,4 +13,5 @@ pub mod BindingLemmas
 pub mod WithinLemmas
 pub mod PathLemmas
 pub mod EntryLemmas
+pub mod LeadingLemmas
 pub mod LookupLemmas

@@ -1,10 +1,8 @@
 -- LookupLemmas: what the index has from a vertex is what one step leads to, and step after step it is all bindings.
-use Rattle.std.proofs.Common.{ℕ, zero, suc, ◌+◌, ◌-◌, ◌<◌, ◌≤◌, ◌≡◌, Bool, true, false, cond, List, [], ◌∷◌, ◌++◌, ◌==◌, ◌||◌, ◌*◌, ◌/◌, not, replicate, length, get_or, take, drop, map, refl, ap, ap₂, sym, ◌∙◌, subst, arith, leb, ltb, leb-true, ltb-false, eq-eqb, append-nil, append_assoc, length-append}
-use Rattle.std.proofs.lemmas.Bool.{true≢false}
-use Rattle.std.specs.List.{filter, flat_map, list_any, All, AllByRecursion}
+use Rattle.std.proofs.Common.{ℕ, zero, suc, ◌+◌, ◌-◌, ◌<◌, ◌≤◌, ◌≡◌, Bool, true, false, cond, List, [], ◌∷◌, ◌++◌, ◌==◌, not, length, get_or, take, drop, map, refl, ap, ap₂, sym, ◌∙◌, subst, arith, leb, ltb, leb-true, ltb-false, eq-eqb, append-nil, append_assoc, length-append}
+use Rattle.std.specs.List.{filter, flat_map, All, AllByRecursion}
 use Rattle.std.specs.List.Sorted.{IsPartitionPoint}
-use Rattle.std.proofs.lemmas.List.{map-append, take_more, take_all, length-map, length-take-le, length-drop, length-replicate, get_or-drop}
-use Rattle.std.proofs.lemmas.List.Concat.{flat_map-append}
+use Rattle.std.proofs.lemmas.List.{map-append, take_more, take_all, length-map, length-take-le, length-drop, get_or-drop}
 use Rattle.std.proofs.lemmas.List.Elements.{filter-append, All-nil, All-cons}
 use Rattle.std.proofs.lemmas.List.Folds.{flat_map-map}
 use Rattle.std.proofs.lemmas.Bool.Decides.{nat_tests}
@@ -21,22 +19,19 @@ use Rattle.gq_index.proofs.WalkLemmas.{filter_flat_map}
 use Rattle.gq_index.proofs.IndexLemmas.{map_flat_map}
 use Rattle.gq_index.proofs.DegreeLemmas.{of_kind}
 use Rattle.gq_rules_typing.specs.Patterns.{PathStep}
-use Rattle.gq_rules_meaning.specs.Paths.{step_from, steps_from, bindings}
+use Rattle.gq_rules_meaning.specs.Paths.{steps_from, bindings}
 use Rattle.gq_exec_source.specs.declared.entries.Entry.{Entry}
 use Rattle.gq_exec_source.specs.declared.indexed.IndexedStep.{IndexedStep}
-use Rattle.gq_exec_source.specs.Entries.{found, went_on, AreFound}
-use Rattle.gq_exec_source.specs.Indexed.{plain, is_dead, IsReady, AreReady, AreDead}
-use Rattle.gq_exec_source.specs.Marks.{is_marked}
+use Rattle.gq_exec_source.specs.Entries.{found, AreFound}
+use Rattle.gq_exec_source.specs.Indexed.{plain, is_left_out, is_dead, leads_on, went_on, IsReady, AreReady}
 use Rattle.gq_exec_source.specs.declared.path_types.PathStep as code
 use Rattle.gq_exec_source.specs.Hops.{on_along, start_at, taken_from}
 use Rattle.gq_exec_source.specs.Ways.{step_of, step_walks}
+use Rattle.gq_exec_source.proofs.LeadingLemmas.{leading_low, led_all}
 use Rattle.gq_exec_source.proofs.BindingLemmas.{split_first, from_start}
 use Rattle.gq_exec_source.proofs.HopLemmas.{target_low}
 use Rattle.gq_exec_source.proofs.ListLemmas.{flat_map_same, flat_map_single, flat_map_more, first_shorter}
-use Rattle.gq_exec_source.proofs.MarkLemmas.{past_words}
-use Rattle.gq_exec_source.proofs.SetLemmas.{unmarked_none}
 use Rattle.gq_exec_source.proofs.StartLemmas.{numbers_below}
-use Rattle.gq_exec_source.proofs.WayLemmas.{went_step}
 
 -- ---- the part of a type among the ways from a vertex
 
@@ -105,120 +100,118 @@ part_is types edges v k first count ways rest part are there low point is high p
 
 -- ---- one step
 
-module _ (kinds targets : List ℕ) where
+module _ (kinds targets : List ℕ) (rest : List IndexedStep) where
   -- one way more
-  went_way : (kind : ℕ) (walk : Traversal) (way : Neighbor) → is_target kinds targets way.target ≡ true
-      → went_on kinds targets kind walk (way ∷ []) ≡ record { source = walk.source; kind = kind; row = way.row; target = way.target } ∷ []
+  went_way : (kind : ℕ) (walk : Traversal) (way : Neighbor) → leads_on kinds targets rest way.target ≡ true
+      → went_on kinds targets rest kind walk (way ∷ []) ≡ record { source = walk.source; kind = kind; row = way.row; target = way.target } ∷ []
   went_way kind walk way h = rw h refl
 
-  went_no_way : (kind : ℕ) (walk : Traversal) (way : Neighbor) → is_target kinds targets way.target ≡ false → went_on kinds targets kind walk (way ∷ []) ≡ []
+  went_no_way : (kind : ℕ) (walk : Traversal) (way : Neighbor) → leads_on kinds targets rest way.target ≡ false → went_on kinds targets rest kind walk (way ∷ []) ≡ []
   went_no_way kind walk way h = rw h refl
 
-  went_split : (kind : ℕ) (walk : Traversal) (xs ys : List Neighbor) → went_on kinds targets kind walk (xs ++ ys) ≡ went_on kinds targets kind walk xs ++ went_on kinds targets kind walk ys
+  went_split : (kind : ℕ) (walk : Traversal) (xs ys : List Neighbor) → went_on kinds targets rest kind walk (xs ++ ys) ≡ went_on kinds targets rest kind walk xs ++ went_on kinds targets rest kind walk ys
   went_split kind walk xs ys =
       let on : Neighbor → Traversal = λ way. record { source = walk.source; kind = kind; row = way.row; target = way.target } in
-      let p : Neighbor → Bool = λ way. is_target kinds targets way.target in
+      let p : Neighbor → Bool = λ way. leads_on kinds targets rest way.target in
       ap (map on) (filter-append p xs ys) ∙ map-append on (filter p xs) (filter p ys)
 
-  pub went_first : (kind : ℕ) (walk : Traversal) (ways : List Neighbor) (walks : List Traversal) → walks ≡ walks ++ went_on kinds targets kind walk (take 0 ways)
+  pub went_first : (kind : ℕ) (walk : Traversal) (ways : List Neighbor) (walks : List Traversal) → walks ≡ walks ++ went_on kinds targets rest kind walk (take 0 ways)
   went_first kind walk ways walks = sym (append-nil walks)
 
   pub went_more : (kind : ℕ) (walk : Traversal) (ways : List Neighbor) (i : ℕ) (way : Neighbor) (before now later : List Traversal) → i < length ways → way ≡ get_or ways i way
-      → is_target kinds targets way.target ≡ true → now ≡ before ++ went_on kinds targets kind walk (take i ways)
-      → later ≡ now ++ record { source = walk.source; kind = kind; row = way.row; target = way.target } ∷ [] → later ≡ before ++ went_on kinds targets kind walk (take (i + 1) ways)
+      → leads_on kinds targets rest way.target ≡ true → now ≡ before ++ went_on kinds targets rest kind walk (take i ways)
+      → later ≡ now ++ record { source = walk.source; kind = kind; row = way.row; target = way.target } ∷ [] → later ≡ before ++ went_on kinds targets rest kind walk (take (i + 1) ways)
   went_more kind walk ways i way before now later low at h was more =
       more ∙ ap (λ l. l ++ record { source = walk.source; kind = kind; row = way.row; target = way.target } ∷ []) was
-      ∙ append_assoc before (went_on kinds targets kind walk (take i ways)) (record { source = walk.source; kind = kind; row = way.row; target = way.target } ∷ [])
-      ∙ ap (λ l. before ++ l) (ap (λ l. went_on kinds targets kind walk (take i ways) ++ l) (sym (went_way kind walk way h)) ∙ sym (went_split kind walk (take i ways) (way ∷ []))
-      ∙ ap (went_on kinds targets kind walk) (ap (λ x. take i ways ++ x ∷ []) at ∙ sym (take_more ways i way low)))
+      ∙ append_assoc before (went_on kinds targets rest kind walk (take i ways)) (record { source = walk.source; kind = kind; row = way.row; target = way.target } ∷ [])
+      ∙ ap (λ l. before ++ l) (ap (λ l. went_on kinds targets rest kind walk (take i ways) ++ l) (sym (went_way kind walk way h)) ∙ sym (went_split kind walk (take i ways) (way ∷ []))
+      ∙ ap (went_on kinds targets rest kind walk) (ap (λ x. take i ways ++ x ∷ []) at ∙ sym (take_more ways i way low)))
 
   pub went_same : (kind : ℕ) (walk : Traversal) (ways : List Neighbor) (i : ℕ) (way : Neighbor) (before now : List Traversal) → i < length ways → way ≡ get_or ways i way
-      → is_target kinds targets way.target ≡ false → now ≡ before ++ went_on kinds targets kind walk (take i ways) → now ≡ before ++ went_on kinds targets kind walk (take (i + 1) ways)
+      → leads_on kinds targets rest way.target ≡ false → now ≡ before ++ went_on kinds targets rest kind walk (take i ways) → now ≡ before ++ went_on kinds targets rest kind walk (take (i + 1) ways)
   went_same kind walk ways i way before now low at h was =
-      was ∙ ap (λ l. before ++ l) (sym (append-nil (went_on kinds targets kind walk (take i ways)))
-      ∙ ap (λ l. went_on kinds targets kind walk (take i ways) ++ l) (sym (went_no_way kind walk way h)) ∙ sym (went_split kind walk (take i ways) (way ∷ []))
-      ∙ ap (went_on kinds targets kind walk) (ap (λ x. take i ways ++ x ∷ []) at ∙ sym (take_more ways i way low)))
+      was ∙ ap (λ l. before ++ l) (sym (append-nil (went_on kinds targets rest kind walk (take i ways)))
+      ∙ ap (λ l. went_on kinds targets rest kind walk (take i ways) ++ l) (sym (went_no_way kind walk way h)) ∙ sym (went_split kind walk (take i ways) (way ∷ []))
+      ∙ ap (went_on kinds targets rest kind walk) (ap (λ x. take i ways ++ x ∷ []) at ∙ sym (take_more ways i way low)))
 
   pub went_all : (kind : ℕ) (walk : Traversal) (ways : List Neighbor) (i : ℕ) (before now : List Traversal) → length ways ≤ i
-      → now ≡ before ++ went_on kinds targets kind walk (take i ways) → now ≡ before ++ went_on kinds targets kind walk ways
-  went_all kind walk ways i before now long was = was ∙ ap (λ l. before ++ went_on kinds targets kind walk l) (take_all i ways long)
+      → now ≡ before ++ went_on kinds targets rest kind walk (take i ways) → now ≡ before ++ went_on kinds targets rest kind walk ways
+  went_all kind walk ways i before now long was = was ∙ ap (λ l. before ++ went_on kinds targets rest kind walk l) (take_all i ways long)
 
 pub ruleset went_laws = (went_first, went_more, went_same, went_all)
 
-module _ (kinds targets : List ℕ) where
+module _ (kinds targets : List ℕ) (rest : List IndexedStep) where
   -- along the ways that the index has under a type
   went_is : (kind : ℕ) (walk : Traversal) (ways : List Neighbor)
-      → went_on kinds targets kind walk ways ≡ map (on_along walk) (filter (λ (x : Traversal). is_target kinds targets x.target) (map {B = Traversal} (λ (x : Traversal). record x { kind = kind }) (map (walked walk.target) ways)))
+      → went_on kinds targets rest kind walk ways ≡ map (on_along walk) (filter (λ (x : Traversal). leads_on kinds targets rest x.target) (map {B = Traversal} (λ (x : Traversal). record x { kind = kind }) (map (walked walk.target) ways)))
   went_is kind walk [] = refl
-  went_is kind walk (way ∷ ways) = by (is_target kinds targets way.target) (went_is kind walk ways)
+  went_is kind walk (way ∷ ways) = by (leads_on kinds targets rest way.target) (went_is kind walk ways)
     where
       others : List Traversal
-      others = filter (λ (x : Traversal). is_target kinds targets x.target) (map {B = Traversal} (λ (x : Traversal). record x { kind = kind }) (map (walked walk.target) ways))
+      others = filter (λ (x : Traversal). leads_on kinds targets rest x.target) (map {B = Traversal} (λ (x : Traversal). record x { kind = kind }) (map (walked walk.target) ways))
 
       on : Neighbor → Traversal
       on way = record { source = walk.source; kind = kind; row = way.row; target = way.target }
 
       p : Neighbor → Bool
-      p way = is_target kinds targets way.target
+      p way = leads_on kinds targets rest way.target
 
       by : (b : Bool) → map on (filter p ways) ≡ map (on_along walk) others
           → map on (cond b (way ∷ filter p ways) (filter p ways)) ≡ map (on_along walk) (cond b (record { source = walk.target; kind = kind; row = way.row; target = way.target } ∷ others) others)
-      by true rest = ap (λ l. on way ∷ l) rest
-      by false rest = rest
+      by true later = ap (λ l. on way ∷ l) later
+      by false later = later
 
   -- what the entries so far lead to
   abbrev pub gone : List EdgeType → List EdgeRow → Traversal → List Entry → List Traversal
-  gone types edges walk entries = flat_map (λ entry. map (on_along walk) (filter (λ (x : Traversal). is_target kinds targets x.target) (found types edges walk.target entry))) entries
+  gone types edges walk entries = flat_map (λ entry. map (on_along walk) (filter (λ (x : Traversal). leads_on kinds targets rest x.target) (found types edges walk.target entry))) entries
 
   pub gone_more : (types : List EdgeType) (edges : List EdgeRow) (walk : Traversal) (entries : List Entry) (i : ℕ) (d : Entry) (ways : List Neighbor) (now later : List Traversal)
       → i < length entries → map (walked walk.target) ways ≡ walks_under types edges walk.target (get_or entries i d).under
-      → now ≡ gone types edges walk (take i entries) → later ≡ now ++ went_on kinds targets (get_or entries i d).kind walk ways → later ≡ gone types edges walk (take (i + 1) entries)
+      → now ≡ gone types edges walk (take i entries) → later ≡ now ++ went_on kinds targets rest (get_or entries i d).kind walk ways → later ≡ gone types edges walk (take (i + 1) entries)
   gone_more types edges walk entries i d ways now later low are was more =
       let entry : Entry = get_or entries i d in
-      let G : Entry → List Traversal = λ entry. map (on_along walk) (filter (λ (x : Traversal). is_target kinds targets x.target) (found types edges walk.target entry)) in
+      let G : Entry → List Traversal = λ entry. map (on_along walk) (filter (λ (x : Traversal). leads_on kinds targets rest x.target) (found types edges walk.target entry)) in
       more ∙ ap₂ (λ (a b : List Traversal). a ++ b) was
-      (went_is entry.kind walk ways ∙ ap (λ l. map (on_along walk) (filter (λ (x : Traversal). is_target kinds targets x.target) (map {B = Traversal} (λ (x : Traversal). record x { kind = entry.kind }) l))) are)
+      (went_is entry.kind walk ways ∙ ap (λ l. map (on_along walk) (filter (λ (x : Traversal). leads_on kinds targets rest x.target) (map {B = Traversal} (λ (x : Traversal). record x { kind = entry.kind }) l))) are)
       ∙ sym (flat_map_more G entries i d low)
 
-  twice : (walk : Traversal) (walks : List Traversal) → map of_walk (map (on_along walk) walks) ≡ map (λ x. of_walk (on_along walk x)) walks
-  twice walk [] = refl
-  twice walk (x ∷ walks) = ap (λ l. of_walk (on_along walk x) ∷ l) (twice walk walks)
-
   gone_is : (types : List EdgeType) (edges : List EdgeRow) (walk : Traversal) (entries : List Entry)
-      → gone types edges walk entries ≡ map (on_along walk) (filter (λ (x : Traversal). is_target kinds targets x.target) (flat_map (found types edges walk.target) entries))
+      → gone types edges walk entries ≡ map (on_along walk) (filter (λ (x : Traversal). leads_on kinds targets rest x.target) (flat_map (found types edges walk.target) entries))
   gone_is types edges walk entries =
       let F : Entry → List Traversal = found types edges walk.target in
-      let p : Traversal → Bool = λ x. is_target kinds targets x.target in
+      let p : Traversal → Bool = λ x. leads_on kinds targets rest x.target in
       sym (ap (map (on_along walk)) (filter_flat_map p F entries) ∙ map_flat_map (on_along walk) (λ entry. filter p (F entry)) entries)
 
-  gone_within : (walk : Traversal) (walks : List Traversal) → All (λ (w : Traversal). w.target < length kinds) (map (on_along walk) (filter (λ (x : Traversal). is_target kinds targets x.target) walks))
+  gone_within : (walk : Traversal) (walks : List Traversal) → All (λ (w : Traversal). w.target < length kinds) (map (on_along walk) (filter (λ (x : Traversal). leads_on kinds targets rest x.target) walks))
   gone_within walk [] = All-nil (λ (w : Traversal). w.target < length kinds)
-  gone_within walk (x ∷ walks) = by (is_target kinds targets x.target) refl (gone_within walk walks)
+  gone_within walk (x ∷ walks) = by (leads_on kinds targets rest x.target) refl (gone_within walk walks)
     where
       others : List Traversal
-      others = filter (λ (x : Traversal). is_target kinds targets x.target) walks
+      others = filter (λ (x : Traversal). leads_on kinds targets rest x.target) walks
 
-      by : (b : Bool) → is_target kinds targets x.target ≡ b → All (λ (w : Traversal). w.target < length kinds) (map (on_along walk) others)
+      by : (b : Bool) → leads_on kinds targets rest x.target ≡ b → All (λ (w : Traversal). w.target < length kinds) (map (on_along walk) others)
           → All (λ (w : Traversal). w.target < length kinds) (map (on_along walk) (cond b (x ∷ others) others))
-      by true h rest = All-cons (λ (w : Traversal). w.target < length kinds) (on_along walk x) (map (on_along walk) others) (target_low kinds targets x.target h) rest
-      by false h rest = rest
+      by true h later = All-cons (λ (w : Traversal). w.target < length kinds) (on_along walk x) (map (on_along walk) others) (leading_low kinds targets rest x.target h) later
+      by false h later = later
 
--- one step leads to what the definition says, and to vertices that are there
-pub taken_is : (sight : Sight) (step : PathStep) (walk : Traversal) (entries : List Entry) (targets : List ℕ) (i : ℕ) (walks : List Traversal) → length entries ≤ i → targets ≡ step.targets
-    → AreFound sight.types entries (step_walks step sight.types) → walks ≡ gone sight.kinds targets sight.types sight.edges walk (take i entries) → map of_walk walks ≡ step_from sight step (of_walk walk)
-taken_is sight step walk entries targets i walks long same are is =
-    ap (map of_walk) (is ∙ ap (gone sight.kinds targets sight.types sight.edges walk) (take_all i entries long) ∙ gone_is sight.kinds targets sight.types sight.edges walk entries
-    ∙ ap (λ l. map (on_along walk) (filter (λ (x : Traversal). is_target sight.kinds targets x.target) l)) (are.same sight.edges walk.target)
-    ∙ ap (λ ts. map (on_along walk) (filter (λ (x : Traversal). is_target sight.kinds ts x.target) (taken_from walk.target (step_walks step sight.types sight.edges)))) same)
-    ∙ twice sight.kinds step.targets walk (filter (λ (x : Traversal). is_target sight.kinds step.targets x.target) (taken_from walk.target (step_walks step sight.types sight.edges)))
-    ∙ went_step sight step walk
+-- one step leads to all that it and those behind it lead to, and to vertices that are there
+pub taken_is : (sight : Sight) (step : PathStep) (rest : List IndexedStep) (walk : Traversal) (entries : List Entry) (i : ℕ) (walks : List Traversal) → length entries ≤ i → AreReady sight rest
+    → AreFound sight.types entries (step_walks step sight.types) → walks ≡ gone sight.kinds step.targets rest sight.types sight.edges walk (take i entries)
+    → flat_map (λ x. steps_from sight (map plain rest) (of_walk x)) walks ≡ steps_from sight (step ∷ map plain rest) (of_walk walk)
+taken_is sight step rest walk entries i walks long ready are is =
+    let S : Traversal → List Candidate = λ x. steps_from sight (map plain rest) (of_walk x) in
+    let on : Traversal → Bool = λ x. leads_on sight.kinds step.targets rest x.target in
+    ap (flat_map S) (is ∙ ap (gone sight.kinds step.targets rest sight.types sight.edges walk) (take_all i entries long) ∙ gone_is sight.kinds step.targets rest sight.types sight.edges walk entries
+    ∙ ap (λ l. map (on_along walk) (filter on l)) (are.same sight.edges walk.target))
+    ∙ flat_map-map S (on_along walk) (filter on (taken_from walk.target (step_walks step sight.types sight.edges)))
+    ∙ led_all sight step rest ready walk
 
-pub taken_within : (vertices : List VertexRow) (kinds targets : List ℕ) (types : List EdgeType) (edges : List EdgeRow) (walk : Traversal) (entries : List Entry) (walks : List Traversal)
-    → length kinds ≡ length vertices → walks ≡ gone kinds targets types edges walk entries → All (λ (w : Traversal). w.target < length vertices) walks
-taken_within vertices kinds targets types edges walk entries walks count is =
-    subst (All (λ (w : Traversal). w.target < length vertices)) (sym (is ∙ gone_is kinds targets types edges walk entries))
-    (subst (λ (n : ℕ). All (λ (w : Traversal). w.target < n) (map (on_along walk) (filter (λ (x : Traversal). is_target kinds targets x.target) (flat_map (found types edges walk.target) entries)))) count
-    (gone_within kinds targets walk (flat_map (found types edges walk.target) entries)))
+pub taken_within : (vertices : List VertexRow) (kinds targets : List ℕ) (rest : List IndexedStep) (types : List EdgeType) (edges : List EdgeRow) (walk : Traversal) (entries : List Entry) (walks : List Traversal)
+    → length kinds ≡ length vertices → walks ≡ gone kinds targets rest types edges walk entries → All (λ (w : Traversal). w.target < length vertices) walks
+taken_within vertices kinds targets rest types edges walk entries walks count is =
+    subst (All (λ (w : Traversal). w.target < length vertices)) (sym (is ∙ gone_is kinds targets rest types edges walk entries))
+    (subst (λ (n : ℕ). All (λ (w : Traversal). w.target < n) (map (on_along walk) (filter (λ (x : Traversal). leads_on kinds targets rest x.target) (flat_map (found types edges walk.target) entries)))) count
+    (gone_within kinds targets rest walk (flat_map (found types edges walk.target) entries)))
 
 -- ---- one walk after another
 
@@ -250,13 +243,8 @@ pub no_step : (sight : Sight) (steps : List IndexedStep) (walks : List Traversal
 no_step sight [] walks none = flat_map_single of_walk walks
 no_step sight (step ∷ steps) walks none = absurd (omega (arith, none))
 
--- what a step leads to leads to what the step and those behind it lead to
-pub next_leads : (sight : Sight) (step : PathStep) (rest : List PathStep) (walk : Traversal) (next : List Traversal) → map of_walk next ≡ step_from sight step (of_walk walk)
-    → flat_map (λ x. steps_from sight rest (of_walk x)) next ≡ steps_from sight (step ∷ rest) (of_walk walk)
-next_leads sight step rest walk next is = sym (flat_map-map (steps_from sight rest) of_walk next) ∙ ap (flat_map (steps_from sight rest)) is
-
 -- from a dead end nothing does
-pub next_none : (sight : Sight) (step : IndexedStep) (rest : List IndexedStep) (walk : Traversal) (next : List Traversal) → IsReady sight step rest → walk.target < length sight.kinds → is_marked step.dead walk.target ≡ true
+pub next_none : (sight : Sight) (step : IndexedStep) (rest : List IndexedStep) (walk : Traversal) (next : List Traversal) → IsReady sight step rest → walk.target < length sight.kinds → is_left_out step.leading walk.target ≡ true
     → next ≡ [] → flat_map (λ x. steps_from sight (map plain rest) (of_walk x)) next ≡ steps_from sight (map plain (step ∷ rest)) (of_walk walk)
 next_none sight step rest walk next ready low dead none = ap (flat_map (λ x. steps_from sight (map plain rest) (of_walk x))) none ∙ sym (ready.dead walk low dead)
 
@@ -273,118 +261,12 @@ all_found sight steps set walks some begun =
     ∙ flat_map-map (λ w. steps_from sight steps (of_walk w)) start_at (by_number sight set)
     ∙ flat_map_same (λ v. steps_from sight steps (of_walk (start_at v))) (λ v. steps_from sight steps (alone v)) (λ v. from_start sight steps v some) (by_number sight set)
 
--- ---- what leads nowhere
+-- ---- the steps that are ready
 
 -- a step before others
 pub ready_first : (sight : Sight) (steps : List IndexedStep) (step : IndexedStep) → 1 ≤ length steps → step ≡ get_or steps 0 step → AreReady sight steps
     → IsReady sight step (take (length steps - 1) (drop 1 steps)) × AreReady sight (take (length steps - 1) (drop 1 steps))
 ready_first sight steps step some first ready = subst (AreReady sight) (split_first steps step some first) ready
-
-ready_dead : (sight : Sight) (steps : List IndexedStep) → AreReady sight steps → (walk : Traversal) → walk.target < length sight.kinds → is_dead steps walk.target ≡ true
-    → steps_from sight (map plain steps) (of_walk walk) ≡ []
-ready_dead sight [] ready walk low dead = absurd (cc dead)
-ready_dead sight (step ∷ steps) ready walk low dead = ready.0.dead walk low dead
-
-or_first : (a b : Bool) → (a || b) ≡ false → a ≡ false
-or_first false b h = refl
-or_first true b h = absurd (cc h)
-
-or_second : (a b : Bool) → (a || b) ≡ false → b ≡ false
-or_second false b h = h
-or_second true b h = absurd (cc h)
-
-not_false : (b : Bool) → not b ≡ false → b ≡ true
-not_false true h = refl
-not_false false h = absurd (cc h)
-
--- where each way leads to a dead end, nothing follows
-went_dead : (sight : Sight) (targets : List ℕ) (kind : ℕ) (walk : Traversal) (rest : List IndexedStep) → AreReady sight rest → (ways : List Neighbor)
-    → list_any (λ (way : Neighbor). cond (is_target sight.kinds targets way.target) (not (is_dead rest way.target)) false) ways ≡ false
-    → flat_map (λ x. steps_from sight (map plain rest) (of_walk x)) (went_on sight.kinds targets kind walk ways) ≡ []
-went_dead sight targets kind walk rest ready [] none = refl
-went_dead sight targets kind walk rest ready (way ∷ ways) none =
-    by (is_target sight.kinds targets way.target) refl (or_first (p way) (list_any p ways) none) (went_dead sight targets kind walk rest ready ways (or_second (p way) (list_any p ways) none))
-  where
-    p : Neighbor → Bool
-    p way = cond (is_target sight.kinds targets way.target) (not (is_dead rest way.target)) false
-
-    f : Traversal → List Candidate
-    f x = steps_from sight (map plain rest) (of_walk x)
-
-    on : Neighbor → Traversal
-    on way = record { source = walk.source; kind = kind; row = way.row; target = way.target }
-
-    others : List Neighbor
-    others = filter (λ (way : Neighbor). is_target sight.kinds targets way.target) ways
-
-    by : (b : Bool) → is_target sight.kinds targets way.target ≡ b → cond b (not (is_dead rest way.target)) false ≡ false → flat_map f (map on others) ≡ []
-        → flat_map f (map on (cond b (way ∷ others) others)) ≡ []
-    by false h fails others_none = others_none
-    by true h fails others_none =
-        ap (λ l. l ++ flat_map f (map on others)) (ready_dead sight rest ready (on way) (target_low sight.kinds targets way.target h) (not_false (is_dead rest way.target) fails)) ∙ others_none
-
--- nothing of the entries so far leads on from a vertex
-abbrev pub NoneOn : Sight → List ℕ → List IndexedStep → ℕ → List Entry → Type 0
-NoneOn sight targets rest v entries =
-    (walk : Traversal) → walk.target ≡ v → flat_map (λ x. steps_from sight (map plain rest) (of_walk x)) (gone sight.kinds targets sight.types sight.edges walk entries) ≡ []
-
-pub record NoneTo (sight : Sight) (targets : List ℕ) (rest : List IndexedStep) (v : ℕ) (entries : List Entry) : Type 0 where
-  pub none : NoneOn sight targets rest v entries
-
-pub none_first : (sight : Sight) (targets : List ℕ) (rest : List IndexedStep) (v : ℕ) (entries : List Entry) → NoneTo sight targets rest v (take 0 entries)
-none_first sight targets rest v entries = record { none = λ walk at. refl }
-
-pub none_more : (sight : Sight) (targets : List ℕ) (rest : List IndexedStep) (v : ℕ) (entries : List Entry) (i : ℕ) (d : Entry) (ways : List Neighbor) → AreReady sight rest → i < length entries
-    → map (walked v) ways ≡ walks_under sight.types sight.edges v (get_or entries i d).under
-    → list_any (λ (way : Neighbor). cond (is_target sight.kinds targets way.target) (not (is_dead rest way.target)) false) ways ≡ false
-    → NoneTo sight targets rest v (take i entries) → NoneTo sight targets rest v (take (i + 1) entries)
-none_more sight targets rest v entries i d ways ready low are none before = record {
-  none = λ walk here.
-      let f : Traversal → List Candidate = λ x. steps_from sight (map plain rest) (of_walk x) in
-      let first : List Traversal = gone sight.kinds targets sight.types sight.edges walk (take i entries) in
-      let went : List Traversal = went_on sight.kinds targets (get_or entries i d).kind walk ways in
-      ap (flat_map f) (sym (gone_more sight.kinds targets sight.types sight.edges walk entries i d ways first (first ++ went) low
-      (subst (λ (n : ℕ). map (walked n) ways ≡ walks_under sight.types sight.edges n (get_or entries i d).under) (sym here) are) refl refl))
-      ∙ flat_map-append f first went ∙ ap₂ (λ (a b : List Candidate). a ++ b) (before.none walk here) (went_dead sight targets (get_or entries i d).kind walk rest ready ways none);
-}
-
-pub none_all : (sight : Sight) (step : PathStep) (targets : List ℕ) (rest : List IndexedStep) (v : ℕ) (entries : List Entry) (i : ℕ) → length entries ≤ i → targets ≡ step.targets
-    → AreFound sight.types entries (step_walks step sight.types) → NoneTo sight targets rest v (take i entries)
-    → (walk : Traversal) → walk.target ≡ v → steps_from sight (step ∷ map plain rest) (of_walk walk) ≡ []
-none_all sight step targets rest v entries i long same are none = λ walk here.
-    let S : Candidate → List Candidate = steps_from sight (map plain rest) in
-    let all : List Traversal = gone sight.kinds targets sight.types sight.edges walk (take i entries) in
-    ap (flat_map S) (sym (taken_is sight step walk entries targets i all long same are refl))
-    ∙ flat_map-map S of_walk all ∙ none.none walk here
-
--- ---- marks of dead ends
-
-pub record DeadTo (sight : Sight) (steps : List PathStep) (count : ℕ) (marks : List ℕ) : Type 0 where
-  pub long : count < length marks * 64
-  pub dead : AreDead sight marks steps
-
-pub no_marks : (sight : Sight) (steps : List PathStep) (marks : List ℕ) → marks ≡ [] → AreDead sight marks steps
-no_marks sight steps marks none = λ walk low dead. absurd (true≢false (sym dead ∙ ap (λ l. is_marked l walk.target) none ∙ past_words [] walk.target (omega arith)))
-
-pub marks_first : (sight : Sight) (steps : List PathStep) (count : ℕ) (marks : List ℕ) → marks ≡ replicate (count / 64 + 1) 0 → DeadTo sight steps count marks
-marks_first sight steps count marks is = record {
-  long = omega (arith, ap length is, length-replicate {A = ℕ} (count / 64 + 1) 0);
-  dead = λ walk low dead. absurd (true≢false (sym dead ∙ ap (λ l. is_marked l walk.target) is ∙ unmarked_none (count / 64 + 1) walk.target));
-}
-
-pub marks_more : (sight : Sight) (steps : List PathStep) (count v : ℕ) (marks new : List ℕ) → length new ≡ length marks → ((w : ℕ) → is_marked new w ≡ (w == v || is_marked marks w))
-    → ((walk : Traversal) → walk.target ≡ v → steps_from sight steps (of_walk walk) ≡ []) → DeadTo sight steps count marks → DeadTo sight steps count new
-marks_more sight steps count v marks new same marked none before = record {
-  long = omega (arith, same, before.long);
-  dead = λ walk low dead. by walk low (walk.target == v) refl (sym (marked walk.target) ∙ dead);
-}
-  where
-    by : (walk : Traversal) → walk.target < length sight.kinds → (b : Bool) → (walk.target == v) ≡ b → (b || is_marked marks walk.target) ≡ true → steps_from sight steps (of_walk walk) ≡ []
-    by walk low true is h = none walk (equal walk.target v is)
-      where
-        equal : (a b : ℕ) → (a == b) ≡ true → a ≡ b
-        equal a b e = grind (arith, nat_tests)
-    by walk low false is h = before.dead walk low h
 
 -- ---- the steps
 

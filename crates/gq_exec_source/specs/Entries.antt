@@ -1,13 +1,11 @@
 -- Entries: the walks of a step as the index has them: under the type itself where the step goes along it as the index does, or
 -- under the type that goes the other way. Where a step goes along a type otherwise, the index hasn't its walks.
-use Rattle.std.specs.Prelude.{◌≡◌, ℕ, ◌==◌, ◌<◌, Bool, false, ◌&&◌, ◌||◌, not, if◌then◌else◌, List, map, filter, length, Option, Some, None, slice_get}
+use Rattle.std.specs.Prelude.{◌≡◌, ℕ, ◌==◌, ◌<◌, Bool, false, ◌&&◌, ◌||◌, not, if◌then◌else◌, List, map, length, Option, Some, None, slice_get}
 use Rattle.std.specs.List.{All, flat_map}
 use Rattle.std.specs.Option.{is_some}
 use Rattle.gq_graph.specs.declared.types.EdgeType.{EdgeType}
 use Rattle.gq_graph.specs.declared.rows.EdgeRow.{EdgeRow}
-use Rattle.gq_graph.specs.Candidates.{is_target}
 use Rattle.gq_index.specs.declared.walks.Traversal.{Traversal}
-use Rattle.gq_index.specs.declared.walks.Neighbor.{Neighbor}
 use Rattle.gq_index.specs.Walks.{walks_under}
 use Rattle.gq_rules_typing.specs.Way.{Way}
 use Rattle.gq_rules_typing.specs.Way.TheVariants as way
@@ -63,8 +61,3 @@ found types edges v entry = map {B = Traversal} (λ (walk : Traversal). record w
 pub record AreFound (types : List EdgeType) (entries : List Entry) (walks : List EdgeRow → List Traversal) : Type 0 where
   pub there : All (λ (entry : Entry). entry.under < length types) entries
   pub same : (edges : List EdgeRow) (v : ℕ) → flat_map (found types edges v) entries ≡ taken_from v (walks edges)
-
--- on from where a walk has come, along those ways of a type that lead to a target
-abbrev pub went_on : List ℕ → List ℕ → ℕ → Traversal → List Neighbor → List Traversal
-went_on kinds targets kind walk ways =
-    map (λ way. record { source = walk.source; kind = kind; row = way.row; target = way.target }) (filter (λ (way : Neighbor). is_target kinds targets way.target) ways)

@@ -1,11 +1,13 @@
 -- Indexed: steps with what the index has of them, and what leads nowhere along them.
-use Rattle.std.specs.Prelude.{◌≡◌, ℕ, ◌<◌, Bool, true, false, List, [], ◌∷◌, map, length}
-use Rattle.gq_graph.specs.Candidates.{Sight}
+use Rattle.std.specs.Prelude.{◌≡◌, ℕ, ◌<◌, Bool, true, false, ◌&&◌, not, List, [], ◌∷◌, filter, map, length, Option, Some, None, IfSome}
+use Rattle.gq_graph.specs.Candidates.{Sight, is_target}
 use Rattle.gq_index.specs.declared.walks.Traversal.{Traversal}
+use Rattle.gq_index.specs.declared.walks.Neighbor.{Neighbor}
 use Rattle.gq_index.specs.Segments.{of_walk}
 use Rattle.gq_rules_typing.specs.Patterns as patterns
 use Rattle.gq_rules_meaning.specs.Paths.{steps_from}
 use Rattle.gq_exec_source.specs.declared.indexed.IndexedStep.{IndexedStep}
+use Rattle.gq_exec_source.specs.declared.indexed.Leading.{Leading}
 use Rattle.gq_exec_source.specs.Entries.{AreFound}
 use Rattle.gq_exec_source.specs.Marks.{is_marked}
 use Rattle.gq_exec_source.specs.Ways.{step_of, step_walks}
@@ -14,19 +16,42 @@ use Rattle.gq_exec_source.specs.Ways.{step_of, step_walks}
 abbrev pub plain : IndexedStep → patterns.PathStep
 plain step = step_of step.step.now
 
+-- whether a vertex isn't among those from which something may go on, where these are known
+abbrev pub is_left_out : Option Leading → ℕ → Bool
+is_left_out (Some leading) v = not (is_marked leading.from v)
+is_left_out None v = false
+
 -- whether it is known that nothing goes on from a vertex
 abbrev pub is_dead : List IndexedStep → ℕ → Bool
 is_dead [] v = false
-is_dead (step ∷ steps) v = is_marked step.dead v
+is_dead (step ∷ steps) v = is_left_out step.leading v
 
--- what has come to a marked vertex leads to nothing
-abbrev pub AreDead : Sight → List ℕ → List patterns.PathStep → Type 0
-AreDead sight marks steps = (walk : Traversal) → walk.target < length sight.kinds → is_marked marks walk.target ≡ true → steps_from sight steps (of_walk walk) ≡ []
+-- whether a vertex is a target of a step from which something may go on along those behind it
+abbrev pub leads_on : List ℕ → List ℕ → List IndexedStep → ℕ → Bool
+leads_on kinds targets rest v = not (is_dead rest v) && is_target kinds targets v
+
+-- the marks are those of the targets from which something may go on
+abbrev pub AreTargets : List ℕ → List ℕ → List IndexedStep → List ℕ → Type 0
+AreTargets kinds targets rest words = (v : ℕ) → is_marked words v ≡ leads_on kinds targets rest v
+
+-- so they are where they are known
+abbrev pub AreKnown : List ℕ → List ℕ → List IndexedStep → Option Leading → Type 0
+AreKnown kinds targets rest leading = IfSome leading (λ known. AreTargets kinds targets rest known.to)
+
+-- on from where a walk has come, along those ways of a type that lead on
+abbrev pub went_on : List ℕ → List ℕ → List IndexedStep → ℕ → Traversal → List Neighbor → List Traversal
+went_on kinds targets rest kind walk ways =
+    map (λ way. record { source = walk.source; kind = kind; row = way.row; target = way.target }) (filter (λ (way : Neighbor). leads_on kinds targets rest way.target) ways)
+
+-- what has come to a vertex that is left out leads to nothing
+abbrev pub AreDead : Sight → Option Leading → List patterns.PathStep → Type 0
+AreDead sight leading steps = (walk : Traversal) → walk.target < length sight.kinds → is_left_out leading walk.target ≡ true → steps_from sight steps (of_walk walk) ≡ []
 
 -- a step before others
 pub record IsReady (sight : Sight) (step : IndexedStep) (steps : List IndexedStep) : Type 0 where
   pub found : AreFound sight.types step.entries.items (step_walks (plain step) sight.types)
-  pub dead : AreDead sight step.dead (map plain (step ∷ steps))
+  pub dead : AreDead sight step.leading (map plain (step ∷ steps))
+  pub known : AreKnown sight.kinds (plain step).targets steps step.leading
 
 abbrev pub AreReady : Sight → List IndexedStep → Type 0
 AreReady sight [] = Unit {0}

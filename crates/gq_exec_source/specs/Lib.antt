@@ -5,4 +5,5 @@ pub mod Starts
 pub mod Ways
 pub mod Hops
 pub mod Entries
+pub mod Directions
 pub mod Indexed

@@ -1,123 +1,150 @@
 // Steps with what the index has of them, and what leads nowhere along them.
-ghost use Rattle.std.specs.Prelude.{◌≡◌, ◌<◌, [], ◌∷◌, if◌then◌else◌, not, false, length, map, IfOk, IfSome};
-ghost use Rattle.std.specs.List.{list_any};
-ghost use Rattle.gq_graph.specs.Candidates.{is_target};
-ghost use Rattle.gq_index.specs.declared.walks.Traversal as walks;
+ghost use Rattle.std.specs.Prelude.{◌≡◌, ◌<◌, List, [], ◌∷◌, false, length, map, Some, IfOk, IfSome};
+ghost use Rattle.gq_index.specs.declared.walks.Traversal.{Traversal};
 ghost use Rattle.gq_index.specs.Segments.{of_walk};
 ghost use Rattle.gq_index.specs.Sights.{sight_of, vertex_kinds};
-ghost use Rattle.gq_index.specs.Walks.{adjacency};
 ghost use Rattle.gq_rules_meaning.specs.Paths.{steps_from};
-ghost use Rattle.gq_exec_source.specs.Entries.{AreFound};
+ghost use Rattle.gq_exec_source.specs.declared.indexed.IndexedStep.{IndexedStep};
 ghost use Rattle.gq_exec_source.specs.Indexed as spec;
-ghost use Rattle.gq_exec_source.specs.Indexed.{plain, AreDead, AreReady};
-ghost use Rattle.gq_exec_source.specs.Ways.{step_of, step_walks};
+ghost use Rattle.gq_exec_source.specs.Indexed.{plain, AreDead, AreKnown, AreReady, AreTargets};
+ghost use Rattle.gq_exec_source.specs.Marks as marks;
+ghost use Rattle.gq_exec_source.specs.Ways.{step_of};
 
-use crate::entries::{Entry, entries_of, ways_under};
+use crate::directions::{directions_of, mark_rows};
+use crate::entries::{Entry, entries_of};
 use crate::hop::reaches;
 use crate::marks::{is_marked, mark, unmarked};
 use crate::path_types::PathStep;
 use gq_base::{List, OutOfMemory};
-use gq_index::{Graph, Neighbor};
+use gq_index::Graph;
 use std::alloc::Global;
 
-/// A step, where the index has its walks, by type, and marks of vertices from which nothing goes on along it and the steps
-/// behind it: of some of them, or of none.
+/// The vertices from which something may go on along a step and those behind it, and the targets of the step from which
+/// something may go on along those behind it, as bits.
+#[derive(Drop)]
+pub(crate) struct Leading {
+    from: List<u64>,
+    to: List<u64>,
+}
+
+/// A step, where the index has its walks, by type, and what leads on, where that is known.
 #[derive(Drop)]
 pub(crate) struct IndexedStep<'a> {
     pub(crate) step: &'a PathStep,
     pub(crate) entries: Vec<Entry>,
-    pub(crate) dead: List<u64>,
+    pub(crate) leading: Option<Leading>,
+}
+
+/// Whether it is known that nothing goes on from a vertex, by what is known of the step.
+pub(crate) fn is_left_out(leading: &Option<Leading>, vertex: u32) -> bool
+    ensures { result ≡ spec.is_left_out leading.now vertex }
+{
+    match leading {
+        Some(known) => !is_marked(known.from.as_slice(), vertex),
+        None => false,
+    }
 }
 
 /// Whether it is known that nothing goes on from a vertex.
-pub(crate) fn is_dead(steps: &[IndexedStep<'_>], vertex: u32) -> bool
+fn is_dead(steps: &[IndexedStep<'_>], vertex: u32) -> bool
     ensures { result ≡ spec.is_dead steps.now vertex }
 {
     match steps {
         [] => false,
-        [step, ..] => is_marked(step.dead.as_slice(), vertex),
+        [step, ..] => is_left_out(&step.leading, vertex),
     }
 }
 
-/// Whether one of these ways leads to a target from which something may go on.
-fn any_leads(
-    graph: &Graph<'_>,
-    targets: &[u32],
-    rest: &[IndexedStep<'_>],
-    ways: &[Neighbor],
-) -> bool
-    ensures { result ≡ list_any (λ way. if is_target (vertex_kinds graph.now.store.now.vertices) targets.now way.target then not (spec.is_dead rest.now way.target) else false) ways.now }
+/// Whether a vertex is one of the targets from which something may go on.
+fn is_leading(graph: &Graph<'_>, targets: &[u32], rest: &[IndexedStep<'_>], vertex: u32) -> bool
+    ensures { result ≡ spec.leads_on (vertex_kinds graph.now.store.now.vertices) targets.now rest.now vertex }
 {
-    ways.iter().any(|way| {
-        reaches(&graph.store.vertices, targets, way.target) && !is_dead(rest, way.target)
-    })
+    !is_dead(rest, vertex) && reaches(&graph.store.vertices, targets, vertex)
 }
 
-/// Whether something may go on from a vertex along a step and those behind it.
-fn leads(
+/// Whether a vertex is a target of a step from which something may go on: by its mark, which is quicker, where there are marks.
+pub(crate) fn leads_on(
     graph: &Graph<'_>,
-    step: &PathStep,
-    entries: &[Entry],
+    step: &IndexedStep<'_>,
     rest: &[IndexedStep<'_>],
     vertex: u32,
 ) -> bool
-    requires indexed { graph.now.index.now ≡ adjacency (sight_of graph.now.catalog.now graph.now.store.now.vertices graph.now.store.now.edges) }
-    requires found { AreFound graph.now.catalog.now.edge_types entries.now (step_walks (step_of step.now) graph.now.catalog.now.edge_types) }
-    requires here { vertex < length graph.now.store.now.vertices }
-    requires ready { AreReady (sight_of graph.now.catalog.now graph.now.store.now.vertices graph.now.store.now.edges) rest.now }
-    ensures { result ≡ false → (walk : walks.Traversal) → walk.target ≡ vertex
-        → steps_from (sight_of graph.now.catalog.now graph.now.store.now.vertices graph.now.store.now.edges) (step_of step.now ∷ map plain rest.now) (of_walk walk) ≡ [] }
+    requires { AreKnown (vertex_kinds graph.now.store.now.vertices) step.now.step.now.targets rest.now step.now.leading }
+    ensures { result ≡ spec.leads_on (vertex_kinds graph.now.store.now.vertices) step.now.step.now.targets rest.now vertex }
 {
-    for entry in entries {
-        let ways = ways_under(graph.index, vertex, entry.under);
-        if any_leads(graph, step.targets.as_slice(), rest, ways) {
-            return true;
-        }
+    match &step.leading {
+        Some(known) => is_marked(known.to.as_slice(), vertex),
+        None => is_leading(graph, step.step.targets.as_slice(), rest, vertex),
     }
-    false
 }
 
-/// Marks of all vertices from which nothing goes on along a step and those behind it.
-fn dead_ends(
+/// The targets from which something may go on.
+fn targets_of(
     alloc: Global,
     graph: &Graph<'_>,
-    step: &PathStep,
-    entries: &[Entry],
+    targets: &[u32],
     rest: &[IndexedStep<'_>],
 ) -> Result<List<u64>, OutOfMemory>
-    requires indexed { graph.now.index.now ≡ adjacency (sight_of graph.now.catalog.now graph.now.store.now.vertices graph.now.store.now.edges) }
-    requires found { AreFound graph.now.catalog.now.edge_types entries.now (step_walks (step_of step.now) graph.now.catalog.now.edge_types) }
-    requires ready { AreReady (sight_of graph.now.catalog.now graph.now.store.now.vertices graph.now.store.now.edges) rest.now }
-    ensures { IfOk result (λ dead. AreDead (sight_of graph.now.catalog.now graph.now.store.now.vertices graph.now.store.now.edges) dead (step_of step.now ∷ map plain rest.now)) }
+    ensures { IfOk result (AreTargets (vertex_kinds graph.now.store.now.vertices) targets.now rest.now) }
 {
     let vertices = graph.store.vertices.len();
-    let mut dead = unmarked(alloc, vertices)?;
+    let mut words = unmarked(alloc, vertices)?;
     for vertex in 0..vertices {
-        if !leads(graph, step, entries, rest, vertex) {
-            mark(&mut dead, vertex);
+        if is_leading(graph, targets, rest, vertex) {
+            mark(&mut words, vertex);
         }
     }
-    Ok(dead)
+    Ok(words)
 }
 
-/// The marks of a step: of all vertices from which nothing goes on, where these are asked for.
-fn marks_of(
+/// The vertices from which a row of a step leads to one of these targets, in one pass over all rows.
+fn sources_of(
     alloc: Global,
     graph: &Graph<'_>,
     step: &PathStep,
-    entries: &[Entry],
+    targets: &[u64],
+) -> Result<List<u64>, OutOfMemory>
+    ensures { IfOk result (λ words. (rest : List IndexedStep) → AreReady (sight_of graph.now.catalog.now graph.now.store.now.vertices graph.now.store.now.edges) rest
+        → AreTargets (vertex_kinds graph.now.store.now.vertices) step.now.targets rest targets.now → (walk : Traversal) → walk.target < length graph.now.store.now.vertices → marks.is_marked words walk.target ≡ false → steps_from (sight_of graph.now.catalog.now graph.now.store.now.vertices graph.now.store.now.edges) (step_of step.now ∷ map plain rest) (of_walk walk) ≡ []) }
+{
+    let directions = directions_of(alloc, step, graph.catalog.edge_types())?;
+    let mut words = unmarked(alloc, graph.store.vertices.len())?;
+    mark_rows(&directions, targets, graph.store.edges.ends(), &mut words);
+    Ok(words)
+}
+
+/// What leads on along a step and those behind it.
+fn find_leading(
+    alloc: Global,
+    graph: &Graph<'_>,
+    step: &PathStep,
+    rest: &[IndexedStep<'_>],
+) -> Result<Leading, OutOfMemory>
+    requires ready { AreReady (sight_of graph.now.catalog.now graph.now.store.now.vertices graph.now.store.now.edges) rest.now }
+    ensures dead { IfOk result (λ known. AreDead (sight_of graph.now.catalog.now graph.now.store.now.vertices graph.now.store.now.edges) (Some known) (step_of step.now ∷ map plain rest.now)) }
+    ensures known { IfOk result (λ known. AreKnown (vertex_kinds graph.now.store.now.vertices) step.now.targets rest.now (Some known)) }
+{
+    let to = targets_of(alloc, graph, step.targets.as_slice(), rest)?;
+    let from = sources_of(alloc, graph, step, to.as_slice())?;
+    Ok(Leading { from, to })
+}
+
+/// What leads on along a step and those behind it, where it is asked for.
+fn leading_if(
+    alloc: Global,
+    graph: &Graph<'_>,
+    step: &PathStep,
     rest: &[IndexedStep<'_>],
     marked: bool,
-) -> Result<List<u64>, OutOfMemory>
-    requires indexed { graph.now.index.now ≡ adjacency (sight_of graph.now.catalog.now graph.now.store.now.vertices graph.now.store.now.edges) }
-    requires found { AreFound graph.now.catalog.now.edge_types entries.now (step_walks (step_of step.now) graph.now.catalog.now.edge_types) }
+) -> Result<Option<Leading>, OutOfMemory>
     requires ready { AreReady (sight_of graph.now.catalog.now graph.now.store.now.vertices graph.now.store.now.edges) rest.now }
-    ensures { IfOk result (λ dead. AreDead (sight_of graph.now.catalog.now graph.now.store.now.vertices graph.now.store.now.edges) dead (step_of step.now ∷ map plain rest.now)) }
+    ensures dead { IfOk result (λ leading. AreDead (sight_of graph.now.catalog.now graph.now.store.now.vertices graph.now.store.now.edges) leading (step_of step.now ∷ map plain rest.now)) }
+    ensures known { IfOk result (AreKnown (vertex_kinds graph.now.store.now.vertices) step.now.targets rest.now) }
 {
     if !marked {
-        return Ok(List::new(alloc));
+        return Ok(None);
     }
-    dead_ends(alloc, graph, step, entries, rest)
+    Ok(Some(find_leading(alloc, graph, step, rest)?))
 }
 
 /// A step before others; None where the index hasn't all of its walks.
@@ -128,18 +155,17 @@ fn indexed_step<'a>(
     rest: &[IndexedStep<'_>],
     marked: bool,
 ) -> Result<Option<IndexedStep<'a>>, OutOfMemory>
-    requires indexed { graph.now.index.now ≡ adjacency (sight_of graph.now.catalog.now graph.now.store.now.vertices graph.now.store.now.edges) }
     requires ready { AreReady (sight_of graph.now.catalog.now graph.now.store.now.vertices graph.now.store.now.edges) rest.now }
     ensures same { IfOk result (λ found. IfSome found (λ it. plain it ≡ step_of step.now)) }
     ensures ready { IfOk result (λ found. IfSome found (λ it. spec.IsReady (sight_of graph.now.catalog.now graph.now.store.now.vertices graph.now.store.now.edges) it rest.now)) }
 {
     match entries_of(alloc, step, graph.catalog.edge_types())? {
         Some(entries) => {
-            let dead = marks_of(alloc, graph, step, &entries, rest, marked)?;
+            let leading = leading_if(alloc, graph, step, rest, marked)?;
             Ok(Some(IndexedStep {
                 step,
                 entries,
-                dead,
+                leading,
             }))
         }
         None => Ok(None),
@@ -153,7 +179,6 @@ pub(crate) fn indexed_steps<'a>(
     graph: &Graph<'_>,
     marked: bool,
 ) -> Result<Option<Vec<IndexedStep<'a>>>, OutOfMemory>
-    requires indexed { graph.now.index.now ≡ adjacency (sight_of graph.now.catalog.now graph.now.store.now.vertices graph.now.store.now.edges) }
     ensures same { IfOk result (λ found. IfSome found (λ all. map plain all.items ≡ map step_of steps.now)) }
     ensures ready { IfOk result (λ found. IfSome found (λ all. AreReady (sight_of graph.now.catalog.now graph.now.store.now.vertices graph.now.store.now.edges) all.items)) }
 {

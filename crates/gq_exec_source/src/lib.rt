@@ -21,6 +21,7 @@
 #![tactic(auto)]
 
 mod candidates;
+mod directions;
 mod ends;
 mod entries;
 mod hop;

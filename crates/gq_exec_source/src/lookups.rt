@@ -5,18 +5,15 @@ ghost use Rattle.gq_graph.specs.Candidates.{by_number};
 ghost use Rattle.gq_index.specs.Segments.{of_walk};
 ghost use Rattle.gq_index.specs.Sights.{sight_of, vertex_kinds};
 ghost use Rattle.gq_index.specs.Walks.{adjacency};
-ghost use Rattle.gq_rules_meaning.specs.Paths.{bindings, step_from, steps_from};
+ghost use Rattle.gq_rules_meaning.specs.Paths.{bindings, steps_from};
 ghost use Rattle.gq_exec_source.specs.declared.lookups.Halt.TheVariants as halt;
 ghost use Rattle.gq_exec_source.specs.declared.path_types.PathsFault.TheVariants as fault;
-ghost use Rattle.gq_exec_source.specs.Entries.{went_on, AreFound};
-ghost use Rattle.gq_exec_source.specs.Indexed.{plain, AreReady, IsReady};
+ghost use Rattle.gq_exec_source.specs.Indexed.{plain, went_on, AreKnown, AreReady, IsReady};
 ghost use Rattle.gq_exec_source.specs.Hops.{start_at};
-ghost use Rattle.gq_exec_source.specs.Ways.{step_of, step_walks};
+ghost use Rattle.gq_exec_source.specs.Ways.{step_of};
 
-use crate::entries::{Entry, ways_under};
-use crate::hop::reaches;
-use crate::indexed::{IndexedStep, indexed_steps};
-use crate::marks::is_marked;
+use crate::entries::ways_under;
+use crate::indexed::{IndexedStep, indexed_steps, is_left_out, leads_on};
 use crate::path_types::{PathStep, PathsFault};
 use crate::paths::list_last;
 use gq_base::OutOfMemory;
@@ -32,20 +29,23 @@ enum Halt {
     Costly,
 }
 
-/// Goes on from where a walk has come, along those of these ways that lead to a target, and puts the walks last.
+/// Goes on from where a walk has come, along those of these ways that lead to a target from which something may go on, and puts
+/// the walks last.
 #[tactic(auto, using(crate::proofs::LookupLemmas::went_laws))]
 fn add_ways(
     graph: &Graph<'_>,
-    targets: &[u32],
+    step: &IndexedStep<'_>,
+    rest: &[IndexedStep<'_>],
     kind: u32,
     walk: Traversal,
     ways: &[Neighbor],
     walks: &mut Vec<Traversal>,
 ) -> Result<(), OutOfMemory>
-    ensures { OnOk result (walks.new.items ≡ walks.old.items ++ went_on (vertex_kinds graph.now.store.now.vertices) targets.now kind walk ways.now) }
+    requires { AreKnown (vertex_kinds graph.now.store.now.vertices) step.now.step.now.targets rest.now step.now.leading }
+    ensures { OnOk result (walks.new.items ≡ walks.old.items ++ went_on (vertex_kinds graph.now.store.now.vertices) step.now.step.now.targets rest.now kind walk ways.now) }
 {
     for way in ways {
-        if reaches(&graph.store.vertices, targets, way.target) {
+        if leads_on(graph, step, rest, way.target) {
             walks.push(Traversal {
                 source: walk.source,
                 kind,
@@ -57,39 +57,34 @@ fn add_ways(
     Ok(())
 }
 
-/// All that a step leads to from where a walk has come, which takes from what is left of the walks that may be looked at.
+/// What a step before others leads to from where a walk has come, without what is known to lead nowhere: it leads to all that
+/// the step and the others do. It takes from what is left of the walks that may be looked at.
 fn taken(
     alloc: Global,
     graph: &Graph<'_>,
-    step: &PathStep,
-    entries: &[Entry],
+    step: &IndexedStep<'_>,
+    rest: &[IndexedStep<'_>],
     walk: Traversal,
     left: &mut u64,
 ) -> Result<Vec<Traversal>, OutOfMemory>
     requires indexed { graph.now.index.now ≡ adjacency (sight_of graph.now.catalog.now graph.now.store.now.vertices graph.now.store.now.edges) }
-    requires found { AreFound graph.now.catalog.now.edge_types entries.now (step_walks (step_of step.now) graph.now.catalog.now.edge_types) }
+    requires ready { IsReady (sight_of graph.now.catalog.now graph.now.store.now.vertices graph.now.store.now.edges) step.now rest.now }
+    requires rest { AreReady (sight_of graph.now.catalog.now graph.now.store.now.vertices graph.now.store.now.edges) rest.now }
     requires here { walk.target < length graph.now.store.now.vertices }
-    ensures leads { IfOk result (λ t. map of_walk t.items ≡ step_from (sight_of graph.now.catalog.now graph.now.store.now.vertices graph.now.store.now.edges) (step_of step.now) (of_walk walk)) }
+    ensures leads { IfOk result (λ t. flat_map (λ x. steps_from (sight_of graph.now.catalog.now graph.now.store.now.vertices graph.now.store.now.edges) (map plain rest.now) (of_walk x)) t.items
+        ≡ steps_from (sight_of graph.now.catalog.now graph.now.store.now.vertices graph.now.store.now.edges) (map plain (step.now ∷ rest.now)) (of_walk walk)) }
     ensures within { IfOk result (λ t. All (λ w. w.target < length graph.now.store.now.vertices) t.items) }
 {
     let mut walks = Vec::new(alloc);
-    for entry in entries {
+    for entry in step.entries.as_slice() {
         let ways = ways_under(graph.index, walk.target, entry.under);
         *left = left.saturating_sub(ways.len() as u64);
-        add_ways(
-            graph,
-            step.targets.as_slice(),
-            entry.kind,
-            walk,
-            ways,
-            &mut walks,
-        )?;
+        add_ways(graph, step, rest, entry.kind, walk, ways, &mut walks)?;
     }
     Ok(walks)
 }
 
-/// What a step before others leads to from where a walk has come, without what is known to lead nowhere: it leads to all that
-/// the step and the others do.
+/// The same, and nothing where it is known that nothing goes on from where the walk has come.
 fn next_walks(
     alloc: Global,
     graph: &Graph<'_>,
@@ -100,15 +95,16 @@ fn next_walks(
 ) -> Result<Vec<Traversal>, OutOfMemory>
     requires indexed { graph.now.index.now ≡ adjacency (sight_of graph.now.catalog.now graph.now.store.now.vertices graph.now.store.now.edges) }
     requires ready { IsReady (sight_of graph.now.catalog.now graph.now.store.now.vertices graph.now.store.now.edges) step.now rest.now }
+    requires rest { AreReady (sight_of graph.now.catalog.now graph.now.store.now.vertices graph.now.store.now.edges) rest.now }
     requires here { walk.target < length graph.now.store.now.vertices }
     ensures leads { IfOk result (λ t. flat_map (λ x. steps_from (sight_of graph.now.catalog.now graph.now.store.now.vertices graph.now.store.now.edges) (map plain rest.now) (of_walk x)) t.items
         ≡ steps_from (sight_of graph.now.catalog.now graph.now.store.now.vertices graph.now.store.now.edges) (map plain (step.now ∷ rest.now)) (of_walk walk)) }
     ensures within { IfOk result (λ t. All (λ w. w.target < length graph.now.store.now.vertices) t.items) }
 {
-    if is_marked(step.dead.as_slice(), walk.target) {
+    if is_left_out(&step.leading, walk.target) {
         return Ok(Vec::new(alloc));
     }
-    taken(alloc, graph, step.step, &step.entries, walk, left)
+    taken(alloc, graph, step, rest, walk, left)
 }
 
 /// Lists these walks as bindings.
@@ -191,7 +187,6 @@ fn ready<'a>(
     steps: &'a [PathStep],
     marked: bool,
 ) -> Result<Option<(Vec<IndexedStep<'a>>, Vec<Traversal>)>, OutOfMemory>
-    requires indexed { graph.now.index.now ≡ adjacency (sight_of graph.now.catalog.now graph.now.store.now.vertices graph.now.store.now.edges) }
     ensures same { IfOk result (λ found. IfSome found (λ p. map plain p.0.items ≡ map step_of steps.now)) }
     ensures ready { IfOk result (λ found. IfSome found (λ p. AreReady (sight_of graph.now.catalog.now graph.now.store.now.vertices graph.now.store.now.edges) p.0.items)) }
     ensures begun { IfOk result (λ found. IfSome found (λ p. p.1.items ≡ map start_at (by_number (sight_of graph.now.catalog.now graph.now.store.now.vertices graph.now.store.now.edges) set.now))) }
@@ -232,8 +227,7 @@ fn listed(
 }
 
 /// The bindings of a set and of one step or more, where the index has the walks of each step and no more of them are looked
-/// at than may be; None otherwise. What leads nowhere is marked before, if asked for, at the cost of a look at each vertex for
-/// each step.
+/// at than may be; None otherwise. What leads nowhere is marked before, if asked for, at the cost of a pass over the rows for each step.
 pub(crate) fn looked_up(
     alloc: Global,
     graph: &Graph<'_>,

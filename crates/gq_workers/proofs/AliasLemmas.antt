@@ -1,35 +1,15 @@
 -- AliasLemmas: the aliases of a candidate, and the names that they bring into view.
-use Rattle.std.proofs.Common.{◌≡◌, ℕ, zero, suc, ◌+◌, ◌<◌, List, [], ◌∷◌, ◌++◌, map, take, set, length, Option, Some, None, refl, sym, ap, ap₂, ◌∙◌, arith, append-nil, append_assoc}
+use Rattle.std.proofs.Common.{◌≡◌, ℕ, List, ◌++◌, Option, Some, None, refl, ap, ap₂, ◌∙◌, append_assoc}
 use Rattle.std.specs.Option.{option_map, option_to_list}
 use Rattle.std.proofs.lemmas.List.{map-append}
 use Rattle.gq_graph.specs.declared.rows.Candidate.{Candidate}
 use Rattle.gq_rules_meaning.specs.States.{Thing, a_vertex}
 use Rattle.gq_rules_meaning.specs.Sources.{From, named_as, edge_thing, target_thing, with_candidate}
 use Rattle.gq_plan_ir.specs.Reference.{Reference, Place}
-use Rattle.gq_frame.specs.declared.frame.Alias.{Alias}
-use Rattle.gq_frame.specs.Names.{Placed, AVertex, alias_of, alias_named, aliases_named}
+use Rattle.gq_frame.specs.Names.{Placed, AVertex, alias_named, aliases_named}
 use Rattle.gq_exec_source.specs.declared.ends.Ends.{Ends}
 use Rattle.gq_exec_source.specs.Ends.{AreEnds, end_things}
 use Rattle.gq_exec_contribute.specs.Aliases.{target_bound, edge_bound, bound_to}
-
--- ---- a row that is filled from its start
-
-pub put_more : (row : List Alias) (n : ℕ) (a : Alias) → n < length row → map alias_of (take (n + 1) (set row n a)) ≡ map alias_of (take n row) ++ (alias_of a ∷ [])
-put_more [] n a h = absurd (omega (arith, h))
-put_more (x ∷ row) zero a h = refl
-put_more (x ∷ row) (suc n) a h = (let e : suc n + 1 ≡ suc (n + 1) = omega arith in ap (λ (m : ℕ). map alias_of (take m (set (x ∷ row) (suc n) a))) e) ∙ ap (λ l. alias_of x ∷ l) (put_more row n a (omega (arith, h)))
-
-pub put_none : (row : List Alias) (n : ℕ) → map alias_of (take n row) ≡ map alias_of (take n row) ++ []
-put_none row n = sym (append-nil (map alias_of (take n row)))
-
-pub bind_all : (x0 x1 x2 x3 : List (ℕ × Placed)) (t e s t' e' s' : Option (ℕ × Placed)) → x0 ≡ [] → x1 ≡ x0 ++ option_to_list t → x2 ≡ x1 ++ option_to_list e → x3 ≡ x2 ++ option_to_list s → t ≡ t' → e ≡ e' → s ≡ s'
-    → x3 ≡ option_to_list t' ++ (option_to_list e' ++ option_to_list s')
-bind_all x0 x1 x2 x3 t e s t' e' s' p0 p1 p2 p3 pt pe ps =
-    p3 ∙ ap (λ l. l ++ option_to_list s) (p2 ∙ ap (λ l. l ++ option_to_list e) (p1 ∙ ap (λ l. l ++ option_to_list t) p0))
-    ∙ append_assoc (option_to_list t) (option_to_list e) (option_to_list s)
-    ∙ ap₂ (λ u v. option_to_list u ++ v) pt (ap₂ (λ u v. option_to_list u ++ option_to_list v) pe ps)
-
--- ---- the last step of a path
 
 -- ---- the names in view
 
@@ -61,7 +41,3 @@ named_all ends edge f c names are e =
     ∙ ap₂ (λ a ts. named_as a (target_thing ts c.target) (named_as (option_map Place edge) (edge_thing c.edge c.kind) (named_as (option_map Place ends.source.alias) (Some (a_vertex ends.source.types c.source)) names))) are.target are.target_types
     ∙ ap (λ a. named_as f.target (target_thing f.target_types c.target) (named_as a (edge_thing c.edge c.kind) (named_as (option_map Place ends.source.alias) (Some (a_vertex ends.source.types c.source)) names))) e
     ∙ ap₂ (λ a ts. named_as f.target (target_thing f.target_types c.target) (named_as f.edge (edge_thing c.edge c.kind) (named_as a (Some (a_vertex ts c.source)) names))) are.source are.source_types
-
-pub ruleset put_laws = (put_more, put_none)
-
-pub ruleset bind_laws = (bind_all)

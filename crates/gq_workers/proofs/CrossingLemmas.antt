@@ -37,6 +37,7 @@ use Rattle.gq_exec_source.specs.contracts.ends.End as end
 use Rattle.gq_exec_source.specs.contracts.ends.Ends as ends
 use Rattle.gq_exec_contribute.specs.contracts.cells.Taken as taken
 use Rattle.gq_exec_contribute.specs.contracts.cells.Cells as cells
+use Rattle.gq_exec_contribute.specs.contracts.rows.Ints as ints
 use Rattle.gq_exec_contribute.specs.contracts.scalars.ScalarInput as scalar
 use Rattle.gq_exec_contribute.specs.contracts.leaves.Leaves as leaves
 use Rattle.gq_index.specs.contracts.store.Store as store
@@ -53,8 +54,11 @@ pub use Rattle.gq_plan_ir.proofs.CrossingLemmas.{block_sync, plan_sync}
 batches_send : IsSend batches.the_row
 batches_send = search (sendable, input_send, crosses) depth 20
 
+ints_field : IsSend (ints.the_field).row
+ints_field = search (sendable, crosses) depth 30 fits 50000
+
 scalar_send : IsSend scalar.the_row
-scalar_send = search (sendable) depth 30 fits 50000
+scalar_send = search (sendable, ints_field, crosses) depth 30 fits 50000
 
 left_send : IsSend left.the_row
 left_send = search (sendable, batches_send, scalar_send, list_crosses.the_send, crosses) depth 30 fits 50000

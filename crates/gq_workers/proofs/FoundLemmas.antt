@@ -5,8 +5,6 @@ use Rattle.std.proofs.lemmas.List.{map-append, take_all}
 use Rattle.std.proofs.lemmas.List.Elements.{All-nil, All-cons, recursion_from_All}
 use Rattle.std.proofs.lemmas.Bool.Decides.{nat_tests}
 use Rattle.gq_value.specs.declared.kind.Input.{Input}
-use Rattle.gq_value.specs.declared.value.Value.{Value}
-use Rattle.gq_value.specs.declared.kind.Input.TheVariants as input
 use Rattle.gq_graph.specs.declared.rows.Candidate.{Candidate}
 use Rattle.gq_value.specs.declared.value.Wrong.{Wrong}
 use Rattle.gq_graph.specs.Candidates.{among}
@@ -110,7 +108,7 @@ take_next zero (y ∷ xs) x l e = (none xs ∙ ap (λ z. z ∷ []) (sym e))
     none (z ∷ xs) = refl
 take_next (suc n) (y ∷ xs) x l e = (let z : suc n + 1 ≡ suc (n + 1) = omega arith in ap (λ (m : ℕ). take m (y ∷ xs)) z) ∙ ap (λ r. y ∷ r) (take_next n xs x (omega (arith, l)) e)
 
-pub ints_more : (xs : List (ℕ × ScalarInput)) (n : ℕ) (x : ℕ × ScalarInput) (old was new : List (List (ℕ × Input))) → n < length xs → x ≡ get_or xs n x → AddsInputs (take n xs) old was → Gains was new x.0 (input.One (made_of x.1)) → AddsInputs (take (n + 1) xs) old new
+pub ints_more : (xs : List (ℕ × ScalarInput)) (n : ℕ) (x : ℕ × ScalarInput) (old was new : List (List (ℕ × Input))) → n < length xs → x ≡ get_or xs n x → AddsInputs (take n xs) old was → Gains was new x.0 (made_of x.1) → AddsInputs (take (n + 1) xs) old new
 ints_more xs n x old was new l is before gains = record {
   each = λ batch e. gained was new (batch ++ as_inputs (take n xs)) (as_input x ∷ []) (before.each batch e) (record { same = gains.same; gains = gains.gains })
       ∙ ap (λ l. l ∷ []) (append_assoc batch (as_inputs (take n xs)) (as_input x ∷ []) ∙ ap (λ l. batch ++ l) (sym (map-append as_input (take n xs) (x ∷ []))) ∙ ap (λ l. batch ++ as_inputs l) (sym (take_next n xs x l is)));
@@ -121,8 +119,8 @@ get_or_same [] n d e l = absurd (omega (arith, l))
 get_or_same (x ∷ xs) zero d e l = refl
 get_or_same (x ∷ xs) (suc n) d e l = get_or_same xs n d e (omega (arith, l))
 
-pub ints_at : (xs : List (ℕ × ScalarInput)) (n : ℕ) (d : ℕ × ScalarInput) (v : Value) (old was new : List (List (ℕ × Input))) → n < length xs → v ≡ made_of (get_or xs n d).1 → Gains was new (get_or xs n d).0 (input.One v) → AddsInputs (take n xs) old was → AddsInputs (take (n + 1) xs) old new
-ints_at xs n d v old was new l e gains before = ints_more xs n (get_or xs n d) old was new l (get_or_same xs n d (get_or xs n d) l) before (subst (λ (u : Value). Gains was new (get_or xs n d).0 (input.One u)) e gains)
+pub ints_at : (xs : List (ℕ × ScalarInput)) (n : ℕ) (d : ℕ × ScalarInput) (v : Input) (old was new : List (List (ℕ × Input))) → n < length xs → v ≡ made_of (get_or xs n d).1 → Gains was new (get_or xs n d).0 v → AddsInputs (take n xs) old was → AddsInputs (take (n + 1) xs) old new
+ints_at xs n d v old was new l e gains before = ints_more xs n (get_or xs n d) old was new l (get_or_same xs n d (get_or xs n d) l) before (subst (λ (u : Input). Gains was new (get_or xs n d).0 u) e gains)
 
 pub ints_all : (xs : List (ℕ × ScalarInput)) (n : ℕ) (old new : List (List (ℕ × Input))) → length xs ≤ n → AddsInputs (take n xs) old new → AddsInputs xs old new
 ints_all xs n old new l h = subst (λ l. AddsInputs l old new) (take_all n xs l) h

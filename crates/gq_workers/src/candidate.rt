@@ -12,13 +12,12 @@ ghost use Rattle.gq_plan_ir.specs.ExprView.{view};
 ghost use Rattle.gq_exec_contribute.specs.Prepared.{AreFound, sees};
 ghost use Rattle.gq_workers.specs.Running.{ComesUnder, Done, IsShaped, Tried, come, comes, marks_end};
 
-use crate::aliases::{bind, no_alias};
 use crate::found::MatchBuffer;
 use crate::work::Work;
 use gq_base::{List, OutOfMemory};
 use gq_core::Batches;
 use gq_eval_context::BlockContext;
-use gq_exec_contribute::{Outcome, Room, contribute, gather, passes};
+use gq_exec_contribute::{Outcome, Room, bind, contribute, gather, no_alias, passes};
 use gq_exec_source::{Ends, mark};
 use gq_frame::Alias;
 use gq_graph::Candidate;
@@ -45,11 +44,11 @@ pub(crate) fn try_one(
     ensures tried { IfOk result (Tried over.now (come gregorian over.now work.now candidate) found.old found.new) }
     ensures shaped { IfOk result (λ _. IsShaped (length over.now.vertices) found.new) }
 {
-    if is_read(work, over, candidate, *evaluated, found)? {
+    if is_read(alloc, work, over, candidate, *evaluated, found)? {
         return Ok(None);
     }
     *evaluated = evaluated.saturating_add(1);
-    found.settle()?;
+    found.settle(alloc)?;
     try_candidate(
         alloc,
         work.block,
@@ -64,6 +63,7 @@ pub(crate) fn try_one(
 /// Whether all that comes of a candidate could be read: then it is done, and else nothing has changed.
 #[tactic(auto, using(crate::proofs::ComesLemmas::read_laws))]
 fn is_read(
+    alloc: Global,
     work: &Work<'_>,
     over: &BlockContext<'_>,
     candidate: Candidate,
@@ -78,15 +78,16 @@ fn is_read(
     if evaluated >= MOST_EVALUATED {
         return Ok(false);
     }
-    match passes(&work.block.filter, over, &work.leaves, &candidate) {
+    match passes(&work.block.filter, alloc, over, &work.leaves, &candidate) {
         None => Ok(false),
         Some(false) => Ok(true),
-        Some(true) => is_gathered(work, over, candidate, found),
+        Some(true) => is_gathered(alloc, work, over, candidate, found),
     }
 }
 
 /// Gathers what acts feed, and marks the ends; or changes nothing, where one of them feeds something that can't be read.
 fn is_gathered(
+    alloc: Global,
     work: &Work<'_>,
     over: &BlockContext<'_>,
     candidate: Candidate,
@@ -99,7 +100,14 @@ fn is_gathered(
     ensures { IfOk result (Done over.now (come gregorian over.now work.now candidate) found.old found.new) }
 {
     let acts = work.block.accum.as_slice();
-    if !gather(acts, over, &work.leaves, &candidate, &mut found.inputs)? {
+    if !gather(
+        acts,
+        alloc,
+        over,
+        &work.leaves,
+        &candidate,
+        &mut found.inputs,
+    )? {
         return Ok(false);
     }
     mark(&mut found.sources, candidate.source);

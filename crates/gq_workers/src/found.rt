@@ -4,9 +4,8 @@ ghost use Rattle.gq_workers.specs.Running.{AddsInputs, IsOpened, Settles};
 
 use gq_base::{List, OutOfMemory};
 use gq_core::Batches;
-use gq_exec_contribute::{Room, ScalarInput, value_of};
+use gq_exec_contribute::{Room, ScalarInput, input_of};
 use gq_exec_source::unmarked;
-use gq_value::Input;
 use std::alloc::Global;
 
 /// What candidates have left: inputs that wait to be fed, and marks of the matched vertices.
@@ -14,7 +13,7 @@ use std::alloc::Global;
 pub(crate) struct MatchBuffer {
     pub batches: Batches,
 
-    /// INTs and truths, each with the number of its target. They come behind what is in the batch.
+    /// Inputs made of INTs or a truth, each with the number of its target. They come behind what is in the batch.
     pub inputs: List<(u64, ScalarInput)>,
     pub room: Room,
     pub sources: List<u64>,
@@ -42,13 +41,13 @@ impl MatchBuffer {
 
     /// Puts the inputs that wait behind what is in the batch, as inputs, so that the batch may take more.
     #[tactic(auto, using(crate::proofs::FoundLemmas::settle_laws))]
-    pub fn settle(&mut self) -> Result<(), OutOfMemory>
+    pub fn settle(&mut self, alloc: Global) -> Result<(), OutOfMemory>
         requires { length self.old.batches ≡ 1 }
         ensures kept { OnOk result (Settles self.old self.new) }
         ensures none { OnOk result (self.new.inputs ≡ []) }
     {
         if self.inputs.len() > 0 {
-            add_inputs(self.inputs.as_slice(), &mut self.batches)?;
+            add_inputs(alloc, self.inputs.as_slice(), &mut self.batches)?;
             self.inputs.truncate(0);
         }
         Ok(())
@@ -57,12 +56,16 @@ impl MatchBuffer {
 
 /// Adds INTs and truths to the one batch, as inputs.
 #[tactic(auto, using(crate::proofs::FoundLemmas::ints_laws))]
-fn add_inputs(inputs: &[(u64, ScalarInput)], into: &mut Batches) -> Result<(), OutOfMemory>
+fn add_inputs(
+    alloc: Global,
+    inputs: &[(u64, ScalarInput)],
+    into: &mut Batches,
+) -> Result<(), OutOfMemory>
     requires { length into.old ≡ 1 }
     ensures { OnOk result (AddsInputs inputs.now into.old into.new) }
 {
     for input in inputs {
-        into.add(input.0, Input::One(value_of(input.1)))?;
+        into.add(input.0, input_of(alloc, &input.1)?)?;
     }
     Ok(())
 }

@@ -9,7 +9,6 @@
 //! code begins in `src/block.rt`; `src/candidate.rt` tries one candidate, `src/workers.rt` has the threads.
 #![tactic(auto)]
 
-mod aliases;
 mod block;
 mod candidate;
 mod chunk;

@@ -11,5 +11,5 @@ use Rattle.gq_exec_contribute.proofs.names.field_int.Goals as goal
 
 pub returns-in-Some : goal.returns-in-Some
 returns-in-Some c =
-    subst (λ (o : Over). IfSome c.vertex_int.result (λ x. part_value (sees gregorian o c.args.leaves.now c.args.c.now) c.args.place (tree.Field (field_of c.args.field.now)) ≡ Gives (Int x))) c.over.view_is
-    (vertex_read gregorian c.over.inside.graph c.over.inside.plan.now c.over.inside.tuples.now c.over.inside.frame.now c.args.leaves.now c.args.c.now c.args.place c.args.field.now c.in-Some.vertex c.vertex_int.result c.in-Some.ensures c.vertex_int.ensures)
+    subst (λ (o : Over). IfSome c.vertex_field_int.result (λ x. part_value (sees gregorian o c.args.leaves.now c.args.c.now) c.args.place (tree.Field (field_of c.args.field.now)) ≡ Gives (Int x))) c.over.view_is
+    (vertex_read gregorian c.over.inside.graph c.over.inside.plan.now c.over.inside.tuples.now c.over.inside.frame.now c.args.leaves.now c.args.c.now c.args.place c.args.field.now c.in-Some.vertex c.vertex_field_int.result c.in-Some.ensures c.vertex_field_int.ensures)

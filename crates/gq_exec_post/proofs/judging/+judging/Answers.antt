@@ -1,12 +1,10 @@
-use Rattle.std.proofs.Common.{rules, map, ap, ap₂, ◌∙◌, sym, subst, drop, List}
+use Rattle.std.proofs.Common.{rules, map, ap, ◌∙◌, sym, subst, List}
 use Rattle.gq_value.specs.declared.kind.Input.{Input}
-use Rattle.gq_value.specs.Views.{val}
 use Rattle.gq_value.specs.AccumViews.{given, givens}
-use Rattle.gq_accum_laws.specs.Inputs.{first}
 use Rattle.gq_value.proofs.AccumLemmas.{given-One, given-Keyed}
 use Rattle.gq_nest.specs.Tells.{Tells}
 use Rattle.gq_exec_post.specs.Judging.{fits_where, given_at}
-use Rattle.gq_exec_post.proofs.JudgingSteps.{tells_one, tells_scalar, lacks_where, has_where, group_lacks, group_has, no_input, an_input, judged_more, judged_not, judged_all}
+use Rattle.gq_exec_post.proofs.JudgingSteps.{tells_one, tells_scalar, lacks_where, has_where, group_lacks, group_has, no_input, judged_more, judged_not, judged_all}
 use Rattle.gq_exec_post.proofs.judging.+judging.Goals as goal
 
 pub still_fits-returns-in-One : goal.still_fits-returns-in-One

@@ -5,4 +5,4 @@ use Rattle.gq_exec_source.proofs.lookups.taken.Given as goal
 
 abbrev pub invariant-loop-entry : goal.invariant-loop-entry
 invariant-loop-entry l =
-    l.walks.items ≡ gone (vertex_kinds l.graph.store.now.vertices) l.step.targets l.graph.catalog.now.edge_types l.graph.store.now.edges.rows l.walk (take l.entry-index l.entries)
+    l.walks.items ≡ gone (vertex_kinds l.graph.store.now.vertices) l.step.step.now.targets l.rest l.graph.catalog.now.edge_types l.graph.store.now.edges.rows l.walk (take l.entry-index l.step.entries.items)
