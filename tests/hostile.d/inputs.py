@@ -204,4 +204,4 @@ def deepest():
     yield "kinds", query(f"{deep} @@m; @@m += " + "(1 -> " * 7 + "5" + ")" * 7 + "; PRINT @@m, @@m" + ".get(1)" * 7 + " AS n;")
     yield "chains", query("PRINT " + "- " * 100_000 + "1 AS n, " + "NOT " * 100_000 + "TRUE AS t, " + "1" + " + 1" * 100_000 + " AS s;")
     yield "ELSE IFs", query("IF FALSE THEN PRINT 1;" + " ELSE IF FALSE THEN PRINT 1;" * 30_000 + " END; PRINT 2;")
-    yield "JSON", dict(ARGUMENTS, **{"script": ARGUMENTS["script"]})
+    yield "JSON", dict(ARGUMENTS, **{"a.json": ('{"q": {"n": 4, "more": ' + "[" * 120 + "]" * 120 + "}}").encode()}), *WITH_ARGS
