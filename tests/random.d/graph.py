@@ -1,5 +1,7 @@
 """The catalog, the vertices and edges, and loading, as docs/language.md has them."""
 import re
+import reading  # finds the tools
+from records import records_of
 from values import Fault, LEAST, MOST, WIDEST, moment_of
 
 DEFAULT = {"INT": ("I", 0), "UINT": ("U", 0), "BOOL": ("B", False), "STRING": ("S", ""), "DATETIME": ("D", 0)}
@@ -137,49 +139,11 @@ def field_value(data, type_name, attr):
     return ("I" if type_name == "INT" else "U", int(text))
 
 
-def records_of(data, separator, quote):
-    """The records of a file, each a list of fields; empty lines and a byte order mark at the beginning are passed over."""
-    if data.startswith(b"\xef\xbb\xbf"):
-        data = data[3:]
-    records, at = [], 0
-    while at < len(data):
-        if data[at:at + 1] in (b"\n", b"\r"):
-            at += 1
-            continue
-        fields, more = [], True
-        while more:
-            field, at = field_at(data, at, separator, quote)
-            fields.append(field)
-            more = data[at:at + 1] == separator
-            at += 1
-        records.append(fields)
-    return records
-
-
-def field_at(data, at, separator, quote):
-    """The field that begins at a place, and the place of the separator or the end of the line behind it."""
-    field = b""
-    if quote and data[at:at + 1] == quote:
-        at += 1
-        while at < len(data):
-            if data[at:at + 1] != quote:
-                end = data.find(quote, at)
-                end = len(data) if end < 0 else end
-                field, at = field + data[at:end], end
-            elif data[at + 1:at + 2] == quote:
-                field, at = field + quote, at + 2
-            else:
-                at += 1
-                break
-    end = re.compile(b"[" + re.escape(separator) + b"\n\r]|$(?!\n)").search(data, at).start()
-    return field + data[at:end], end
-
-
 def load(graph, load_, path, data):
     """Loads a file by a LOAD; its report."""
     options = {it[0]: it[1] for it in load_["options"]}
     quote = {"double": b'"', "single": b"'"}.get(options.get("QUOTE"))
-    records = records_of(data, options.get("SEPARATOR", ",").encode(), quote)
+    records = [[field for _, field in fields] for _, _, fields in records_of(data, options.get("SEPARATOR", ",").encode(), quote)]
     header = {}
     if options.get("HEADER", "").lower() == "true":
         for at, name in reversed(list(enumerate(records[0] if records else []))):
