@@ -1,5 +1,6 @@
 """Which records a LOAD leaves out, and why."""
 import os
+import re
 
 from names import near
 from records import is_readable, records_of
@@ -92,7 +93,7 @@ def of_file(names, line, path, data):
         _, wanted = values_of(names, dest)
         routes += [(column_of(names, col, header), *want) for col, want in zip(dest.trees("Col"), wanted)]
     found = [(start, end, fault) for start, end, fields in records for fault in [fault_of(routes, fields)] if fault]
-    lines = []
+    lines = [] if quote else cut_in_quotes(path, data, options.get("SEPARATOR", ","))
     for start, end, fault in found[:MOST_SHOWN]:
         number = data.count(b"\n", 0, start) + 1
         lines.append(f"{path}:{number}: {fault}")
@@ -100,6 +101,17 @@ def of_file(names, line, path, data):
     if len(found) > MOST_SHOWN:
         lines.append(f"{path}: and {len(found) - MOST_SHOWN} more records that are left out")
     return lines
+
+
+def cut_in_quotes(path, data, separator):
+    """What is said of the first field in quotes that is cut at a separator, since its LOAD has no QUOTE."""
+    mark = re.escape(separator.encode())
+    first = re.search(rb'(?:^|%s)"[^"\n]*%s[^"\n]*"(?:%s|\r?$)' % (mark, mark, mark), data, re.MULTILINE)
+    if first is None:
+        return []
+    number = data.count(b"\n", 0, first.end()) + 1
+    shown = first.group().decode(errors="replace").strip(separator + "\r\n")
+    return [f'{path}:{number}: {shown} is cut at its separator and keeps its quotes: the LOAD has no QUOTE="double"']
 
 
 def fault_of(routes, fields):

@@ -5,25 +5,31 @@ FUNCTIONS = ("abs", "to_string", "to_datetime", "epoch_to_datetime", "datetime_t
              "minute", "second")
 METHODS = ("size", "contains", "containsKey", "get", "outdegree", "type")
 # What TigerGraph has and this language doesn't, with what is written here.
+NO_POINT = "There are no numbers with a point: keep cents, per mille or millionths as an INT."
+BEFORE = "There is no such function: bring the file into shape before it is loaded."
 ELSEWHERE = {
-    "FLOAT": "there are no numbers with a point: keep cents, per mille or millionths as an INT",
-    "DOUBLE": "there are no numbers with a point: keep cents, per mille or millionths as an INT",
-    "DATETIME": "an accumulator of moments keeps datetime_to_epoch(..) as an INT, and epoch_to_datetime(..) prints it",
-    "EDGE": "accumulators hold no edges: keep their discriminators or ends", "STRING COMPRESS": "STRING",
-    "count": "count(S) is S.size() here", "getvid": "a vertex is compared and printed as it is", "float": "there are no numbers with a point",
-    "now": "a parameter: a run over the same files gives the same bytes", "to_vertex": "only arguments make vertices of texts",
-    "vertex_id": "the vertex itself", "to_int": "bring the file into shape before it is loaded", "str_to_int": "bring the file into shape before it is loaded",
-    "max": "a MaxAccum, or IF", "min": "a MinAccum, or IF", "avg": "an AvgAccum", "sum": "a SumAccum",
-    "pow": "a product", "sqrt": "there are no roots: compare squares", "log": "there are no logarithms", "round": "there are whole numbers only",
-    "lower": "bring the file into shape before it is loaded", "upper": "bring the file into shape before it is loaded",
-    "length": "texts have no length here", "concat": "texts are joined by +", "clear": "a second accumulator, or `=` for a kind of one value",
-    "neighbors": "a SELECT with a hop", "outdegree": "s.outdegree()", "edgeAttribute": "a SELECT with a hop",
+    "FLOAT": NO_POINT, "DOUBLE": NO_POINT, "float": NO_POINT, "double": NO_POINT,
+    "DATETIME": "An accumulator of moments keeps datetime_to_epoch(..) as an INT, and epoch_to_datetime(..) prints it.",
+    "EDGE": "Accumulators hold no edges: keep their discriminators or ends.",
+    "count": "count(S) is S.size() here.", "getvid": "There is no getvid: take an id that is a number, of a type WITH PRIMARY_ID_AS_ATTRIBUTE.",
+    "now": "There is no now(): take a parameter STRING today, and to_datetime(today), so that each run gives the same bytes.",
+    "to_vertex": "There is no to_vertex: take a parameter VERTEX<T>.", "vertex_id": "Compare and print the vertex itself.",
+    "to_int": BEFORE, "str_to_int": BEFORE, "lower": BEFORE, "upper": BEFORE, "substr": BEFORE, "trim": BEFORE, "split": BEFORE, "replace": BEFORE,
+    "length": "Texts have no length here.", "concat": "Texts are joined by +.",
+    "max": "There is no max(..): take a MaxAccum, or IF.", "min": "There is no min(..): take a MinAccum, or IF.",
+    "avg": "There is no avg(..): take an AvgAccum.", "sum": "There is no sum(..): take a SumAccum.", "pow": "There is no pow(..): write the product.",
+    "sqrt": "There are no roots: compare squares.", "log": "There are no logarithms.", "round": "There are whole numbers only, and / cuts.",
+    "coalesce": "There is no NULL: what isn't given is 0, FALSE or the empty text.",
+    "clear": "Nothing is emptied: take a second accumulator, or set one that keeps one value by =.",
+    "neighbors": "Neighbours come by a SELECT with a hop.", "edgeAttribute": "Attributes of edges are read by the alias of a hop, e.w.",
+    "outdegree": "It is a method of an alias: s.outdegree().",
 }
+UNITS = ("YEAR", "MONTH", "DAY", "HOUR", "MINUTE", "SECOND")
 
 
 def near(name, known):
     """The names among these that are most like one, the nearest first."""
-    known = list(dict.fromkeys(it for it in known if it != name))
+    known = list(dict.fromkeys(it for it in known if it != name and (it.startswith("@") or not name.startswith("@"))))
     same = [it for it in known if it.lower().lstrip("@") == name.lower().lstrip("@")]
     return list(dict.fromkeys(same + difflib.get_close_matches(name, known, 3, 0.6 if len(name) > 3 else 0.5)))[:3]
 

@@ -20,6 +20,8 @@ class Text:
     def shown(self, start, end):
         """The line of a place with marks under the bytes from `start` to before `end`, as far as they stand on it."""
         first = self.data.rfind(b"\n", 0, start) + 1
+        while end < len(self.data) and self.data[end] & 0xC0 == 0x80:
+            end += 1
         last = self.data.find(b"\n", start)
         last = len(self.data) if last < 0 else last
         head = self.data[first:start].decode(errors="replace")

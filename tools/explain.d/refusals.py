@@ -1,9 +1,10 @@
 """What is said of a statement that is refused: where, what is near it, and what to write."""
+import json
 import os
 import re
 
 import loads
-from names import ELSEWHERE, FUNCTIONS, METHODS, near
+from names import ELSEWHERE, FUNCTIONS, METHODS, UNITS, near
 from probe import Query
 
 # The refusals of queries, by their first words, and what helps.
@@ -11,13 +12,20 @@ OF_QUERIES = {
     "order dependent": "ACCUM takes its matches in no order, and a list would depend on it: a BagAccum or SetAccum, or POST-ACCUM.",
     "wider set": "The first value of a set fixes its types: write its name as `S (ANY) = ..`, or take a second set.",
     "two aliases": "A statement of POST-ACCUM is for one alias: what needs both ends belongs into ACCUM.",
-    "bad accumulator": "Sums are of INT or UINT, least and greatest of numbers; keys of maps aren't tuples, values of maps are numbers or accumulators; a heap "
-                       "has from 1 to 1000000 places and orders by fields of its tuple; only kinds of one value have an opening.",
     "name twice": "Parameters, variables, sets, aliases, tuples and accumulators of a query share their names, and so do the members of a PRINT: use AS.",
     "too many": "A query has at most 256 accumulators, 16 fields of a tuple, 8 keys and 8 parts of a group, and 1000 entries of one ACCUM.",
 }
+# What an accumulator may be, by its kind.
+OF_KINDS = {
+    "SumAccum": "A SumAccum is of INT or UINT.", "MinAccum": "A MinAccum is of INT or UINT.", "MaxAccum": "A MaxAccum is of INT or UINT.",
+    "MapAccum": "The key of a map is no tuple; its value is INT, UINT or an accumulator other than a list: of truths OrAccum, of texts SetAccum<STRING>.",
+    "HeapAccum": "A heap holds tuples, from 1 to 1000000 of them, and is ordered by fields of its tuple.",
+    "GroupByAccum": "A part of a group is an accumulator other than a list.", "ListAccum": "A list stands in no map and no group.",
+}
+OPENING = "Only kinds of one value have an opening."
+OVER = "FOREACH goes through a SetAccum, BagAccum, ListAccum or HeapAccum: feed the vertices, or the keys of the map, to a SetAccum first."
 NOT_ALLOWED = (
-    (r"^count\(", "count(S) is S.size() here."), (r"^(getvid|count|to_vertex)\(", "There is no such function: a vertex is compared and printed as it is."),
+    (r"^count\(", "count(S) is S.size() here."), (r"^(getvid|to_vertex)\(", "There is no such function: a vertex is compared and printed as it is."),
     (r"@\w+'", "The value from before ACCUM, v.@a', is for POST-ACCUM."),
 )
 
@@ -25,9 +33,9 @@ NOT_ALLOWED = (
 class Refused:
     """A refused statement of a script that can be read."""
 
-    def __init__(self, program, text, tokens, trees, names, number, said):
+    def __init__(self, program, text, tokens, trees, names, number, said, arguments=None):
         self.program, self.text, self.tokens, self.trees, self.names, self.said = program, text, tokens, trees, names, said
-        self.number = number
+        self.number, self.arguments = number, arguments
         self.statement = trees[number]
         self.tree = self.statement.parts[0]
         self.kind = getattr(self.tree, "name", self.names.word(self.statement.start).upper())
@@ -73,7 +81,8 @@ class Refused:
             return said + ["A default is a value of the attribute's type: a text in quotes, a number, TRUE or FALSE."]
         if self.said.startswith(("no such type", "unknown name")):
             known = list(self.names.types) + self.names.graphs + list(self.names.queries) + list(self.names.jobs)
-            return said + self.near(known) + self.declared_later()
+            like = self.near(known) or (self.there_are(self.names.graphs) if self.kind == "USE" else [])
+            return said + like + self.declared_later()
         if self.said.startswith("wrong number of values") and self.what in self.names.types:
             return said + [self.names.described(self.what)]
         if self.said == "type mismatch":
@@ -83,8 +92,11 @@ class Refused:
     def near(self, known):
         like = near(self.what, known)
         hint = ELSEWHERE.get(self.what)
-        said = [f"Near it: {', '.join(like)}."] if like else []
-        return said + ([f"{self.what}: {hint}."] if hint else [])
+        return [hint] if hint else [f"Near it: {', '.join(like)}."] if like else []
+
+    def there_are(self, known):
+        """The names that are near, or else those that there are."""
+        return self.near(known) or ([f"There are: {', '.join(known[:9])}."] if known else [])
 
     def declared_later(self):
         """Where what is missing comes further down."""
@@ -109,14 +121,16 @@ class Refused:
             return said + [self.names.described(self.what), "VALUES has a value for each, in this order; _ gives an attribute its default."]
         if self.said.startswith("unknown name"):
             defined = [self.names.words(it)[2] for it in self.tree.trees("Line") if self.names.words(it)[0].upper() == "DEFINE"]
-            return said + self.near(self.names.graphs + defined) + ['A path stands in quotes: LOAD "city.csv" ..; a name needs DEFINE FILENAME.']
+            return said + self.there_are(self.names.graphs + defined) + ['A path stands in quotes: LOAD "city.csv" ..; a name needs DEFINE FILENAME.']
+        if self.names.types.get(self.what, {}).get("kind") == "reverse edge":
+            return said + [f"{self.what} is a reverse type, which isn't loaded: load its edge type, and its edges are there backwards too."]
         return said + self.near(list(self.names.types)) + self.declared_later()
 
     def of_run_job(self):
         words = self.names.words(self.tree)
         job = self.names.jobs.get(words[3])
         if job is None:
-            return self.named() + self.near(list(self.names.jobs))
+            return self.named() + self.there_are(list(self.names.jobs))
         using = dict(zip(words[5::4], (loads.plain(it) for it in words[7::4])))
         place = self.place_of(self.what, job.start, job.end)
         said = self.at(place, place + 1) if place is not None else self.named()
@@ -134,7 +148,7 @@ class Refused:
         words = self.names.words(self.tree)
         query = self.names.queries.get(words[2])
         if self.said.startswith("unknown name") or query is None:
-            return self.named() + self.near(list(self.names.queries))
+            return self.named() + self.there_are(list(self.names.queries))
         params = [self.source(it) for it in query.trees("Param")]
         signature = f"{words[2]} ({', '.join(params)})"
         if self.said.startswith("not installed"):
@@ -142,10 +156,26 @@ class Refused:
         if self.said.startswith("wrong number"):
             return self.at(self.statement.start, self.statement.end) + [f"It is declared as {signature}."]
         if self.said.startswith("bad argument"):
-            return self.at(self.statement.start, self.statement.end) + [
-                f"It is declared as {signature}.", "A vertex is given by its id, of the type of its parameter, and has to be in the graph; "
-                "without parentheses arguments come from the file that --args names.", *self.left_out()]
+            return self.at(self.statement.start, self.statement.end) + [f"It is declared as {signature}.", *self.of_argument(words, query)]
         return self.of_fault(query)
+
+    def of_argument(self, words, query):
+        """What helps with an argument."""
+        is_vertex = any(self.source(it).startswith("VERTEX") and self.place_of(self.what, it.start, it.end) for it in query.trees("Param"))
+        said = ["A vertex is given by its id, and has to be in the graph.", *self.left_out()] if is_vertex else []
+        return said if "(" in words else self.of_file(words[2]) + said
+
+    def of_file(self, query):
+        """What the file of arguments has for a parameter."""
+        if self.arguments is None:
+            return ["Without parentheses arguments come from the file that --args names, and none is given."]
+        with open(self.arguments, encoding="utf-8") as it:
+            members = json.load(it).get(query)
+        if not isinstance(members, dict):
+            return [f"{self.arguments}, the file of --args, has no object `{query}`."]
+        if self.what not in members:
+            return [f"In {self.arguments}, the file of --args, `{query}` has no member {self.what}.", *self.there_are(list(members))]
+        return [f"In {self.arguments}, the file of --args, {self.what} is {json.dumps(members[self.what], ensure_ascii=False)}."]
 
     def left_out(self):
         """The records that the loads before this statement left out."""
@@ -174,22 +204,32 @@ class Refused:
         return any(at in it.parts for it in query.all("Sum", "Mul", "Neg"))
 
     def source(self, tree):
-        return " ".join(self.names.word(at) for at in range(tree.start, tree.end)).replace(" < ", "<").replace(" >", ">")
+        return " ".join(self.names.word(at) for at in range(tree.start, tree.end)).replace(" < ", "<").replace(" >", ">").replace(" ,", ",")
 
     def of_query(self):
         if self.said.startswith(("name taken", "bad option")) or self.said.startswith("unknown name") and self.what == self.graph_name():
             hints = {"name taken": ["CREATE OR REPLACE QUERY takes its place."], "bad option": ['SYNTAX is v1 or v2, API is "v2", each once at most.']}
-            return self.named(end=self.tree.trees("Body")[0].start) + hints.get(" ".join(self.said.split()[:2]), self.near(self.names.graphs))
+            return self.named(end=self.tree.trees("Body")[0].start) + hints.get(" ".join(self.said.split()[:2]), self.there_are(self.names.graphs))
         query = Query(self.program, self.text, self.tokens, self.trees[:self.number], self.statement)
         unit = query.culprit(self.said)
         if unit is None:
             return self.named(end=self.tree.trees("Body")[0].start) + self.names_near()
+        if self.said.startswith("bad accumulator"):
+            return self.named(*self.around(unit)) + self.of_accumulator(unit.tree)
+        if self.said.startswith("wider set") and hasattr(unit.place, "start"):
+            return self.at(unit.place.start, unit.place.start + 1) + [OF_QUERIES["wider set"]]
         for name, hint in OF_QUERIES.items():
             if self.said.startswith(name):
                 return self.named(*self.around(unit)) + [hint]
         if self.said.startswith(("unknown name", "no attribute")):
             return self.of_name(query, unit)
         return self.of_expression(query, unit)
+
+    def of_accumulator(self, tree):
+        """What accumulators of the kinds of a declaration may be."""
+        kinds = dict.fromkeys(self.names.word(it.start) for it in tree.all("Kind"))
+        said = [hint for kind, hint in OF_KINDS.items() if kind.upper() in {it.upper() for it in kinds}]
+        return said + ([OPENING] if any(self.names.word(at) == "=" for at in range(tree.start, tree.end)) else [])
 
     def graph_name(self):
         words = self.names.words(self.tree)
@@ -209,18 +249,56 @@ class Refused:
     def of_name(self, query, unit):
         said = self.named(*self.around(unit))
         if self.said.startswith("unknown name"):
-            return said + self.names_near()
+            return said + (self.of_use(unit) or self.names_near() or self.declared_nowhere(unit))
         all_attributes = [name for it in self.names.types.values() for name, _ in it["attributes"]]
         ids = [name for name, it in self.names.types.items() if it["kind"] == "vertex" and it["id"][0] == self.what and not it["shown"]]
         if self.what in METHODS:
             return said + [f"{self.what} is a method: write {self.what}()."]
+        if self.what in FUNCTIONS:
+            return said + [f"{self.what} is a function: write {self.what}(..) of the value."]
+        owner = self.owner(query, unit)
+        if owner:
+            return said + [f"{owner} is a set: PRINT {owner}[{owner}.{self.what}] shows an attribute of each of its vertices, and a SELECT reads it."]
         if ids:
             return said + [f'{self.what} is the id of {ids[0]}, and no attribute: CREATE VERTEX {ids[0]} (..) WITH PRIMARY_ID_AS_ATTRIBUTE="true".']
         having = [name for name, it in self.names.types.items() if self.what in dict(it["attributes"])]
         said += self.near(all_attributes)
         if having:
             said.append(f"It is an attribute of {', '.join(having)}: all types that the alias may have need it, with one type.")
-        return said + [self.names.described(name) for name in list(self.names.types)[:6]]
+        return said + [self.names.described(name) for name in self.types_of(unit)]
+
+    def types_of(self, unit):
+        """The types that the pattern of a SELECT names, or else the first ones."""
+        select = next((it for it in self.tree.all("Select") if it.start <= unit.tree.start and unit.tree.end <= it.end), None)
+        found = [name for name in self.names.types if select and self.place_of(name, select.start, select.end)]
+        return (found or list(self.names.types))[:6]
+
+    def owner(self, query, unit):
+        """The set in front of the name of the message, outside of a SELECT, or None."""
+        at = self.place_of(self.what, unit.tree.start, unit.tree.end)
+        sets = [self.names.word(it.start) for it in self.tree.all("Plain") if it.all("Select", "SetRhs")]
+        return self.names.word(at - 2) if at is not None and self.names.word(at - 1) == "." and self.names.word(at - 2) in sets else None
+
+    def of_use(self, unit):
+        """What helps with an unknown name because of where it stands."""
+        at = self.place_of(self.what, *self.around(unit))
+        word = self.names.word(at) if at is not None else self.what
+        if self.what.upper() in UNITS and self.names.word(at + 1) == ")" or word.startswith('"') and "datetime_add" in self.source(unit.tree):
+            return ["A unit is one of these texts: " + ", ".join(f'"{it}"' for it in UNITS) + "."]
+        item = next((it for it in self.tree.all("Item") if at is not None and it.start + 1 < at < it.end and self.names.word(it.start + 1) == "["), None)
+        if item:
+            owner = self.names.word(item.start)
+            return [f"Within {owner}[..] the vertices are called by the set: {owner}.age, {owner}.@n."]
+        if at is not None and self.names.word(at - 1).upper() == "SELECT":
+            return ["A SELECT gives vertices: it names the alias of its source or of its target, and no edge's."]
+        other = next((it for it in self.tree.all("Def") if self.names.word(it.end - 1) == self.what), None)
+        return [f"{self.what} is a type of tuples here, so no set and no variable has that name."] if other else []
+
+    def declared_nowhere(self, unit):
+        """What helps with a variable that isn't there."""
+        if getattr(unit.place, "name", "") != "Plain" or self.names.word(unit.place.start) != self.what:
+            return []
+        return ["A variable is declared by its type, as INT n = 1; in front of this, or within the same body."]
 
     def of_expression(self, query, unit):
         """`type mismatch` and `not allowed here`."""
@@ -239,9 +317,27 @@ class Refused:
             if of:
                 types.append(of)
                 said.append(f"`{query.source(it.start, it.end)}` is {of}.")
+        return said + self.of_types(tree, types, query.source(tree.start, tree.end))
+
+    def of_types(self, tree, types, text):
+        """What helps with these types in an expression."""
+        if tree.name == "Sum" and "a moment" in types:
+            return ['datetime_add(t, n, "HOUR") moves a moment, and datetime_diff(t, u) has the seconds between two.']
         if tree.name == "Sum" and "a text" in types and len(set(types)) > 1:
-            said.append("Texts are joined by +, and to_string(..) makes a text of a number or a truth.")
-        return said
+            return ["Texts are joined by +, and to_string(..) makes a text of a number or a truth."]
+        if tree.name == "Cmp" and {"a moment", "a text"} == set(types):
+            return ['A moment is written to_datetime("2025-03-01 08:30:00").']
+        if tree.name == "Cmp" and {"a vertex", "a text"} == set(types):
+            return ["A vertex is no text: compare its id, where the type says WITH PRIMARY_ID_AS_ATTRIBUTE, or a parameter VERTEX<T>."]
+        if re.search(r"\.(contains|containsKey|get|size)\s*\(", text):
+            return ["contains is for a set, a bag, a list; containsKey and get for a map or a group, with all its keys; size for each."]
+        return self.of_tuple(text)
+
+    def of_tuple(self, text):
+        """The declaration of the tuple that a text makes."""
+        name = re.match(r"(\w+)\s*\(", text)
+        made = next((it for it in self.tree.all("Def") if name and self.names.word(it.end - 1) == name.group(1)), None)
+        return [f"{name.group(1)} is declared by `{self.source(made)}`."] if made else []
 
     def wanted(self, query, unit):
         """What is wanted in a place, and what stands there."""
@@ -249,6 +345,8 @@ class Refused:
         said = []
         if tree.name == "From":
             return self.of_pattern(query, tree)
+        if hasattr(unit.place, "start") and self.names.word(unit.place.start).upper() == "FOREACH":
+            return [OVER]
         for it in [tree] if tree.name == "Expr" else tree.all("Expr"):
             of = query.type_of(unit, it) if unit.ask else None
             if of:
@@ -258,6 +356,9 @@ class Refused:
         declared = next((it for it in self.tree.all("Def") if fed and self.place_of(fed.group(), it.start, it.end)), None)
         if declared:
             said.append(f"{fed.group()} is declared by `{query.source(declared.start, declared.end)}`.")
+            if "a moment" in " ".join(said[:-1]) and "INT>" in said[-1]:
+                said.append("datetime_to_epoch(..) makes an INT of a moment.")
+        said += self.of_tuple(query.source(tree.start, tree.end))
         if unit.place in ("WHERE", "HAVING"):
             said.append(f"{unit.place} wants a truth.")
         if unit.place == "LIMIT":
@@ -269,6 +370,12 @@ class Refused:
     def of_pattern(self, query, tree):
         text = query.source(tree.start, tree.end)
         modes = " ".join(query.source(it.start, it.end) for it in self.tree.trees("Mode")).upper()
+        select = next((it for it in self.tree.all("Select") if it.start == tree.start), None)
+        steps = select.all("Step") if select else []
+        if "V2" in modes and any(":" in self.names.words(it) for it in steps[:-1]):
+            return ["Only the source and the last step of a path have aliases: leave the others out, or go step by step with a SELECT for each."]
+        if "V2" in modes and self.said == "type mismatch":
+            return ["A step of a directed type has its direction, pays> or <pays; one of an undirected type has none."]
         if "V2" in modes and "->" in text:
             return ["In SYNTAX v2 a step is -(road>:e)- city:t; without SYNTAX v2 a hop is -(road:e)-> city:t."]
         if "->" not in text and ")-" in text:
@@ -280,6 +387,13 @@ class Refused:
             return []
         found = [hint for form, hint in NOT_ALLOWED if re.search(form, text)]
         clause = self.clause_of(unit)
+        owner = re.match(r"(\w+)\s*\.\s*(@\w+)", text)
+        if hasattr(unit.place, "start") and self.names.word(unit.place.start).upper() == "FOREACH":
+            return []
+        if owner and owner.group(1) in [self.names.word(it.start) for it in self.tree.all("Plain") if it.all("Select", "SetRhs")]:
+            found.append(f"PRINT {owner.group(1)}[{owner.group(1)}.{owner.group(2)}] shows it at each vertex.")
+        elif owner and clause and owner.group(1) not in self.aliases(unit):
+            found.append(f"{owner.group(2)} is read by an alias of this SELECT, and {owner.group(1)} is a variable: keep it in a MapAccum by vertex.")
         if clause == "ACCUM" and re.search(r"@\w+\s*=[^=]", text):
             found.append("All inputs of ACCUM come at once, so there is += and no =; POST-ACCUM has both, for accumulators of vertices.")
         elif clause == "POST-ACCUM" and re.search(r"@@\w+\s*=[^=]", text):
@@ -290,6 +404,12 @@ class Refused:
             found.append("Others that are met: an edge's alias on its own, a set within a calculation, an accumulator @a outside of a SELECT, "
                          "a VERTEX variable without a value, an opening that reads anything but parameters.")
         return found
+
+    def aliases(self, unit):
+        """The aliases of the SELECT that a part stands in."""
+        select = next((it for it in self.tree.all("Select") if it.start <= unit.tree.start and unit.tree.end <= it.end), None)
+        words = [self.names.word(at) for at in range(select.start, select.end)] if select else []
+        return [word for before, word in zip(words, words[1:]) if before == ":"]
 
     def clause_of(self, unit):
         if isinstance(unit.place, str):

@@ -1,3 +1,9 @@
 pub mod PlaceLemmas
 pub mod ScriptLemmas
 pub mod CommandLemmas
+pub mod SomeTokens
+pub mod SomeNesting
+pub mod SomeStatements
+pub mod SomeArguments
+pub mod SomeEffects
+pub mod MeaningLemmas

@@ -12,3 +12,5 @@ pub mod BoundLemmas
 pub mod RowLemmas
 pub mod KindLemmas
 pub mod FedLemmas
+pub mod ArithmeticLemmas
+pub mod AskedLemmas

@@ -4,4 +4,5 @@ pub mod Feeds
 pub mod Passing
 pub mod Aliases
 pub mod Prepared
+pub mod Asked
 pub mod Scalars

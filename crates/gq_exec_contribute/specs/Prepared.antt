@@ -30,15 +30,18 @@ use Rattle.gq_rules_typing.specs.Selecting.{Plain}
 use Rattle.gq_rules_meaning.specs.Answers.{Answer, Gives, ◌>>=◌}
 use Rattle.gq_rules_meaning.specs.Blocks.{Contribution, input_of}
 use Rattle.gq_rules_meaning.specs.Calendars.{Calendar}
-use Rattle.gq_rules_meaning.specs.Expressions.{Look, value_of, truth_of, meaning_part}
-use Rattle.gq_rules_meaning.specs.Meanings.{Is, value_of_meant}
+use Rattle.gq_rules_meaning.specs.Expressions.{Look, value_of, truth_of, meaning_part, meaning_factors, meaning_terms}
+use Rattle.gq_rules_meaning.specs.Meanings.{Meant, Is, value_of_meant}
 use Rattle.gq_rules_meaning.specs.States.{read_slot}
-use Rattle.gq_rules_meaning.specs.Tree.{Tree, Behind}
+use Rattle.gq_rules_meaning.specs.Tree.{Tree, Behind, Post, Name}
+use Rattle.gq_tree.specs.declared.expr.AddSign.{AddSign}
+use Rattle.gq_tree.specs.declared.expr.MulSign.{MulSign}
+use Rattle.gq_plan_ir.specs.declared.expr.Behind as code
 use Rattle.gq_plan_ir.specs.Reference.{Reference, Place, Slot}
 use Rattle.gq_plan_ir.specs.declared.block.Feed.{Feed}
 use Rattle.gq_plan_ir.specs.declared.expr.Expr.{Expr}
 use Rattle.gq_plan_ir.specs.BlockView.{view_feed}
-use Rattle.gq_plan_ir.specs.ExprView.{view}
+use Rattle.gq_plan_ir.specs.ExprView.{view, view_factors, view_parts, view_terms}
 use Rattle.gq_plan_ir.specs.Words.{under}
 use Rattle.gq_eval_operand.specs.Meant.{read_of}
 use Rattle.gq_eval_operand.specs.Sound.{IsSound}
@@ -110,6 +113,23 @@ pub record IsHeldTruth (o : Over) (l : Leaves) (p : ℕ) (b : Bool) : Type 0 whe
 -- what stands behind a name
 abbrev pub part_value : Look Reference → ℕ → Behind Reference → Answer Wrong Val
 part_value look p b = look.named (Place p) >>= λ m. meaning_part look m b >>= value_of_meant
+
+-- what other parts stand for behind that one
+abbrev pub parts_value : Look Reference → ℕ → code.Behind → List code.Behind → Answer Wrong Val
+parts_value look p b others = value_of look (Post (Name (Place p)) (view_parts (b ∷ others)))
+
+-- ---- chains of operations
+
+abbrev pub int_meant : ℤ → Meant
+int_meant x = Is INT (Int x)
+
+-- an INT and then these terms are this one
+pub record AreTerms (look : Look Reference) (x : ℤ) (terms : List (AddSign × Expr)) (z : ℤ) : Type 0 where
+  pub sum : (meaning_terms look (int_meant x) (view_terms terms) >>= value_of_meant) ≡ Gives (Int z)
+
+-- an INT and then these factors
+pub record AreFactors (look : Look Reference) (x : ℤ) (factors : List (MulSign × Expr)) (z : ℤ) : Type 0 where
+  pub product : (meaning_factors look (int_meant x) (view_factors factors) >>= value_of_meant) ≡ Gives (Int z)
 
 -- ---- accumulators
 

@@ -9,7 +9,7 @@ use gq_eval_context::BlockContext;
 use gq_nest::Content;
 
 /// What stands at the target of a slot and a vertex, which is 0 for a global one.
-fn content_at<'a>(
+pub(crate) fn content_at<'a>(
     over: &'a BlockContext<'_>,
     leaves: &Leaves<'_>,
     slot: u32,

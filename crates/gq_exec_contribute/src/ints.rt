@@ -14,6 +14,7 @@ ghost use Rattle.gq_eval_context.specs.Viewed.{viewed};
 ghost use Rattle.gq_eval_context.specs.Looks.{look_of};
 ghost use Rattle.gq_exec_contribute.specs.Prepared.{AreFound, IsInt, part_value, sees};
 
+use crate::arithmetic::read_int;
 use crate::bound::{bind, no_alias};
 use crate::held::held_int;
 use crate::leaves::Leaves;
@@ -40,19 +41,36 @@ pub(crate) fn int(
 {
     match short_int(expr, over, leaves, c) {
         Some(x) => Some(x),
-        None => match expr {
-            Expr::Post(_, _) | Expr::Call(_, _) => evaluated(expr, alloc, over, leaves, c),
-            Expr::Neg(_, _) | Expr::Mul(_, _) | Expr::Sum(_, _) => {
-                evaluated(expr, alloc, over, leaves, c)
+        None => long_int(expr, alloc, over, leaves, c),
+    }
+}
+
+/// The INT that an expression of no short form is: methods of accumulators and sums are read, and what can't be is evaluated.
+fn long_int(
+    expr: &Expr,
+    alloc: Global,
+    over: &BlockContext<'_>,
+    leaves: &Leaves<'_>,
+    c: &Candidate,
+) -> Option<i64>
+    requires { AreFound over.now leaves.now }
+    ensures { IfSome result (IsInt (sees gregorian over.now leaves.now c.now) (view expr.now)) }
+{
+    match expr {
+        Expr::Post(_, _) | Expr::Mul(_, _) | Expr::Sum(_, _) => {
+            match read_int(expr, over, leaves, c) {
+                Some(x) => Some(x),
+                None => evaluated(expr, alloc, over, leaves, c),
             }
-            _ => None,
-        },
+        }
+        Expr::Call(_, _) | Expr::Neg(_, _) => evaluated(expr, alloc, over, leaves, c),
+        _ => None,
     }
 }
 
 /// The INT that an expression of a short form is: a literal, a name, or one part behind a name. Takes no memory.
 #[tactic(auto, using(gq_plan_ir::proofs::ViewLaws::view_laws, crate::proofs::ReadLemmas::int_laws))]
-fn short_int(
+pub(crate) fn short_int(
     expr: &Expr,
     over: &BlockContext<'_>,
     leaves: &Leaves<'_>,

@@ -19,6 +19,8 @@
 
 mod acts;
 mod aliases;
+mod arithmetic;
+mod asked;
 mod bound;
 mod candidate;
 mod cells;

@@ -12,6 +12,7 @@ ghost use Rattle.gq_plan_ir.specs.ExprView.{view, view_behind, view_parts, views
 ghost use Rattle.gq_eval_builtins.specs.Steps.{true_meant};
 ghost use Rattle.gq_exec_contribute.specs.Prepared.{AreFound, IsTruth, part_value, sees};
 
+use crate::asked::truth_of_parts;
 use crate::held::held_truth;
 use crate::ints::int;
 use crate::leaves::Leaves;
@@ -240,9 +241,26 @@ fn named_vertex(
     }
 }
 
+/// The truth that what stands behind a name or a global accumulator is.
+fn flag_behind(
+    first: &Expr,
+    parts: &[Behind],
+    over: &BlockContext<'_>,
+    leaves: &Leaves<'_>,
+    c: &Candidate,
+) -> Option<bool>
+    requires { AreFound over.now leaves.now }
+    ensures { IfSome result (IsTruth (sees gregorian over.now leaves.now c.now) (tree.Post (view first.now) (view_parts parts.now))) }
+{
+    match truth_of_parts(first, parts, over, leaves, c) {
+        Some(truth) => Some(truth),
+        None => flag_of(first, parts, over, leaves, c),
+    }
+}
+
 /// The truth that the one accumulator behind a name holds.
 #[tactic(auto, using(crate::proofs::ReadLemmas::post_laws))]
-fn flag_behind(
+fn flag_of(
     first: &Expr,
     parts: &[Behind],
     over: &BlockContext<'_>,

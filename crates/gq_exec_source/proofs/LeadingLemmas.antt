@@ -1,6 +1,6 @@
 -- LeadingLemmas: where no row leads from a vertex to one from which something may go on, nothing goes on from it.
 use Rattle.std.specs.Prelude.{min, replicate}
-use Rattle.std.proofs.Common.{ℕ, zero, suc, ◌+◌, ◌*◌, ◌/◌, ◌<◌, ◌≤◌, ◌≡◌, Bool, true, false, cond, not, List, [], ◌∷◌, ◌++◌, ◌==◌, ◌&&◌, ◌||◌, nat_lt, length, map, get_or, take, Option, Some, None, refl, ap, ap₂, sym, subst, ◌∙◌, arith}
+use Rattle.std.proofs.Common.{ℕ, zero, suc, ◌+◌, ◌*◌, ◌/◌, ◌<◌, ◌≤◌, ◌≡◌, Bool, true, false, cond, not, List, [], ◌∷◌, ◌==◌, ◌&&◌, ◌||◌, nat_lt, length, map, get_or, take, Some, None, refl, ap, ap₂, sym, subst, ◌∙◌, arith}
 use Rattle.std.specs.List.{All, filter, flat_map, list_any, slice_get}
 use Rattle.std.specs.Option.{is_some}
 use Rattle.std.proofs.Math.Bool.{beq}
@@ -52,19 +52,9 @@ not_true : (b : Bool) → not b ≡ true → b ≡ false
 not_true false h = refl
 not_true true h = absurd (cc h)
 
-or_swap : (a b : Bool) → (a || b) ≡ (b || a)
-or_swap true true = refl
-or_swap true false = refl
-or_swap false true = refl
-or_swap false false = refl
-
 or_three : (a b c : Bool) → ((a || b) || c) ≡ (a || (b || c))
 or_three true b c = refl
 or_three false b c = refl
-
-or_none : (a : Bool) → a ≡ (a || false)
-or_none true = refl
-or_none false = refl
 
 turned : (a b : ℕ) → (a == b) ≡ true → (b == a) ≡ true
 turned a b h = grind (arith, nat_tests)
@@ -72,16 +62,7 @@ turned a b h = grind (arith, nat_tests)
 equal : (a b : ℕ) → (a == b) ≡ true → a ≡ b
 equal a b h = grind (arith, nat_tests)
 
--- ---- one mark more
-
-pub wanted_marked : (old new : List ℕ) (n : ℕ) → ((v : ℕ) → is_marked new v ≡ (v == n || is_marked old v)) → (v : ℕ) → is_marked new v ≡ (is_marked old v || (v == n))
-wanted_marked old new n is v = is v ∙ or_swap (v == n) (is_marked old v)
-
-pub no_bit : (words : List ℕ) (n v : ℕ) → length words ≤ n / 64 → v < length words * 64 → is_marked words v ≡ (is_marked words v || (v == n))
-no_bit words n v past low = or_none (is_marked words v) ∙ ap (λ b. is_marked words v || b) (sym (apart (omega (arith, past, low))))
-  where
-    apart : v < n → (v == n) ≡ false
-    apart h = grind (arith, nat_tests)
+-- ---- marks, one item after another
 
 -- of the items so far, and of one more
 pub any_so_far : {X : Type 0} (p : X → Bool) (xs : List X) (i : ℕ) (d : X) (old now later : Bool) → i < length xs → now ≡ (old || list_any p (take i xs)) → later ≡ (now || p (get_or xs i d))
@@ -342,7 +323,3 @@ left_out sight steps known none = λ walk low dead. none walk low (not_true (is_
 -- what leads on is there
 pub leading_low : (kinds targets : List ℕ) (rest : List IndexedStep) (v : ℕ) → leads_on kinds targets rest v ≡ true → v < length kinds
 leading_low kinds targets rest v is = target_low kinds targets v (and_last (not (is_dead rest v)) (is_target kinds targets v) is)
-
--- where nothing is marked nothing is known
-pub none_left_out : (sight : Sight) (steps : List PathStep) → AreDead sight None steps
-none_left_out sight steps = λ walk low dead. absurd (cc dead)

@@ -1,5 +1,5 @@
 -- LookupLemmas: what the index has from a vertex is what one step leads to, and step after step it is all bindings.
-use Rattle.std.proofs.Common.{ℕ, zero, suc, ◌+◌, ◌-◌, ◌<◌, ◌≤◌, ◌≡◌, Bool, true, false, cond, List, [], ◌∷◌, ◌++◌, ◌==◌, not, length, get_or, take, drop, map, refl, ap, ap₂, sym, ◌∙◌, subst, arith, leb, ltb, leb-true, ltb-false, eq-eqb, append-nil, append_assoc, length-append}
+use Rattle.std.proofs.Common.{ℕ, zero, suc, ◌+◌, ◌-◌, ◌<◌, ◌≤◌, ◌≡◌, Bool, true, false, cond, List, [], ◌∷◌, ◌++◌, ◌==◌, length, get_or, take, drop, map, refl, ap, ap₂, sym, ◌∙◌, subst, arith, leb, ltb, leb-true, ltb-false, eq-eqb, append-nil, append_assoc, length-append}
 use Rattle.std.specs.List.{filter, flat_map, All, AllByRecursion}
 use Rattle.std.specs.List.Sorted.{IsPartitionPoint}
 use Rattle.std.proofs.lemmas.List.{map-append, take_more, take_all, length-map, length-take-le, length-drop, get_or-drop}
@@ -10,7 +10,7 @@ use Rattle.gq_graph.specs.declared.types.EdgeType.{EdgeType}
 use Rattle.gq_graph.specs.declared.rows.EdgeRow.{EdgeRow}
 use Rattle.gq_graph.specs.declared.rows.Candidate.{Candidate}
 use Rattle.gq_graph.specs.declared.rows.VertexRow.{VertexRow}
-use Rattle.gq_graph.specs.Candidates.{Sight, is_target, by_number, alone, among}
+use Rattle.gq_graph.specs.Candidates.{Sight, by_number, alone, among}
 use Rattle.gq_index.specs.declared.walks.Traversal.{Traversal}
 use Rattle.gq_index.specs.declared.walks.Neighbor.{Neighbor}
 use Rattle.gq_index.specs.Segments.{of_walk}
@@ -23,13 +23,12 @@ use Rattle.gq_rules_meaning.specs.Paths.{steps_from, bindings}
 use Rattle.gq_exec_source.specs.declared.entries.Entry.{Entry}
 use Rattle.gq_exec_source.specs.declared.indexed.IndexedStep.{IndexedStep}
 use Rattle.gq_exec_source.specs.Entries.{found, AreFound}
-use Rattle.gq_exec_source.specs.Indexed.{plain, is_left_out, is_dead, leads_on, went_on, IsReady, AreReady}
+use Rattle.gq_exec_source.specs.Indexed.{plain, is_left_out, leads_on, went_on, IsReady, AreReady}
 use Rattle.gq_exec_source.specs.declared.path_types.PathStep as code
 use Rattle.gq_exec_source.specs.Hops.{on_along, start_at, taken_from}
 use Rattle.gq_exec_source.specs.Ways.{step_of, step_walks}
 use Rattle.gq_exec_source.proofs.LeadingLemmas.{leading_low, led_all}
 use Rattle.gq_exec_source.proofs.BindingLemmas.{split_first, from_start}
-use Rattle.gq_exec_source.proofs.HopLemmas.{target_low}
 use Rattle.gq_exec_source.proofs.ListLemmas.{flat_map_same, flat_map_single, flat_map_more, first_shorter}
 use Rattle.gq_exec_source.proofs.StartLemmas.{numbers_below}
 

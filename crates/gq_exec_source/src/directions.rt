@@ -13,8 +13,8 @@ use gq_graph::EdgeType;
 use gq_tree::Way;
 use std::alloc::Global;
 
-/// The edge types whose rows a step walks from FROM to TO, and those whose rows it walks back, as bits. All types that aren't there
-/// share the bit behind the last.
+/// The edge types whose rows a step walks from FROM to TO, and those whose rows it walks back, as bits. All types that aren't
+/// there share the bit behind the last.
 #[derive(Drop)]
 pub(crate) struct Directions {
     types: u32,

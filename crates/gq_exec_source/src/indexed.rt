@@ -62,7 +62,7 @@ fn is_leading(graph: &Graph<'_>, targets: &[u32], rest: &[IndexedStep<'_>], vert
     !is_dead(rest, vertex) && reaches(&graph.store.vertices, targets, vertex)
 }
 
-/// Whether a vertex is a target of a step from which something may go on: by its mark, which is quicker, where there are marks.
+/// Whether a vertex is a target of a step from which something may go on: by its mark, where there are marks.
 pub(crate) fn leads_on(
     graph: &Graph<'_>,
     step: &IndexedStep<'_>,

@@ -29,8 +29,8 @@ enum Halt {
     Costly,
 }
 
-/// Goes on from where a walk has come, along those of these ways that lead to a target from which something may go on, and puts
-/// the walks last.
+/// Goes on from where a walk has come, along those of these ways that lead to a target from which something may go on, and
+/// puts the walks last.
 #[tactic(auto, using(crate::proofs::LookupLemmas::went_laws))]
 fn add_ways(
     graph: &Graph<'_>,
@@ -57,8 +57,8 @@ fn add_ways(
     Ok(())
 }
 
-/// What a step before others leads to from where a walk has come, without what is known to lead nowhere: it leads to all that
-/// the step and the others do. It takes from what is left of the walks that may be looked at.
+/// What a step before others leads to from where a walk has come, without what is known to lead nowhere: it leads to all
+/// that the step and the others do. It takes from what is left of the walks that may be looked at.
 fn taken(
     alloc: Global,
     graph: &Graph<'_>,
@@ -227,7 +227,8 @@ fn listed(
 }
 
 /// The bindings of a set and of one step or more, where the index has the walks of each step and no more of them are looked
-/// at than may be; None otherwise. What leads nowhere is marked before, if asked for, at the cost of a pass over the rows for each step.
+/// at than may be; None otherwise. What leads on is marked before, if asked for, at the cost of a pass over the rows for
+/// each step.
 pub(crate) fn looked_up(
     alloc: Global,
     graph: &Graph<'_>,

@@ -25,7 +25,7 @@ use std::marker::Model;
 pub const MOST_PATHS: usize = 4194304;
 
 /// How many edges the store has for each walk that a search looks at before it is given up: so giving up costs little beside
-/// what comes then, which looks at each vertex.
+/// what comes then, which goes through all rows for each step.
 const ROWS_PER_LOOKUP: u32 = 8;
 
 /// What has come nowhere yet.
@@ -191,8 +191,8 @@ fn listed(
     }
 }
 
-/// The bindings of a set and of one step or more along the index, if it has all walks. Where many walks are looked at, all that
-/// leads nowhere is marked before.
+/// The bindings of a set and of one step or more along the index, if it has all walks. Where many walks are looked at, what
+/// leads on is marked before.
 fn searched(
     alloc: Global,
     graph: &Graph<'_>,
@@ -276,9 +276,9 @@ impl Model for Paths {
 
 impl Paths {
     /// The bindings of a set and a pattern. Where each step goes along a type as the index does, or against it where it has a
-    /// reverse type, the time goes with the walks that are looked at, which are at most those that lead on and a look at each
-    /// vertex and each walk for each step. Else it is that of a pass over the rows of each step's types, and of as many steps
-    /// for each binding as the pattern has.
+    /// reverse type, the time goes with the walks that are looked at, which are at most those from vertices that lead on, and
+    /// a pass over the vertices and over the rows for each step. Else it is that of a pass over the rows of each step's
+    /// types, and of as many steps for each binding as the pattern has.
     pub fn of(
         alloc: Global,
         graph: &Graph<'_>,

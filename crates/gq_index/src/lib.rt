@@ -10,6 +10,7 @@
 //! upserts, and that a store is a fold of them.
 #![tactic(auto)]
 
+mod ahead;
 mod candidates;
 mod chunks;
 mod index;

@@ -1,9 +1,9 @@
 -- FoundLemmas: ends that were found, one more, and behind upserts.
-use Rattle.std.proofs.Common.{◌≡◌, ℕ, ◌+◌, ◌*◌, ◌<◌, ◌≤◌, List, [], ◌∷◌, ◌++◌, length, get_or, Option, Some, None, inl, inr, refl, sym, ap, subst, ◌∙◌, arith}
+use Rattle.std.proofs.Common.{◌≡◌, ℕ, ◌+◌, ◌*◌, ◌<◌, ◌≤◌, List, [], ◌∷◌, ◌++◌, length, get_or, Some, inl, inr, refl, sym, ap, subst, ◌∙◌, arith}
 use Rattle.std.specs.Prelude.{slice_get}
 use Rattle.std.proofs.lemmas.Bool.{cases_lt}
-use Rattle.std.proofs.lemmas.List.{get_or_append_left, get_or_push, length_push}
-use Rattle.std.proofs.lemmas.Option.{slice_get_within, get_or_from_slice_get}
+use Rattle.std.proofs.lemmas.List.{get_or_append_left, get_or_push}
+use Rattle.std.proofs.lemmas.Option.{slice_get_within}
 use Rattle.gq_graph.specs.Catalog.{Schema}
 use Rattle.gq_graph.specs.declared.rows.VertexRow.{VertexRow}
 use Rattle.gq_graph.specs.Vertices.{vertex_number}
@@ -17,7 +17,7 @@ use Rattle.gq_load.specs.declared.ahead.FoundEnds.{FoundEnds}
 use Rattle.gq_load.specs.declared.draft.Draft.{Draft}
 use Rattle.gq_load.specs.declared.record.ReadRecord.{ReadRecord}
 use Rattle.gq_load.specs.declared.route.Route.{Route}
-use Rattle.gq_load.specs.Found.{no_ends, EndsAreFound, IsFound, AreFound, AreFoundFor, KeepsThose, TellsOf}
+use Rattle.gq_load.specs.Found.{no_ends, EndsAreFound, IsFound, AreFoundFor, KeepsThose, TellsOf}
 use Rattle.gq_load.proofs.ListLemmas.{same_some}
 
 -- ---- one more

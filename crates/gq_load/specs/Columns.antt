@@ -4,7 +4,6 @@ use Rattle.std.specs.Option.{option_map}
 use Rattle.std.specs.List.{flat_map}
 use Rattle.gq_tree.specs.declared.job.Column.{Column}
 use Rattle.gq_tree.specs.declared.job.Column.TheVariants as column
-use Rattle.csv.specs.Records.{Row, fields_of}
 use Rattle.gq_load_check.specs.declared.job.LoadInto.{LoadInto}
 use Rattle.gq_load.specs.declared.fault.LoadFault.{LoadFault}
 use Rattle.gq_load.specs.declared.fault.LoadFault.TheVariants as fault
@@ -46,10 +45,6 @@ missing_name header columns = option_map name_in (find (is_missing header) colum
 -- the name of a column that the header lacks
 abbrev pub missing_one : Option Fields → Column → Option (List ℕ)
 missing_one header column = if is_missing header column then Some (name_in column) else None
-
--- the header as its fields
-abbrev pub header_in : Option Row → Option Fields
-header_in header = option_map fields_of header
 
 -- an answer tells of a name exactly where one is missing; OutOfMemory may come at any time
 abbrev pub Names : {A : Type 0} → Option (List ℕ) → Result A LoadFault → Type 0

@@ -1,5 +1,5 @@
 -- Drafts: the values of one row, as the code reads them before any row of a record is put. No clause of another crate cites this.
-use Rattle.std.specs.Prelude.{◌≡◌, length, slice_get, ℕ, List, [], ◌∷◌, ◌++◌, string_bytes, if◌then◌else◌, Bool, Option, Some, None}
+use Rattle.std.specs.Prelude.{◌≡◌, length, slice_get, ℕ, List, [], ◌∷◌, ◌++◌, if◌then◌else◌, Bool, Option, Some, None}
 use Rattle.gq_graph.specs.Catalog.{Schema}
 use Rattle.gq_load_check.specs.declared.job.Target.{Target}
 use Rattle.gq_load_check.specs.declared.job.Target.TheVariants as target
@@ -13,11 +13,11 @@ use Rattle.gq_load.specs.Rows.{vertex_row}
 
 -- what a draft puts into the store
 abbrev pub drafted_as : Schema → Target → Route → Draft → List Step
-drafted_as schema (target.Vertex n) route draft = Vertex (vertex_row n (string_bytes draft.from) draft.row) ∷ []
+drafted_as schema (target.Vertex n) route draft = Vertex (vertex_row n draft.from draft.row) ∷ []
 drafted_as schema (target.Edge n) route draft =
     edge_steps (naming_in (edge_type_at schema) n)
-    (vertex_row (edge_type_at schema n).from (string_bytes draft.from) route.from)
-    (vertex_row (edge_type_at schema n).to (string_bytes draft.to) route.to) draft.row
+    (vertex_row (edge_type_at schema n).from draft.from route.from)
+    (vertex_row (edge_type_at schema n).to draft.to route.to) draft.row
 
 abbrev pub drafted : Schema → Route → Draft → List Step
 drafted schema route draft = drafted_as schema route.target route draft

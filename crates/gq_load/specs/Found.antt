@@ -1,5 +1,5 @@
 -- Found: ends of edges that were looked for ahead. No clause of another crate cites this.
-use Rattle.std.specs.Prelude.{◌≡◌, ◌<◌, ◌+◌, ◌*◌, ℕ, List, length, slice_get, slice_index_or, string_bytes, Option, Some, None}
+use Rattle.std.specs.Prelude.{◌≡◌, ◌<◌, ◌+◌, ◌*◌, ℕ, List, length, slice_get, slice_index_or, Option, Some, None}
 use Rattle.gq_graph.specs.Catalog.{Schema}
 use Rattle.gq_graph.specs.declared.rows.VertexRow.{VertexRow}
 use Rattle.gq_graph.specs.Vertices.{vertex_number}
@@ -21,8 +21,8 @@ IsNumber vertices kind id number = (n : ℕ) → number ≡ Some n → vertex_nu
 
 -- so it is with both ends of a draft of an edge
 pub record EndsAreFound (vertices : List VertexRow) (from_kind to_kind : ℕ) (draft : Draft) (ends : FoundEnds) : Type 0 where
-  pub from : IsNumber vertices from_kind (string_bytes draft.from) ends.from
-  pub to : IsNumber vertices to_kind (string_bytes draft.to) ends.to
+  pub from : IsNumber vertices from_kind draft.from ends.from
+  pub to : IsNumber vertices to_kind draft.to ends.to
 
 -- along a route; to a vertex type there are no ends
 abbrev pub IsFound : Schema → List VertexRow → Target → Draft → FoundEnds → Type 0

@@ -38,9 +38,9 @@ const NO_ENDS: FoundEnds = FoundEnds {
 pub(crate) fn look_ahead(
     catalog: &Catalog,
     routes: &[Route],
-    batch: &[ReadRecord],
+    batch: &[ReadRecord<'_>],
     store: &Store,
-    places: &mut List<u32>,
+    places: &mut Vec<u32>,
     found: &mut List<FoundEnds>,
 ) -> Result<(), OutOfMemory>
     requires there { All (IsThere catalog.now) routes.now }
@@ -66,9 +66,9 @@ fn edges_ahead(
     catalog: &Catalog,
     kind: u32,
     place: usize,
-    batch: &[ReadRecord],
+    batch: &[ReadRecord<'_>],
     store: &Store,
-    places: &mut List<u32>,
+    places: &mut Vec<u32>,
     found: &mut List<FoundEnds>,
 ) -> Result<(), OutOfMemory>
     requires { kind < length catalog.now.edge_types }
@@ -93,11 +93,11 @@ fn edges_ahead(
 fn list_ids(
     kind: u32,
     place: usize,
-    batch: &[ReadRecord],
+    batch: &[ReadRecord<'_>],
     store: &Store,
-    places: &mut List<u32>,
+    places: &mut Vec<u32>,
 ) -> Result<(), OutOfMemory> {
-    places.truncate(0);
+    places.clear();
     for record in batch {
         match record.drafts.get(place) {
             Some(draft) => places.push(store.vertices.first(kind, draft.from.as_str()))?,
@@ -112,11 +112,11 @@ fn list_ends(
     from: u32,
     to: u32,
     place: usize,
-    batch: &[ReadRecord],
+    batch: &[ReadRecord<'_>],
     store: &Store,
-    places: &mut List<u32>,
+    places: &mut Vec<u32>,
 ) -> Result<(), OutOfMemory> {
-    places.truncate(0);
+    places.clear();
     for record in batch {
         match record.drafts.get(place) {
             Some(draft) => {
@@ -130,7 +130,7 @@ fn list_ends(
 }
 
 /// No ends, once for each record.
-fn list_no_ends(batch: &[ReadRecord], found: &mut List<FoundEnds>) -> Result<(), OutOfMemory>
+fn list_no_ends(batch: &[ReadRecord<'_>], found: &mut List<FoundEnds>) -> Result<(), OutOfMemory>
     ensures long { IfOk result (λ _. length found.new ≡ length found.old + length batch.now) }
     ensures others { IfOk result (λ _. KeepsThose found.old found.new) }
 {
@@ -145,7 +145,7 @@ fn find_ends(
     from: u32,
     to: u32,
     place: usize,
-    batch: &[ReadRecord],
+    batch: &[ReadRecord<'_>],
     store: &Store,
     found: &mut List<FoundEnds>,
 ) -> Result<(), OutOfMemory>
@@ -168,9 +168,9 @@ fn list_edges(
     found: &List<FoundEnds>,
     first: usize,
     store: &Store,
-    places: &mut List<u32>,
+    places: &mut Vec<u32>,
 ) -> Result<(), OutOfMemory> {
-    places.truncate(0);
+    places.clear();
     for at in first..found.len() {
         let ends = found.at(at);
         if let (Some(from), Some(to)) = (ends.from, ends.to) {
@@ -181,7 +181,7 @@ fn list_edges(
 }
 
 /// The ends of the edge that a record has along a route.
-fn ends_of(from: u32, to: u32, place: usize, read: &ReadRecord, store: &Store) -> FoundEnds
+fn ends_of(from: u32, to: u32, place: usize, read: &ReadRecord<'_>, store: &Store) -> FoundEnds
     ensures { (draft : Draft) → slice_get read.now.drafts.items place ≡ Some draft →
         EndsAreFound store.now.vertices from to draft result }
 {
@@ -194,30 +194,17 @@ fn ends_of(from: u32, to: u32, place: usize, read: &ReadRecord, store: &Store) -
     }
 }
 
-/// Reads what stands at these places of the table of vertices, and then what stands before that: most searches end there.
-fn touch_vertices(store: &Store, places: &mut List<u32>) {
-    touch_each_vertex(store, places);
-    touch_each_vertex(store, places);
-}
-
-/// Reads what stands at these places. It is kept in the buffer, so that the compiler leaves the reads.
-fn touch_each_vertex(store: &Store, places: &mut List<u32>) {
-    for place in 0..places.len() {
-        let touched = store.vertices.touch(*places.at(place));
-        places.set(place, touched);
+/// Reads what stands at these places of the table of vertices. It is kept in the buffer, so that the compiler leaves the reads.
+fn touch_vertices(store: &Store, places: &mut [u32]) {
+    for place in places.iter_mut() {
+        *place = store.vertices.touch(*place);
     }
 }
 
 /// The same of the table of edges.
-fn touch_edges(store: &Store, places: &mut List<u32>) {
-    touch_each_edge(store, places);
-    touch_each_edge(store, places);
-}
-
-fn touch_each_edge(store: &Store, places: &mut List<u32>) {
-    for place in 0..places.len() {
-        let touched = store.edges.touch(*places.at(place));
-        places.set(place, touched);
+fn touch_edges(store: &Store, places: &mut [u32]) {
+    for place in places.iter_mut() {
+        *place = store.edges.touch(*place);
     }
 }
 

@@ -13,20 +13,19 @@ use crate::draft::drafts;
 use crate::record::{ReadRecord, Verdict, judge, put_record};
 use crate::report::{Report, with_record};
 use crate::route::Route;
-use csv::ByteRecord;
 use gq_base::OutOfMemory;
 use gq_graph::StoreFault;
 use gq_index::Store;
-use gq_load_csv::Records;
+use gq_load_csv::{Record, Records};
 use gq_schema::Catalog;
 use std::alloc::Global;
 
 /// Room for so many records, with a draft for each of so many routes.
-pub(crate) fn batch(
+pub(crate) fn batch<'a>(
     alloc: Global,
     count: usize,
     routes: &[Route],
-) -> Result<Vec<ReadRecord>, OutOfMemory>
+) -> Result<Vec<ReadRecord<'a>>, OutOfMemory>
     ensures count { IfOk result (λ batch. length batch.items ≡ count) }
     ensures drafts { IfOk result (λ batch. HaveDrafts routes.now batch.items) }
 {
@@ -43,13 +42,13 @@ pub(crate) fn batch(
 /// Reads the next records, as many as there is room for, and tells how many. Where that is less than the room, none are left.
 ///
 /// `row` is a buffer. Nothing is put.
-pub(crate) fn read_batch(
+pub(crate) fn read_batch<'a>(
     alloc: Global,
     catalog: &Catalog,
     routes: &[Route],
-    records: &mut Records<'_>,
-    row: &mut ByteRecord,
-    batch: &mut [ReadRecord],
+    records: &mut Records<'a>,
+    row: &mut Record<'a>,
+    batch: &mut [ReadRecord<'a>],
 ) -> Result<usize, OutOfMemory>
     requires there { All (IsThere catalog.now) routes.now }
     requires ends { AllHaveEnds catalog.now }
@@ -83,7 +82,7 @@ pub(crate) fn put_batch(
     alloc: Global,
     catalog: &Catalog,
     routes: &[Route],
-    batch: &mut [ReadRecord],
+    batch: &mut [ReadRecord<'_>],
     count: usize,
     found: &[FoundEnds],
     store: &mut Store,

@@ -1,12 +1,11 @@
 // The field of a column.
 ghost use Rattle.std.specs.Prelude.{◌≡◌, bytes_eq, position, map, IfOk};
 ghost use Rattle.std.specs.Option.{option_copied};
-ghost use Rattle.csv.specs.Records.{fields_of};
 ghost use Rattle.gq_load.specs.Columns as spec;
 
 use crate::fault::LoadFault;
-use csv::ByteRecord;
 use gq_base::{List, OutOfMemory};
+use gq_load_csv::Record;
 use gq_tree::Column;
 use gq_value::Txt;
 use std::alloc::Global;
@@ -14,11 +13,11 @@ use std::alloc::Global;
 /// The number of each column's field, or the first name that the header lacks.
 pub(crate) fn fields(
     alloc: Global,
-    header: Option<&ByteRecord>,
+    header: Option<&Record<'_>>,
     columns: &[Column],
 ) -> Result<List<Option<u64>>, LoadFault>
-    ensures names { spec.Names (spec.missing_name (spec.header_in (option_copied header.entry)) columns.now) result }
-    ensures fields { IfOk result (λ fields. fields ≡ map (spec.field_of (spec.header_in (option_copied header.entry))) columns.now) }
+    ensures names { spec.Names (spec.missing_name (option_copied header.entry) columns.now) result }
+    ensures fields { IfOk result (λ fields. fields ≡ map (spec.field_of (option_copied header.entry)) columns.now) }
 {
     let mut fields = List::new(alloc);
     for column in columns {
@@ -36,11 +35,11 @@ pub(crate) fn fields(
 
 fn field_of(
     alloc: Global,
-    header: Option<&ByteRecord>,
+    header: Option<&Record<'_>>,
     column: &Column,
 ) -> Result<Option<u64>, LoadFault>
-    ensures names { spec.Names (spec.missing_one (spec.header_in (option_copied header.entry)) column.now) result }
-    ensures field { IfOk result (λ field. field ≡ spec.field_of (spec.header_in (option_copied header.entry)) column.now) }
+    ensures names { spec.Names (spec.missing_one (option_copied header.entry) column.now) result }
+    ensures field { IfOk result (λ field. field ≡ spec.field_of (option_copied header.entry) column.now) }
 {
     match column {
         Column::Number(n) => Ok(Some(*n)),
@@ -55,8 +54,8 @@ fn field_of(
     }
 }
 
-fn place_in(header: Option<&ByteRecord>, name: &str) -> Option<u64>
-    ensures { result ≡ spec.place_in (spec.header_in (option_copied header.entry)) name.now }
+fn place_in(header: Option<&Record<'_>>, name: &str) -> Option<u64>
+    ensures { result ≡ spec.place_in (option_copied header.entry) name.now }
 {
     match header {
         Some(header) => place(header, name.as_bytes()),
@@ -65,8 +64,8 @@ fn place_in(header: Option<&ByteRecord>, name: &str) -> Option<u64>
 }
 
 /// The first field that is the name.
-fn place(header: &ByteRecord, name: &[u8]) -> Option<u64>
-    ensures { result ≡ position (bytes_eq name.now) (fields_of header.now) }
+fn place(header: &Record<'_>, name: &[u8]) -> Option<u64>
+    ensures { result ≡ position (bytes_eq name.now) header.now }
 {
     for n in 0..header.len() {
         match header.get(n) {

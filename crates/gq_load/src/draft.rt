@@ -1,6 +1,5 @@
 // Rows as they are read, before any row of their record is put.
 ghost use Rattle.std.specs.Prelude.{◌≡◌, ◌≤◌, ◌<◌, ℕ, ℤ, List, Option, Some, None, length, true, IfOk};
-ghost use Rattle.csv.specs.Records.{fields_of};
 ghost use Rattle.gq_load_csv.specs.Fields.{TellsTimes};
 ghost use Rattle.gq_load_check.specs.Targets.{HasTarget, attributes_of, vertex_type_at, edge_type_at};
 ghost use Rattle.gq_index.specs.Steps.{Puts};
@@ -14,34 +13,34 @@ ghost use Rattle.gq_load.specs.Records.{HasEnds, AllHaveEnds};
 use crate::ahead::FoundEnds;
 use crate::route::Route;
 use crate::value::{read_name, read_values};
-use csv::ByteRecord;
 use gq_base::{List, OutOfMemory};
 use gq_graph::{EdgeType, Naming, StoreFault, VertexType};
 use gq_index::{EndpointRef, Store, put_edge, put_vertex};
 use gq_load_check::Target;
+use gq_load_csv::{Id, Record};
 use gq_schema::Catalog;
 use gq_value::Row;
 use std::alloc::Global;
 
 /// The values of one row: a vertex's id, or both ids of an edge, and the attributes. Its memory is used again.
 #[derive(Drop)]
-pub struct Draft {
+pub struct Draft<'a> {
     /// A vertex's id, or that of an edge's FROM vertex.
-    pub from: String,
+    pub from: Id<'a>,
     /// The id of an edge's TO vertex.
-    pub to: String,
+    pub to: Id<'a>,
     pub row: Row,
 }
 
 /// So many drafts.
-pub fn drafts(alloc: Global, count: usize) -> Result<Vec<Draft>, OutOfMemory>
+pub fn drafts<'a>(alloc: Global, count: usize) -> Result<Vec<Draft<'a>>, OutOfMemory>
     ensures { IfOk result (λ drafts. length drafts.items ≡ count) }
 {
     let mut drafts = Vec::with_capacity(alloc, count)?;
     for _ in 0..count {
         drafts.push(Draft {
-            from: String::new(alloc),
-            to: String::new(alloc),
+            from: Id::new(alloc),
+            to: Id::new(alloc),
             row: List::new(alloc),
         })?;
     }
@@ -49,17 +48,17 @@ pub fn drafts(alloc: Global, count: usize) -> Result<Vec<Draft>, OutOfMemory>
 }
 
 /// Reads the row of a route from a record. False is a row with a value that can't be read.
-pub(crate) fn read_draft(
+pub(crate) fn read_draft<'a>(
     alloc: Global,
     catalog: &Catalog,
     route: &Route,
-    row: &ByteRecord,
-    draft: &mut Draft,
+    row: &Record<'a>,
+    draft: &mut Draft<'a>,
 ) -> Result<bool, OutOfMemory>
     requires there { HasTarget catalog.now route.now.target }
     requires ends { AllHaveEnds catalog.now }
     ensures reads { IfOk result (λ ok. (read : List ℕ → Option ℤ) → TellsTimes read →
-        steps_along read catalog.now route.now (fields_of row.now) ≡ if_read ok (drafted catalog.now route.now draft.new)) }
+        steps_along read catalog.now route.now row.now ≡ if_read ok (drafted catalog.now route.now draft.new)) }
     ensures sized { IfOk result (λ ok. ok ≡ true → length draft.new.row ≡ length (attributes_of catalog.now route.now.target)) }
 {
     match route.target {
@@ -75,17 +74,17 @@ pub(crate) fn read_draft(
     }
 }
 
-fn read_vertex(
+fn read_vertex<'a>(
     alloc: Global,
     catalog: &Catalog,
     kind: u32,
     sources: &[Option<u64>],
-    row: &ByteRecord,
-    draft: &mut Draft,
+    row: &Record<'a>,
+    draft: &mut Draft<'a>,
 ) -> Result<bool, OutOfMemory>
     requires there { HasTarget catalog.now (Target.Vertex kind) }
     ensures reads { IfOk result (λ ok. (read : List ℕ → Option ℤ) (route : Route) → TellsTimes read →
-        steps_by read catalog.now route (Target.Vertex kind) sources.now (fields_of row.now) ≡
+        steps_by read catalog.now route (Target.Vertex kind) sources.now row.now ≡
         if_read ok (drafted_as catalog.now (Target.Vertex kind) route draft.new)) }
     ensures sized { IfOk result (λ ok. ok ≡ true → length draft.new.row ≡ length (attributes_of catalog.now (Target.Vertex kind))) }
 {
@@ -109,18 +108,18 @@ fn read_vertex(
     )
 }
 
-fn read_edge(
+fn read_edge<'a>(
     alloc: Global,
     catalog: &Catalog,
     kind: u32,
     sources: &[Option<u64>],
-    row: &ByteRecord,
-    draft: &mut Draft,
+    row: &Record<'a>,
+    draft: &mut Draft<'a>,
 ) -> Result<bool, OutOfMemory>
     requires there { HasTarget catalog.now (Target.Edge kind) }
     requires ends { HasEnds catalog.now kind }
     ensures reads { IfOk result (λ ok. (read : List ℕ → Option ℤ) (route : Route) → TellsTimes read →
-        steps_by read catalog.now route (Target.Edge kind) sources.now (fields_of row.now) ≡
+        steps_by read catalog.now route (Target.Edge kind) sources.now row.now ≡
         if_read ok (drafted_as catalog.now (Target.Edge kind) route draft.new)) }
     ensures sized { IfOk result (λ ok. ok ≡ true → length draft.new.row ≡ length (attributes_of catalog.now (Target.Edge kind))) }
 {
@@ -175,7 +174,7 @@ pub(crate) fn put_draft(
     alloc: Global,
     catalog: &Catalog,
     route: &Route,
-    draft: &mut Draft,
+    draft: &mut Draft<'_>,
     ends: FoundEnds,
     store: &mut Store,
 ) -> Result<(), StoreFault>

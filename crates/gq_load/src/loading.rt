@@ -5,7 +5,6 @@ ghost use Rattle.gq_load_csv.specs.Fields.{TellsTimes};
 ghost use Rattle.gq_load_check.specs.Fits.{LineFits};
 ghost use Rattle.gq_load_check.specs.Targets.{edge_type_at};
 ghost use Rattle.gq_index.specs.Namings.{AreNamedBy};
-ghost use Rattle.gq_load.specs.Columns.{header_in};
 ghost use Rattle.gq_load.specs.Records.{AllHaveEnds, IsThere};
 ghost use Rattle.gq_load.specs.Loads.{Loads, LoadsBy, LoadsAlong, records_in};
 
@@ -14,12 +13,11 @@ use crate::batch::{batch, put_batch, read_batch};
 use crate::fault::LoadFault;
 use crate::report::Report;
 use crate::route::{Route, routes};
-use csv::ByteRecord;
 use gq_base::{List, OutOfMemory};
 use gq_graph::StoreFault;
 use gq_index::Store;
 use gq_load_check::LoadLine;
-use gq_load_csv::Records;
+use gq_load_csv::{Record, Records};
 use gq_schema::Catalog;
 use std::alloc::Global;
 
@@ -45,7 +43,7 @@ pub fn load(
     if !line.header {
         return load_by(alloc, catalog, line, None, &mut records, store);
     }
-    let mut header = ByteRecord::new(alloc);
+    let mut header = Record::new(alloc);
     match records.next(&mut header) {
         Ok(true) => load_by(alloc, catalog, line, Some(&header), &mut records, store),
         Ok(false) => {
@@ -61,7 +59,7 @@ fn load_by(
     alloc: Global,
     catalog: &Catalog,
     line: &LoadLine,
-    header: Option<&ByteRecord>,
+    header: Option<&Record<'_>>,
     records: &mut Records<'_>,
     store: &mut Store,
 ) -> Result<Report, LoadFault>
@@ -69,7 +67,7 @@ fn load_by(
     requires ends { AllHaveEnds catalog.now }
     requires named { AreNamedBy (edge_type_at catalog.now) store.old.edges.namings }
     ensures loads { (read : List ℕ → Option ℤ) → TellsTimes read →
-        LoadsBy read catalog.now line.now (header_in (option_copied header.entry)) records.old store.old store.new result }
+        LoadsBy read catalog.now line.now (option_copied header.entry) records.old store.old store.new result }
     ensures named { AreNamedBy (edge_type_at catalog.now) store.new.edges.namings }
 {
     let routes = match routes(alloc, catalog, header, line.destinations.as_slice()) {
@@ -102,8 +100,8 @@ fn load_records(
         Ok(batch) => batch,
         Err(OutOfMemory) => return Err(StoreFault::OutOfMemory),
     };
-    let mut row = ByteRecord::new(alloc);
-    let mut places = List::new(alloc);
+    let mut row = Record::new(alloc);
+    let mut places = Vec::new(alloc);
     let mut found = List::new(alloc);
     let mut report = Report::none();
     'reading: loop {

@@ -1,6 +1,5 @@
 // What becomes of a record.
 ghost use Rattle.std.specs.Prelude.{◌≡◌, ◌≤◌, ◌<◌, ℕ, ℤ, List, Option, length, true, All, IfOk};
-ghost use Rattle.csv.specs.Records.{fields_of};
 ghost use Rattle.gq_load_csv.specs.Fields.{TellsTimes};
 ghost use Rattle.gq_load_check.specs.Targets.{edge_type_at};
 ghost use Rattle.gq_index.specs.Steps.{Puts};
@@ -16,10 +15,10 @@ ghost use Rattle.gq_load.specs.Batches.{judged_by, IsWhole};
 use crate::ahead::{FoundEnds, ends_at};
 use crate::draft::{Draft, put_draft, read_draft};
 use crate::route::Route;
-use csv::ByteRecord;
 use gq_base::OutOfMemory;
 use gq_graph::StoreFault;
 use gq_index::Store;
+use gq_load_csv::Record;
 use gq_schema::Catalog;
 use std::alloc::Global;
 
@@ -35,24 +34,24 @@ pub enum Verdict {
 
 /// A record as it was read, before any row of it is put: what became of it, and a draft for each route, whose memory is used again.
 #[derive(Drop)]
-pub(crate) struct ReadRecord {
+pub(crate) struct ReadRecord<'a> {
     pub verdict: Verdict,
-    pub drafts: Vec<Draft>,
+    pub drafts: Vec<Draft<'a>>,
 }
 
 /// Judges a record, and reads its rows where it is loaded. There is a draft for each route.
-pub(crate) fn judge(
+pub(crate) fn judge<'a>(
     alloc: Global,
     catalog: &Catalog,
     routes: &[Route],
-    drafts: &mut [Draft],
-    row: &ByteRecord,
+    drafts: &mut [Draft<'a>],
+    row: &Record<'a>,
 ) -> Result<Verdict, OutOfMemory>
     requires there { All (IsThere catalog.now) routes.now }
     requires ends { AllHaveEnds catalog.now }
     requires count { length drafts.old ≡ length routes.now }
     ensures judged { IfOk result (λ verdict. (read : List ℕ → Option ℤ) → TellsTimes read →
-        judged_by catalog.now routes.now verdict drafts.new ≡ judged read catalog.now routes.now (fields_of row.now)) }
+        judged_by catalog.now routes.now verdict drafts.new ≡ judged read catalog.now routes.now row.now) }
     ensures whole { IfOk result (λ verdict. IsWhole catalog.now routes.now verdict drafts.new) }
 {
     if is_short(routes, row.len()) {
@@ -75,7 +74,7 @@ pub(crate) fn put_record(
     catalog: &Catalog,
     routes: &[Route],
     verdict: Verdict,
-    drafts: &mut [Draft],
+    drafts: &mut [Draft<'_>],
     found: &[FoundEnds],
     nth: usize,
     store: &mut Store,
@@ -120,18 +119,18 @@ fn lacks(source: Option<u64>, count: usize) -> bool
 }
 
 /// Reads the rows of all routes. False is a record with a value that can't be read.
-fn read_drafts(
+fn read_drafts<'a>(
     alloc: Global,
     catalog: &Catalog,
     routes: &[Route],
-    drafts: &mut [Draft],
-    row: &ByteRecord,
+    drafts: &mut [Draft<'a>],
+    row: &Record<'a>,
 ) -> Result<bool, OutOfMemory>
     requires there { All (IsThere catalog.now) routes.now }
     requires ends { AllHaveEnds catalog.now }
     requires count { length drafts.old ≡ length routes.now }
     ensures reads { IfOk result (λ ok. (read : List ℕ → Option ℤ) → TellsTimes read →
-        spec.steps_of read catalog.now routes.now (fields_of row.now) ≡
+        spec.steps_of read catalog.now routes.now row.now ≡
         if_read ok (all_drafted catalog.now routes.now drafts.new)) }
     ensures sized { IfOk result (λ ok. ok ≡ true → AreSized catalog.now routes.now drafts.new) }
 {
@@ -150,7 +149,7 @@ fn put_drafts(
     alloc: Global,
     catalog: &Catalog,
     routes: &[Route],
-    drafts: &mut [Draft],
+    drafts: &mut [Draft<'_>],
     found: &[FoundEnds],
     nth: usize,
     store: &mut Store,

@@ -10,11 +10,10 @@ ghost use Rattle.gq_load.specs.Records.{AllHaveEnds};
 
 use crate::column::fields;
 use crate::fault::LoadFault;
-use csv::ByteRecord;
 use gq_base::{List, OutOfMemory};
 use gq_graph::Attribute;
 use gq_load_check::{LoadInto, Target};
-use gq_load_csv::default_value;
+use gq_load_csv::{Record, default_value};
 use gq_schema::Catalog;
 use gq_value::Row;
 use std::alloc::Global;
@@ -35,14 +34,14 @@ pub struct Route {
 pub fn routes(
     alloc: Global,
     catalog: &Catalog,
-    header: Option<&ByteRecord>,
+    header: Option<&Record<'_>>,
     destinations: &[LoadInto],
 ) -> Result<Vec<Route>, LoadFault>
     requires there { All (λ (into : LoadInto). HasTarget catalog.now into.target) destinations.now }
     requires ends { AllHaveEnds catalog.now }
-    ensures names { spec.Names (spec.missing_name (spec.header_in (option_copied header.entry)) (spec.columns_of destinations.now)) result }
+    ensures names { spec.Names (spec.missing_name (option_copied header.entry) (spec.columns_of destinations.now)) result }
     ensures routes { IfOk result (λ routes. routes.items ≡
-        map (route_of catalog.now (spec.header_in (option_copied header.entry))) destinations.now) }
+        map (route_of catalog.now (option_copied header.entry)) destinations.now) }
 {
     let mut routes = Vec::new(alloc);
     for into in destinations {

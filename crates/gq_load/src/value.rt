@@ -1,13 +1,11 @@
 // The values of a record's fields.
-ghost use Rattle.std.specs.Prelude.{◌≡◌, ◌≤◌, ℕ, ℤ, List, Option, Some, None, length, string_bytes, true, IfOk, if◌then◌else◌};
-ghost use Rattle.csv.specs.Records.{fields_of};
+ghost use Rattle.std.specs.Prelude.{◌≡◌, ◌≤◌, ℕ, ℤ, Bool, List, Option, Some, None, length, true, IfOk, IfSome, if◌then◌else◌};
 ghost use Rattle.gq_load_csv.specs.Fields.{TellsTimes};
 ghost use Rattle.gq_load.specs.Rows as spec;
 
-use csv::ByteRecord;
 use gq_base::OutOfMemory;
 use gq_graph::{Attribute, IdKind};
-use gq_load_csv::{default_value, read_id, read_key, read_value};
+use gq_load_csv::{Id, Record, default_value, read_int, read_key, read_value};
 use gq_value::{Row, Value};
 use std::alloc::Global;
 
@@ -18,11 +16,11 @@ pub(crate) fn read_values(
     keys: u32,
     attributes: &[Attribute],
     sources: &[Option<u64>],
-    row: &ByteRecord,
+    row: &Record<'_>,
     values: &mut Row,
 ) -> Result<bool, OutOfMemory>
     ensures values { IfOk result (λ ok. (read : List ℕ → Option ℤ) → TellsTimes read →
-        spec.values_of read keys attributes.now sources.now (fields_of row.now) ≡ (if ok then Some values.new else None)) }
+        spec.values_of read keys attributes.now sources.now row.now ≡ (if ok then Some values.new else None)) }
     ensures sized { IfOk result (λ ok. ok ≡ true → length values.new ≡ length attributes.now) }
 {
     values.truncate(0);
@@ -31,14 +29,32 @@ pub(crate) fn read_values(
             Some(source) => *source,
             None => return Ok(false),
         };
-        let value = match read_one(alloc, place < keys as usize, attribute, source, row) {
-            Ok(Some(value)) => value,
-            Ok(None) => return Ok(false),
-            Err(OutOfMemory) => return Err(OutOfMemory),
-        };
-        values.push(value)?;
+        if let Some(number) = int_at(attribute, source, row) {
+            values.push(Value::Int(number))?;
+        } else {
+            let value = match read_one(alloc, place < keys as usize, attribute, source, row) {
+                Ok(Some(value)) => value,
+                Ok(None) => return Ok(false),
+                Err(OutOfMemory) => return Err(OutOfMemory),
+            };
+            values.push(value)?;
+        }
     }
     Ok(true)
+}
+
+/// The value of an INT attribute whose field has few digits and nothing else, a discriminator or not. None says nothing of the field.
+fn int_at(attribute: &Attribute, source: Option<u64>, row: &Record<'_>) -> Option<i64>
+    ensures { IfSome result (λ n. (read : List ℕ → Option ℤ) (key : Bool) →
+        spec.value_of read key attribute.now source row.now ≡ Some (Value.Int n)) }
+{
+    match source {
+        Some(number) => match row.get(number as usize) {
+            Some(field) => read_int(attribute, field),
+            None => None,
+        },
+        None => None,
+    }
 }
 
 fn read_one(
@@ -46,10 +62,10 @@ fn read_one(
     key: bool,
     attribute: &Attribute,
     source: Option<u64>,
-    row: &ByteRecord,
+    row: &Record<'_>,
 ) -> Result<Option<Value>, OutOfMemory>
     ensures { IfOk result (λ value. (read : List ℕ → Option ℤ) → TellsTimes read → value ≡
-        spec.value_of read key attribute.now source (fields_of row.now)) }
+        spec.value_of read key attribute.now source row.now) }
 {
     let number = match source {
         Some(number) => number,
@@ -67,20 +83,17 @@ fn read_one(
 }
 
 /// Reads an id into `id`. False is an id that can't be read.
-pub(crate) fn read_name(
-    id: &mut String,
+pub(crate) fn read_name<'a>(
+    id: &mut Id<'a>,
     kind: IdKind,
     source: Option<u64>,
-    row: &ByteRecord,
+    row: &Record<'a>,
 ) -> Result<bool, OutOfMemory>
-    ensures { IfOk result (λ ok. spec.id_of kind source (fields_of row.now) ≡ (if ok then Some (string_bytes id.new) else None)) }
+    ensures { IfOk result (λ ok. spec.id_of kind source row.now ≡ (if ok then Some id.new else None)) }
 {
     let number = match source {
         Some(number) => number,
         None => return Ok(false),
     };
-    match row.get(number as usize) {
-        Some(field) => read_id(id, kind, field),
-        None => Ok(false),
-    }
+    id.read(kind, row, number as usize)
 }

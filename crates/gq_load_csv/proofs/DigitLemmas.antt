@@ -1,10 +1,10 @@
 -- Texts of a few digits: what a pass over them has read so far, and what they say in the end.
-use Rattle.std.proofs.Common.{◌≡◌, ℕ, zero, suc, ◌+◌, ◌-◌, ◌*◌, ◌<◌, ◌≤◌, ◌^◌, List, [], ◌∷◌, length, drop, get_or, add-one, Some, Ok, ℤ, pos, Bool, true, false, cond, eqb, refl, sym, ap, subst, ◌∙◌, arith, w64, FitsSigned, inl, inr}
+use Rattle.std.proofs.Common.{◌≡◌, ℕ, suc, ◌+◌, ◌-◌, ◌*◌, ◌<◌, ◌≤◌, ◌^◌, List, [], ◌∷◌, length, drop, get_or, add-one, Some, pos, false, eqb, refl, sym, ap, subst, ◌∙◌, arith, w64, FitsSigned, inl, inr}
 use Rattle.std.specs.Option.{option_map}
 use Rattle.std.specs.Fmt.{decimal, signed_decimal}
 use Rattle.std.specs.Int.{IsInRange}
-use Rattle.std.specs.Str.Parse.{AllDigits, IsNumeral, digits_value, digits_value_after, without_leading_plus, without_leading_sign, signed_digits_value, ParsesSigned, ParsesUnsigned}
-use Rattle.std.specs.Char.{is_ascii_digit, digit_value}
+use Rattle.std.specs.Str.Parse.{AllDigits, IsNumeral, digits_value, digits_value_after, without_leading_plus, without_leading_sign, signed_digits_value}
+use Rattle.std.specs.Char.{digit_value}
 use Rattle.std.proofs.lemmas.Bool.{cases_Bool, eqb-true}
 use Rattle.std.proofs.lemmas.Str.{digit_value_digit}
 use Rattle.std.proofs.lemmas.Str.Parse.{numerals_by_value, tells_digits, digit_from_value}
@@ -17,6 +17,7 @@ use Rattle.std.proofs.Math.Seq.{drop-cons}
 use Rattle.std.proofs.Math.ListN.{drop_of_length-le}
 use Rattle.gq_load_csv.specs.Digits.{IsShort, IsOwn, has_leading_zero}
 use Rattle.gq_load_csv.specs.Texts.{int_in, uint_in}
+use Rattle.gq_load_csv.proofs.BlankLemmas.{trimmed_short}
 use Rattle.gq_load_csv.proofs.TextLemmas.{int_read, uint_read}
 
 -- ---- a pass over digits
@@ -111,6 +112,7 @@ own_short text n is front =
     record {
       int = ap (option_map signed_decimal) (int_short text n is) ∙ ap (λ t. Some t) shortest;
       uint = ap (option_map decimal) (uint_short text n is) ∙ ap (λ t. Some t) shortest;
+      whole = trimmed_short text n is;
     }
 
 pub text_short : (text : List ℕ) (n : ℕ) → IsShort text n → IsUtf8 text

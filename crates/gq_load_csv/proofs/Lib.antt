@@ -2,3 +2,6 @@ pub mod TextLemmas
 pub mod RecordLemmas
 pub mod DigitLemmas
 pub mod PartLemmas
+pub mod LineLemmas
+pub mod BlankLemmas
+pub mod PlainLemmas

@@ -1,6 +1,6 @@
 -- Parts: a file that is cut behind the end of a line, where no quote stands before. Its records are those of the one part, and then
 -- those of the other.
-use Rattle.std.proofs.Common.{◌≡◌, ◌⊎◌, ℕ, zero, suc, ◌+◌, ◌<◌, List, [], ◌∷◌, ◌++◌, length, Option, Some, None, Bool, true, false, inl, inr, refl, sym, ap, ap₂, subst, ◌∙◌, arith, cond}
+use Rattle.std.proofs.Common.{◌≡◌, ◌⊎◌, ℕ, zero, suc, ◌+◌, ◌<◌, List, [], ◌∷◌, ◌++◌, length, Option, Some, None, Bool, true, false, inl, inr, refl, sym, ap, ap₂, ◌∙◌, arith}
 use Rattle.std.specs.Prelude.{if◌then◌else◌, ◌||◌, ◌&&◌, ◌==◌, is_some, unwrap_or}
 use Rattle.csv.specs.Machine.{Read, ends_at_end, field_after, fields_after, is_end, next_record, step, in_field, start_field, start_record}
 use Rattle.csv.specs.Reading.{records, records_from, records_next, strip_bom, is_bom}
@@ -54,7 +54,7 @@ from_scan cfg (suc n) s xs low = go (next_record cfg s [] [] xs) (λ q e. leaves
     go None l same = refl
     go (Some q) l same = ap (λ rows. q.0 ∷ rows) (after q (l q refl) same)
 
-records_scan : (cfg : Config) (xs : List ℕ) → records cfg xs ≡ scan cfg st.StartRecord [] [] xs
+pub records_scan : (cfg : Config) (xs : List ℕ) → records cfg xs ≡ scan cfg st.StartRecord [] [] xs
 records_scan cfg xs = from_scan cfg (length xs + 1) st.StartRecord xs (omega arith)
 
 -- ---- outside of quotes

@@ -70,7 +70,7 @@ enough cfg (suc n) (suc m) s xs a b = go (next_record cfg s [] [] xs) (λ q e. l
 -- ---- one record
 
 -- what is left of a text, from its next record on
-left_is : (cfg : Config) (s : State) (xs : List ℕ) (q : Read) → next_record cfg s [] [] xs ≡ Some q → left cfg s (Some xs) ≡ q.0 ∷ left cfg q.1 (Some q.2)
+pub left_is : (cfg : Config) (s : State) (xs : List ℕ) (q : Read) → next_record cfg s [] [] xs ≡ Some q → left cfg s (Some xs) ≡ q.0 ∷ left cfg q.1 (Some q.2)
 unfolding records_from
 left_is cfg s xs q e = rw add-one (ap (records_next (records_from cfg (length xs))) e ∙ ap (λ rows. q.0 ∷ rows) (after (leaves cfg xs s [] [] q e)))
   where

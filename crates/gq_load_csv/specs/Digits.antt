@@ -3,6 +3,7 @@ use Rattle.std.specs.Prelude.{◌≡◌, ℕ, ◌<◌, ◌^◌, Bool, ◌&&◌, 
 use Rattle.std.specs.Option.{option_map}
 use Rattle.std.specs.Fmt.{decimal, signed_decimal}
 use Rattle.std.specs.Str.Parse.{IsNumeral, digits_value}
+use Rattle.gq_time.specs.Reading.{trimmed}
 use Rattle.gq_load_csv.specs.Texts.{int_in, uint_in}
 
 -- a text of digits writes a number below 10^18
@@ -15,7 +16,8 @@ pub record IsShort (text : List ℕ) (n : ℕ) : Type 0 where
 abbrev pub has_leading_zero : List ℕ → Bool
 has_leading_zero text = nat_lt 1 (length text) && slice_index text 0 == 48
 
--- a text is the shortest text of the number that it writes
+-- a text is the shortest text of the number that it writes, with no blanks round it
 pub record IsOwn (text : List ℕ) : Type 0 where
   pub int : option_map signed_decimal (int_in text) ≡ Some text
   pub uint : option_map decimal (uint_in text) ≡ Some text
+  pub whole : trimmed text ≡ text

@@ -2,6 +2,7 @@ pub mod Fields
 pub mod Texts
 pub mod Records
 pub mod Unread
+pub mod Lines
 pub mod Deciding
 pub mod Numbers
 pub mod Moments

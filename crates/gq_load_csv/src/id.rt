@@ -1,15 +1,105 @@
 // Fields as ids.
-ghost use Rattle.std.specs.Prelude.{◌≡◌, [], IfOk, Some, None, if◌then◌else◌, string_bytes};
+ghost use Rattle.std.specs.Prelude.{◌≡◌, [], IfOk, IfSome, Some, None, if◌then◌else◌, string_bytes, option_and_then};
+ghost use Rattle.csv.specs.Records.{field_at};
 ghost use Rattle.std.specs.Option.{option_map};
 ghost use Rattle.std.specs.Fmt.{decimal, signed_decimal};
 ghost use Rattle.gq_load_csv.specs.Fields as spec;
 ghost use Rattle.gq_load_csv.specs.Texts as texts;
 
 use crate::numbers::{int_in, own_text, uint_in};
+use crate::record::Record;
 use gq_base::OutOfMemory;
 use gq_graph::IdKind;
 use gq_time::trimmed;
 use itoa::Buffer;
+use std::alloc::Global;
+use std::marker::Model;
+
+/// An id as it is kept: a piece of a file that is its own shortest text, or a text of its own, whose memory is used again. Contracts see
+/// its bytes.
+#[derive(Drop)]
+pub struct Id<'a> {
+    piece: Option<&'a str>,
+    own: String,
+}
+
+impl<'a> Model for Id<'a> {
+    ghost use Rattle.std.specs.Prelude.{List, ℕ, string_bytes};
+    ghost use Rattle.gq_load_csv.specs.Lines.{id_bytes};
+
+    ghost Value = { List ℕ };
+
+    ghost view = { λ i. id_bytes i.piece (string_bytes i.own) };
+}
+
+impl<'a> Id<'a> {
+    /// The empty text, which is no id yet and takes no memory.
+    pub fn new(alloc: Global) -> Id<'a>
+        ensures { result ≡ [] }
+    {
+        Id {
+            piece: None,
+            own: String::new(alloc),
+        }
+    }
+
+    /// The text.
+    pub fn as_str(&self) -> &str
+        ensures { result.now ≡ self.now }
+    {
+        match self.piece {
+            Some(piece) => piece,
+            None => self.own.as_str(),
+        }
+    }
+
+    /// Reads the id in the field of that number of a record. False is a field that isn't there or can't be read, and then nothing is
+    /// said of the id.
+    pub fn read(
+        &mut self,
+        kind: IdKind,
+        row: &Record<'a>,
+        number: usize,
+    ) -> Result<bool, OutOfMemory>
+        ensures { IfOk result (λ read. option_and_then (spec.id_in kind) (field_at row.now number) ≡ (if read then Some self.new else None)) }
+    {
+        if let Some(piece) = row.lent(number) {
+            if let Some(own) = own_id(kind, piece) {
+                self.piece = Some(own);
+                return Ok(true);
+            }
+        }
+        self.piece = None;
+        match row.get(number) {
+            Some(field) => read_id(&mut self.own, kind, field),
+            None => Ok(false),
+        }
+    }
+}
+
+/// A field that is an id as it stands. None says nothing of the field.
+fn own_id(kind: IdKind, field: &[u8]) -> Option<&str>
+    ensures { IfSome result (λ own. spec.id_in kind field.now ≡ Some own.now) }
+{
+    match kind {
+        IdKind::Text => whole_text(field),
+        IdKind::Int => own_text(field),
+        IdKind::UInt => own_text(field),
+    }
+}
+
+/// The same of a text.
+fn whole_text(field: &[u8]) -> Option<&str>
+    ensures { IfSome result (λ own. spec.id_in IdKind.Text field.now ≡ Some own.now) }
+{
+    if field.is_empty() {
+        return None;
+    }
+    match str::from_utf8(field) {
+        Ok(text) => Some(text),
+        Err(_) => None,
+    }
+}
 
 /// Reads an id from its field into `id`, as it is kept: a text, or the shortest text of a number. False is a field that
 /// can't be read, and then nothing is said of `id`.

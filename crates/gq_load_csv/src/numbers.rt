@@ -28,7 +28,7 @@ pub(crate) fn uint_in(text: &[u8]) -> Option<u64>
 }
 
 /// The number of a text of 1 to 18 digits. None says nothing of the text.
-fn few_digits(text: &[u8]) -> Option<u64>
+pub(crate) fn few_digits(text: &[u8]) -> Option<u64>
     ensures { IfSome result (IsShort text.now) }
 {
     if text.is_empty() || text.len() > FEW {

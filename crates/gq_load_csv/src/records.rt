@@ -1,9 +1,12 @@
 // The records of a file.
-ghost use Rattle.std.specs.Prelude.{◌≡◌, [], ◌∷◌, IfOk, if◌then◌else◌};
-ghost use Rattle.csv.specs.Records.{fields_of};
+ghost use Rattle.std.specs.Prelude.{◌≡◌, [], ◌∷◌, Some, IfOk, if◌then◌else◌};
+ghost use Rattle.gq_load_csv.specs.Lines.{left_in, IsOpen};
 ghost use Rattle.gq_load_csv.specs.Records.{records_of};
+ghost use Rattle.gq_load_csv.specs.Unread.{unread, Reads};
 
-use csv::{ByteRecord, Reader, ReaderBuilder};
+use crate::lines::{Lines, is_plain};
+use crate::record::Record;
+use csv::{Reader, ReaderBuilder};
 use gq_base::OutOfMemory;
 use std::alloc::Global;
 use std::marker::Model;
@@ -11,18 +14,25 @@ use std::marker::Model;
 /// A file that is read record by record. Contracts see it as the list of the records that are left.
 #[derive(Drop)]
 pub struct Records<'a> {
-    reader: Reader<&'a [u8]>,
+    source: Source<'a>,
+}
+
+/// Where records come from: a text of lines, or one that `csv` cuts.
+#[derive(Drop)]
+pub(crate) enum Source<'a> {
+    Plain(Lines<'a>),
+    Any(Reader<&'a [u8]>),
 }
 
 impl<'a> Model for Records<'a> {
-    ghost use Rattle.std.specs.Prelude.{List, ℕ, Some};
-    ghost use Rattle.gq_load_csv.specs.Unread.{unread, Reads};
+    ghost use Rattle.std.specs.Prelude.{List, ℕ};
+    ghost use Rattle.gq_load_csv.specs.Lines.{left_in, IsOpen};
 
     ghost Value = { List (List (List ℕ)) };
 
-    ghost view = { λ r. unread (λ rest. Some rest.now) r.reader };
+    ghost view = { λ r. left_in r.source };
 
-    ghost invariant = { λ r. Reads r.reader };
+    ghost invariant = { λ r. IsOpen r.source };
 }
 
 impl<'a> Records<'a> {
@@ -30,25 +40,53 @@ impl<'a> Records<'a> {
     pub fn open(alloc: Global, separator: u8, quote: Option<u8>, bytes: &'a [u8]) -> Records<'a>
         ensures { result ≡ records_of separator quote bytes.now }
     {
-        let reader = ReaderBuilder::new()
-            .has_headers(false)
-            .flexible(true)
-            .delimiter(separator)
-            .quote(quote.unwrap_or(b'"'))
-            .quoting(quote.is_some())
-            .from_reader(alloc, bytes);
-        Records { reader }
+        let source = if is_plain(separator, quote, bytes) {
+            Source::Plain(Lines {
+                separator,
+                quote,
+                rest: bytes,
+            })
+        } else {
+            Source::Any(reader_of(alloc, separator, quote, bytes))
+        };
+        Records { source }
     }
 
     /// Reads the next record into `row`, whose memory is used again, and tells whether there was one. After `OutOfMemory`
     /// nothing is said of what is left.
-    pub fn next(&mut self, row: &mut ByteRecord) -> Result<bool, OutOfMemory>
-        ensures { IfOk result (λ found. self.old ≡ (if found then fields_of row.new ∷ self.new else [])) }
+    pub fn next(&mut self, row: &mut Record<'a>) -> Result<bool, OutOfMemory>
+        ensures { IfOk result (λ found. self.old ≡ (if found then row.new ∷ self.new else [])) }
     {
-        let found = match self.reader.read_byte_record(row) {
-            Ok(found) => found,
-            Err(_) => return Err(OutOfMemory),
-        };
-        Ok(found)
+        next_of(&mut self.source, row)
+    }
+}
+
+/// A reader of all records of a text.
+fn reader_of<'a>(
+    alloc: Global,
+    separator: u8,
+    quote: Option<u8>,
+    bytes: &'a [u8],
+) -> Reader<&'a [u8]>
+    ensures reads { Reads result }
+    ensures all { unread (λ rest. Some rest.now) result ≡ records_of separator quote bytes.now }
+{
+    ReaderBuilder::new()
+        .has_headers(false)
+        .flexible(true)
+        .delimiter(separator)
+        .quote(quote.unwrap_or(b'"'))
+        .quoting(quote.is_some())
+        .from_reader(alloc, bytes)
+}
+
+fn next_of<'a>(source: &mut Source<'a>, row: &mut Record<'a>) -> Result<bool, OutOfMemory>
+    requires { IsOpen source.old }
+    ensures open { IsOpen source.new }
+    ensures next { IfOk result (λ found. left_in source.old ≡ (if found then row.new ∷ left_in source.new else [])) }
+{
+    match source {
+        Source::Plain(lines) => row.read_line(lines),
+        Source::Any(reader) => row.read_cut(reader),
     }
 }

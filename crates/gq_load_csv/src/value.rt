@@ -1,9 +1,10 @@
 // Fields as values of attributes.
-ghost use Rattle.std.specs.Prelude.{◌≡◌, ℕ, ℤ, List, Option, IfOk};
+ghost use Rattle.std.specs.Prelude.{◌≡◌, ℕ, ℤ, List, Option, Some, IfOk, IfSome};
 ghost use Rattle.gq_graph.specs.Defaults.{sort_of};
+ghost use Rattle.gq_value.specs.declared.value.Value.TheVariants as variant;
 ghost use Rattle.gq_load_csv.specs.Fields as spec;
 
-use crate::numbers::{int_in, truth_in, uint_in};
+use crate::numbers::{few_digits, int_in, truth_in, uint_in};
 use gq_base::OutOfMemory;
 use gq_graph::Attribute;
 use gq_time::{read_time, trimmed};
@@ -38,6 +39,21 @@ pub fn read_key(
         return Ok(None);
     }
     value_in(alloc, &attribute.kind, field)
+}
+
+/// The INT that a field of 1 to 18 digits gives an attribute, a discriminator or not. None says nothing of the field.
+#[tactic(auto, using(gq_graph::specs::SortLaws::sort_laws))]
+pub fn read_int(attribute: &Attribute, field: &[u8]) -> Option<i64>
+    ensures field { IfSome result (λ n. (read : List ℕ → Option ℤ) → spec.field_value read attribute.now field.now ≡ Some (variant.Int n)) }
+    ensures key { IfSome result (λ n. (read : List ℕ → Option ℤ) → spec.key_value read attribute.now field.now ≡ Some (variant.Int n)) }
+{
+    match &attribute.kind {
+        BaseType::Int => match few_digits(field) {
+            Some(number) => Some(number as i64),
+            None => None,
+        },
+        _ => None,
+    }
 }
 
 /// The value that an attribute has where none is given. Takes memory for texts alone.

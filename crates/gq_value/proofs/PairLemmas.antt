@@ -60,6 +60,9 @@ fractions false s t m n = refl
 pub turned : (strict : Bool) (a b : Val) (o : Ordering) → o ≡ plain strict a b → ordering_reverse o ≡ plain strict b a
 turned strict a b o h = ap ordering_reverse h ∙ sym ((plain_total strict).antisymm b a)
 
+pub two_ints : (strict : Bool) (o : Ordering) (x y : ℤ) → o ≡ int_cmp x y → o ≡ order strict (val (value.Int x)) (val (value.Int y))
+two_ints strict o x y h = rw (val-Int x, val-Int y) (h ∙ sym (then-Equal (plain strict (Int x) (Int y)) ∙ int_int strict x y))
+
 -- the arms of two numbers whose types differ, with an INT as it is passed on
 pub to_fraction : (strict : Bool) (o : Ordering) (x : ℤ) (f : code.Fraction) → FitsSigned w64 x → o ≡ plain strict (Int (to_z w64 (of_z w64 x))) (Fraction f.sum f.count) → o ≡ order strict (val (value.Int x)) (val (value.Fraction f))
 to_fraction strict o x f fits h = rw (val-Int x, val-Fraction f) (h ∙ ap (λ z. plain strict (Int z) (Fraction f.sum f.count)) (to_z-of_z w64 x fits) ∙ sym (then-Equal (plain strict (Int x) (Fraction f.sum f.count))))

@@ -23,10 +23,27 @@ pub fn same(a: &Value, b: &Value) -> bool
     order(false, a, b) == Ordering::Equal
 }
 
-/// That order; where `strict`, numbers of one exact value are parted too, by their type and by a fraction's count.
-#[cycle(order)]
+/// That order; where `strict`, numbers of one exact value are parted too, by their type and by a fraction's count. Most
+/// values that are compared are INTs, which don't pay for what others need.
+#[inline]
 #[tactic(auto, using(crate::proofs::PairLemmas::order_steps))]
 pub(crate) fn order(strict: bool, a: &Value, b: &Value) -> Ordering
+    ensures { result ≡ order strict (val a.now) (val b.now) }
+{
+    match a {
+        Value::Int(x) => match b {
+            Value::Int(y) => x.cmp(y),
+            _ => order_any(strict, a, b),
+        },
+        _ => order_any(strict, a, b),
+    }
+}
+
+/// The same, of values of any types.
+#[inline(never)]
+#[cycle(order)]
+#[tactic(auto, using(crate::proofs::PairLemmas::order_steps))]
+fn order_any(strict: bool, a: &Value, b: &Value) -> Ordering
     ensures { result ≡ order strict (val a.now) (val b.now) }
 {
     match a {
@@ -87,7 +104,7 @@ fn order_rows(strict: bool, a: &[Value], b: &[Value]) -> Ordering
         if i >= b.len() {
             return Ordering::Greater;
         }
-        match order(strict, x, &b[i]) {
+        match order_any(strict, x, &b[i]) {
             Ordering::Equal => {}
             other => return other,
         }

@@ -1,6 +1,5 @@
-use csv::ByteRecord;
 use gq_base::OutOfMemory;
-use gq_load_csv::Records;
+use gq_load_csv::{Record, Records};
 use std::alloc::Global;
 use std::test::Fail;
 
@@ -12,7 +11,7 @@ fn shown(
     text: &[u8],
 ) -> Result<Vec<u8>, OutOfMemory> {
     let mut records = Records::open(alloc, separator, quote, text);
-    let mut record = ByteRecord::new(alloc);
+    let mut record = Record::new(alloc);
     let mut shown = Vec::new(alloc);
     for _ in 0..9 {
         if !records.next(&mut record)? {
@@ -29,8 +28,10 @@ fn shown(
 
 #[test]
 fn records_end_with_lines_and_a_line_without_a_byte_is_none(rt: HostRuntime) -> Result<(), Fail> {
-    let table: [(u8, Option<u8>, &[u8], &[u8]); 9] = [
+    let table: [(u8, Option<u8>, &[u8], &[u8]); 11] = [
         (b',', None, b"a,b\n\nc\r\n\r\n,", b"a|b|;c|;||;"),
+        (b',', None, b"\na,b\n\nc\n,", b"a|b|;c|;||;"),
+        (b',', Some(b'"'), b"a,\n,b'c\n", b"a||;|b'c|;"),
         (b',', None, b"", b""),
         (b',', None, b"\n\n", b""),
         (b',', None, b" \n", b" |;"),

@@ -1,5 +1,5 @@
 // Helpers own what is built, and give numbers: proofs of tests grow with what a return drops.
-use crate::world::{Joined, declare, set_of, store_of};
+use crate::world::{Joined, catalog_of, set_of, store_of};
 use gq_base::List;
 use gq_graph::{Candidate, Pattern, Steps};
 use gq_index::{Candidates, Graph, Index, Store, chunk};
@@ -39,8 +39,7 @@ fn along(
     set: &[u32],
     edges: &[u32],
 ) -> Result<Candidates, Fail> {
-    let mut catalog = Catalog::new(alloc);
-    declare(&mut catalog, alloc, joined.directed)?;
+    let catalog = catalog_of(alloc, joined.directed)?;
     let store = store_of(alloc, joined)?;
     candidates_of(alloc, &catalog, &store, set, edges)
 }
@@ -51,8 +50,7 @@ fn count(alloc: Global, joined: Joined<'_>, set: &[u32], edges: &[u32]) -> Resul
 }
 
 fn degree(alloc: Global, joined: Joined<'_>, vertex: u32, kind: u32) -> Result<u64, Fail> {
-    let mut catalog = Catalog::new(alloc);
-    declare(&mut catalog, alloc, joined.directed)?;
+    let catalog = catalog_of(alloc, joined.directed)?;
     let store = store_of(alloc, joined)?;
     Ok(Index::build(alloc, &catalog, &store)?.degree(vertex, kind))
 }

@@ -27,7 +27,7 @@ fn none(alloc: Global) -> Attributes
     List::new(alloc)
 }
 
-pub(crate) fn declare(catalog: &mut Catalog, alloc: Global, directed: bool) -> Result<(), Fail> {
+fn declare(catalog: &mut Catalog, alloc: Global, directed: bool) -> Result<(), Fail> {
     let id = IdShape {
         name: Txt::of(alloc, "id")?,
         kind: IdKind::UInt,
@@ -39,6 +39,12 @@ pub(crate) fn declare(catalog: &mut Catalog, alloc: Global, directed: bool) -> R
     catalog.add_vertex_type(person, &id, &none)?;
     catalog.add_edge_type("knows", directed, person, person, reverse, &none, &none)?;
     Ok(())
+}
+
+pub(crate) fn catalog_of(alloc: Global, directed: bool) -> Result<Catalog, Fail> {
+    let mut catalog = Catalog::new(alloc);
+    declare(&mut catalog, alloc, directed)?;
+    Ok(catalog)
 }
 
 fn fill(vertices: &mut Vertices, alloc: Global, persons: u32) -> Result<(), Fail> {

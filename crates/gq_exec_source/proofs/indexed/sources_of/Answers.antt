@@ -1,6 +1,5 @@
 use Rattle.std.proofs.Common.{◌∙◌, arith, sym}
 use Rattle.std.proofs.lemmas.List.{length-map}
-use Rattle.std.proofs.lemmas.Result.{IfOk-weaker}
 use Rattle.gq_graph.specs.declared.rows.VertexRow.{VertexRow}
 use Rattle.gq_index.specs.Sights.{sight_of}
 use Rattle.gq_index.proofs.KeptLemmas.{are_ends}

@@ -2,7 +2,7 @@ use Rattle.std.proofs.Common.{◌≡◌, ◌<◌, ◌+◌, ℕ, List, length, ar
 use Rattle.std.specs.Prelude.{slice_get, slice_index_or}
 use Rattle.std.specs.Vec.{with_items}
 use Rattle.std.proofs.lemmas.List.{length-set, with_items_is}
-use Rattle.gq_index.specs.Steps.{Step, Done}
+use Rattle.gq_index.specs.Steps.{Done}
 use Rattle.gq_load.specs.Records.{Judged, steps_from}
 use Rattle.gq_load.specs.declared.draft.Draft.{Draft}
 use Rattle.gq_load.specs.declared.record.ReadRecord.{ReadRecord}

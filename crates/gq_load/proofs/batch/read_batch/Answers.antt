@@ -1,8 +1,7 @@
-use Rattle.std.proofs.Common.{◌≡◌, ◌∷◌, ◌<◌, ◌≤◌, ℕ, List, length, arith, ap, subst, sym, ◌∙◌, Some}
+use Rattle.std.proofs.Common.{◌≡◌, ◌∷◌, ◌<◌, List, length, arith, ap, subst, sym, ◌∙◌, Some}
 use Rattle.std.specs.Prelude.{slice_get, slice_index_or}
 use Rattle.std.specs.Vec.{with_items}
-use Rattle.std.proofs.lemmas.List.{length-set, with_items_is, take_all}
-use Rattle.csv.specs.Records.{fields_of}
+use Rattle.std.proofs.lemmas.List.{length-set, with_items_is}
 use Rattle.gq_load.specs.declared.draft.Draft.{Draft}
 use Rattle.gq_load.specs.declared.record.ReadRecord.{ReadRecord}
 use Rattle.gq_load.specs.Batches.{judged_by, IsWhole}
@@ -27,7 +26,7 @@ loop-place-preserved c =
     let room : c.loop-place.place < length c.loop-place.batch = omega arith in
     let at : slice_get c.loop-place.batch c.loop-place.place ≡ Some c.index-batch-place.result = item_at _ _ _ room c.index-batch-place.is in
     let own : length c.index-batch-place.result.drafts.items ≡ length c.args.routes.now = c.loop-place.invariant.drafts c.loop-place.place c.index-batch-place.result at in
-    let next : c.loop-place.records ≡ fields_of c.next.new.row ∷ c.next.new.self = rw c.in-Ok-true.field-0-test at c.in-Ok-true.ensures in
+    let next : c.loop-place.records ≡ c.next.new.row ∷ c.next.new.self = rw c.in-Ok-true.field-0-test at c.in-Ok-true.ensures in
     let old : ReadRecord = slice_index_or c.loop-place.batch c.loop-place.place c.index-batch-place.result in
     let r : ReadRecord = record { verdict = c.in-Ok.verdict; drafts = with_items old.drafts c.judge.new.drafts } in
     let size : length c.judge.new.drafts ≡ old.drafts.len = omega (arith, c.judge.auto.drafts, c.deref_mut.ensures.len) in
@@ -40,7 +39,7 @@ loop-place-preserved c =
       room = length-set c.loop-place.batch c.loop-place.place r ∙ c.loop-place.invariant.room;
       drafts = drafts_more c.args.routes.now c.loop-place.batch c.loop-place.place r c.loop-place.invariant.drafts count;
       whole = whole_more c.args.catalog.now c.args.routes.now c.loop-place.batch c.loop-place.place r c.loop-place.invariant.whole whole;
-      reads = reads_more c.args.catalog.now c.args.routes.now c.args.records.now c.loop-place.records c.next.new.self c.loop-place.batch c.loop-place.place (fields_of c.next.new.row) r room
+      reads = reads_more c.args.catalog.now c.args.routes.now c.args.records.now c.loop-place.records c.next.new.self c.loop-place.batch c.loop-place.place c.next.new.row r room
           c.loop-place.invariant.reads next (λ read tells. ap (judged_by c.args.catalog.now c.args.routes.now c.in-Ok.verdict) same ∙ c.in-Ok.ensures.judged read tells);
     }
 

@@ -1,8 +1,7 @@
 use Rattle.std.proofs.Common.{◌≡◌, drop}
 use Rattle.std.specs.Prelude.{bytes_eq}
 use Rattle.std.specs.List.{position_from}
-use Rattle.csv.specs.Records.{fields_of}
 use Rattle.gq_load.proofs.column.place.Given as goal
 
 abbrev pub invariant-loop-n : goal.invariant-loop-n
-invariant-loop-n l = position_from (bytes_eq l.name) 0 (fields_of l.header) ≡ position_from (bytes_eq l.name) l.n (drop l.n (fields_of l.header))
+invariant-loop-n l = position_from (bytes_eq l.name) 0 l.header ≡ position_from (bytes_eq l.name) l.n (drop l.n l.header)

@@ -1,6 +1,5 @@
 use Rattle.std.proofs.Common.{◌≡◌, ◌<◌, ℕ, length, drop}
 use Rattle.std.specs.Prelude.{slice_get, Some}
-use Rattle.csv.specs.Records.{fields_of}
 use Rattle.gq_load_csv.specs.Fields.{TellsTimes}
 use Rattle.gq_load.specs.declared.route.Route.{Route}
 use Rattle.gq_load.specs.declared.draft.Draft.{Draft}
@@ -12,7 +11,7 @@ use Rattle.gq_load.proofs.record.read_drafts.Given as goal
 
 abbrev pub invariant-loop-place : goal.invariant-loop-place
 invariant-loop-place l = record {
-  reads : (read : Reading) → TellsTimes read → steps_of read l.catalog l.routes (fields_of l.row) ≡ and_steps (drafted_to l.catalog l.routes l.drafts l.place) (steps_of read l.catalog (drop l.place l.routes) (fields_of l.row));
+  reads : (read : Reading) → TellsTimes read → steps_of read l.catalog l.routes l.row ≡ and_steps (drafted_to l.catalog l.routes l.drafts l.place) (steps_of read l.catalog (drop l.place l.routes) l.row);
   count : length l.drafts ≡ length l.routes;
   sized : (k : ℕ) (route : Route) (draft : Draft) → k < l.place → slice_get l.routes k ≡ Some route → slice_get l.drafts k ≡ Some draft → IsSized l.catalog route draft;
 }

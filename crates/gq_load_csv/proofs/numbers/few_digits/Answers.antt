@@ -1,4 +1,4 @@
-use Rattle.std.proofs.Common.{ℕ, ◌+◌, ◌*◌, ◌^◌, ◌<◌, ◌≤◌, ◌-◌, arith, rules, length}
+use Rattle.std.proofs.Common.{ℕ, ◌+◌, ◌*◌, ◌^◌, ◌<◌, ◌-◌, arith, rules}
 use Rattle.std.specs.Int.{IsInRange}
 use Rattle.std.specs.Prelude.{slice_index}
 use Rattle.gq_load_csv.proofs.DigitLemmas.{no_overflow, all_read}

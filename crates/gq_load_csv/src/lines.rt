@@ -1,0 +1,126 @@
+// Texts whose records are their lines.
+ghost use Rattle.std.specs.Prelude.{◌≡◌, ◌==◌, ◌+◌, ◌≤◌, ℕ, Bool, Option, [], ◌∷◌, length, drop, slice_index_or, true, false, IfOk, if◌then◌else◌, is_none};
+ghost use Rattle.std.specs.List.{list_all};
+ghost use Rattle.csv.specs.Reading.{records, strip_bom};
+ghost use Rattle.gq_load_csv.specs.Lines as spec;
+ghost use Rattle.gq_load_csv.specs.Lines.{IsPlain, line_from, lines_left, says};
+ghost use Rattle.gq_load_csv.specs.Records.{config_of};
+
+use gq_base::OutOfMemory;
+use memchr::{memchr, memchr2};
+
+/// A text in which nothing but the separator and the ends of lines means anything. Fields are pieces of it: `csv` looks up each byte in
+/// its tables and copies it on its own, which takes four times as long.
+#[derive(Drop)]
+pub(crate) struct Lines<'a> {
+    pub separator: u8,
+    pub quote: Option<u8>,
+    pub rest: &'a [u8],
+}
+
+/// Whether a text is one of lines: it has no quote and no carriage return. One that may begin with a byte order mark isn't.
+pub(crate) fn is_plain(separator: u8, quote: Option<u8>, text: &[u8]) -> bool
+    ensures plain { result ≡ true → IsPlain separator quote text.now }
+    ensures whole { result ≡ true → strip_bom text.now ≡ text.now }
+{
+    if separator == b'\n' || begins_like_mark(text) {
+        return false;
+    }
+    are_plain(quote, text)
+}
+
+fn are_plain(quote: Option<u8>, text: &[u8]) -> bool
+    ensures { result ≡ true → list_all (spec.is_plain_byte quote) text.now ≡ true }
+{
+    match quote {
+        Some(quote) => is_nowhere(memchr2(quote, b'\r', text)),
+        None => is_nowhere(memchr(b'\r', text)),
+    }
+}
+
+fn is_nowhere(found: Option<usize>) -> bool
+    ensures { result ≡ is_none found }
+{
+    found.is_none()
+}
+
+/// Whether the first byte is that of a byte order mark.
+fn begins_like_mark(text: &[u8]) -> bool
+    ensures { result ≡ false → strip_bom text.now ≡ text.now }
+{
+    match text {
+        [] => false,
+        [first, ..] => *first == 0xEF,
+    }
+}
+
+/// Reads the fields of the next line that has a byte, and tells whether there was one. What stood in `fields` goes.
+pub(crate) fn next_line<'a>(
+    lines: &mut Lines<'a>,
+    fields: &mut Vec<&'a [u8]>,
+) -> Result<bool, OutOfMemory>
+    requires { IsPlain lines.old.separator lines.old.quote lines.old.rest.now }
+    ensures plain { IsPlain lines.new.separator lines.new.quote lines.new.rest.now }
+    ensures next { IfOk result (λ found. lines_left lines.old ≡ (if found then says fields.new.items ∷ lines_left lines.new else [])) }
+{
+    fields.clear();
+    let text = behind_ends(lines.rest);
+    if text.is_empty() {
+        lines.rest = text;
+        return Ok(false);
+    }
+    let size = read_fields(lines.separator, text, fields)?;
+    lines.rest = behind(text, size);
+    Ok(true)
+}
+
+/// A text without the ends of lines that it begins with.
+#[tactic(auto, using(crate::proofs::LineLemmas::end_before))]
+fn behind_ends(text: &[u8]) -> &[u8]
+    ensures begins { (slice_index_or result.now 0 0 == 10) ≡ false }
+    ensures same { (separator : ℕ) (quote : Option ℕ) → records (config_of separator quote) text.now ≡ records (config_of separator quote) result.now }
+    ensures plain { (p : ℕ → Bool) → list_all p text.now ≡ true → list_all p result.now ≡ true }
+{
+    for (place, byte) in text.iter().enumerate() {
+        if *byte != b'\n' {
+            return &text[place..];
+        }
+    }
+    &[]
+}
+
+/// What stands behind a line of that size and its end.
+fn behind(text: &[u8], size: usize) -> &[u8]
+    requires { size ≤ length text.now }
+    ensures { result.now ≡ drop (size + 1) text.now }
+{
+    if size < text.len() {
+        &text[size + 1..]
+    } else {
+        &[]
+    }
+}
+
+/// Puts the fields of the first line last, and tells how many bytes it has without its end.
+fn read_fields<'a>(
+    separator: u8,
+    text: &'a [u8],
+    fields: &mut Vec<&'a [u8]>,
+) -> Result<usize, OutOfMemory>
+    requires { fields.old.items ≡ [] }
+    ensures within { IfOk result (λ size. size ≤ length text.now) }
+    ensures line { IfOk result (λ size. line_from separator [] [] text.now ≡ (says fields.new.items, drop (size + 1) text.now)) }
+{
+    let mut start = 0;
+    for (place, byte) in text.iter().enumerate() {
+        if *byte == separator {
+            fields.push(&text[start..place])?;
+            start = place + 1;
+        } else if *byte == b'\n' {
+            fields.push(&text[start..place])?;
+            return Ok(place);
+        }
+    }
+    fields.push(&text[start..])?;
+    Ok(text.len())
+}
