@@ -83,9 +83,9 @@ def judge_depth(data, tokens):
 class Grammar:
     """The grammar of the page: a tree for each name."""
 
-    def __init__(self, page=PAGE):
-        with open(page, encoding="utf-8") as it:
-            text = it.read()
+    def __init__(self):
+        # by the loader, so that it is found too where this file and the page are in an archive (tools/packed.py)
+        text = __loader__.get_data(PAGE).decode()
         said = re.search(r"These words are reserved, in letters of any case: (.*?), and `_`", text, re.DOTALL).group(1)
         self.reserved = {it.upper().encode() for it in said.split()} | {b"_"}
         lines = re.findall(r"^    (.*)$", text[text.index("\n## Grammar\n"):], re.MULTILINE)

@@ -1,4 +1,4 @@
-"""Inputs that an enemy made, by the size in bytes that is wanted, and ordinary ones beside them."""
+"""Hostile inputs, by the size in bytes that is wanted, and ordinary ones beside them."""
 
 
 def script(text):

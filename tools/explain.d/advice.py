@@ -18,7 +18,7 @@ ONE_TYPE = "An edge type leads from one vertex type to one: other pairs are edge
 NOT_HERE = {
     "CASE": "There is no CASE: write IF c THEN .. ELSE .. END, as a statement or as an entry of ACCUM.",
     "BETWEEN": "There is no BETWEEN: a <= x AND x <= b.",
-    "IN": "IN stands in FOREACH alone: s.contains(x) asks whether a set, a bag or a list has x.",
+    "IN": "IN belongs to FOREACH alone: s.contains(x) asks whether a set, a bag or a list has x.",
     "LIKE": "There is no LIKE: texts are compared by == and < alone.",
     "IS": NO_NULL, "NULL": NO_NULL,
     "BREAK": "There is no BREAK: let the condition of WHILE become false, or give it a LIMIT.",
@@ -91,7 +91,7 @@ def lacks_semicolon(it):
 
 def of_patterns(it):
     if it.part == "SELECT" and it.now in (",", ".", "(", "*"):
-        return "A SELECT names one alias and gives its vertices: what is shown of them stands in PRINT, as T[T.kind]; a row for each group is a GroupByAccum."
+        return "A SELECT names one alias and gives its vertices: what is shown of them goes into PRINT, as T[T.kind]; a row for each group is a GroupByAccum."
     if it.part != "FROM" or not it.of_select():
         return None
     if it.now == ",":
@@ -115,17 +115,17 @@ def of_signs(it):
     if it.now in ("+=", "+") and it.wants("=") and it.after in ("+", "=") + (() if it.now == "+" else (it.after,)):
         return "A variable is set by =, as i = i + 1; += feeds accumulators, @@n or s.@n."
     if it.now == "'" and it.wants("Text"):
-        return 'Texts stand in double quotes: "x".'
+        return 'Texts are written in double quotes: "x".'
     if it.before == "." and it.kind == "number":
         return NO_POINT
     if it.now == "-" and "-" in (it.before, it.after):
-        return "Comments begin with // or #, or stand between /* and */."
+        return "Comments begin with // or #, or are between /* and */."
     if it.now in COMPARISON and not it.wants(*COMPARISON) and it.wants(*ARITHMETIC):
-        return "One comparison stands at a time: a < x AND x < b."
+        return "Comparisons can't be chained: a < x AND x < b."
     if it.kind == "global" and it.before == ".":
-        return "A global accumulator stands alone, @@n; s.@n is the one of a vertex."
+        return "A global accumulator is written alone, @@n; s.@n is the one of a vertex."
     if it.kind == "attached" and it.before != ".":
-        return "An accumulator of a vertex stands behind an alias: s.@n."
+        return "An accumulator of a vertex comes after an alias: s.@n."
     if it.now == "[" and it.before.startswith("@"):
         return "A map or a group is read by get: @@map.get(k)."
     return None
@@ -139,13 +139,13 @@ def of_accums(it):
     if it.part not in ("ACCUM", "POST_ACCUM"):
         return None
     if it.now == "(" and it.before == it.part:
-        return "No alias stands behind POST-ACCUM: each of its statements is for the alias that it names."
+        return "POST-ACCUM takes no alias: each of its statements is for the alias that it names."
     if it.now == "IF" and it.wants("Number"):
         return "IF isn't an expression: IF c THEN s.@n += 1 ELSE s.@n += 2 END."
     if it.now in IN_BODY and it.wants("Global"):
         return "ACCUM and POST-ACCUM have inputs, and IF with inputs: FOREACH, WHILE and PRINT are statements of the body."
     if it.now == "+=" and it.wants(","):
-        return "The entries of ACCUM and POST-ACCUM are parted by commas."
+        return "The entries of ACCUM and POST-ACCUM are separated by commas."
     return NOT_HERE["LET"] if it.now in TYPES and it.wants("Global") else None
 
 
@@ -153,18 +153,18 @@ def of_clauses(it):
     clause = {"POST": "POST-ACCUM", "POST_ACCUM": "POST-ACCUM", "ORDER": "ORDER BY"}.get(it.now, it.now)
     if clause in CLAUSES and it.of_select() and not it.wants(it.now):
         if clause in it.of_select() and clause in ("WHERE", "HAVING"):
-            return f"{clause} stands once: join its conditions by AND."
-        return "The clauses of a SELECT stand in this order: " + ", ".join(CLAUSES) + "."
+            return f"{clause} comes once: join its conditions by AND."
+        return "The clauses of a SELECT come in this order: " + ", ".join(CLAUSES) + "."
     if it.now == "," and it.part == "LIMIT":
         return NOT_HERE["OFFSET"]
     if it.now == "SELECT" and it.before == "(" or it.now == "(" and it.before in ("UNION", "INTERSECT", "MINUS"):
         return NO_SUBQUERY
     if it.now == "SELECT" and it.wants("CREATE"):
-        return "A SELECT stands in a query: INTERPRET QUERY () FOR GRAPH g { T = SELECT s FROM person:s; PRINT T; }."
+        return "A SELECT belongs in a query: INTERPRET QUERY () FOR GRAPH g { T = SELECT s FROM person:s; PRINT T; }."
     if it.now == "SELECT" and it.before in ("", ";", "{", "DO", "THEN", "ELSE"):
         return "A SELECT gives a set, which needs a name: T = SELECT .."
     if it.now == ";" and it.wants(",") and it.wants("END") and it.of_select():
-        return "The entries of ACCUM and POST-ACCUM are parted by commas, in IF too; the `;` stands behind the whole SELECT."
+        return "The entries of ACCUM and POST-ACCUM are separated by commas, in IF too; the `;` comes after the whole SELECT."
     if it.now == "WHERE" and it.wants("AS"):
         return "PRINT has no WHERE: make a smaller set by a SELECT, and print that."
     return None
@@ -178,7 +178,7 @@ def of_bodies(it):
     if it.now in IN_BODY | {"}"} and it.wants("END") and not it.wants(";"):
         return "An IF, WHILE or FOREACH above has no END."
     if it.now == "{" and it.wants("THEN", "DO"):
-        return "Bodies stand between words: IF c THEN .. END, WHILE c DO .. END, FOREACH x IN c DO .. END."
+        return "Bodies are written between words: IF c THEN .. END, WHILE c DO .. END, FOREACH x IN c DO .. END."
     if it.before == "FOREACH" and it.now == "(":
         return "FOREACH has one variable: feed the keys of a map to a SetAccum too, and go through that with @@map.get(k)."
     if "RANGE" in (it.before, *it.statement[-6:]) and it.now in ("(", ".") and it.wants("[", "DO"):
@@ -203,21 +203,23 @@ def of_statements(it):
     if begun == ["INSTALL", "QUERY"] and it.now == "-":
         return "INSTALL QUERY has no options: INSTALL QUERY q, r, or INSTALL QUERY ALL."
     if it.now == "{" and it.before == "(" and it.wants("TRUE"):
-        return 'Arguments stand in order, q(7, "x"); as JSON they stand in the file of --args, for RUN QUERY q without parentheses.'
+        return 'Arguments are given in order, q(7, "x"); as JSON they are in the file of --args, for RUN QUERY q without parentheses.'
     if begun == ["INTERPRET", "QUERY"] and it.wants("(", ")") and "{" not in it.statement:
         return "INTERPRET QUERY () { .. } has neither name nor parameters: CREATE, INSTALL and RUN a query that has."
     if it.now == "FOR" and it.wants("SYNTAX"):
-        return "FOR GRAPH stands in front of API and SYNTAX."
+        return "FOR GRAPH comes before API and SYNTAX."
     if it.before == "SYNTAX":
         return "It is SYNTAX v1 or SYNTAX v2."
     if it.now == "(" and it.wants("VALUES"):
-        return "VALUES has a value for each attribute, in the order of the type: no names stand in front of it."
+        return "VALUES has a value for each attribute, in the order of the type: no names come before it."
     if it.now == "WHERE" and "LOAD" in it.statement and it.wants("USING"):
         return "LOAD takes each record: leave out what isn't wanted before, as by awk."
     if it.now == "$" or it.kind in ("number", "text") and it.wants("$"):
         return 'VALUES takes columns, $0 or $"name", and _ for a default; constants can\'t be loaded.'
+    if it.kind == "word" and it.wants(")") and it.wants(",") and ("LOAD" in it.statement or it.statement[:1] == ["INSERT"]) and "VALUES" in it.statement:
+        return "VALUES has ids alone, without types: an edge type has one type at each end."
     if it.kind == "word" and it.wants("$"):
-        return "VALUES takes columns as they stand: bring the file into shape before it is loaded."
+        return "VALUES takes columns as they are: bring the file into shape before it is loaded."
     return "A `)` is missing in front of this." if it.now in STATEMENT and it.wants(")") else None
 
 
@@ -229,7 +231,7 @@ def of_types(it):
     if it.now == "DEFAULT" and it.before == "DATETIME":
         return "A DATETIME has no DEFAULT: what isn't given is 1970-01-01 00:00:00."
     if it.now in ("STATS", "REVERSE_EDGE", "PRIMARY_ID_AS_ATTRIBUTE") and it.wants("WITH", ",", "PRIMARY_ID_AS_ATTRIBUTE"):
-        return "Options stand behind WITH, parted by commas."
+        return "Options come after WITH, separated by commas."
     if it.kind == "word" and it.wants("DATETIME") and it.now not in NOT_HERE:
         return NOT_HERE["STRING_COMPRESS"]
     if it.now in ("SET", "BAG", "LIST", "MAP") and TYPES <= it.wanted:
@@ -251,15 +253,15 @@ def of_types(it):
 
 def of_words(it):
     if it.now == "NOT" and it.wants("AND", "OR"):
-        return "NOT stands in front of a condition: NOT @@set.contains(x), NOT (a <= x AND x <= b)."
+        return "NOT comes before a condition: NOT @@set.contains(x), NOT (a <= x AND x <= b)."
     if it.now == "IS" and it.after in ("TRUE", "FALSE"):
-        return "A truth stands alone: WHERE t.flag, WHERE NOT t.flag."
+        return "A truth is a condition by itself: WHERE t.flag, WHERE NOT t.flag."
     if it.now in NOT_HERE or it.before in READ_AS_NAMES:
         return NOT_HERE[it.now if it.now in NOT_HERE else it.before]
     if it.kind == "word" and it.wants("Name") and it.now in Grammar().reserved_words():
         return f"{it.now} is a reserved word, in letters of any case: take another name."
     if it.kind == "text" and it.wants("Name") and not it.wants("Text"):
-        return "Names stand without quotes."
+        return "Names are written without quotes."
     if it.kind == "word" and it.wants("Text") and not it.wants("Name"):
-        return "A text stands here, in double quotes."
+        return "A text belongs here, in double quotes."
     return None

@@ -1,4 +1,4 @@
-"""Which records a LOAD leaves out, and why."""
+"""Which records a LOAD leaves out, and why; and vertices that only edges name."""
 import os
 import re
 
@@ -8,17 +8,57 @@ from records import is_readable, records_of
 MOST_SHOWN, MOST_BYTES = 10, 200_000_000
 
 
+class Ids:
+    """The ids of each vertex type that LOADs and INSERTs of vertices name, and those at the ends of edges, each with the first place in a file."""
+
+    def __init__(self):
+        self.own, self.of_edges, self.loaded = {}, {}, set()
+
+    def add(self, type_, kind, value):
+        self.own.setdefault(type_, set()).add(self.plain(kind, value))
+
+    def add_end(self, type_, kind, value, place):
+        self.of_edges.setdefault(type_, {}).setdefault(self.plain(kind, value), place)
+
+    @staticmethod
+    def plain(kind, value):
+        return value if kind == "STRING" else int(value)
+
+    def lines(self):
+        """What is said of types whose vertices are loaded, where edges name others."""
+        said = []
+        for type_ in sorted(self.loaded):
+            made = {value: place for value, place in self.of_edges.get(type_, {}).items() if value not in self.own[type_]}
+            if made:
+                value, (path, start) = next(iter(made.items()))
+                shown = value.decode(errors="replace") if isinstance(value, bytes) else value
+                with open(path, "rb") as it:
+                    number = it.read(start).count(b"\n") + 1
+                more = f" ({len(made) - 1} more made so)" if len(made) > 1 else ""
+                said.append(f"{path}:{number}: no record of vertices has the {type_} `{shown}`: this edge makes it{more}")
+        return said
+
+
 def of_script(names, text, tokens, trees):
     """What is said of all RUN LOADING JOB of a script, in order."""
-    said = []
+    said, ids = [], Ids()
     for it in trees:
         tree = it.parts[0]
         if getattr(tree, "name", None) == "RunJob":
-            words = names.words(tree)
-            job = names.jobs.get(words[3])
-            using = dict(zip(words[5::4], (it.strip('"') for it in words[7::4])))
-            said += of_job(names, job, using) if job else []
-    return said
+            for line, path in files_of(names, tree):
+                said += of_path(names, line, path, ids)
+        elif getattr(tree, "name", None) == "Insert":
+            type_ = names.types.get(names.words(tree)[2], {})
+            if type_.get("kind") == "vertex":
+                value = tree.trees("Literal")[0]
+                ids.add(names.words(tree)[2], type_["id"][1], plain_id(names, value))
+    return said + ids.lines()
+
+
+def plain_id(names, tree):
+    """The id that a literal is."""
+    text = "".join(names.word(at) for at in range(tree.start, tree.end))
+    return (plain(text) if text.startswith('"') else text).encode()
 
 
 def loads_of(names, job):
@@ -46,15 +86,36 @@ def options_of(names, line):
     return {names.word(it.start).upper(): plain(names.word(it.end - 1)) for it in line.trees("Opt")}
 
 
-def of_job(names, job, using):
+def files_of(names, run):
+    """The LOADs of a RUN LOADING JOB, each with the path of its file."""
+    words = names.words(run)
+    job = names.jobs.get(words[3])
+    if job is None:
+        return []
+    using = dict(zip(words[5::4], (it.strip('"') for it in words[7::4])))
     found, paths = loads_of(names, job)
+    return [(line, path_of(word, paths, using)) for line, word in found]
+
+
+def unread(names, trees):
+    """The files of a script's jobs that can't be read, and why."""
     said = []
-    for line, word in found:
-        path = path_of(word, paths, using)
-        if path and os.path.isfile(path) and os.path.getsize(path) <= MOST_BYTES:
-            with open(path, "rb") as it:
-                said += of_file(names, line, path, it.read())
-    return said
+    for it in trees:
+        for _, path in files_of(names, it.parts[0]) if getattr(it.parts[0], "name", None) == "RunJob" else []:
+            try:
+                with open(path or os.devnull, "rb") as file:
+                    file.read(1)
+            except OSError as fault:
+                said.append(f"{path}: {fault.strerror}")
+    return list(dict.fromkeys(said))
+
+
+def of_path(names, line, path, ids):
+    """What is said of the records of a file; nothing where it isn't there or is too large to be read here."""
+    if not path or not os.path.isfile(path) or os.path.getsize(path) > MOST_BYTES:
+        return []
+    with open(path, "rb") as it:
+        return of_file(names, line, path, it.read(), ids)
 
 
 def values_of(names, dest):
@@ -79,7 +140,7 @@ def column_of(names, col, header):
     return header.get(plain(word).encode()) if word.startswith('"') else int(word)
 
 
-def of_file(names, line, path, data):
+def of_file(names, line, path, data, ids):
     """What is said of the records of a file that are left out."""
     options = options_of(names, line)
     quote = {"double": b'"', "single": b"'"}.get(options.get("QUOTE", "").lower())
@@ -88,11 +149,20 @@ def of_file(names, line, path, data):
     if options.get("HEADER", "").lower() == "true":
         for at, (_, name) in reversed(list(enumerate(next(records, (0, 0, []))[2]))):
             header[name] = at
-    routes = []
+    routes, keys = [], []
     for dest in line.trees("Dest"):
-        _, wanted = values_of(names, dest)
-        routes += [(column_of(names, col, header), *want) for col, want in zip(dest.trees("Col"), wanted)]
-    found = [(start, end, fault) for start, end, fields in records for fault in [fault_of(routes, fields)] if fault]
+        type_, wanted = values_of(names, dest)
+        columns = [column_of(names, col, header) for col in dest.trees("Col")]
+        routes += [(column, *want) for column, want in zip(columns, wanted)]
+        keys += keys_of(names, names.words(dest)[2], type_, columns)
+    ids.loaded |= {type_ for type_, _, _, is_end in keys if not is_end}
+    found = []
+    for start, end, fields in records:
+        fault = fault_of(routes, fields)
+        if fault:
+            found.append((start, end, fault))
+        else:
+            add_keys(ids, keys, fields, (path, start))
     lines = [] if quote else cut_in_quotes(path, data, options.get("SEPARATOR", ","))
     for start, end, fault in found[:MOST_SHOWN]:
         number = data.count(b"\n", 0, start) + 1
@@ -101,6 +171,23 @@ def of_file(names, line, path, data):
     if len(found) > MOST_SHOWN:
         lines.append(f"{path}: and {len(found) - MOST_SHOWN} more records that are left out")
     return lines
+
+
+def keys_of(names, name, type_, columns):
+    """The ids that a destination takes: of each its vertex type, the type of the id, its column, and whether it is an edge's end."""
+    if type_ is None or None in columns[:2]:
+        return []
+    if type_["kind"] == "vertex":
+        return [(name, type_["id"][1], columns[0], False)]
+    return [(end, names.types.get(end, {}).get("id", ("", "STRING"))[1], column, True) for end, column in zip(type_["ends"], columns)]
+
+
+def add_keys(ids, keys, fields, place):
+    for type_, kind, column, is_end in keys:
+        if is_end:
+            ids.add_end(type_, kind, fields[column][1], place)
+        else:
+            ids.add(type_, kind, fields[column][1])
 
 
 def cut_in_quotes(path, data, separator):

@@ -65,7 +65,8 @@ class Names:
         ends = tree.trees("Ends")[0]
         words = self.words(ends)
         told = [(self.word(it.start - 1), self.word(it.start)) for it in ends.trees("AttrType")]
-        self.types[words[0]] = {"kind": "edge", "ends": (words[3], words[6]), "told": told, "attributes": self.attributes(tree)}
+        kind = "undirected edge" if self.words(tree)[1].upper() == "UNDIRECTED" else "edge"
+        self.types[words[0]] = {"kind": kind, "ends": (words[3], words[6]), "told": told, "attributes": self.attributes(tree)}
         if "REVERSE_EDGE" in [it.upper() for it in self.words(tree)]:
             self.types[self.words(tree)[-1].strip('"')] = {"kind": "reverse edge", "ends": (words[6], words[3]), "told": told,
                                                            "attributes": self.attributes(tree)}

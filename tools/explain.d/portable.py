@@ -21,13 +21,13 @@ def hints(names, tree):
     """The places of a statement that are written otherwise there, each with what is written."""
     kind = getattr(tree, "name", "")
     if kind == "Insert":
-        yield tree.start, "on a cluster INSERT INTO stands within a query, or the row comes by a file and a loading job"
+        yield tree.start, "on a cluster INSERT INTO is written within a query, or the row comes by a file and a loading job"
     if kind in ("Job", "RunJob"):
         for at in (it for it in range(tree.start, tree.end) if names.tokens[it][0] == "text" and is_path(names, it)):
             if not names.word(at).startswith('"/'):
                 yield at, "on a cluster a path is absolute, on the server, or is given by USING"
     if kind == "Run" and "(" not in names.words(tree):
-        yield tree.start, "on a cluster arguments stand behind the query's name: RUN QUERY q(..)"
+        yield tree.start, "on a cluster arguments come after the query's name: RUN QUERY q(..)"
     if kind in ("Query", "Interpret"):
         yield from of_query(names, tree)
 

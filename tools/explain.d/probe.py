@@ -6,12 +6,13 @@ with what is at fault. Parts of an expression are asked about in the place where
 import json
 import subprocess
 
-SECONDS = 20
+SECONDS = 60
 EXTRA = "explain_n"
 LEVELS = ("Expr", "And", "Not", "Cmp", "Sum", "Mul", "Neg", "Prim", "Call")
+COLLECTION = "a set of vertices or a collection"
 # What an expression is, by what it may stand in.
 TYPES = (("a number", "{} + 0 == 0"), ("a text", '{} == "x"'), ("a truth", "{} == TRUE"), ("a moment", "datetime_to_epoch({}) == 0"),
-         ("an average", "{} < 1"), ("a set of vertices or a collection", "{}.size() == 0"), ("a vertex", '{}.type == "x"'))
+         ("an average", "{} < 1"), (COLLECTION, "{}.size() == 0"), ("a vertex", '{}.type == "x"'))
 
 
 class Unit:
@@ -227,7 +228,7 @@ class Query:
         return self.shortest(unit, tree, said)
 
     def is_collection(self, unit, tree):
-        return self.type_of(unit, tree) == TYPES[5][0]
+        return self.type_of(unit, tree) == COLLECTION
 
     def shortest(self, unit, tree, said):
         """Of a chain such as a + b + c the shortest beginning that is refused so."""

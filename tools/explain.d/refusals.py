@@ -5,7 +5,8 @@ import re
 
 import loads
 from names import ELSEWHERE, FUNCTIONS, METHODS, UNITS, near
-from probe import Query
+from probe import COLLECTION, Query
+from records import is_readable
 
 # The refusals of queries, by their first words, and what helps.
 OF_QUERIES = {
@@ -20,7 +21,7 @@ OF_KINDS = {
     "SumAccum": "A SumAccum is of INT or UINT.", "MinAccum": "A MinAccum is of INT or UINT.", "MaxAccum": "A MaxAccum is of INT or UINT.",
     "MapAccum": "The key of a map is no tuple; its value is INT, UINT or an accumulator other than a list: of truths OrAccum, of texts SetAccum<STRING>.",
     "HeapAccum": "A heap holds tuples, from 1 to 1000000 of them, and is ordered by fields of its tuple.",
-    "GroupByAccum": "A part of a group is an accumulator other than a list.", "ListAccum": "A list stands in no map and no group.",
+    "GroupByAccum": "A part of a group is an accumulator other than a list.", "ListAccum": "A list can't be in a map or a group.",
 }
 OPENING = "Only kinds of one value have an opening."
 OVER = "FOREACH goes through a SetAccum, BagAccum, ListAccum or HeapAccum: feed the vertices, or the keys of the map, to a SetAccum first."
@@ -85,9 +86,28 @@ class Refused:
             return said + like + self.declared_later()
         if self.said.startswith("wrong number of values") and self.what in self.names.types:
             return said + [self.names.described(self.what)]
-        if self.said == "type mismatch":
-            return said + [self.names.described(self.names.words(self.tree)[2])] if self.kind == "Insert" else said
-        return said
+        return self.of_value() if self.said == "type mismatch" and self.kind == "Insert" else said
+
+    def of_value(self):
+        """The value of an INSERT that its attribute doesn't take."""
+        type_, wanted = loads.values_of(self.names, self.tree)
+        name = self.names.words(self.tree)[2]
+        if type_ is None:
+            return self.named()
+        values = [it for it in self.tree.parts if not isinstance(it, int) or self.names.word(it) == "_"]
+        for value, (attribute, of, _) in zip(values, wanted):
+            if not isinstance(value, int) and not self.takes(of, value):
+                form = ' A moment is "2025-03-01 08:30:00", or the seconds since 1970 in quotes.' if of == "DATETIME" else ""
+                return self.at(value.start, value.end) + [f"{attribute} is {of}.{form}", self.names.described(name)]
+        return self.named() + [self.names.described(name)]
+
+    def takes(self, of, value):
+        """Whether an attribute of a type takes a literal."""
+        kind = self.tokens[value.end - 1][0]
+        text = "".join(self.names.word(at) for at in range(value.start, value.end))
+        if kind == "text":
+            return of == "STRING" or of == "DATETIME" and is_readable(loads.plain(text).encode(), of, False)
+        return of in ("INT", "UINT") and is_readable(text.encode(), of, False) if kind == "number" else of == "BOOL"
 
     def near(self, known):
         like = near(self.what, known)
@@ -103,7 +123,7 @@ class Refused:
         for later in self.trees[self.number + 1:]:
             tree = later.parts[0]
             if getattr(tree, "name", "") in ("Vertex", "Edge", "Graph", "Query", "Job") and self.place_of(self.what, later.start, min(later.start + 4, later.end)):
-                return [f"It is declared on line {self.text.line(self.tokens[later.start][2])}, behind this: vertex types come first, then edges, then graphs."]
+                return [f"It is declared on line {self.text.line(self.tokens[later.start][2])}, after this: vertex types come first, then edges, then graphs."]
         return []
 
     # ---- loading
@@ -113,18 +133,25 @@ class Refused:
             cols = [it for it in self.tree.all("Col") if self.names.word(it.start) == "_"]
             return (self.at(cols[0].start, cols[0].end) if cols else self.named()) + ["An id or a discriminator has no default: it needs a column."]
         if self.said == "bad option":
-            opts = self.tree.all("Opt")
-            return (self.at(opts[0].start, opts[-1].end) if opts else self.named()) + [
+            opts = [it for it in self.tree.all("Opt") if not self.is_option(it)]
+            return (self.at(opts[0].start, opts[0].end) if opts else self.named()) + [
                 'SEPARATOR is one ASCII character, as ";" or "\\t", QUOTE is "double" or "single".']
         said = self.named()
         if self.said.startswith("wrong number of values") and self.what in self.names.types:
             return said + [self.names.described(self.what), "VALUES has a value for each, in this order; _ gives an attribute its default."]
         if self.said.startswith("unknown name"):
             defined = [self.names.words(it)[2] for it in self.tree.trees("Line") if self.names.words(it)[0].upper() == "DEFINE"]
-            return said + self.there_are(self.names.graphs + defined) + ['A path stands in quotes: LOAD "city.csv" ..; a name needs DEFINE FILENAME.']
+            return said + self.there_are(self.names.graphs + defined) + ['A path is written in quotes: LOAD "city.csv" ..; a name needs DEFINE FILENAME.']
         if self.names.types.get(self.what, {}).get("kind") == "reverse edge":
             return said + [f"{self.what} is a reverse type, which isn't loaded: load its edge type, and its edges are there backwards too."]
         return said + self.near(list(self.names.types)) + self.declared_later()
+
+    def is_option(self, tree):
+        """Whether an option of a LOAD may have its value."""
+        name, value = self.names.word(tree.start).upper(), loads.plain(self.names.word(tree.end - 1))
+        if name == "QUOTE":
+            return value.lower() in ("double", "single")
+        return name != "SEPARATOR" or len(value) == 1 and value.isascii() and value not in '\r\n"'
 
     def of_run_job(self):
         words = self.names.words(self.tree)
@@ -180,7 +207,7 @@ class Refused:
     def left_out(self):
         """The records that the loads before this statement left out."""
         found = loads.of_script(self.names, self.text, self.tokens, self.trees[:self.number])
-        return ["Records were left out before:", *found] if found else []
+        return ["Of the loads before:", *found] if found else []
 
     def of_fault(self, query):
         """Where a run may have met its fault."""
@@ -209,15 +236,18 @@ class Refused:
     def of_query(self):
         if self.said.startswith(("name taken", "bad option")) or self.said.startswith("unknown name") and self.what == self.graph_name():
             hints = {"name taken": ["CREATE OR REPLACE QUERY takes its place."], "bad option": ['SYNTAX is v1 or v2, API is "v2", each once at most.']}
-            return self.named(end=self.tree.trees("Body")[0].start) + hints.get(" ".join(self.said.split()[:2]), self.there_are(self.names.graphs))
+            modes = self.tree.trees("Mode") if self.said.startswith("bad option") else []
+            said = self.at(modes[0].start, modes[-1].end) if modes else self.named(end=self.tree.trees("Body")[0].start)
+            return said + hints.get(" ".join(self.said.split()[:2]), self.there_are(self.names.graphs))
         query = Query(self.program, self.text, self.tokens, self.trees[:self.number], self.statement)
         unit = query.culprit(self.said)
         if unit is None:
             return self.named(end=self.tree.trees("Body")[0].start) + self.names_near()
         if self.said.startswith("bad accumulator"):
             return self.named(*self.around(unit)) + self.of_accumulator(unit.tree)
-        if self.said.startswith("wider set") and hasattr(unit.place, "start"):
-            return self.at(unit.place.start, unit.place.start + 1) + [OF_QUERIES["wider set"]]
+        if self.said.startswith("wider set"):
+            made = query.statement_of(unit.tree)
+            return self.at(made.start, made.start + 1) + [OF_QUERIES["wider set"]]
         for name, hint in OF_QUERIES.items():
             if self.said.startswith(name):
                 return self.named(*self.around(unit)) + [hint]
@@ -306,7 +336,8 @@ class Refused:
         if least is not None:
             return self.at(least.start, least.end) + self.operands(query, unit, least) + self.hints(query.source(least.start, least.end), unit)
         whole = unit.place if self.said != "type mismatch" and getattr(unit.place, "name", "") in ("Act", "Plain") else unit.tree
-        said = self.at(whole.start, whole.end) + self.wanted(query, unit)
+        start = next(at for at in range(whole.start, whole.end) if self.names.word(at).upper() == "FROM") + 1 if whole.name == "From" else whole.start
+        said = self.at(start, whole.end) + self.wanted(query, unit)
         return said + (self.hints(query.source(whole.start, whole.end), unit) if unit.tree.name != "From" else [])
 
     def operands(self, query, unit, tree):
@@ -316,8 +347,18 @@ class Refused:
             of = query.type_of(unit, it)
             if of:
                 types.append(of)
-                said.append(f"`{query.source(it.start, it.end)}` is {of}.")
+                said.append(self.is_what(query, it, of))
         return said + self.of_types(tree, types, query.source(tree.start, tree.end))
+
+    def is_what(self, query, tree, of):
+        """What an expression is; of a collection which one, by its declaration."""
+        text = query.source(tree.start, tree.end)
+        name = re.search(r"@@?\w+$", text)
+        if of == COLLECTION:
+            declared = next((it for it in self.tree.all("Def") if name and self.place_of(name.group(), it.start, it.end)), None)
+            kind = next((self.names.word(it.start) for it in declared.all("Kind")), None) if declared else None
+            of = f"{'an' if kind[0] in 'AO' else 'a'} {kind}" if kind else "a set of vertices"
+        return f"`{text}` is {of}."
 
     def of_types(self, tree, types, text):
         """What helps with these types in an expression."""
@@ -350,7 +391,7 @@ class Refused:
         for it in [tree] if tree.name == "Expr" else tree.all("Expr"):
             of = query.type_of(unit, it) if unit.ask else None
             if of:
-                said.append(f"`{query.source(it.start, it.end)}` is {of}.")
+                said.append(self.is_what(query, it, of))
         fed = re.search(r"@@?\w+", query.source(tree.start, tree.end)) or (
             re.search(r"@@?\w+", query.source(unit.place.start, unit.place.end)) if hasattr(unit.place, "start") else None)
         declared = next((it for it in self.tree.all("Def") if fed and self.place_of(fed.group(), it.start, it.end)), None)
@@ -379,7 +420,7 @@ class Refused:
         if "V2" in modes and "->" in text:
             return ["In SYNTAX v2 a step is -(road>:e)- city:t; without SYNTAX v2 a hop is -(road:e)-> city:t."]
         if "->" not in text and ")-" in text:
-            return ["A hop is -(road:e)-> city:t, for undirected edges too; steps such as -(road>:e)- city:t are paths, behind SYNTAX v2."]
+            return ["A hop is -(road:e)-> city:t, for undirected edges too; steps such as -(road>:e)- city:t are paths, in a query of SYNTAX v2."]
         return ["FROM names a set or a vertex type, then edge types that lead from it, and vertex types that they lead to."]
 
     def hints(self, text, unit):

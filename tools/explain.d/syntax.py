@@ -10,17 +10,17 @@ GROUPS = ((STATEMENT, "a statement"), (EXPRESSION, "an expression"), (ARITHMETIC
 ODD_BYTES = {
     b"&": "Truths are joined by the word AND.", b"|": "Truths are joined by the word OR.", b"!": "NOT is a word; `!=` compares.",
     b"\\": "In a text a backslash begins one of \\\" \\\\ \\n \\t \\r; a backslash itself is \\\\.",
-    b"`": "Names stand without quotes, texts in double ones.", b"?": "There is no ? operator: IF c THEN .. ELSE .. END.",
+    b"`": "Names are written without quotes, texts in double ones.", b"?": "There is no ? operator: IF c THEN .. ELSE .. END.",
     b"@": "An accumulator is @name at a vertex, or @@name for the query.",
     b"^": "There is no ^.", b"~": "There is no ~.",
 }
-MARK = "A byte order mark stands here: save the script as UTF-8 without one."
+MARK = "There is a byte order mark here: save the script as UTF-8 without one."
 SAID = {
     "not UTF-8": "The file isn't UTF-8 there: `iconv -f LATIN1 -t UTF-8 old.gsql >new.gsql` makes it so, if it is Latin-1.",
-    "open comment": "This /* has no */ behind it.",
+    "open comment": "This /* has no */ after it.",
     "open text": "This quote has no second one; the mistake may be further down, where the text should have ended.",
     "number too big": "Numbers go up to 18446744073709551615: keep what is larger as a text.",
-    "nested too deep": "More than 64 brackets, IFs and loops stand open here.",
+    "nested too deep": "More than 64 brackets, IFs and loops are open here.",
 }
 
 
@@ -43,7 +43,7 @@ def unread(text, bad):
     if hint is None:
         byte = text.data[bad.at:bad.at + 1]
         hint = MARK if text.data[bad.at:bad.at + 3] == b"\xef\xbb\xbf" else ODD_BYTES.get(
-            byte, "Typographic quotes and other such characters stand in texts alone." if byte >= b"\x80" else "No token begins so.")
+            byte, "Typographic quotes and other such characters are allowed within texts alone." if byte >= b"\x80" else "No token begins so.")
     return [f"{text.place(bad.at)}: {said}", "", *text.shown(bad.at, bad.at + 1), hint]
 
 
@@ -59,7 +59,7 @@ def unparsed(text, reader, found, at):
     else:
         start, end = tokens[place][2], tokens[place][2] + len(tokens[place][1])
     lines = [f"{text.place(start)}: syntax error in statement {len(found) + 1}, which begins on line {text.line(tokens[begun][2])}", "",
-             *text.shown(start, end), f"Here could stand {listed(wanted)}."]
+             *text.shown(start, end), f"Expected here: {listed(wanted)}."]
     return lines + [hint] if hint else lines
 
 

@@ -1,4 +1,4 @@
--- FreshSteps: what `Scalar::fresh` gives for each kind.
+-- FreshSteps: the result of `Scalar::fresh` for each kind.
 use Rattle.std.proofs.Common.{◌≡◌, pos, negsuc, true, false, refl, sym, ap, ◌∙◌, subst}
 use Rattle.gq_value.specs.declared.kind.Number.{Number}
 use Rattle.gq_value.specs.declared.kind.Number.TheVariants as number

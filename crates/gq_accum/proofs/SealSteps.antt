@@ -1,4 +1,4 @@
--- SealSteps: what `fits` and `seal` give.
+-- SealSteps: the results of `fits` and `seal`.
 use Rattle.std.proofs.Common.{◌≡◌, ◌⊎◌, inl, inr, ℕ, ℤ, pos, nat_abs, Bool, true, false, Option, Some, None, MatchOption, Ok, refl, sym, ap, ◌∙◌, FitsSigned, w64, to_z, of_z}
 use Rattle.std.specs.Option.{is_some}
 use Rattle.std.specs.Int.{w128}
@@ -57,7 +57,7 @@ pub seals_average : (m : Mean) (f : fraction.Fraction) → (fits AvgAccum (m.sum
     → (fits AvgAccum (m.sum, m.count) ≡ true) × (val (value.Fraction f) ≡ average m.sum m.count)
 seals_average m f h = (h.0, val-Fraction f ∙ h.1)
 
--- what always fits
+-- contents that always fit
 pub seals_truth : (s : Scalar) (b : Bool) → (s ≡ Or b) ⊎ (s ≡ And b) → Seals (kind_of s) (content (kind_of s) s) (Ok (value.Bool b))
 seals_truth s b (inl e) = rw e (refl, val-Bool b)
 seals_truth s b (inr e) = rw e (refl, val-Bool b)

@@ -20,7 +20,7 @@ both_fit a b h g = let l = far_abs a h in let m = far_abs b g in fits_signed_fro
 pub total_is : (a b r : ℤ) → r ≡ int_wrap w128 (a +ℤ b) → IsFar a → IsFar b → r ≡ a +ℤ b
 total_is a b r e h g = e ∙ int_wrap_fits w128 (a +ℤ b) (both_fit a b h g)
 
--- as the code has it, where its sums are read back
+-- as the code has it, if its sums are read back
 pub sum_is : (a b r : ℤ) → (IsFar (to_z w128 (of_z w128 a)) → IsFar (to_z w128 (of_z w128 b)) → r ≡ to_z w128 (of_z w128 a) +ℤ to_z w128 (of_z w128 b)) → IsFar a → IsFar b → to_z w128 (of_z w128 r) ≡ a +ℤ b
 sum_is a b r e h g =
     let p = far_read a h in let q = far_read b g in

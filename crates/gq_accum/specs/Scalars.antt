@@ -1,4 +1,4 @@
--- Scalars: what a scalar of the code holds.
+-- Scalars: the contents of the code's scalars.
 -- A content's type depends on its kind, so a scalar is read as a content of a kind that the reader names.
 use Rattle.std.specs.Prelude.{◌≡◌, ℕ, ◌*◌, ◌^◌, ◌<◌, ◌≤◌, ℤ, pos, nat_abs, Bool, false}
 use Rattle.gq_value.specs.declared.kind.Number.TheVariants as number
@@ -24,7 +24,7 @@ kind_of (BitOr c) = BitwiseOrAccum
 kind_of (BitAnd c) = BitwiseAndAccum
 kind_of (Avg c) = AvgAccum
 
--- its number, its truth, and its sum with its count; 0 and false where it has none
+-- its number, its truth, and its sum with its count; 0 and false if it has none
 abbrev pub number_in : Scalar → ℤ
 number_in (SumInt c) = c
 number_in (SumUInt c) = c
@@ -45,7 +45,7 @@ abbrev pub mean_in : Scalar → ℤ × ℕ
 mean_in (Avg c) = (c.sum, c.count)
 mean_in s = (pos 0, 0)
 
--- what a scalar of a kind holds
+-- the content of a scalar as one of a kind
 abbrev pub content : (k : Accum) → Scalar → Holds k
 content (SumAccum n) s = number_in s
 content (MinAccum n) s = number_in s
@@ -57,7 +57,7 @@ content BitwiseAndAccum s = number_in s
 content AvgAccum s = mean_in s
 content k s = fresh k
 
--- the input that a value is
+-- a value as an input
 abbrev pub alone : Value → Given
 alone v = One (val v)
 

@@ -8,10 +8,10 @@ ghost use Rattle.gq_accum_laws.specs.Fits.{HasRoom, IsProper};
 
 /// A content that takes inputs one by one, and contents of its own kind.
 pub trait Fold: Sized {
-    /// What it is fed.
+    /// The type of its inputs.
     type In;
 
-    // the kind of a content, and what it holds as one of a kind
+    // the kind of a content, and its value as a content of a kind
     ghost kind: { Self → Accum };
 
     ghost content: { (k : Accum) → Self → Holds k };
@@ -20,8 +20,8 @@ pub trait Fold: Sized {
 
     /// Takes one more input.
     ///
-    /// What is said of the content holds where the input suits the kind and the content has room. So a call in a recursion
-    /// needs no condition that each call there would have to show.
+    /// The postconditions hold if the input suits the kind and the content has room. These aren't preconditions, so
+    /// that recursive calls needn't prove them.
     fn feed(&mut self, x: &Self::In)
         ensures kept { kind self.new ≡ kind self.old }
         ensures fed { suits (kind self.old) (input x.now) ≡ true → HasRoom (kind self.old) (content (kind self.old) self.old)

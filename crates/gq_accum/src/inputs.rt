@@ -1,4 +1,4 @@
-// The inputs of scalars. A value of another type reads as nought.
+// The inputs of scalars. A value of another type reads as 0 or false.
 ghost use Rattle.std.specs.Prelude.{◌≡◌, true};
 ghost use Rattle.gq_value.specs.Accums.{INT, UINT, BOOL};
 ghost use Rattle.gq_value.specs.Val as plain;

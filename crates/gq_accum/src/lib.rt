@@ -3,8 +3,8 @@
 //! The trait `Fold` specifies any content that takes inputs and can be merged; `Scalar` implements it. Sums
 //! have 128 bits, so a sum is checked for overflow only at the end.
 //!
-//! Read the trait in `src/fold.rt` first, then `specs/Scalars.antt` and `specs/Seals.antt`, what a scalar
-//! holds and what becomes of it at the end. The code is in `src/scalar.rt` and `src/sums.rt`.
+//! Read the trait in `src/fold.rt` first, then `specs/Scalars.antt` (the content of a scalar) and
+//! `specs/Seals.antt` (its final value). The code is in `src/scalar.rt` and `src/sums.rt`.
 #![tactic(auto)]
 
 mod fold;

@@ -28,8 +28,8 @@ pub struct Mean {
 
 /// The content of an accumulator of a scalar kind: one number, truth or average.
 ///
-/// Sums have 128 bits, so that they may leave their type on the way; `fits` judges the last one. A variant's name ends in
-/// the type of its numbers, where its kind has one. The bits are those of an INT.
+/// Sums have 128 bits, so that they may exceed their type on the way; `fits` checks the final sum. A variant's name
+/// ends in the type of its numbers, if its kind has one. The bits are those of an INT.
 #[derive(Clone, Copy, Debug)]
 pub enum Scalar {
     SumInt(i128),
@@ -79,7 +79,7 @@ impl Scalar {
         }
     }
 
-    /// Puts the content to one value, whatever it was. An average can't be set.
+    /// Sets the content to one value, whatever it was. An average can't be set.
     pub fn set(&mut self, x: &Value)
         requires takes { takes (kind_of self.old) (val x.now) ≡ true }
         requires settable { kind_of self.old ≢ AvgAccum }

@@ -1,4 +1,4 @@
-// Sums and counts: how they grow, and what they are in the end.
+// Sums and counts: their growth and their final values.
 ghost use Rattle.std.specs.Prelude.{◌≡◌, ◌+◌, ◌^◌, ◌<◌, ◌+ℤ◌, pos, true, false, MatchOption};
 ghost use Rattle.gq_value.specs.declared.kind.Number.TheVariants as number;
 ghost use Rattle.gq_value.specs.Arithmetic.{is_within};
@@ -11,10 +11,10 @@ ghost use Rattle.gq_accum.specs.Scalars.{IsFar};
 use crate::scalar::Mean;
 use gq_value::Fraction;
 
-/// The sum of two in 128 bits: every sum of numbers of 64 bits is added here.
+/// Adds two sums in 128 bits; every sum of 64-bit numbers is computed here.
 ///
-/// It is exact where both have room: fewer than 2^62 inputs of 64 bits lead to each, so the sum is far from the ends of 128 bits. For the
-/// rest nothing is said, and it wraps, since a check would cost the fast way of blocks a branch an input.
+/// It is exact if both have room: fewer than 2^62 inputs of 64 bits lead to each, so the sum is far from overflow.
+/// Otherwise the result is unspecified and wraps, since a check would cost the fast path of blocks a branch per input.
 #[inline]
 #[tactic(auto, using(crate::proofs::SumSteps::total_is))]
 pub fn total(a: i128, b: i128) -> i128
@@ -23,7 +23,7 @@ pub fn total(a: i128, b: i128) -> i128
     a.wrapping_add(b)
 }
 
-/// The count of two; exact where it is below 2^128, as with fewer inputs than that.
+/// The sum of two counts; exact if it is below 2^128, as with fewer inputs than that.
 #[inline]
 pub fn count(m: u128, n: u128) -> u128
     ensures { m + n < 2 ^ 128 → result ≡ m + n }
@@ -31,7 +31,7 @@ pub fn count(m: u128, n: u128) -> u128
     m.wrapping_add(n)
 }
 
-// The sum as an INT, where it is one.
+// The sum as an INT, if it is one.
 pub(crate) fn int_of(sum: i128) -> Option<i64>
     ensures { MatchOption result (is_within number.Int sum ≡ false) (λ n. (is_within number.Int sum ≡ true) × (n ≡ sum)) }
 {
@@ -41,7 +41,7 @@ pub(crate) fn int_of(sum: i128) -> Option<i64>
     }
 }
 
-// The sum as a UINT, where it is one.
+// The sum as a UINT, if it is one.
 pub(crate) fn uint_of(sum: i128) -> Option<u64>
     ensures { MatchOption result (is_within number.UInt sum ≡ false) (λ n. (is_within number.UInt sum ≡ true) × (pos n ≡ sum)) }
 {

@@ -1,4 +1,4 @@
--- Worked contents: each holds by computing alone.
+-- Worked contents: each is proved by computation.
 use Rattle.std.proofs.Common.{◌≡◌, ℕ, ℤ, pos, negsuc, true, false, List, [], ◌∷◌, ◌++◌, refl}
 use Rattle.gq_value.specs.declared.kind.Number.TheVariants as number
 use Rattle.gq_value.specs.Val.{Val, Int, Truth, Text, Tuple, Fraction, none, more}

@@ -1,4 +1,4 @@
--- How far contents go: from one that fits, by each input, and when two are merged.
+-- How large contents get: from one that fits, by each input, and when two are merged.
 use Rattle.std.proofs.Common.{if◌then◌else◌, ◌≡◌, ℕ, suc, ◌+◌, ◌*◌, ◌^◌, ◌<◌, ◌≤◌, ℤ, nat_abs, ◌||◌, ◌&&◌, Bool, true, false, List, [], ◌∷◌, ◌++◌, map, length, Ordering, Less, Equal, Greater, refl, sym, ap, ap₂, ◌∙◌, subst, arith}
 use Rattle.std.specs.List.{list_all}
 use Rattle.std.specs.Ordering.{is_eq}
@@ -109,7 +109,7 @@ mutual
   each_fresh no_part = tt
   each_fresh (part_and name k ps) = (fed_fresh k, each_fresh ps)
 
--- ---- what fits
+-- ---- contents that fit
 
 all_among : (test : List Val → Bool) (q : List Val) (c : List (List Val)) → list_all test c ≡ true → among row_cmp q c ≡ true → test q ≡ true
 all_among test q [] h g = false_apart g
@@ -156,7 +156,7 @@ mutual
       let a = both (fits k c.0) (fit ps c.1) h in
       (fed_fitting k c.0 p.0 a.0, each_fitting ps c.1 p.1 a.1)
 
--- ---- what inputs give below their keys
+-- ---- inputs below their keys
 
 -- an input to a map, and one to a group's parts
 map_suits : (b : Base) (k : Accum) (row : List Val) (ys : Givens) → suits (MapAccum b k) (Keyed row ys) ≡ true → suits k (first ys) ≡ true

@@ -69,7 +69,7 @@ map_append f (x ∷ xs) ys = ap (λ l. f x ∷ l) (map_append f xs ys)
 total_numbers : (xs ys : List Given) → total (numbers (xs ++ ys)) ≡ total (numbers xs) +ℤ total (numbers ys)
 total_numbers xs ys = ap total (map_append (λ x. whole (value_of x)) xs ys) ∙ total-append (numbers xs) (numbers ys)
 
--- gathered by a step that commutes, in two goes
+-- gathered by a step that commutes, in two parts
 folded_cut : {A B : Type 0} (f : A → B → B) → ((x y : A) (z : B) → f x (f y z) ≡ f y (f x z)) → (g : Given → A) (c : B) (xs ys : List Given) → into f (map g ys) (into f (map g xs) c) ≡ into f (map g (xs ++ ys)) c
 folded_cut f commutes g c xs ys = sym (ap (λ l. into f l c) (map_append g xs ys) ∙ into_cut f commutes (map g xs) (map g ys) c)
 

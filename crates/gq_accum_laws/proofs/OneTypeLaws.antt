@@ -1,4 +1,4 @@
--- On values of one type the order of contents is that of GSQL's comparisons: nothing is left to tell values of equal number apart.
+-- On values of one type the order of contents is that of GSQL's comparisons: equal numbers leave no tie to break.
 use Rattle.std.proofs.Common.{◌≡◌, ℕ, true, false, Equal, nat_cmp, refl, sym, ap, ap₂, ◌∙◌}
 use Rattle.std.specs.Ordering.{ordering_then}
 use Rattle.std.specs.Cmp.Lexicographic.{slice_cmp}

@@ -1,4 +1,4 @@
--- What inputs can lead to: openings, what comes after inputs, what is merged. And the laws that need it.
+-- Contents that inputs can lead to: openings, contents after inputs, merged contents. And the laws that need this.
 use Rattle.std.proofs.Common.{◌≡◌, ◌≤ℤ◌, zero, suc, ◌+◌, ℤ, pos, ◌+ℤ◌, ◌||◌, ◌&&◌, Bool, true, false, List, [], ◌∷◌, ◌++◌, map, length, take, refl, sym, ap, ap₂, ◌∙◌, append_assoc, append-nil, arith}
 use Rattle.std.specs.Int.{int_max, int_min, w64}
 use Rattle.std.specs.Int.RustNames.{FitsSigned}
@@ -124,7 +124,7 @@ merged_neutral k c h = ap (merged k c) (sym (after_none k (fresh k) (proper_fres
 pub each_neutral : (ps : Parts) (c : HoldsEach ps) → AreProper ps c → merged_each ps c (fresh_each ps) ≡ c
 each_neutral ps c h = ap (merged_each ps c) (sym (each_none ps (fresh_each ps) (proper_fresh_each ps))) ∙ each_part ps c [] h ∙ each_none ps c h
 
--- ---- it stays so
+-- ---- contents stay proper
 
 min_stays : (m c : ℤ) (xs : List ℤ) → c ≤ℤ m → into int_min xs c ≤ℤ m
 min_stays m c [] h = h

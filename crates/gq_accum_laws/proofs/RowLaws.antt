@@ -1,4 +1,4 @@
--- The orders of values, key rows and heaps are linear, and what the inputs give under a key row.
+-- The orders of values, key rows and heaps are linear, and the inputs under a key row.
 use Rattle.std.proofs.Common.{if◌then◌else◌, ◌≡◌, ℕ, suc, ◌≤◌, Bool, true, false, ◌||◌, List, [], ◌∷◌, ◌++◌, length, Ordering, Less, Equal, Greater, refl, sym, ap, ap₂, ◌∙◌, arith}
 use Rattle.std.specs.Ordering.{is_eq, on}
 use Rattle.std.specs.Cmp.{IsTotalOrder}
@@ -46,7 +46,7 @@ heap_only (f ∷ by) x y h = heap_only by x y (then_equal (directed f.1 (on (λ 
 pub heap_linear : (by : List (ℕ × Bool)) → IsLinear (heap_cmp by)
 heap_linear by = record { total = heap_total by; only = heap_only by }
 
--- which elements stand in what is gathered
+-- the elements of a gathered list
 module _ {A : Type 0} (cmp : A → A → Ordering) (linear : IsLinear cmp) where
   among_put : (q x : A) (ys : List A) → among cmp q (put cmp false x ys) ≡ (is_eq (cmp q x) || among cmp q ys)
   among_put q x [] = refl

@@ -47,7 +47,7 @@ module _ {A : Type 0} where
   length_shuffled (cross x y xs) = refl
   length_shuffled (chain s t) = length_shuffled s ∙ length_shuffled t
 
-  -- what is gathered by a step that commutes is the same in every order
+  -- gathering by a step that commutes gives the same in every order
   module _ {B : Type 0} (f : A → B → B) (commutes : (x y : A) (z : B) → f x (f y z) ≡ f y (f x z)) where
     pub into_shuffled : {xs ys : List A} → Shuffle xs ys → (z : B) → into f xs z ≡ into f ys z
     into_shuffled (same xs) z = refl
@@ -89,7 +89,7 @@ module _ {B : Type 0} where
   turned [] b = to_end b
   turned (x ∷ a) b = chain (skip x (turned a b)) (past_part x b a)
 
--- what each element gives, in another order
+-- the results of a flat map, in another order
 pub flat_shuffled : {A B : Type 0} (f : A → List B) {xs ys : List A} → Shuffle xs ys → Shuffle (flat_map f xs) (flat_map f ys)
 flat_shuffled f (same xs) = same (flat_map f xs)
 flat_shuffled f (skip x s) = behind (f x) (flat_shuffled f s)

@@ -1,4 +1,4 @@
--- The first n of what is in order.
+-- The first n elements of a sorted list.
 use Rattle.std.proofs.Common.{◌≡◌, ℕ, zero, suc, true, false, List, [], ◌∷◌, ◌++◌, take, Ordering, Less, Equal, Greater, refl, sym, ap, ◌∙◌}
 use Rattle.std.specs.Ordering.{is_gt, ordering_reverse}
 use Rattle.gq_accum_laws.specs.Gather.{into, choose, put, sorted}

@@ -1,4 +1,4 @@
--- Fits: when a content is judged to be in range, how far it may go before, and what inputs can lead to.
+-- Fits: when a content is judged to be in range, how large it may get before, and which contents inputs can lead to.
 -- The code judges only a final content. Until then it must not run out of its 128 bits, and counts by how much it was fed.
 use Rattle.std.specs.Prelude.{◌≡◌, ℕ, ◌*◌, ◌^◌, ◌<◌, ◌≤◌, nat_lt, Bool, true, false, ◌&&◌, List, take, nat_abs, ◌≤ℤ◌}
 use Rattle.std.specs.List.{list_all}
@@ -44,7 +44,7 @@ abbrev pub HasRoom : (k : Accum) → Holds k → Type 0
 HasRoom k c = (f : ℕ) × (f < 2 ^ 62) × Fed k c f
 
 abbrev mutual
-  -- what inputs can lead to: lists in order, nothing but the opening at keys that aren't held, a Min or Max that isn't
+  -- contents that inputs can lead to: lists in order, only the opening at keys that aren't held, a Min or Max not
   -- beyond its opening, 64 bits
   pub IsProper : (k : Accum) → Holds k → Type 0
   IsProper (MinAccum n) c = c ≤ℤ most n

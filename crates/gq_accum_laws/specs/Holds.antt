@@ -1,5 +1,5 @@
--- Holds: what an accumulator of a kind holds, its content.
--- It is a type that is computed from the kind, so that no content is of a wrong kind. A map holds its key rows, ascending,
+-- Holds: the content of an accumulator, as a type for each kind.
+-- The type is computed from the kind, so that no content is of a wrong kind. A map holds its key rows, ascending,
 -- and a function from key rows to contents; the code has an ordered map.
 use Rattle.std.specs.Prelude.{ℕ, zero, suc, ℤ, pos, Bool, true, false, List, [], ◌∷◌, map}
 use Rattle.std.specs.declared.cmp.Ordering.{Ordering}
@@ -10,7 +10,7 @@ use Rattle.gq_value.specs.Order.{place}
 use Rattle.gq_value.specs.Accums.{Accum, SumAccum, MinAccum, MaxAccum, OrAccum, AndAccum, BitwiseOrAccum, BitwiseAndAccum, AvgAccum, SetAccum, BagAccum, ListAccum, MapAccum, GroupByAccum, HeapAccum, Parts, no_part, part_and}
 
 abbrev mutual
-  -- a number, a truth, a sum with a count, a list of values, or key rows with what stands at each
+  -- a number, a truth, a sum with a count, a list of values, or key rows with a content for each
   pub Holds : Accum → Type 0
   Holds (SumAccum n) = ℤ
   Holds (MinAccum n) = ℤ
@@ -42,7 +42,7 @@ field n none = Int (pos 0)
 field zero (more v row) = v
 field (suc n) (more v row) = field n row
 
--- true turns an order round
+-- true reverses an order
 abbrev pub directed : Bool → (Val → Val → Ordering) → Val → Val → Ordering
 directed true cmp = flip_args cmp
 directed false cmp = cmp
@@ -52,6 +52,6 @@ abbrev pub heap_cmp : List (ℕ × Bool) → Val → Val → Ordering
 heap_cmp [] = place
 heap_cmp (f ∷ by) = then_cmp (directed f.1 (on (λ v. field f.0 (fields v)) place)) (heap_cmp by)
 
--- the entries of a map or group: each key row with what stands at it, ascending
+-- the entries of a map or group: each key row with its content, ascending
 abbrev pub entries : {A : Type 0} → List (List Val) × (List Val → A) → List (List Val × A)
 entries c = map (λ q. (q, c.1 q)) c.0

@@ -1,4 +1,4 @@
--- Inputs: what a list of inputs gives to each kind.
+-- Inputs: what each kind takes from a list of inputs.
 -- Each definition goes through a whole list of inputs. An input that its kind doesn't take has some meaning here too.
 use Rattle.std.specs.Prelude.{if◌then◌else◌, ℕ, ℤ, pos, ◌+ℤ◌, ◌^◌, ◌%◌, Bool, false, List, [], ◌∷◌, map}
 use Rattle.std.specs.List.{flat_map}
@@ -53,7 +53,7 @@ row_of (Keyed row ys) = row ∷ []
 abbrev pub rows_in : List Given → List (List Val)
 rows_in xs = flat_map row_of xs
 
--- what an input gives under one key row, part by part, and what all of them give
+-- the inputs that an input gives under one key row, part by part, and those of all inputs
 abbrev pub own_of : List Val → Given → List Givens
 own_of q (One v) = []
 own_of q (Keyed row ys) = if is_eq (row_cmp q row) then ys ∷ [] else []

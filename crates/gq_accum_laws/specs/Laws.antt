@@ -1,4 +1,4 @@
--- Laws: what holds of all contents, whatever their kind.
+-- Laws: the laws of all contents, whatever their kind.
 use Rattle.std.specs.Prelude.{if◌then◌else◌, ◌≡◌, ℕ, ◌+◌, ◌<◌, ◌≤◌, Bool, true, List, [], ◌∷◌, ◌++◌, length, slice_get, Some}
 use Rattle.std.specs.List.{list_all}
 use Rattle.std.specs.List.Sorted.{IsPermutation}
@@ -15,7 +15,7 @@ use Rattle.gq_accum_laws.specs.Targets.{targets, target_count, target_number}
 abbrev pub OrderLaw : Type 0
 OrderLaw = (k : Accum) (c : Holds k) (xs ys : List Given) → has_no_list k ≡ true → IsPermutation xs ys → after k c xs ≡ after k c ys
 
--- what these parts give, each after the opening, merged into a content in turn
+-- the contents of these parts, each fed from the opening, merged into a content one after another
 abbrev pub merged_parts : (k : Accum) → Holds k → List (List Given) → Holds k
 merged_parts k c [] = c
 merged_parts k c (part ∷ parts) = merged_parts k (merged k c (after k (fresh k) part)) parts
@@ -35,13 +35,13 @@ pub record MergeLaw : Type 0 where
   pub neutral : (k : Accum) (c : Holds k) → IsProper k c → merged k c (fresh k) ≡ c
   pub one : (k : Accum) (c : Holds k) (x : Given) → IsProper k c → after k c (x ∷ []) ≡ merged k c (after k (fresh k) (x ∷ []))
 
--- what inputs can lead to stays so
+-- contents that inputs can lead to stay so
 pub record ProperLaw : Type 0 where
   pub opening : (k : Accum) → IsProper k (fresh k)
   pub fed : (k : Accum) (c : Holds k) (xs : List Given) → IsProper k c → IsProper k (after k c xs)
   pub joint : (k : Accum) (c d : Holds k) → IsProper k c → IsProper k d → IsProper k (merged k c d)
 
--- how far contents go: one input's worth where they fit, one more for each input, and both together where they are merged
+-- how large contents get: one input's worth if they fit, one more for each input, and the sum of both when merged
 pub record FedLaw : Type 0 where
   pub fitting : (k : Accum) (c : Holds k) → IsProper k c → fits k c ≡ true → Fed k c 1
   pub opening : (k : Accum) → Fed k (fresh k) 0
@@ -55,6 +55,6 @@ pub record TargetLaw : Type 0 where
   pub place : (vertices : ℕ) (slots : List Bool) (at v : ℕ) (attached : Bool) → slice_get slots at ≡ Some attached → v < (if attached then vertices else 1)
       → slice_get (targets vertices slots) (target_number vertices slots at v) ≡ Some (at, v)
 
--- values of one type stand in contents in the order of comparisons
+-- values of one type have the same order in contents as in comparisons
 abbrev pub OneTypeLaw : Type 0
 OneTypeLaw = (b : Base) (v w : Val) → is_of b v ≡ true → is_of b w ≡ true → place v w ≡ compare v w

@@ -1,5 +1,5 @@
 -- Reads: the value of a content, and the content that is set to a value.
--- These are of kinds that hold one number, truth or average. Of the others there is no one value.
+-- These are of kinds that hold one number, truth or average. The others have no single value.
 use Rattle.std.specs.Prelude.{ℕ, zero, suc, ℤ, pos}
 use Rattle.gq_value.specs.Val.{Val, Int, Truth, Tuple, Fraction, none}
 use Rattle.gq_value.specs.Accums.{Accum, SumAccum, MinAccum, MaxAccum, OrAccum, AndAccum, BitwiseOrAccum, BitwiseAndAccum, AvgAccum}
@@ -8,7 +8,7 @@ use Rattle.gq_accum_laws.specs.Inputs.{truth}
 use Rattle.gq_value.specs.Arithmetic.{whole, as_type}
 use Rattle.gq_accum_laws.specs.After.{fresh}
 
--- an average as an exact fraction, 0 over 1 where nothing was counted
+-- an average as an exact fraction, 0 over 1 if nothing was counted
 abbrev pub average : ℤ → ℕ → Val
 average s zero = Fraction (pos 0) 1
 average s (suc n) = Fraction s (suc n)

@@ -1,4 +1,4 @@
-// Worked contents, and what is left after `OutOfMemory`.
+// Worked contents, and their state after `OutOfMemory`.
 use gq_accum::Scalar;
 use gq_base::{Boxed, List, OutOfMemory};
 use gq_nest::Content;
@@ -105,7 +105,7 @@ fn under_seven_keys(alloc: Global, key: i64, n: i64) -> Result<Input, OutOfMemor
     Ok(input)
 }
 
-// A content of eight levels, after numbers under a key each.
+// A content of eight levels, after one number for each key.
 fn nested(alloc: Global, inputs: &[(i64, i64)]) -> Result<Content, OutOfMemory> {
     let mut content = Content::fresh(alloc, &eight_levels(alloc)?)?;
     for (key, n) in inputs {
@@ -114,7 +114,7 @@ fn nested(alloc: Global, inputs: &[(i64, i64)]) -> Result<Content, OutOfMemory> 
     Ok(content)
 }
 
-// What stands under seven keys.
+// The content under seven keys.
 fn lowest(alloc: Global, content: &Content, key: i64) -> Result<Option<i128>, OutOfMemory> {
     let row = number_row(alloc, key)?;
     let mut level = content;
@@ -268,7 +268,7 @@ fn a_sum_is_judged_when_it_is_final(rt: HostRuntime) -> Result<(), Fail> {
     Ok(())
 }
 
-// Feeds an input where it finds memory; where it doesn't, the content has to say so from then on.
+// Feeds an input if there is memory; if there isn't, the content has to report that from then on.
 fn feeds_or_is_spoiled(alloc: Global, content: &mut Content, input: &Input) -> bool {
     let fed = content.feed(alloc, input).is_ok();
     if fed {
@@ -277,7 +277,7 @@ fn feeds_or_is_spoiled(alloc: Global, content: &mut Content, input: &Input) -> b
     content.spoiled() && content.feed(alloc, input).is_err() && content.duplicate(alloc).is_err()
 }
 
-// The same of a content that is merged in.
+// The same for a content that is merged in.
 fn merges_or_is_spoiled(alloc: Global, content: &mut Content, other: &Content) -> bool {
     let merged = content.merge(alloc, other).is_ok();
     if merged {

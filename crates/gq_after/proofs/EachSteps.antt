@@ -1,4 +1,4 @@
--- EachSteps: what the items of a list give, one after the other.
+-- EachSteps: the results of applying a function to the items of a list, in order.
 use Rattle.std.proofs.Common.{◌≡◌, ℕ, zero, suc, ◌+◌, ◌<◌, ◌≤◌, List, [], ◌∷◌, ◌++◌, drop, map, length, get_or, refl, sym, ap, subst, ◌∙◌, arith}
 use Rattle.std.proofs.lemmas.List.{append_assoc, append-nil, drop_more, drop_all}
 use Rattle.gq_value.specs.declared.value.Wrong.{Wrong}
@@ -7,7 +7,7 @@ use Rattle.gq_eval_operand.specs.declared.halt.Halt.{Halt}
 use Rattle.gq_eval_operand.specs.declared.halt.Halt.TheVariants as halt
 use Rattle.gq_eval_operand.specs.Meant.{Halts}
 
--- what was given before, and then this
+-- the earlier results, followed by these
 abbrev pub and_more : {F B : Type 0} → List B → Answer F (List B) → Answer F (List B)
 and_more done o = o >>= λ more. Gives (done ++ more)
 
@@ -27,7 +27,7 @@ at_place xs i x n is = drop_more xs i x n ∙ ap (λ y. y ∷ drop (i + 1) xs) (
 pub nothing_left : {A B F : Type 0} (f : List A → Answer F (List B)) (xs : List A) (i : ℕ) (done : List B) → f [] ≡ Gives [] → f xs ≡ and_more done (f (drop i xs)) → length xs ≤ i → f xs ≡ Gives done
 nothing_left f xs i done n h l = h ∙ ap (λ ys. and_more done (f ys)) (drop_all i xs l) ∙ ap (and_more done) n ∙ ap Gives (append-nil done)
 
--- an evaluation that ends stops all that comes behind it
+-- an evaluation that ends stops everything after it
 pub stops : {A B : Type 0} (o : Answer Wrong A) (f : A → Answer Wrong B) (h : Halt) → Halts o h → Halts (o >>= f) h
 stops o f (halt.Wrong w) e = ap (λ p. p >>= f) e
 stops o f halt.Stuck e = ap (λ p. p >>= f) e
@@ -47,7 +47,7 @@ module _ {F A B : Type 0} (f : A → Answer F B) where
       ∙ ap (λ o. and_more done (o >>= λ b. each f (drop (i + 1) xs) >>= λ bs. Gives (b ∷ bs))) e
       ∙ one_before (each f (drop (i + 1) xs)) done b
 
-  -- all that a list gives begins with what the item at a place does
+  -- the results from a place on begin with that of the item at the place
   pub each_begins : (xs : List A) (i : ℕ) (x : A) (done : List B) → EachAt xs i done → i < length xs → x ≡ get_or xs i x
       → each f xs ≡ (f x >>= λ b. and_more done (each f (drop (i + 1) xs) >>= λ bs. Gives (b ∷ bs)))
   each_begins xs i x done h n is = each_here xs i x done h n is ∙ joined (f x)

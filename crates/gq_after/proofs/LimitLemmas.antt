@@ -1,4 +1,4 @@
--- LimitLemmas: LIMIT, and the first of a list.
+-- LimitLemmas: LIMIT, and prefixes of a list.
 use Rattle.std.proofs.Common.{◌≡◌, ℕ, zero, suc, ◌+◌, ◌<◌, ◌≤◌, ℤ, pos, negsuc, Bool, false, ◌||◌, List, [], ◌∷◌, ◌++◌, drop, take, min, map, length, get_or, Option, Some, None, Result, inl, inr, refl, sym, ap, ap₂, subst, ◌∙◌, arith, nat_eq}
 use Rattle.std.specs.List.{AllByRecursion, IsDistinct}
 use Rattle.std.proofs.lemmas.Map.Keys.{IsDistinct-head, IsDistinct-tail}
@@ -68,14 +68,14 @@ pub ruleset limit_laws = (limit_goes, limit_stops)
 
 pub ruleset count_laws = (count_stops, count_goes)
 
--- ---- the first of a list
+-- ---- prefixes of a list
 
 every_at : (P : ℕ → Type 0) (xs : List ℕ) (i : ℕ) → i < length xs → AllByRecursion P xs → P (get_or xs i 0)
 every_at P [] i l h = let no : ⊥ = omega arith in absurd no
 every_at P (x ∷ xs) zero l h = h.0
 every_at P (x ∷ xs) (suc i) l h = every_at P xs i (omega arith) h.1
 
--- where none stands twice, one isn't among those before it
+-- in a list without duplicates an item isn't among those before it
 pub taken_apart : (vs : List ℕ) (i : ℕ) → IsDistinct nat_eq vs → i < length vs → among (take i vs) (get_or vs i 0) ≡ false
 taken_apart [] i d l = let no : ⊥ = omega arith in absurd no
 taken_apart (x ∷ xs) zero d l = refl
@@ -105,7 +105,7 @@ module _ {A : Type 0} (number : A → ℕ) where
   place_of (r ∷ rows) zero d l = refl
   place_of (r ∷ rows) (suc i) d l = place_of rows i d (omega arith)
 
-  -- one row more
+  -- one more row
   pub row_apart : (rows : List A) (i : ℕ) (row : A) (list : List ℕ) → IsDistinct nat_eq (map number rows) → i < length rows → row ≡ get_or rows i row → list ≡ take i (map number rows) → among list (number row) ≡ false
   row_apart rows i row list d l is e =
       ap₂ among e (ap number is ∙ sym (place_of rows i row l))

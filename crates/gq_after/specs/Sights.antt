@@ -1,4 +1,4 @@
--- Sights: what expressions of a tail see, as the code goes through the vertices.
+-- Sights: what the expressions of a tail see, as the code iterates over the vertices.
 use Rattle.std.specs.Prelude.{ℕ, ℤ, pos, negsuc, List, [], ◌∷◌, map, take, Option, Some, None}
 use Rattle.gq_value.specs.declared.value.Wrong.{Wrong}
 use Rattle.gq_accum_laws.specs.Gather.{sorted}
@@ -28,14 +28,14 @@ one_alias (Some a) = a ∷ []
 abbrev pub vertex_look : Calendar → Over → Accums → End → ℕ → Look Reference
 vertex_look clock o accums end v = look_of clock (viewed o (one_alias (end_things end v)) accums accums)
 
--- a tail of these vertices, by what is seen of each, and of none
+-- a tail of these vertices, given what is seen of each of them, and without any
 abbrev pub tail_of : {N : Type 0} → World N → (ℕ → Look N) → Look N → Select N → List ℕ → Answer BlockFault (List ℕ)
 tail_of world look plain q vertices =
     passing look q.having vertices >>= λ vs.
     each (ranked look q.order) vs >>= λ rs.
     cut world plain q.limit (map (λ (r : Ranked). r.vertex) (sorted (in_order q.order) rs))
 
--- all, or so many
+-- all items, or the first `n`
 abbrev pub first_of : Option ℕ → List ℕ → List ℕ
 first_of None vs = vs
 first_of (Some n) vs = take n vs

@@ -22,7 +22,7 @@ use gq_frame::{Accums, Alias};
 use gq_plan_ir::Expr;
 use std::alloc::Global;
 
-/// The vertices that pass HAVING, in order; all are judged.
+/// Returns the vertices that pass HAVING, in order; HAVING is evaluated for all of them.
 #[tactic(auto, using(crate::proofs::PassLemmas::pass_laws))]
 pub(crate) fn passing(
     having: &Option<Expr>,
@@ -81,7 +81,7 @@ fn passes_under(
     has_passed(having, alloc, &sight)
 }
 
-/// No HAVING lets every vertex pass.
+/// Without HAVING every vertex passes.
 fn has_passed<V: Sees>(having: &Option<Expr>, alloc: Global, sight: &V) -> Result<bool, Halt>
     ensures { Tells itself (passes (V.look sight.now) (option_map view having.now)) result }
 {

@@ -26,7 +26,7 @@ use gq_plan_ir::Expr;
 use gq_value::Row;
 use std::alloc::Global;
 
-/// Vertices with all their keys, in the same order.
+/// Returns vertices with all their keys, in the same order.
 #[tactic(auto, using(crate::proofs::KeyLemmas::row_laws))]
 pub(crate) fn with_keys(
     order: &[(Expr, bool)],
@@ -55,7 +55,7 @@ pub(crate) fn with_keys(
     Ok(rows)
 }
 
-/// The keys of a vertex, under the alias of its end.
+/// Returns the keys of a vertex, under the alias of its end.
 fn keys_at(
     order: &[(Expr, bool)],
     alloc: Global,
@@ -87,7 +87,7 @@ fn keys_under(
     keys_seen(order, alloc, &sight)
 }
 
-/// Each key in turn.
+/// Evaluates the keys, in order.
 #[tactic(auto, using(crate::proofs::KeyLemmas::key_laws))]
 fn keys_seen<V: Sees>(order: &[(Expr, bool)], alloc: Global, sight: &V) -> Result<Row, Halt>
     ensures { Tells (map val) (each (λ key. value_of (V.look sight.now) (view key.0)) order.now) result }

@@ -26,7 +26,7 @@ use gq_index::VertexList;
 use gq_plan_ir::Expr;
 use std::alloc::Global;
 
-/// How many vertices LIMIT keeps, if there is one. Its fault has the number of vertices as its place.
+/// Returns how many vertices LIMIT keeps, if there is a LIMIT. Its fault has the number of vertices as its place.
 #[tactic(auto, using(crate::proofs::LimitLemmas::limit_laws))]
 pub(crate) fn most(
     limit: &Option<Expr>,
@@ -46,7 +46,7 @@ pub(crate) fn most(
     }
 }
 
-/// How many vertices there are.
+/// Returns the number of vertices.
 fn vertex_count(over: &BlockContext<'_>) -> u32
     ensures { result ≡ vertex_count (world_over gregorian over.now).graph }
 {
@@ -75,7 +75,7 @@ fn count_seen<V: Sees>(expr: &Expr, alloc: Global, sight: &V) -> Result<u64, Hal
     limit_count(&value)
 }
 
-/// The vertices of the first rows, so many or all.
+/// Returns the vertices of the first `most` rows, or of all.
 #[tactic(auto, using(crate::proofs::LimitLemmas::first_laws))]
 pub(crate) fn first_rows(
     alloc: Global,
@@ -91,7 +91,7 @@ pub(crate) fn first_rows(
     }
 }
 
-/// The vertices of so many rows.
+/// Returns the vertices of the first `count` rows.
 #[tactic(auto, using(crate::proofs::LimitLemmas::list_laws))]
 fn listed(alloc: Global, rows: &[Ranked], count: usize) -> Result<VertexList, OutOfMemory>
     requires once { IsDistinct nat_eq (map (λ r. r.vertex) rows.now) }

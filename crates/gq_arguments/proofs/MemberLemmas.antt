@@ -1,4 +1,4 @@
--- Members of the file by their names, and what they are.
+-- Members of the file, by name, and their kinds.
 use Rattle.std.proofs.Common.{◌≡◌, Bool, true, false, Option, Some, None, codes, bytes_eq, cond, Bor, Ordering, Less, Equal, Greater, refl, ap, sym, ◌∙◌}
 use Rattle.std.specs.Prelude.{option_map, option_and_then}
 use Rattle.std.specs.Bool.{one_answer, Decides}
@@ -15,7 +15,7 @@ use Rattle.gq_rules_typing.specs.Words.{under}
 use Rattle.gq_rules_meaning.specs.Arguments.{Member}
 use Rattle.gq_arguments.specs.Members.{member_of, members_of, members_in, number_member, vertex_member, text_under}
 
--- what is no text, no truth value and no whole number is a vertex or nothing
+-- a member that isn't a text, a truth value or a whole number is a vertex or nothing
 pub vertex_is : (d : Data) → as_str d ≡ None → as_bool d ≡ None → option_and_then as_integer (as_number d) ≡ None
     → vertex_member (text_under (codes "id") d) (text_under (codes "type") d) ≡ member_of d
 vertex_is null a b c = refl
@@ -54,7 +54,7 @@ found name (string s) = refl
 found name (array ds) = refl
 found name (object ms) = under_name name ms
 
--- what was found, by its data
+-- the member of a lookup result, by its data
 pub by_data : (o : Option (Bor Value)) → option_map (λ m. member_of (view m.now)) o ≡ option_map member_of (option_map (λ m. view m.now) o)
 by_data None = refl
 by_data (Some m) = refl

@@ -1,4 +1,4 @@
--- Values made parameter by parameter.
+-- Values, parameter by parameter.
 use Rattle.std.proofs.Common.{ℕ, zero, suc, ◌+◌, ◌≡◌, ◌<◌, ◌≤◌, List, [], ◌∷◌, ◌++◌, length, map, drop, get_or, Some, None, refl, ap, sym, ◌∙◌, arith, add-one}
 use Rattle.std.proofs.lemmas.List.{append-nil, drop_all}
 use Rattle.std.proofs.lemmas.Option.{slice_get-map}
@@ -44,7 +44,7 @@ named_place (q ∷ ps) members (suc i) p is = named_place ps members i p is
 
 -- ---- value by value
 
--- values behind others
+-- values appended to earlier ones
 abbrev pub behind : List Val → Values → Values
 behind before (AllValues vs) = AllValues (before ++ vs)
 behind before (BadArgument x) = BadArgument x
@@ -79,7 +79,7 @@ next : {A : Type 0} (xs : List A) (i : ℕ) (x : A) → slice_get xs i ≡ Some 
 next xs i x is = dropped xs i x is ∙ ap (λ n. x ∷ drop n xs) (sym (add-one i))
 
 module _ (sorts : Sorts) (rows : List VertexRow) (ps : List (Parameter Bytes)) (all : List Argument) where
-  -- the values from the parameter at a place on
+  -- the values of the parameters from a place on
   abbrev pub from : ℕ → Values
   from i = values_of sorts rows (drop i ps) (drop i all)
 
@@ -103,7 +103,7 @@ module _ (sorts : Sorts) (rows : List VertexRow) (ps : List (Parameter Bytes)) (
   at_end i before whole end so_far =
       so_far ∙ ap (λ xs. behind before (values_of sorts rows xs (drop i all))) (drop_all i ps end) ∙ ap AllValues (append-nil before)
 
--- the refusal, or OutOfMemory for the parameter's name
+-- the refusal that is due, or OutOfMemory for the parameter's name
 pub told : (w : Values) (name said : Bytes) (f : StatementFault) → w ≡ BadArgument name → said ≡ name → Tells (refusal.BadArgument said) f → Gives (of_values w) (Err f)
 told w name said (Refused found) bad same is = ap of_values bad ∙ ap (λ x. Err (refusal.BadArgument x)) (sym same) ∙ ap Err (sym is)
 told w name said ReadFault bad same is = is

@@ -1,4 +1,4 @@
--- Given: what stands for a parameter, as gq_rules_meaning's definitions have it.
+-- Given: the argument of a parameter, as the definitions of gq_rules_meaning represent it.
 use Rattle.gq_tree.specs.declared.query.Argument as tree
 use Rattle.gq_tree.specs.declared.query.Argument.TheVariants as argument
 use Rattle.gq_rules_typing.specs.Statements.{Signed, Quoted, Truthful}
@@ -12,7 +12,7 @@ abbrev pub view_argument : tree.Argument → Argument
 view_argument (argument.Literal l) = OfLiteral (view_literal l)
 view_argument (argument.Vertex id type) = OfVertex id type
 
--- what was found for a parameter
+-- the argument that was found for a parameter
 abbrev pub view_given : Given → Argument
 view_given (given.Number minus n) = OfLiteral (Signed minus n)
 view_given (given.Text text) = OfLiteral (Quoted text.now)

@@ -5,12 +5,12 @@ use Rattle.serde_json.specs.Find.{get, as_str, as_object, as_integer}
 use Rattle.gq_rules_typing.specs.Statements.{Bytes}
 use Rattle.gq_rules_meaning.specs.Arguments.{Member, NumberMember, TextMember, TruthMember, VertexMember, OtherMember}
 
--- a number that isn't whole, or that 64 bits don't hold, stands for nothing
+-- a number that isn't whole or doesn't fit in 64 bits gives no member
 abbrev pub number_member : Option ℤ → Member
 number_member (Some x) = NumberMember x
 number_member None = OtherMember
 
--- the texts under `id` and `type`, where both are there
+-- a vertex of the texts under `id` and `type`, if both exist
 abbrev pub vertex_member : Option Bytes → Option Bytes → Member
 vertex_member (Some id) (Some type) = VertexMember id type
 vertex_member _ _ = OtherMember
@@ -35,7 +35,7 @@ abbrev pub members_or_none : Option Members → List (Bytes × Member)
 members_or_none None = []
 members_or_none (Some ms) = members_of ms
 
--- the members of what stands under a query's name: where that is no object, or nothing stands there, there are none
+-- the members of the value under a query's name; none if it isn't an object or doesn't exist
 abbrev pub members_in : Option Data → List (Bytes × Member)
 members_in found = members_or_none (option_and_then as_object found)
 

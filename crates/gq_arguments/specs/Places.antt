@@ -1,4 +1,4 @@
--- Places: what stands for the parameter at one place.
+-- Places: the argument of the parameter at one place.
 use Rattle.std.specs.Prelude.{List, Option, Some, None, bytes_eq}
 use Rattle.gq_rules_typing.specs.Statements.{Bytes, Parameter}
 use Rattle.gq_rules_typing.specs.Words.{under}

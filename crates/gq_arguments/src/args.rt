@@ -10,16 +10,16 @@ use serde_json::Value;
 use std::alloc::Global;
 use thiserror::Error;
 
-/// The arguments that a file gives to queries.
+/// The arguments that a file supplies for queries.
 #[derive(Drop)]
 pub struct Args {
     object: Option<Value>,
 }
 
-/// Why there are no arguments.
+/// Why a file of arguments can't be used.
 #[derive(Clone, Copy, Debug, PartialEq, Eq, Error)]
 pub enum ArgsFault {
-    /// The file isn't a JSON object that `serde_json` reads.
+    /// The file isn't a JSON object that `serde_json` can parse.
     #[error("arguments unreadable")]
     Unreadable,
 
@@ -28,14 +28,14 @@ pub enum ArgsFault {
 }
 
 impl Args {
-    /// No arguments, where no file is named. Takes no memory.
+    /// Returns no arguments, for a run without a file. Takes no memory.
     pub fn none() -> Args
         ensures { held result ≡ None }
     {
         Args { object: None }
     }
 
-    /// The arguments of a file with these bytes. Of members of one name the last counts.
+    /// Parses a file with these bytes. If a name occurs twice in an object, the last member counts.
     pub fn read(alloc: Global, bytes: &[u8]) -> Result<Args, ArgsFault>
         ensures { MatchResult result
             (λ args. (members : Members) × IsObject bytes.now members × (held args ≡ Some (object members)))
@@ -59,7 +59,7 @@ impl Args {
         }
     }
 
-    /// What stands under the name of a query.
+    /// Returns the value under the name of a query.
     pub fn of_query(&self, query: &str) -> Option<&Value>
         ensures { option_map (λ v. view v.now) result ≡ option_and_then (get query.now) (held self.now) }
     {

@@ -1,4 +1,4 @@
-// What stands for a parameter: an argument of the script, a member of the file, or the parameter's default.
+// The argument of a parameter: from the script, from the file, or the parameter's default.
 ghost use Rattle.std.specs.Prelude.{◌≡◌, ℤ, option_and_then, option_map, unsigned_abs, codes};
 ghost use Rattle.serde_json.specs.View.{view};
 ghost use Rattle.serde_json.specs.Find.{as_integer, as_number};
@@ -11,10 +11,10 @@ ghost use Rattle.gq_arguments.specs.Members.{member_of, text_under, vertex_membe
 use gq_tree::{Argument, BaseTree, Literal};
 use serde_json::Value as Json;
 
-/// What stands for a parameter.
+/// The argument of a parameter.
 #[derive(Clone, Copy)]
 pub(crate) enum Given<'a> {
-    /// A number, and whether a minus sign stands before it.
+    /// Whether there is a minus sign, and the number after it.
     Number(bool, u64),
     Text(&'a str),
     Truth(bool),
@@ -22,7 +22,7 @@ pub(crate) enum Given<'a> {
     /// The id and the type of a vertex.
     Vertex(&'a str, &'a str),
 
-    /// Nothing that a value may be made of.
+    /// Nothing that a value can be made of.
     Nothing,
 }
 
@@ -36,7 +36,7 @@ fn literal(literal: &Literal) -> Given<'_>
     }
 }
 
-/// An argument in parentheses.
+/// Returns an argument in parentheses.
 pub(crate) fn listed(argument: &Argument) -> Given<'_>
     ensures { view_given result ≡ view_argument argument.now }
 {
@@ -46,7 +46,7 @@ pub(crate) fn listed(argument: &Argument) -> Given<'_>
     }
 }
 
-/// The default of a parameter that is left out.
+/// Returns the default of a parameter without an argument.
 pub(crate) fn default(default: &Option<Literal>) -> Given<'_>
     ensures { view_given result ≡ default_or Nothing (option_map view_literal default.now) }
 {
@@ -56,7 +56,7 @@ pub(crate) fn default(default: &Option<Literal>) -> Given<'_>
     }
 }
 
-/// A member of the file, for a parameter of this type.
+/// Returns a member of the file as an argument, for a parameter of this type.
 pub(crate) fn named<'a>(base: &BaseTree, member: &'a Json) -> Given<'a>
     ensures { view_given result ≡ of_member (view_base base.now) (member_of (view member.now)) }
 {
@@ -72,7 +72,7 @@ pub(crate) fn named<'a>(base: &BaseTree, member: &'a Json) -> Given<'a>
     }
 }
 
-// A whole number of 64 bits: whether it is negative, and how far it is from 0.
+// Returns a whole number of 64 bits: whether it is negative, and its absolute value.
 fn whole_number(member: &Json) -> Option<(bool, u64)>
     ensures { result ≡ option_map (λ x. (is_negative x, unsigned_abs x)) (option_and_then as_integer (as_number (view member.now))) }
 {
@@ -85,7 +85,7 @@ fn whole_number(member: &Json) -> Option<(bool, u64)>
     }
 }
 
-// A number doesn't stand for the id of a vertex.
+// In the file a number isn't the id of a vertex.
 fn numbered(base: &BaseTree, minus: bool, number: u64) -> Given<'static>
     ensures { (x : ℤ) → is_negative x ≡ minus → unsigned_abs x ≡ number → view_given result ≡ of_member (view_base base.now) (NumberMember x) }
 {
@@ -96,7 +96,7 @@ fn numbered(base: &BaseTree, minus: bool, number: u64) -> Given<'static>
     }
 }
 
-// The text under a name.
+// Returns the text under a name.
 fn text_under<'a>(member: &'a Json, name: &str) -> Option<&'a str>
     ensures { option_map (λ text. text.now) result ≡ text_under name.now (view member.now) }
 {
@@ -106,7 +106,7 @@ fn text_under<'a>(member: &'a Json, name: &str) -> Option<&'a str>
     }
 }
 
-// An object with the texts `id` and `type`.
+// Returns a vertex, from an object with the texts `id` and `type`.
 fn vertex(member: &Json) -> Given<'_>
     ensures { (base : PlainBase Bytes) → view_given result ≡ of_member base (vertex_member (text_under (codes "id") (view member.now)) (text_under (codes "type") (view member.now))) }
 {

@@ -12,7 +12,7 @@ use gq_value::Value;
 use gq_vertex::Vertices;
 use itoa::Buffer;
 
-/// The vertex of a type, where the query sees the type, and of an id.
+/// Returns the vertex with a type and an id, if the query sees the type.
 #[tactic(auto, using(gq_value::specs::ViewLaws::view_laws))]
 pub(crate) fn vertex_in(
     types: &Scope<'_>,
@@ -31,7 +31,7 @@ pub(crate) fn vertex_in(
     }
 }
 
-/// The vertex whose id is a number, in decimal.
+/// Returns the vertex whose id is a number, in decimal.
 pub(crate) fn numbered_vertex(
     types: &Scope<'_>,
     vertices: &Vertices,

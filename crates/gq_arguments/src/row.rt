@@ -34,14 +34,14 @@ pub enum Arguments<'a> {
     /// In parentheses, in order of the parameters.
     Listed(&'a [Argument]),
 
-    /// The members of what stands in the file under the query's name.
+    /// The members of the value under the query's name in the file.
     Named(Option<&'a Json>),
 }
 
-/// The values of a query's parameters, where it runs for this graph, by its number.
+/// Returns the values of a query's parameters, for a run on this graph, given by number.
 ///
-/// Refused in parentheses for their number; else for the first parameter whose argument is no value of its type, whose vertex isn't there,
-/// or that is left out and has no default.
+/// Refuses a wrong number of arguments in parentheses; else the first parameter whose argument isn't a value of its
+/// type, whose vertex doesn't exist, or that has neither argument nor default.
 pub fn argument_row(
     alloc: Global,
     catalog: &Catalog,
@@ -60,7 +60,7 @@ pub fn argument_row(
     fill(alloc, &types, vertices, parameters, arguments)
 }
 
-// Whether there are too many in parentheses, or a parameter without default is left.
+// Whether there are too many in parentheses, or a parameter without default gets none.
 fn wrong_number(parameters: &[ParameterTree], arguments: Arguments<'_>) -> bool
     ensures { result ≡ spec.wrong_number (map view_parameter parameters.now) arguments.entry }
 {
@@ -76,7 +76,7 @@ fn wrong_count(parameters: &[ParameterTree], arguments: &[Argument]) -> bool
     arguments.len() > parameters.len() || lacks_default(parameters, arguments.len())
 }
 
-// Whether a parameter behind the first so many has no default.
+// Whether a parameter after the first `count` has no default.
 fn lacks_default(parameters: &[ParameterTree], count: usize) -> bool
     ensures { result ≡ list_any (λ p. is_none p.default) (drop count parameters.now) }
 {
@@ -86,7 +86,7 @@ fn lacks_default(parameters: &[ParameterTree], count: usize) -> bool
         .any(|parameter| parameter.default.is_none())
 }
 
-// Values one after the other, up to the first that there isn't.
+// Appends values one by one, up to the first that can't be made.
 fn fill(
     alloc: Global,
     types: &Scope<'_>,
@@ -108,7 +108,7 @@ fn fill(
     Ok(row)
 }
 
-// What stands for the parameter at a place.
+// Returns the argument of the parameter at a place.
 fn given_at<'a>(arguments: Arguments<'a>, parameter: &'a ParameterTree, place: usize) -> Given<'a>
     ensures { (ps : List (PlainParameter Bytes)) → slice_get ps place ≡ Some (view_parameter parameter.now) → slice_get (all_given ps arguments.entry) place ≡ Some (view_given result) }
 {
@@ -136,7 +136,7 @@ fn named_at<'a>(found: Option<&'a Json>, parameter: &'a ParameterTree) -> Given<
     }
 }
 
-// The member of a name, where an object was found.
+// Returns the member with this name, if an object was found.
 fn member<'a>(found: Option<&'a Json>, name: &str) -> Option<&'a Json>
     ensures { option_map (λ m. member_of (view m.now)) result ≡ under bytes_eq name.now (members_in (option_map (λ m. view m.now) found.entry)) }
 {
@@ -146,7 +146,7 @@ fn member<'a>(found: Option<&'a Json>, name: &str) -> Option<&'a Json>
     }
 }
 
-// The argument of the parameter is bad, or memory for the parameter's name is wanting.
+// Returns `BadArgument` for the parameter, or `OutOfMemory` if its name can't be copied.
 fn bad(alloc: Global, name: &str) -> StatementFault
     ensures { Tells (Refusal.BadArgument name.now) result }
 {

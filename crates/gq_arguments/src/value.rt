@@ -1,4 +1,4 @@
-// The value that stands for a parameter.
+// Arguments as values.
 ghost use Rattle.std.specs.Prelude.{◌≡◌, IfOk, List};
 ghost use Rattle.std.specs.Option.{option_map};
 ghost use Rattle.gq_value.specs.Arithmetic.{is_within};
@@ -23,7 +23,7 @@ use gq_value::{Txt, Value};
 use gq_vertex::Vertices;
 use std::alloc::Global;
 
-/// The value of a parameter's type that something stands for, if there is one.
+/// Returns the value that an argument gives a parameter of this type, if there is one.
 pub(crate) fn value_of(
     alloc: Global,
     types: &Scope<'_>,

@@ -1,4 +1,4 @@
--- KeyChainLemmas: the last row of a bucket, one row more, one row less.
+-- KeyChainLemmas: the last row of a bucket, and the chains with one row added or removed.
 use Rattle.std.proofs.Common.{ℕ, zero, suc, ◌+◌, ◌-◌, ◌<◌, ◌≤◌, ◌≡◌, ◌≢◌, ◌==◌, Bool, true, false, cond, List, [], ◌∷◌, ◌++◌, Some, length, get_or, set, take, refl, ap, sym, ◌∙◌, subst, arith, length-set, add-one, eq-eqb, below_more, inl, inr}
 use Rattle.std.specs.List.{slice_get}
 use Rattle.std.proofs.lemmas.Bool.{ne_eqb, eqb-false, cases_lt}
@@ -31,7 +31,7 @@ latest_is B H b (suc n) k is =
     (λ hit at. let same : n ≡ k = omega arith in subst (λ j. bucket_of (get_or H j 0) B ≡ b) same (is_equal (bucket_of (get_or H n 0) B) b hit))
     (λ _ at. latest_is B H b n k at) is
 
--- no row behind it is
+-- no later row below n is in it
 pub latest_past : (B : ℕ) (H : List ℕ) (b n k : ℕ) → latest B H b n ≤ k → k < n → bucket_of (get_or H k 0) B ≢ b
 latest_past B H b zero k past low = absurd (omega arith)
 latest_past B H b (suc n) k past low =
@@ -40,7 +40,7 @@ latest_past B H b (suc n) k past low =
     (λ miss over. below_more (λ j. latest B H b n ≤ j → bucket_of (get_or H j 0) B ≢ b) n (λ j under at. latest_past B H b n j at under)
     (λ at. eqb-false (bucket_of (get_or H n 0) B) b miss) k (omega arith) over) past
 
--- one row more
+-- the bound raised by one row
 pub latest_hit : (B : ℕ) (H : List ℕ) (b n : ℕ) → bucket_of (get_or H n 0) B ≡ b → latest B H b (n + 1) ≡ n + 1
 latest_hit B H b n is =
     ap (latest B H b) (add-one n) ∙ ap (λ t. cond t (suc n) (latest B H b n)) (eq-eqb (bucket_of (get_or H n 0) B) b is) ∙ sym (add-one n)
@@ -90,7 +90,7 @@ unlinked_one n B heads H before long low old = record {
   linked = λ i under. old.linked i (omega arith);
 }
 
--- where a walk stands: at a row of the bucket, or at the end, and no row behind it has the hash
+-- the state of a walk: it is at a row of the bucket or at the end, and no later row has the hash
 pub record Walks (B : ℕ) (H : List ℕ) (hash bound place : ℕ) : Type 0 where
   pub low : place ≤ bound
   pub same : 0 < place → bucket_of (get_or H (place - 1) 0) B ≡ bucket_of hash B
@@ -120,17 +120,17 @@ walk_goes n B heads H before hash bound place chains within some walk other =
       ];
     }
 
--- a place that was walked to comes before the one that was left
+-- a step of a walk leads to a smaller place
 pub walk_falls : (n B : ℕ) (heads H before : List ℕ) (hash bound place : ℕ) → IsChainedTo n B heads H before → bound ≤ n → 0 < place
     → Walks B H hash bound place → get_or before (place - 1) 0 < place
 walk_falls n B heads H before hash bound place chains within some walk =
     omega (arith, chains.linked (place - 1) (omega (arith, walk.low)), latest_low B H (bucket_of (get_or H (place - 1) 0) B) (place - 1))
 
--- no row, no chain
+-- the chains of no rows
 pub no_chains : (B : ℕ) (heads H before : List ℕ) → ((b : ℕ) → b < B → get_or heads b 0 ≡ 0) → IsChainedTo 0 B heads H before
 no_chains B heads H before none = record { headed = none; linked = λ i low. absurd (omega arith) }
 
--- the keys and the links of one entry more, and of the first n
+-- the keys and the links after one more entry, and of the first n
 pub number_at : (entries : List Entry) (i : ℕ) (d : Entry) → i < length entries → get_or (numbers_of entries) i 0 ≡ number_in (get_or entries i d)
 number_at entries i d low = get_or-map number_in entries i d 0 low
 
@@ -162,11 +162,11 @@ added heads entries e low link old =
 abbrev pub no_entry : Entry
 no_entry = record { word = 0; tag = 0; before = 0 }
 
--- a row with another link has the key that it had
+-- changing a row's link keeps its key
 pub same_numbers : (entries : List Entry) (i : ℕ) (e : Entry) → number_in e ≡ number_in (get_or entries i no_entry) → numbers_of (set entries i e) ≡ numbers_of entries
 same_numbers entries i e same = map-set_same number_in entries i e no_entry same
 
--- a row of the list is linked anew
+-- one row of the list gets a new link
 pub relinked : (heads : List ℕ) (entries : List Entry) (i : ℕ) (e : Entry) → i < length entries → number_in e ≡ number_in (get_or entries i no_entry)
     → e.before ≡ get_or heads (bucket_of (number_in e) (length heads)) 0 → bucket_of (number_in e) (length heads) < length heads
     → IsChainedTo i (length heads) heads (numbers_of entries) (links_of entries)
@@ -181,7 +181,7 @@ relinked heads entries i e under same link low old =
     rw (length-set, same_numbers entries i e same, map-set (λ (x : Entry). x.before) entries i e)
     (subst (λ x. IsChainedTo (i + 1) B (set heads (bucket_of x B) (i + 1)) H after) here one)
 
--- the chains after the last row went
+-- the chains after the last row is removed
 pub dropped : (heads : List ℕ) (entries : List Entry) (e : Entry) (n : ℕ) → length entries ≡ n + 1 → slice_get entries n ≡ Some e
     → bucket_of (number_in e) (length heads) < length heads → IsChained heads entries
     → IsChained (set heads (bucket_of (number_in e) (length heads)) e.before) (take n entries)

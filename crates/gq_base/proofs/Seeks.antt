@@ -6,7 +6,7 @@ use Rattle.std.proofs.lemmas.Bool.{cases_lt}
 use Rattle.std.proofs.lemmas.Bool.Decides.{eqb_tells}
 use Rattle.gq_base.specs.Last.{IsLast}
 
--- which row is looked at next: those behind it don't pass
+-- the next row to look at, if any: no later row passes
 abbrev pub Seeks : {X : Type 0} → (X → Bool) → X → List X → List ℕ → ℕ → Option ℕ → Type 0
 Seeks p d rows hashes hash None = (k : ℕ) → k < length rows → p (get_or rows k d) ≡ false
 Seeks p d rows hashes hash (Some n) =
@@ -16,7 +16,7 @@ Seeks p d rows hashes hash (Some n) =
 abbrev pub Hits : {X : Type 0} → (X → Bool) → X → List X → List ℕ → ℕ → Type 0
 Hits p d rows hashes hash = (k : ℕ) → k < length rows → p (get_or rows k d) ≡ true → get_or hashes k 0 ≡ hash
 
--- how far there is to go
+-- the number of steps left at most
 abbrev pub steps_left : Option ℕ → ℕ
 steps_left None = 0
 steps_left (Some n) = n + 1
@@ -70,7 +70,7 @@ found_from p d i (suc n) (x ∷ xs) low is first =
     ap (λ b. cond b (Some i) (position_from p (i + 1) xs)) (first 0 (omega arith))
     ∙ found_from p d (i + 1) n xs (omega arith) is (λ k under. first (suc k) (omega arith)) ∙ ap Some (let e : i + 1 + n ≡ i + suc n = omega arith in e)
 
--- a row that passes is the first one, where no two rows pass
+-- if no two rows pass, a row that passes is the first one
 pub seek_found : {X : Type 0} (p : X → Bool) (d : X) (n : ℕ) (rows : List X) → n < length rows → p (get_or rows n d) ≡ true
     → ((i j : ℕ) → i < j → j < length rows → p (get_or rows i d) ≡ true → p (get_or rows j d) ≡ true → ⊥) → position p rows ≡ Some n
 seek_found p d n rows low is apart =
@@ -78,7 +78,7 @@ seek_found p d n rows low is apart =
     ∙ found_from p d 0 n rows low is (λ k under. missed (p (get_or rows k d)) (λ hit. apart k n under low hit is))
     ∙ ap Some (let e : 0 + n ≡ n = omega arith in e)
 
--- where rows of one hash all pass, the last of them is the answer
+-- if rows of one hash all pass, the last of them is the answer
 pub seek_exact : {X : Type 0} (p : X → Bool) (d : X) (rows : List X) (hashes : List ℕ) (hash : ℕ) (next : Option ℕ) → length hashes ≡ length rows
     → Hits p d rows hashes hash → ((k : ℕ) → k < length rows → get_or hashes k 0 ≡ hash → p (get_or rows k d) ≡ true)
     → ((i j : ℕ) → i < j → j < length rows → p (get_or rows i d) ≡ true → p (get_or rows j d) ≡ true → ⊥)
@@ -88,7 +88,7 @@ seek_exact p d rows hashes hash (Some n) long hits exact one last =
     let low : n < length rows = omega (arith, last.0) in
     sym (seek_found p d n rows low (exact n low last.1) one)
 
--- where no row is found, none passes
+-- if no row is found, none passes
 pub nowhere : {X : Type 0} (p : X → Bool) (d : X) (rows : List X) (i : ℕ) → position p rows ≡ None → i < length rows → p (get_or rows i d) ≡ true → ⊥
 nowhere p d rows i none low is = none_passes p d 0 rows i (sym (position_from-zero p rows) ∙ none) low is
   where

@@ -1,4 +1,4 @@
--- Hash: the number under which a name is looked up. Nothing is promised of it but that equal names have equal numbers.
+-- Hash: the hash under which a name is looked up. The only guarantee is that equal names have equal hashes.
 use Rattle.std.specs.Prelude.{ℕ, ◌+◌, ◌*◌, ◌%◌, List, fold}
 
 -- the name's parts are the digits of a number, which is reduced by a prime below 2^32

@@ -1,5 +1,5 @@
--- KeyChains: what a table keeps to find rows by their key. Each bucket has its last row, and each row the row before it
--- in its bucket. A row is written as one more than its number, so that 0 is none.
+-- KeyChains: how a table finds rows by their key. Each bucket holds its last row, and each row the row before it
+-- in its bucket. A row is stored as its number plus one, so that 0 means none.
 use Rattle.std.specs.Prelude.{ℕ, zero, suc, ◌<◌, ◌≤◌, ◌≡◌, ◌==◌, if◌then◌else◌, List, length, slice_index}
 use Rattle.gq_base.specs.Keys.{bucket_of, numbers_of, links_of}
 use Rattle.gq_base.specs.declared.key_chains.Entry.{Entry}
@@ -10,7 +10,7 @@ latest buckets keys bucket zero = 0
 latest buckets keys bucket (suc n) =
     if bucket_of (slice_index keys n) buckets == bucket then suc n else latest buckets keys bucket n
 
--- the first n rows are in the chains of so many buckets
+-- the first n rows are in the chains of `buckets` buckets
 pub record IsChainedTo (n buckets : ℕ) (heads keys before : List ℕ) : Type 0 where
   pub headed : (b : ℕ) → b < buckets → slice_index heads b ≡ latest buckets keys b n
   pub linked : (i : ℕ) → i < n → slice_index before i ≡ latest buckets keys (bucket_of (slice_index keys i) buckets) i

@@ -1,4 +1,4 @@
--- Keys: what a row is found by, as one number, and the bucket in which it is looked for.
+-- Keys: a row's key as one number, and the bucket in which the row is looked up.
 use Rattle.std.specs.Prelude.{ℕ, ◌+◌, ◌*◌, ◌/◌, ◌%◌, List, map}
 use Rattle.gq_base.specs.declared.key.Key.{Key}
 use Rattle.gq_base.specs.declared.key_chains.Entry.{Entry}
@@ -17,12 +17,12 @@ numbers_of entries = map number_in entries
 abbrev pub links_of : List Entry → List ℕ
 links_of entries = map (λ (e : Entry). e.before) entries
 
--- 32 bits in which keys that differ little differ much
+-- 32 bits that differ widely for keys that differ little
 abbrev pub spread : ℕ → ℕ
 spread number =
     (number % 18446744073709551616 + (number / 18446744073709551616) * 14029467366897019727 % 18446744073709551616) % 18446744073709551616
     * 11400714819323198485 % 18446744073709551616 / 4294967296
 
--- nothing is promised of it but that it is a bucket, and the same for equal keys
+-- the only guarantee: it is a bucket, and the same one for equal keys
 unfoldable pub bucket_of : ℕ → ℕ → ℕ
 bucket_of number buckets = spread number * buckets / 4294967296

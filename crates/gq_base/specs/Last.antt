@@ -1,4 +1,4 @@
--- Last: which row of a table has a given key, looked for from the end.
+-- Last: which row of a table has a given key, searching from the end.
 -- A table is seen here as the list of its rows' keys. The code walks chains of rows that share a bucket.
 use Rattle.std.specs.Prelude.{ℕ, ◌<◌, ◌≡◌, ◌≢◌, List, Option, Some, None, slice_index}
 

@@ -37,7 +37,7 @@ impl<T> Boxed<T> {
 }
 
 impl<T: Drop> Boxed<T> {
-    /// `value` in a box of its own.
+    /// Allocates a box that holds `value`.
     pub fn new(alloc: Global, value: T) -> Result<Boxed<T>, OutOfMemory>
         ensures { IfOk result (λ b. b ≡ value) }
     {

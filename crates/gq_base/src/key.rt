@@ -2,21 +2,21 @@
 ghost use Rattle.std.specs.Prelude.{◌≡◌, ◌<◌, ◌≤◌, ◌↔◌, IsTrue};
 ghost use Rattle.gq_base.specs.Keys.{number_of, bucket_of};
 
-/// What a row of a table is found by: the whole of a short name, or a hash of a longer one, and a tag beside it.
+/// The key by which a row of a table is found: a whole short name or the hash of a longer one, with a tag.
 #[derive(Clone, Copy, Debug)]
 pub struct Key {
     pub word: u64,
     pub tag: u32,
 }
 
-/// Whether two keys are one.
+/// Whether two keys are equal.
 pub(crate) fn is_same(a: Key, b: Key) -> bool
     ensures { IsTrue result ↔ (number_of a ≡ number_of b) }
 {
     a.word == b.word && a.tag == b.tag
 }
 
-/// The bucket of a key, among so many.
+/// The bucket of a key, out of `buckets`.
 ///
 /// The product spreads keys that differ little. Its upper half is scaled to the buckets, which needs no division.
 pub(crate) fn bucket(key: Key, buckets: usize) -> usize

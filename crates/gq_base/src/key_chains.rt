@@ -6,11 +6,11 @@ ghost use Rattle.gq_base.specs.Last.{IsLast};
 
 use crate::key::{Key, bucket, is_same};
 
-/// How many rows of a bucket are walked before it is crowded. Keys that nobody chose hardly share one: in regular graphs
+/// The length from which a chain counts as crowded. Keys not chosen to collide rarely share a bucket: in regular graphs
 /// of a million edges at most 22 did, and at random 16 would in one of 10^14 buckets.
 const MOST_SHARED: u32 = 32;
 
-/// What a table keeps of a row: its key, and the row before it in its bucket, as one more than that row's number.
+/// An entry of a table: a row's key, and the row before it in its bucket, as that row's number plus one.
 #[derive(Clone, Copy)]
 pub(crate) struct Entry {
     pub(crate) word: u64,
@@ -28,7 +28,7 @@ pub(crate) fn key_of(entry: Entry) -> Key
     }
 }
 
-/// The greatest number below `bound` whose row has the key; `bound` is such a row itself, or the number of rows.
+/// The greatest row number below `bound` with the key; `bound` is itself a row with the key, or the number of rows.
 pub(crate) fn last_below(heads: &[u32], entries: &[Entry], key: Key, bound: usize) -> Option<u32>
     requires chained { IsChained heads.now entries.now }
     requires within { bound ≤ length entries.now }
@@ -79,7 +79,7 @@ pub(crate) fn is_crowded(heads: &[u32], entries: &[Entry], key: Key) -> bool
     true
 }
 
-/// Puts all rows into their chains anew.
+/// Rebuilds all chains.
 pub(crate) fn link_all(heads: &mut [u32], entries: &mut [Entry])
     requires some { 0 < length heads.old }
     requires short { length heads.old ≤ 4294967296 }
@@ -95,7 +95,7 @@ pub(crate) fn link_all(heads: &mut [u32], entries: &mut [Entry])
     }
 }
 
-/// Puts one more row last, where there is room for it.
+/// Appends a row, for which memory is reserved.
 pub(crate) fn add(heads: &mut [u32], entries: &mut Vec<Entry>, key: Key)
     requires chained { IsChained heads.old entries.old.items }
     requires some { 0 < length heads.old }
@@ -117,7 +117,7 @@ pub(crate) fn add(heads: &mut [u32], entries: &mut Vec<Entry>, key: Key)
     heads[bucket] = number + 1;
 }
 
-/// Takes the last row away.
+/// Removes the last row.
 pub(crate) fn drop_last(heads: &mut [u32], entries: &mut Vec<Entry>)
     requires chained { IsChained heads.old entries.old.items }
     ensures chained { IsChained heads.new entries.new.items }

@@ -54,10 +54,11 @@ impl KeyIndex {
         last_below(&self.heads, &self.entries, key, self.entries.len())
     }
 
-    /// Where the search for a key begins. It is for reading ahead, with `touch`, and tells nothing of the rows.
+    /// The place where the search for a key begins. It is only for prefetching, with `touch`, and implies nothing about
+    /// the rows.
     ///
-    /// A search waits for memory twice or more. Neither of these two reads hangs on what another search finds, so that the processor
-    /// waits for those of many searches at once, where they come in a row before the searches themselves.
+    /// A search waits for memory at least twice. Neither of these two reads depends on the result of another search, so
+    /// that the processor overlaps the waits of many searches if their reads come in a row before the searches.
     pub fn first(&self, key: Key) -> u32 {
         match self.heads.get(bucket_in(key, &self.heads)) {
             Some(place) => *place,
@@ -65,7 +66,7 @@ impl KeyIndex {
         }
     }
 
-    /// Reads what stands where a search begins, and gives some of it, so that the read isn't left out.
+    /// Reads the entry where a search begins, and returns part of it, so that the read isn't optimized away.
     pub fn touch(&self, place: u32) -> u32 {
         match self.entries.get((place as usize).wrapping_sub(1)) {
             Some(entry) => entry.before,
@@ -82,13 +83,13 @@ impl KeyIndex {
         last_below(&self.heads, &self.entries, key, number as usize)
     }
 
-    /// Whether the bucket of a key holds so many rows that keys must have been chosen to share it. A hint for the sake of
-    /// time: nothing is promised of it.
+    /// Whether the bucket of a key holds so many rows that keys must have been chosen to collide. A performance hint:
+    /// nothing is guaranteed about it.
     pub fn is_crowded(&self, key: Key) -> bool {
         is_crowded(&self.heads, &self.entries, key)
     }
 
-    /// Puts the key of a new row last. Unchanged after OutOfMemory.
+    /// Appends the key of a new row. Unchanged after OutOfMemory.
     pub fn push(&mut self, key: Key) -> Result<(), OutOfMemory>
         requires { length self.old < 2147483648 }
         ensures { MatchResult result (λ _. self.new ≡ self.old ++ number_of key ∷ []) (λ _. self.new ≡ self.old) }
@@ -101,7 +102,7 @@ impl KeyIndex {
         Ok(())
     }
 
-    /// Keeps the first `len` rows alone. Takes time for each row that goes.
+    /// Keeps only the first `len` rows. Takes time for each row that is removed.
     pub fn cut(&mut self, len: usize)
         requires { len ≤ length self.old }
         ensures { self.new ≡ take len self.old }
@@ -111,7 +112,7 @@ impl KeyIndex {
         }
     }
 
-    /// An equal index with memory of its own.
+    /// A deep copy of the index.
     pub fn duplicate(&self) -> Result<KeyIndex, OutOfMemory>
         ensures { IfOk result (λ copy. copy ≡ self.now) }
     {
@@ -122,7 +123,7 @@ impl KeyIndex {
     }
 }
 
-/// The bucket of a key, where there are any.
+/// The bucket of a key, if there are buckets.
 fn bucket_in(key: Key, heads: &[u32]) -> usize
     requires { length heads.now ≤ 4294967296 }
 {
@@ -133,7 +134,7 @@ fn bucket_in(key: Key, heads: &[u32]) -> usize
     }
 }
 
-/// Twice as many buckets as rows, and at least eight.
+/// Rebuilds the chains with twice as many buckets as rows, and at least eight.
 fn widen(heads: &mut Vec<u32>, entries: &mut Vec<Entry>) -> Result<(), AllocError>
     requires chained { IsChained heads.old.items entries.old.items }
     requires few { vec_len entries.old < 2147483648 }

@@ -27,7 +27,7 @@ impl<T> Model for List<T> {
 impl<T> List<T> {
     ghost use Rattle.gq_base.specs.Lends.{lends_item, lends_items};
 
-    /// A list of no items, which takes no memory.
+    /// An empty list, which takes no memory.
     pub fn new(alloc: Global) -> List<T>
         ensures { result ≡ [] }
     {
@@ -57,7 +57,7 @@ impl<T> List<T> {
         self.items.len()
     }
 
-    /// The item at `at`, counted from 0; it costs what an index costs.
+    /// The item at index `at`, as cheap as indexing a slice.
     pub fn at(&self, at: usize) -> &T
         requires { at < length self.now }
         ensures { slice_get self.now at ≡ Some result.now }
@@ -72,7 +72,7 @@ impl<T> List<T> {
         self.items.as_slice().get(at)
     }
 
-    /// The item at `at`, to be changed in its place.
+    /// The item at `at`, to be changed in place.
     pub fn at_mut(&mut self, at: usize) -> &mut T
         requires { at < length self.old }
         ensures* writes_back { sem 𝓛 (lends_item T.row self.entry at result) }
@@ -81,7 +81,7 @@ impl<T> List<T> {
         &mut self.items[at]
     }
 
-    /// The items, in order, to be changed in their places.
+    /// The items, in order, to be changed in place.
     pub fn as_mut_slice(&mut self) -> &mut [T]
         ensures* writes_back { sem 𝓛 (lends_items T.row self.entry result) }
         ensures value { result.now ≡ self.old }
@@ -91,7 +91,7 @@ impl<T> List<T> {
 }
 
 impl<T: Drop> List<T> {
-    /// Puts `item` last. After `OutOfMemory` the list is as it was, and the item is given up.
+    /// Appends `item`. After `OutOfMemory` the list is unchanged and the item is dropped.
     pub fn push(&mut self, item: T) -> Result<(), OutOfMemory>
         ensures ok { OnOk result (self.new ≡ self.old ++ item ∷ []) }
         ensures err { OnErr result (self.new ≡ self.old) }
@@ -100,7 +100,7 @@ impl<T: Drop> List<T> {
         Ok(())
     }
 
-    /// Puts `item` in the place of the one at `at`.
+    /// Replaces the item at `at` by `item`.
     pub fn set(&mut self, at: usize, item: T)
         requires { at < length self.old }
         ensures { self.new ≡ slice_set self.old at item }
@@ -108,7 +108,7 @@ impl<T: Drop> List<T> {
         self.items[at] = item;
     }
 
-    /// Keeps the first `len` items, or all where there are fewer.
+    /// Keeps the first `len` items, or all if there are fewer.
     pub fn truncate(&mut self, len: usize)
         ensures { self.new ≡ take len self.old }
     {

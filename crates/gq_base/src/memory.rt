@@ -4,7 +4,7 @@ use thiserror::Error;
 
 /// `OutOfMemory`.
 ///
-/// Each call that allocates may answer it at any time; no contract says when memory is there.
+/// Each call that allocates may return it at any time; no contract says when memory is available.
 #[derive(Clone, Copy, Debug, PartialEq, Eq, Error)]
 #[error("out of memory")]
 pub struct OutOfMemory;

@@ -1,4 +1,4 @@
--- KeyLemmas: one key more.
+-- KeyLemmas: one more key.
 use Rattle.std.proofs.Common.{◌≡◌, ◌∙◌, Bool, true, false, cond, ◌||◌, List, [], ◌∷◌, ◌++◌, map, reverse, refl, ap, sym}
 use Rattle.std.specs.Borrow.{Bor}
 use Rattle.std.specs.BTreeSet.{BTreeSet, UpdatesBy, contains_by}

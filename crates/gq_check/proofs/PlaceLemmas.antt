@@ -1,4 +1,4 @@
--- PlaceLemmas: where expressions of statements stand.
+-- PlaceLemmas: the places of expressions in statements.
 use Rattle.std.proofs.Common.{◌≡◌, ◌∙◌, ap, refl}
 use Rattle.gq_value.specs.Accums.{Accum}
 use Rattle.gq_rules_typing.specs.Statements.{Bytes}

@@ -1,4 +1,4 @@
--- RuleLemmas: rules on statements and queries in the pieces in which the code has them.
+-- RuleLemmas: rules on statements and queries, split into the code's functions.
 use Rattle.std.proofs.Common.{ℕ, ◌≡◌, Bool, [], map, Option, Ok, Err, refl}
 use Rattle.std.specs.List.{list_any}
 use Rattle.gq_graph.specs.Catalog.{Schema}
@@ -29,7 +29,7 @@ pub ruleset foreach_laws = (foreach_is)
 
 -- ---- queries
 
--- a scope before a query's first word
+-- the scope at the start of a query
 abbrev pub opened : Schema → Option ℕ → Bool → Held
 opened schema graph with_paths = record { schema = schema; graph = graph; names = []; place = typing.InStatement; with_paths = with_paths }
 

@@ -1,4 +1,4 @@
--- SafeLemmas: a query that the rules take is never stuck.
+-- SafeLemmas: a query that the rules accept is never stuck.
 use Rattle.std.proofs.Common.{◌≡◌, Option, Result, Ok, Err}
 use Rattle.gq_graph.specs.Catalog.{Schema}
 use Rattle.gq_graph.specs.declared.types.GraphType.{GraphType}

@@ -1,4 +1,4 @@
-// Statements, one after another. What a body declares ends with it.
+// Sequences of statements. The declarations of a body end with it.
 ghost use Rattle.std.specs.Prelude.{◌≡◌, IfOk};
 ghost use Rattle.gq_rules_typing.specs.Scopes as typing;
 ghost use Rattle.gq_rules_typing.specs.StatementTypes as rules;
@@ -15,7 +15,7 @@ use gq_scope::Scope;
 use gq_tree::Stmt;
 use std::alloc::Global;
 
-/// Statements, one after another; what they declare stays in view.
+/// Checks statements in order; what they declare stays visible.
 #[cycle(statements)]
 #[tactic(auto, using(gq_rules_typing::proofs::ViewLaws::statement_laws, gq_check_from::proofs::GrowLemmas::grow_laws))]
 pub(crate) fn statements<'q>(
@@ -33,7 +33,7 @@ pub(crate) fn statements<'q>(
     Ok(())
 }
 
-/// A statement. What its bodies declare ends with each.
+/// Checks a statement. Removes the declarations of each of its bodies at the body's end.
 #[cycle(statements)]
 #[tactic(auto, using(gq_rules_typing::proofs::ViewLaws::statement_laws, gq_check_from::proofs::GrowLemmas::grow_laws, crate::proofs::RuleLemmas::foreach_laws))]
 fn statement<'q>(tree: &'q Stmt, alloc: Global, scope: &mut Scope<'q>) -> Result<(), CheckFault>

@@ -1,4 +1,4 @@
-// The keys that a PRINT, or a selection in it, has given so far.
+// The keys that a PRINT, or a selection in it, has used so far.
 ghost use Rattle.std.specs.Prelude.{◌≡◌, ◌<◌, ◌++◌, ◌∷◌, [], IfOk, vec_len, vec_capacity};
 ghost use Rattle.gq_rules_typing.specs.StatementTypes as spec;
 ghost use Rattle.gq_check_from.specs.Faults.{Judges};
@@ -9,7 +9,7 @@ use std::alloc::Global;
 use std::collections::BTreeSet;
 use std::marker::Model;
 
-/// Keys, each given once. Contracts see them as a list, of which the last one comes first.
+/// Distinct keys. Contracts see them as a list in reverse order.
 #[derive(Drop)]
 pub(crate) struct PrintKeys<'q> {
     given: Vec<&'q str>,
@@ -28,7 +28,7 @@ impl<'q> Model for PrintKeys<'q> {
 }
 
 impl<'q> PrintKeys<'q> {
-    /// No keys.
+    /// Returns an empty table.
     pub(crate) fn new(alloc: Global) -> PrintKeys<'q>
         ensures { result ≡ [] }
     {
@@ -38,7 +38,7 @@ impl<'q> PrintKeys<'q> {
         }
     }
 
-    /// One key more, which wasn't given before.
+    /// Adds a key, which must be new.
     pub(crate) fn give(&mut self, alloc: Global, key: &'q str) -> Result<(), CheckFault>
         ensures { Judges (λ _. self.new) (spec.new_key self.old key.now) result }
     {
@@ -49,7 +49,7 @@ impl<'q> PrintKeys<'q> {
         Ok(())
     }
 
-    /// Puts a key last.
+    /// Appends a key.
     fn push(&mut self, key: &'q str) -> Result<(), OutOfMemory>
         ensures { IfOk result (λ _. self.new ≡ key.now ∷ self.old) }
     {
@@ -63,7 +63,7 @@ impl<'q> PrintKeys<'q> {
     }
 }
 
-/// Puts a key last where there is room for it.
+/// Appends a key if there is room for it.
 fn put<'q>(given: &mut Vec<&'q str>, key: &'q str)
     requires { vec_len given.old < vec_capacity given.old }
     ensures { given.new.items ≡ given.old.items ++ key.entry ∷ [] }

@@ -4,7 +4,7 @@
 //! expressions, SELECT and declarations are checked by the crates below.
 //!
 //! Read `QueryTypes.antt` and `StatementTypes.antt` of `gq_rules_typing` first, then `Faults.antt` of
-//! `gq_check_from` (when an answer is that of a rule), `specs/Checks.antt` and `specs/Rules.antt`. The code
+//! `gq_check_from` (when a result is that of a rule), `specs/Checks.antt` and `specs/Rules.antt`. The code
 //! begins in `src/queries.rt`; `src/bodies.rt` checks statements, `src/looping.rt` loops and
 //! `src/printing.rt` PRINT.
 #![tactic(auto)]

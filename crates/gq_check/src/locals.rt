@@ -24,7 +24,7 @@ use gq_type::{converting, declared_kind, is_vertex};
 use gq_value::{BaseType, Txt};
 use std::alloc::Global;
 
-/// Locals of one type.
+/// Checks locals of one type.
 pub(crate) fn locals(
     alloc: Global,
     scope: &mut Scope<'_>,
@@ -58,7 +58,7 @@ fn all_locals(
     Ok(())
 }
 
-/// A local; it comes into view behind its own value. A vertex has no default.
+/// Checks a local, which becomes visible after its own initial value. A vertex has no default.
 fn one_local(
     alloc: Global,
     scope: &mut Scope<'_>,
@@ -106,7 +106,7 @@ fn own_value(
     }
 }
 
-/// A value of a type.
+/// Checks a value of a type.
 #[tactic(auto, using(crate::proofs::PlaceLemmas::here_laws))]
 fn valued(alloc: Global, scope: &Scope<'_>, base: &BaseType, node: &Node) -> Result<(), CheckFault>
     requires { scope.now.place ≡ typing.InStatement }
@@ -116,7 +116,7 @@ fn valued(alloc: Global, scope: &Scope<'_>, base: &BaseType, node: &Node) -> Res
     Ok(())
 }
 
-/// A change of the global accumulator of a name.
+/// Checks a change of the global accumulator of a name.
 #[tactic(auto, using(crate::proofs::PlaceLemmas::change_laws))]
 pub(crate) fn change_global(
     alloc: Global,

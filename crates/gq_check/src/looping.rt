@@ -1,4 +1,4 @@
-// What WHILE and FOREACH go by.
+// The operands of WHILE and FOREACH.
 ghost use Rattle.std.specs.Prelude.{◌≡◌, true, IfOk};
 ghost use Rattle.std.specs.Option.{option_map, option_copied};
 ghost use Rattle.gq_value.specs.AccumViews.{base_of};
@@ -20,7 +20,7 @@ use gq_type::{condition, number, number_of_both, type_of};
 use gq_value::BaseType;
 use std::alloc::Global;
 
-/// A condition.
+/// Checks a condition.
 #[tactic(auto, using(crate::proofs::PlaceLemmas::here_laws))]
 pub(crate) fn tested(alloc: Global, scope: &Scope<'_>, node: &Node) -> Result<(), CheckFault>
     requires { scope.now.place ≡ typing.InStatement }
@@ -30,7 +30,7 @@ pub(crate) fn tested(alloc: Global, scope: &Scope<'_>, node: &Node) -> Result<()
     Ok(())
 }
 
-/// The LIMIT of a WHILE.
+/// Checks the LIMIT of a WHILE.
 pub(crate) fn limited(
     alloc: Global,
     scope: &Scope<'_>,
@@ -48,7 +48,7 @@ pub(crate) fn limited(
     }
 }
 
-/// A number; its type.
+/// The type of an expression that must be a number.
 #[tactic(auto, using(crate::proofs::PlaceLemmas::here_laws))]
 fn counted<'s>(alloc: Global, scope: &'s Scope<'_>, node: &Node) -> Result<Base<'s>, CheckFault>
     requires { scope.now.place ≡ typing.InStatement }
@@ -58,7 +58,7 @@ fn counted<'s>(alloc: Global, scope: &'s Scope<'_>, node: &Node) -> Result<Base<
     Ok(base)
 }
 
-/// The variable of a FOREACH comes into view.
+/// Makes the variable of a FOREACH visible.
 #[tactic(auto, using(crate::proofs::PlaceLemmas::here_laws))]
 pub(crate) fn loop_variable(
     alloc: Global,
@@ -95,7 +95,7 @@ fn variable_type(alloc: Global, scope: &Scope<'_>, over: &OverTree) -> Result<Ba
     }
 }
 
-/// The type of an element, of a collection in an order of its own.
+/// The type of an element of a collection with a defined order.
 fn element_of(x: Typed<'_>) -> Result<Base<'_>, CheckFault>
     ensures { Judges base_is (rules.element_of (typed_is x.entry)) result }
 {

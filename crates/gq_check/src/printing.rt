@@ -1,4 +1,4 @@
-// What PRINT prints, each item under a key of its own.
+// The items of PRINT, each under its own key.
 ghost use Rattle.std.specs.Prelude.{◌≡◌, true, IfOk, map};
 ghost use Rattle.std.specs.Option.{option_map, option_copied};
 ghost use Rattle.gq_tree.specs.Tree.{Name};
@@ -22,7 +22,7 @@ use gq_type::{printable, type_of};
 use gq_value::Txt;
 use std::alloc::Global;
 
-/// All items of a PRINT. The scope is as it was.
+/// Checks all items of a PRINT. Leaves the scope unchanged.
 pub(crate) fn printed<'q>(
     alloc: Global,
     scope: &mut Scope<'q>,
@@ -61,7 +61,7 @@ fn one_item<'q>(
     }
 }
 
-/// Without AS a selection is keyed by its set.
+/// The key of a selection: without AS, its set's name.
 fn selection_key<'q>(set: &'q Txt, name: &'q Option<Txt>) -> &'q str
     ensures { result.now ≡ spec.selection_key set.now name.now }
 {
@@ -71,7 +71,7 @@ fn selection_key<'q>(set: &'q Txt, name: &'q Option<Txt>) -> &'q str
     }
 }
 
-/// A whole item, which may be a set's name alone.
+/// The type of a whole item, which may be just a set's name.
 #[tactic(auto, using(gq_tree::proofs::ViewLemmas::view_laws, crate::proofs::PlaceLemmas::here_laws))]
 fn whole<'s>(alloc: Global, scope: &'s Scope<'_>, node: &Node) -> Result<Typed<'s>, CheckFault>
     requires { scope.now.place ≡ typing.InStatement }
@@ -121,7 +121,7 @@ fn is_set(found: Option<&Entry>) -> bool
     }
 }
 
-/// An expression that is printed; no row of a group is.
+/// The type of a printed expression, which can't be the row of a group.
 fn whole_value<'s>(
     alloc: Global,
     scope: &'s Scope<'_>,
@@ -136,7 +136,7 @@ fn whole_value<'s>(
 
 // ---- selections
 
-/// `S[..]`: the columns are judged at each vertex of the set. Their keys.
+/// Checks `S[..]`, whose columns are typed for each vertex of the set. Returns their keys.
 #[tactic(auto, using(gq_check_decls::proofs::HeadLemmas::place_laws))]
 fn selection<'q>(
     alloc: Global,

@@ -19,11 +19,12 @@ use gq_scope::{Scope, allows_paths};
 use gq_tree::QueryTree;
 use std::alloc::Global;
 
-/// Whether a query is well typed that sees the types of a graph of the catalog, by the graph's number; a query for no graph sees
-/// none. A fault is that of the first rule that fails in order of text. OutOfMemory may come at any time.
+/// Checks that a query is well typed. It sees the types of a graph of the catalog, given by the graph's number; a query
+/// without a graph sees none. A fault is that of the first rule that fails, in the order of the text. May return
+/// OutOfMemory at any time.
 ///
-/// A query that is taken is never stuck over arguments of its parameters' types, in any store of the catalog or of one that it
-/// grows into: it prints something, or ends with a fault.
+/// An accepted query is never stuck, given arguments of its parameters' types, in any store of the catalog or of one
+/// into which it grows: it prints something, or ends with a fault.
 pub fn check<'q>(
     alloc: Global,
     catalog: &'q Catalog,
@@ -36,7 +37,7 @@ pub fn check<'q>(
     well_typed(alloc, catalog, graph, query)
 }
 
-/// The rules on a query, in order of text.
+/// Checks the rules on a query, in the order of the text.
 fn well_typed<'q>(
     alloc: Global,
     catalog: &'q Catalog,
@@ -52,7 +53,7 @@ fn well_typed<'q>(
     Ok(())
 }
 
-/// Parameters, definitions and statements.
+/// Checks parameters, definitions and statements.
 #[tactic(auto, using(gq_check_from::proofs::GrowLemmas::grow_laws))]
 fn all_of<'q>(alloc: Global, scope: &mut Scope<'q>, query: &'q QueryTree) -> Result<(), CheckFault>
     requires place { scope.old.place ≡ typing.InStatement }

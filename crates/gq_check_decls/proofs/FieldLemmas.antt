@@ -1,4 +1,4 @@
--- FieldLemmas: names of fields as they come.
+-- FieldLemmas: names of fields, in order.
 use Rattle.std.proofs.Common.{◌≡◌, List, [], ◌∷◌, ◌++◌, map}
 use Rattle.std.proofs.lemmas.List.{map_push}
 use Rattle.gq_value.specs.declared.kind.BaseType.{BaseType}

@@ -1,4 +1,4 @@
--- HeadLemmas: a tuple type in view, accumulators counted, and where an expression stands.
+-- HeadLemmas: adding a tuple type, counting accumulators, and the place of an expression.
 use Rattle.std.proofs.Common.{◌≡◌, ◌∙◌, Bool, List, [], ◌∷◌, ◌++◌, map, reverse, refl, ap, sym, subst, Option, Result}
 use Rattle.std.proofs.lemmas.List.{reverse-append, map_push}
 use Rattle.std.proofs.lemmas.List.Elements.{filter_map-append}
@@ -26,7 +26,7 @@ use Rattle.gq_check_decls.specs.Heads.{first_name, accums}
 tuples_more : (names : List (Bytes × Entry)) (x : Bytes) (fields : List (Bytes × BaseType)) → tuple_types (names ++ (x, TupleType fields) ∷ []) ≡ tuple_types names ++ (x, fields) ∷ []
 tuples_more names x fields = filter_map-append named_tuple names ((x, TupleType fields) ∷ [])
 
--- the scope of these tuple types and names, of which the last one comes first
+-- the scope of these tuple types and names, which are in reverse order
 scope_of : Held → List (Bytes × Fields) → List (Bytes × Entry) → typing.Scope Bytes
 scope_of h tuples names = record {
   setting = record { words = by_name (sorts_in h); sorts = sorts_in h; tuples = tuples };
@@ -46,7 +46,7 @@ tuple_added h x fields =
 
 pub ruleset tuple_laws = (tuple_added)
 
--- ---- the name that a bad kind tells
+-- ---- the name in a bad kind
 
 pub first_is : (h : Held) (trees : List (Bool × Bytes × Option (Tree Bytes))) → heads.first_name (scope_in h) trees ≡ first_name trees
 unfolding scope_in setting_in
@@ -56,11 +56,11 @@ first_is h (a ∷ rest) = refl
 pub accums_are : (h : Held) (k : KindTree Bytes) (trees : List (Bool × Bytes × Option (Tree Bytes))) → heads.typing_definition kind_written (scope_in h) (Accums k trees) ≡ accums (scope_in h) k trees
 accums_are h k trees = ap (λ n. kind_written (scope_in h) n k >>= λ kind. through_judged (heads.typing_accum kind) (scope_in h) trees) (first_is h trees)
 
--- an answer to one rule is one to another that is the same
+-- a result of one rule is also that of an equal rule
 pub judged_by : {A B : Type 0} (view : B → A) (i j : Judged A) (r : Result B CheckFault) → j ≡ i → Judges view i r → Judges view j r
 judged_by view i j r e is = subst (λ k. Judges view k r) (sym e) is
 
--- ---- where an expression stands
+-- ---- the place of an expression
 
 abbrev pub put_at : Held → typing.Place Bytes → Held
 put_at h place = record h { place = place }

@@ -1,4 +1,4 @@
--- KindLemmas: kinds by their productions, as the code goes through them.
+-- KindLemmas: kinds by their productions, in the order of the code.
 use Rattle.std.proofs.Common.{ℕ, ◌-◌, ◌≡◌, Bool, true, ◌&&◌, nat_lt, nat_le, List, [], ◌∷◌, ◌++◌, map, Option, Some, None, Ok, Err, refl, ap, sym, ◌∙◌}
 use Rattle.gq_value.specs.Accums.{Base, INT, UINT, BOOL, Accum, SumAccum, OrAccum, AndAccum, BitwiseOrAccum, BitwiseAndAccum, AvgAccum, MapAccum, GroupByAccum, HeapAccum, Parts, no_part, part_and}
 use Rattle.std.proofs.lemmas.List.{map_push}
@@ -72,7 +72,7 @@ unfolding scope_in setting_in
 heap_is n h a t capacity order = then (level_left n) (tuple_number (setting_in h) t)
     (λ m. good a (is_capacity capacity) >> sort_fields a (names_of (tuple_fields (setting_in h) m)) order >>= λ by. Ok (HeapAccum (tuple_base (setting_in h) m) capacity by))
 
--- where no level is left
+-- if no level is left
 pub no_level : (n : ℕ) (s : Scope Bytes) (a : Bytes) (t : KindTree Bytes) (e : TypingFault) → level_left n ≡ Err e → kind_within n s a t ≡ Err e
 no_level n s a (OverElem k f) e is = ap (λ j. j >> elem_written s f >>= over_elem k a) is
 no_level n s a (OverBits k f) e is = ap (λ j. j >> optional_elem s f >>= over_bits k a) is
@@ -95,7 +95,7 @@ abbrev pub joined : List (Bytes × Accum) → Parts → Parts
 joined [] rest = rest
 joined (p ∷ ps) rest = part_and p.0 p.1 (joined ps rest)
 
--- what came before, with what is left
+-- the earlier results, with those of the rest
 abbrev pub parts_after : List (Bytes × Accum) → Judged Parts → Judged Parts
 parts_after done j = j >>= λ rest. Ok (joined done rest)
 
@@ -120,7 +120,7 @@ parts_all done = ap Ok (joined_all done)
 
 pub ruleset part_laws = (parts_none, parts_one, parts_all)
 
--- a group, once its keys are known
+-- a group, given its keys
 pub group_rule : (n m : ℕ) (s : Scope Bytes) (a : Bytes) (keys : List (BaseTree Bytes × Bytes)) (ps : PartTrees Bytes) (ks : Fields)
     → level_left n ≡ Ok true → m ≡ n - 1 → fields_written s 8 [] keys ≡ Ok ks
     → kind_within n s a (Grouped keys ps) ≡ (parts_within m s a (names_of ks) [] ps >>= λ qs. group a ks qs)
@@ -129,7 +129,7 @@ group_rule n m s a keys ps ks left below are =
     ∙ ap (λ j. j >>= λ fs. parts_within (n - 1) s a (names_of fs) [] ps >>= λ qs. group a fs qs) are
     ∙ ap (λ l. parts_within l s a (names_of ks) [] ps >>= λ qs. group a ks qs) (sym below)
 
--- one part more
+-- one more part
 pub parts_goes : (n : ℕ) (s : Scope Bytes) (a : Bytes) (keys : List Bytes) (parts : List (Bytes × Kind)) (kind : Kind) (t : KindTree Bytes) (name : Bytes) (rest : PartTrees Bytes) (all : Judged Parts)
     → kind_within n s a t ≡ Ok (accum_of kind) → part_name keys (map (λ (p : Bytes × Kind). p.0) parts) name ≡ Ok (map (λ (p : Bytes × Kind). p.0) parts ++ name ∷ [])
     → all ≡ parts_after (map (λ (p : Bytes × Kind). (p.0, accum_of p.1)) parts) (parts_within n s a keys (map (λ (p : Bytes × Kind). p.0) parts) (part_tree_and t name rest))

@@ -1,4 +1,4 @@
--- NumberLemmas: which numbers of a text are an INT, a UINT.
+-- NumberLemmas: which numbers of a text are an INT or a UINT.
 use Rattle.std.proofs.Common.{ℕ, zero, suc, ◌≡◌, ◌<◌, ◌^◌, ◌==◌, true, false, nat_lt, nat_le, refl, arith}
 use Rattle.gq_value.specs.Accums.{INT, UINT}
 use Rattle.gq_rules_typing.specs.Statements.{Signed}

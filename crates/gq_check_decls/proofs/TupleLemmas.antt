@@ -22,7 +22,7 @@ from_is x n (t ∷ ts) =
     ap (cond (bytes_eq t.0 x) (Some n))
     (from_is x (suc n) ts ∙ ap (λ m. position_from (λ (u : Bytes × Fields). bytes_eq u.0 x) m ts) (let e : suc n ≡ n + 1 = omega arith in e))
 
--- the scope looks for the place of the first one
+-- the scope finds the place of the first one
 pub tuple_named_is : (h : Held) (x : Bytes) → tuple_named (setting_in h) x ≡ position (λ (t : Bytes × Fields). bytes_eq t.0 x) (setting_in h).tuples
 unfolding setting_in
 tuple_named_is h x = from_is x 0 (setting_in h).tuples ∙ sym (position_from-zero (λ (t : Bytes × Fields). bytes_eq t.0 x) (setting_in h).tuples)

@@ -1,4 +1,4 @@
--- Counts: how many accumulators are in view.
+-- Counts: how many accumulators are visible.
 use Rattle.std.specs.Prelude.{ℕ, length, filter}
 use Rattle.gq_rules_typing.specs.Statements.{Bytes}
 use Rattle.gq_rules_typing.specs.Scopes.{Scope}

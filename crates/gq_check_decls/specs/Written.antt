@@ -1,4 +1,4 @@
--- Written: the rules of gq_rules_typing on types and kinds as they are written, in the pieces in which the code has them.
+-- Written: the rules of gq_rules_typing on written types and kinds, split into the code's functions.
 use Rattle.std.specs.Prelude.{ℕ, Bool, true, false, ◌&&◌, List, [], Option, Some, None, Ok, Err, nat_lt, nat_le}
 use Rattle.gq_value.specs.Accums.{Base, INT, UINT, BOOL, Accum, SumAccum, MapAccum, GroupByAccum, HeapAccum, Parts}
 use Rattle.gq_value.specs.Typed.{has_no_list, have_no_list}
@@ -27,17 +27,17 @@ as_number a INT = Ok number.Int
 as_number a UINT = Ok number.UInt
 as_number a b = Err (BadKind a)
 
--- where a test fails, the kind of the accumulator a is bad
+-- if a test fails, the kind of the accumulator a is bad
 abbrev pub good : Bytes → Bool → Judged Bool
 good a test = unless (BadKind a) test
 
--- truths are BOOL, where a type is written at all
+-- the element of a truth kind is BOOL, if a type is written at all
 abbrev pub may_be_truth : Option Base → Bool
 may_be_truth None = true
 may_be_truth (Some BOOL) = true
 may_be_truth (Some b) = false
 
--- bits are INT, where a type is written at all
+-- the element of a bit kind is INT, if a type is written at all
 abbrev pub may_be_bits : Option Base → Bool
 may_be_bits None = true
 may_be_bits (Some INT) = true
@@ -50,26 +50,26 @@ is_capacity n = nat_lt 0 n && nat_le n 1000000
 abbrev pub capacity : Bytes → ℕ → Judged ℕ
 capacity a n = good a (is_capacity n) >> Ok n
 
--- a place, where there is one
+-- a place, or a bad kind if there is none
 abbrev pub known_place : Bytes → Option ℕ → Judged ℕ
 known_place a o = or_fault (BadKind a) o
 
--- a heap, below its level
+-- a heap, after its level is counted
 abbrev pub heap : Setting Bytes → Bytes → Bytes → ℕ → List (Bytes × Bool) → Judged Accum
 heap setting a t n order = tuple_number setting t >>= λ m. good a (is_capacity n) >> sort_fields a (names_of (tuple_fields setting m)) order >>= λ by. Ok (HeapAccum (tuple_base setting m) n by)
 
--- ---- maps and groups, below their level
+-- ---- maps and groups, after their level is counted
 
--- a map to a type that stands for the sum over it
+-- a map to a type, which means the sum over it
 abbrev pub sum_map : Scope Bytes → Bytes → Elem Bytes → Elem Bytes → Judged Accum
 sum_map s a e f = elem_written s e >>= λ b. elem_written s f >>= λ c. good a (is_key b) >> over_number SumAccum a c >>= λ v. Ok (MapAccum b v)
 
--- with so many levels left for what it holds
+-- a map with n levels left for what it holds
 abbrev pub map_below : ℕ → Scope Bytes → Bytes → Elem Bytes → HeldView → Judged Accum
 map_below n s a e (AnElem f) = sum_map s a e f
 map_below n s a e (AKind k) = elem_written s e >>= λ b. kind_within n s a k >>= λ v. good a (is_key b && has_no_list v) >> Ok (MapAccum b v)
 
--- of these keys and parts
+-- a group of these keys and parts
 abbrev pub group : Bytes → Fields → Parts → Judged Accum
 group a ks qs = good a (have_no_list qs) >> Ok (GroupByAccum ks qs)
 

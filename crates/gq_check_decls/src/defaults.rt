@@ -19,7 +19,7 @@ use gq_tree::{Literal, ParameterTree};
 use gq_value::BaseType;
 use std::alloc::Global;
 
-/// The parameters of a query, one after another; each comes into view.
+/// Checks the parameters of a query in order, and makes each visible.
 #[tactic(auto, using(gq_check_from::proofs::GrowLemmas::grow_laws))]
 pub fn parameters(
     alloc: Global,
@@ -60,7 +60,7 @@ fn good_default(base: &BaseType, default: Option<&Literal>) -> bool
     }
 }
 
-/// Whether a literal may stand for a type; a vertex's is its id.
+/// Whether a literal can be the value of a type; a vertex's is its id.
 #[tactic(auto, using(gq_scope::proofs::BaseLemmas::base_laws))]
 fn stands_for(base: &BaseType, literal: &Literal) -> bool
     ensures { result ≡ heads.stands_for (base_of base.now) (view_literal literal.now) }
@@ -90,7 +90,7 @@ fn stands_for(base: &BaseType, literal: &Literal) -> bool
     }
 }
 
-/// From -2^63 to 2^63 - 1.
+/// Whether a number is from -2^63 to 2^63 - 1.
 #[tactic(auto, using(crate::proofs::NumberLemmas::int_laws))]
 fn fits_int(minus: bool, n: u64) -> bool
     ensures { result ≡ heads.stands_for INT (Signed minus n) }
@@ -101,7 +101,7 @@ fn fits_int(minus: bool, n: u64) -> bool
     }
 }
 
-/// From 0 on; `-0` is 0.
+/// Whether a number is at least 0; `-0` is 0.
 #[tactic(auto, using(crate::proofs::NumberLemmas::uint_laws))]
 fn fits_uint(minus: bool, n: u64) -> bool
     ensures { result ≡ heads.stands_for UINT (Signed minus n) }

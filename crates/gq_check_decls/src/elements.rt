@@ -11,7 +11,7 @@ use gq_tree::{Bits, Plain};
 use gq_value::{BaseType, Kind, Number};
 use std::alloc::Global;
 
-/// Where a test fails, the kind of the accumulator is bad.
+/// Refuses the kind of the accumulator as bad if a test fails.
 pub(crate) fn good(alloc: Global, name: &str, test: bool) -> Result<(), CheckFault>
     ensures { Judges (λ _. true) (spec.good name.now test) result }
 {
@@ -21,7 +21,7 @@ pub(crate) fn good(alloc: Global, name: &str, test: bool) -> Result<(), CheckFau
     }
 }
 
-/// INT and UINT; any other type is a bad kind.
+/// Returns INT or UINT; any other type is a bad kind.
 #[tactic(auto, using(gq_scope::proofs::BaseLemmas::base_laws))]
 pub(crate) fn as_number(alloc: Global, name: &str, base: &BaseType) -> Result<Number, CheckFault>
     ensures { Judges (λ n. n) (spec.as_number name.now (base_of base.now)) result }
@@ -64,7 +64,7 @@ pub(crate) fn over_elem(
     }
 }
 
-/// The kind of truths or bits: truths are BOOL and bits are INT, where a type is written at all.
+/// The kind of truths or bits: the element of truths is BOOL and that of bits is INT, if a type is written at all.
 #[tactic(auto, using(gq_value::proofs::AccumLemmas::accum_laws, crate::proofs::KindLemmas::bits_laws))]
 pub(crate) fn over_bits(
     alloc: Global,
@@ -122,7 +122,7 @@ fn may_be_bits(base: &Option<BaseType>) -> bool
     }
 }
 
-/// A tuple is no key.
+/// Whether a type can be a key; a tuple can't.
 #[tactic(auto, using(gq_scope::proofs::BaseLemmas::base_laws))]
 pub(crate) fn is_key(base: &BaseType) -> bool
     ensures { result ≡ kinds.is_key (base_of base.now) }

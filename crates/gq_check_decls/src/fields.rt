@@ -16,7 +16,7 @@ use std::alloc::Global;
 /// Fields in order, each with its name and its type.
 pub(crate) type FieldTypes = List<(Txt, BaseType)>;
 
-/// Fields with base types, of so many at most.
+/// Types the fields, which have base types; there is a maximum number.
 #[tactic(auto, using(gq_type::proofs::ArgumentLemmas::all_laws, crate::proofs::FieldLemmas::field_laws))]
 pub(crate) fn fields_written(
     alloc: Global,
@@ -35,7 +35,8 @@ pub(crate) fn fields_written(
     Ok(fields)
 }
 
-/// One name more that its type doesn't have yet, of so many at most. There are few of them.
+/// Adds the name of one more field, which must be new in its type; there is a maximum number. The search is linear,
+/// over few names.
 pub(crate) fn own_name<T>(
     alloc: Global,
     most: usize,

@@ -1,4 +1,4 @@
-// Tuple types, and accumulators with what they open with.
+// Tuple types, and accumulators with their initial values.
 ghost use Rattle.std.specs.Prelude.{◌≡◌, ◌+◌, ◌<◌, true, IfOk, map};
 ghost use Rattle.std.specs.Option.{option_map, option_copied};
 ghost use Rattle.gq_value.specs.AccumViews.{accum_of};
@@ -23,7 +23,7 @@ use gq_type::converting;
 use gq_value::{Kind, Txt};
 use std::alloc::Global;
 
-/// The definitions of a query, one after another, where no accumulator is in view yet; what each defines comes into view.
+/// Checks the definitions of a query in order, with no accumulator visible before; makes visible what each defines.
 #[tactic(auto, using(gq_check_from::proofs::GrowLemmas::grow_laws))]
 pub fn definitions(
     alloc: Global,
@@ -43,7 +43,7 @@ pub fn definitions(
     Ok(())
 }
 
-/// One definition, behind so many accumulators; how many there are then.
+/// Checks one definition, given the number of accumulators so far; returns the number after it.
 fn definition(
     alloc: Global,
     scope: &mut Scope<'_>,
@@ -66,7 +66,7 @@ fn definition(
     }
 }
 
-/// A tuple type, of 16 fields at most.
+/// Checks a tuple type, which has at most 16 fields.
 #[tactic(auto, using(crate::proofs::HeadLemmas::tuple_laws, gq_check_from::proofs::GrowLemmas::add_laws))]
 fn tuple_type(
     alloc: Global,
@@ -86,7 +86,7 @@ fn tuple_type(
 
 // ---- accumulators
 
-/// Accumulators of one kind. A bad kind names the first.
+/// Checks accumulators of one kind. A bad kind names the first.
 fn accums(
     alloc: Global,
     scope: &mut Scope<'_>,
@@ -137,7 +137,7 @@ fn all_accums(
     Ok(count)
 }
 
-/// An accumulator, of 256 at most. It comes into view behind its opening.
+/// Checks an accumulator; there are at most 256. It becomes visible after its initial value.
 #[tactic(auto, using(gq_check_from::proofs::NameLemmas::name_laws))]
 fn accum(
     alloc: Global,
@@ -174,7 +174,7 @@ fn few(count: u32) -> Result<(), CheckFault>
     }
 }
 
-/// What an accumulator opens with is a value that `=` may set it to; it names parameters alone.
+/// Checks an initial value, to which `=` must be able to set the accumulator; it may name only parameters.
 #[tactic(auto, using(crate::proofs::HeadLemmas::place_laws))]
 fn opening(
     alloc: Global,
@@ -200,7 +200,7 @@ fn opening(
     }
 }
 
-/// The type that `=` sets, or a bad kind.
+/// Returns the type of value that `=` sets, or a bad kind.
 fn settable<'k>(alloc: Global, name: &str, base: Option<Base<'k>>) -> Result<Base<'k>, CheckFault>
     ensures { Judges base_is (spec.settable name.now (option_map base_is base.entry)) result }
 {

@@ -1,4 +1,5 @@
-// Kinds of accumulators as they are written. Each function goes down one production; levels are counted from above.
+// Kinds of accumulators, as they are written. Each function handles one production; levels are counted from the
+// outermost kind.
 ghost use Rattle.std.specs.Prelude.{◌≡◌, ◌&&◌, ◌-◌, ◌++◌, [], ◌∷◌, IfOk, true, map};
 ghost use Rattle.gq_value.specs.AccumViews.{base_of, accum_of};
 ghost use Rattle.gq_value.specs.Typed.{has_no_list};
@@ -23,7 +24,7 @@ use gq_tree::{Elem, EntryTree, KindTree};
 use gq_value::{BaseType, GroupShape, Kind, Txt};
 use std::alloc::Global;
 
-/// The kind of the accumulator of this name, of 8 levels at most. Maps and groups hold no ListAccum.
+/// The kind of the accumulator of this name, with at most 8 levels. Maps and groups hold no ListAccum.
 pub fn kind_written(
     alloc: Global,
     scope: &Scope<'_>,
@@ -35,7 +36,7 @@ pub fn kind_written(
     kind_within(tree, 8, alloc, scope, name)
 }
 
-/// One level more; how many are left below it.
+/// Counts one more level; returns how many are left below it.
 fn level_left(levels: u8) -> Result<u8, CheckFault>
     ensures judged { Judges (λ _. true) (kinds.level_left levels) result }
     ensures below { IfOk result (λ n. n ≡ levels - 1) }
@@ -89,7 +90,7 @@ fn kind_within(
 
 // ---- maps
 
-/// A map, with so many levels left for what it holds.
+/// Types a map, given the levels left for what it holds.
 #[cycle(kinds)]
 #[tactic(auto, using(gq_value::proofs::AccumLemmas::accum_laws, gq_rules_typing::proofs::ViewLaws::statement_laws))]
 fn map_to(
@@ -114,14 +115,14 @@ fn map_to(
     }
 }
 
-/// The key is no tuple, and what is held is or holds no ListAccum.
+/// Whether a map is allowed: the key isn't a tuple, and what is held neither is nor holds a ListAccum.
 fn may_map(key: &BaseType, held: &Kind) -> bool
     ensures { result ≡ (kinds.is_key (base_of key.now) && has_no_list (accum_of held.now)) }
 {
     is_key(key) && has_no_list(held)
 }
 
-/// A map to a type, which stands for the sum over it.
+/// Types a map to a type, which means the sum over it.
 #[tactic(auto, using(gq_value::proofs::AccumLemmas::accum_laws, crate::proofs::KindLemmas::number_laws))]
 fn sum_map(
     alloc: Global,
@@ -141,7 +142,7 @@ fn sum_map(
 
 // ---- groups
 
-/// A group of these keys and parts.
+/// Types a group of these keys and parts.
 #[tactic(auto, using(gq_value::proofs::AccumLemmas::accum_laws))]
 fn group(
     alloc: Global,
@@ -155,7 +156,7 @@ fn group(
     Ok(Kind::Group(GroupShape { keys, parts }))
 }
 
-/// The parts of a group, each with its name.
+/// Types the parts of a group, each with its name.
 #[cycle(kinds)]
 #[tactic(auto, using(crate::proofs::KindLemmas::part_laws))]
 fn parts_within(
@@ -178,7 +179,7 @@ fn parts_within(
     Ok(parts)
 }
 
-/// A part's name, which no key has, nor another part; of 8 parts at most.
+/// Checks a part's name, which no key and no other part may have; there are at most 8 parts.
 #[tactic(auto, using(crate::proofs::TupleLemmas::field_laws))]
 fn part_name(
     alloc: Global,

@@ -5,7 +5,7 @@
 //! text is the fault.
 //!
 //! Read `KindTypes.antt` and `QueryTypes.antt` of `gq_rules_typing` first, then `Faults.antt` of
-//! `gq_check_from` (when an answer is that of a rule), `specs/Written.antt` and `specs/Heads.antt`.
+//! `gq_check_from` (when a result is that of a rule), `specs/Written.antt` and `specs/Heads.antt`.
 //! `src/written.rt` checks types, `src/kinds.rt` accumulator kinds, `src/defaults.rt` parameters,
 //! `src/heads.rt` tuple types and accumulators.
 #![tactic(auto)]

@@ -1,4 +1,4 @@
-// Kinds that hold no ListAccum.
+// Kinds without a ListAccum.
 ghost use Rattle.std.specs.Prelude.{◌≡◌};
 ghost use Rattle.gq_value.specs.AccumViews.{accum_of};
 ghost use Rattle.gq_value.specs.Typed as spec;
@@ -6,7 +6,7 @@ ghost use Rattle.gq_scope.specs.Views.{parts_are};
 
 use gq_value::{Kind, Txt};
 
-/// Whether no level of it is a ListAccum.
+/// Whether no level of a kind is a ListAccum.
 #[cycle(lists)]
 #[tactic(auto, using(gq_value::proofs::AccumLemmas::accum_laws))]
 pub(crate) fn has_no_list(kind: &Kind) -> bool

@@ -1,4 +1,4 @@
-// Heaps: their capacity, and the fields by which they order tuples.
+// Heaps: their capacity, and the fields that order their tuples.
 ghost use Rattle.std.specs.Prelude.{◌≡◌, map};
 ghost use Rattle.gq_value.specs.AccumViews.{accum_of};
 ghost use Rattle.gq_rules_typing.specs.Sorts.{names_of};
@@ -16,7 +16,7 @@ use gq_scope::{Scope, field_place};
 use gq_value::{BaseType, HeapShape, Kind, Txt};
 use std::alloc::Global;
 
-/// A heap of tuples of a type, so many at most, by these fields; true descends.
+/// A heap of tuples of a type, ordered by these fields, with a maximum number of tuples; true means descending.
 #[tactic(auto, using(gq_value::proofs::AccumLemmas::accum_laws, crate::proofs::TupleLemmas::tuple_laws))]
 pub(crate) fn heap(
     alloc: Global,
@@ -40,7 +40,7 @@ pub(crate) fn heap(
     Ok(Kind::Heap(shape))
 }
 
-/// From 1 to 1,000,000.
+/// Checks that a capacity is from 1 to 1,000,000.
 fn capacity_of(alloc: Global, name: &str, capacity: u64) -> Result<u32, CheckFault>
     ensures { Judges (λ n. n) (spec.capacity name.now capacity) result }
 {
@@ -48,7 +48,7 @@ fn capacity_of(alloc: Global, name: &str, capacity: u64) -> Result<u32, CheckFau
     Ok(capacity as u32)
 }
 
-/// The places of the fields of a tuple type by which a heap orders.
+/// The places of the fields of a tuple type that order a heap.
 #[tactic(auto, using(crate::proofs::TupleLemmas::field_laws))]
 fn tuple_order(
     alloc: Global,
@@ -83,7 +83,7 @@ fn sort_fields(
     Ok(by)
 }
 
-/// A place, or a bad kind.
+/// Returns a place, or a bad kind if there is none.
 fn known_place(alloc: Global, name: &str, place: Option<u32>) -> Result<u32, CheckFault>
     ensures { Judges (λ n. n) (spec.known_place name.now place) result }
 {

@@ -1,4 +1,4 @@
-// Types as they are written.
+// Types, as they are written.
 ghost use Rattle.std.specs.Prelude.{◌≡◌, Some, IfOk, map};
 ghost use Rattle.std.specs.Option.{option_map, option_copied};
 ghost use Rattle.gq_value.specs.AccumViews.{base_of};
@@ -19,7 +19,7 @@ use gq_tree::{BaseTree, Elem};
 use gq_value::{BaseType, Fields, Txt};
 use std::alloc::Global;
 
-/// A type as it is written: VERTEX is of any type of the graph.
+/// The meaning of a written type: VERTEX is of any type of the graph.
 #[tactic(auto, using(gq_scope::proofs::BaseLemmas::base_laws))]
 pub fn base_written(
     alloc: Global,
@@ -41,7 +41,7 @@ pub fn base_written(
     }
 }
 
-/// What an accumulator holds: a type, or a tuple type.
+/// The meaning of an accumulator's element: a type, or a tuple type.
 #[tactic(auto, using(crate::proofs::TupleLemmas::tuple_laws))]
 pub(crate) fn elem_written(
     alloc: Global,
@@ -56,7 +56,7 @@ pub(crate) fn elem_written(
     }
 }
 
-/// The same where it may be left out.
+/// The same for an optional element.
 pub(crate) fn optional_elem(
     alloc: Global,
     scope: &Scope<'_>,
@@ -85,7 +85,7 @@ fn tuple_written(alloc: Global, scope: &Scope<'_>, name: &str) -> Result<BaseTyp
     Ok(BaseType::Tuple(number, types))
 }
 
-/// The number of the tuple type of a name.
+/// Finds the number of the tuple type of a name.
 #[tactic(auto, using(crate::proofs::TupleLemmas::tuple_laws))]
 pub(crate) fn tuple_number(alloc: Global, scope: &Scope<'_>, name: &str) -> Result<u32, CheckFault>
     ensures { Judges (λ n. n) (spec.tuple_number (setting_in scope.now) name.now) result }

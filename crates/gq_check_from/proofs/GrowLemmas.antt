@@ -1,4 +1,4 @@
--- GrowLemmas: what a name that is added makes of a scope, and names that come one after another.
+-- GrowLemmas: how a scope changes when names are added, one or several in sequence.
 use Rattle.std.proofs.Common.{ℕ, ◌≡◌, ◌∙◌, false, List, [], ◌∷◌, ◌++◌, length, take, map, reverse, refl, ap, sym, arith, Option, Some, None}
 use Rattle.std.specs.Option.{option_map, is_some}
 use Rattle.std.specs.List.{cons_option}
@@ -14,9 +14,9 @@ use Rattle.gq_scope.specs.Held.{Held, entry_of, fields_of, sorts_in, setting_in,
 use Rattle.gq_rules_typing.specs.Words.{by_name}
 use Rattle.gq_check_from.specs.Faults.{Grows}
 
--- ---- names that come
+-- ---- added names
 
--- one name more
+-- one more name
 abbrev pub gained : Held → Bytes → Entry → Held
 gained h name what = record h { names = h.names ++ (name, what) ∷ [] }
 
@@ -30,7 +30,7 @@ grows_one h name what = record {
   kept = ap (with_names h) (take-append_seam h.names ((name, what) ∷ []));
 }
 
--- none came
+-- no name was added
 pub grows_none : (h : Held) → Grows h h
 unfolding with_names
 grows_none h = record { more = omega arith; kept = ap (with_names h) (take-length h.names) }
@@ -50,7 +50,7 @@ same_place a b grows = ap (λ h. h.place) grows.kept
 
 pub ruleset grow_laws = (grows_none, grows_on, same_place)
 
--- ---- a name that is no tuple type
+-- ---- a name that isn't a tuple type
 
 no_tuple : (name : Bytes) (o : Option (List (Bytes × BaseType))) → is_some o ≡ false → cons_option {X = Bytes × List (Bytes × BaseType)} (option_map (λ fields. (name, fields)) o) [] ≡ []
 no_tuple name None plain = refl
@@ -60,7 +60,7 @@ types_stay : (names : List (Bytes × Entry)) (name : Bytes) (what : Entry) → i
 types_stay names name what plain =
     filter_map-append named_tuple names ((name, what) ∷ []) ∙ ap (λ ts. tuple_types names ++ ts) (no_tuple name (tuple_in what) plain) ∙ append-nil (tuple_types names)
 
--- the scope of these tuple types and names, of which the last one comes first
+-- the scope of these tuple types and names, which are in reverse order
 scope_of : Held → List (Bytes × List (Bytes × BaseType)) → List (Bytes × Entry) → typing.Scope Bytes
 scope_of h tuples names = record {
   setting = record { words = by_name (sorts_in h); sorts = sorts_in h; tuples = map (λ t. (t.0, fields_of t.1)) tuples };

@@ -1,4 +1,4 @@
--- ScopeLemmas: a scope whose names are bytes, and names that come one after another.
+-- ScopeLemmas: a scope whose names are bytes, and names that are added in sequence.
 use Rattle.std.proofs.Common.{◌≡◌, Result, refl, sym, subst}
 use Rattle.std.specs.Str.{bytes_eq}
 use Rattle.gq_rules_typing.specs.Statements.{Bytes}
@@ -30,6 +30,6 @@ pub ruleset walk_laws = (setting_is, paths_are, grows_none, grows_on)
 
 pub ruleset grow_laws = (grows_none, grows_on)
 
--- an answer is that of a rule which gives the same
+-- a result of one rule is also that of an equal rule
 pub judged_by : {A B : Type 0} (view : B → A) (j i : Judged A) (r : Result B CheckFault) → j ≡ i → Judges view i r → Judges view j r
 judged_by view j i r same is = subst (λ k. Judges view k r) (sym same) is

@@ -22,7 +22,7 @@ slice_get_map f [] n = refl
 slice_get_map f (x ∷ xs) zero = refl
 slice_get_map f (x ∷ xs) (suc n) = slice_get_map f xs n
 
--- ---- a scope sees all edge types of its catalog, whichever are the graph's
+-- ---- a scope sees all edge types of its catalog, not only those of the graph
 
 edge_here_in : (h : Held) (t : ℕ) → slice_get (sorts_of h.schema None).edges t ≡ slice_get (setting_in h).sorts.edges t
 unfolding setting_in sorts_in
@@ -77,7 +77,7 @@ both_ends sorts t s e = rw (sym e) refl
 
 pub ruleset way_laws = (no_own_way, directed_way, undirected_way, no_ends, forward_ends, backward_ends, both_ends)
 
--- ---- ways that are named
+-- ---- named ways
 
 pub no_way : (setting : Setting Bytes) (w : Way) (n : Bytes) → setting.words.edge_type n ≡ None → way_of setting (w, n) ≡ None
 no_way setting w n e = rw e refl
@@ -87,7 +87,7 @@ one_way setting w n t e = rw e refl
 
 pub ruleset named_way_laws = (no_way, one_way, append-nil)
 
--- one way more that is named, or none
+-- one more name, which is that of a way or not
 pub named_more : {A B : Type 0} (E : B → List ℕ) (W : A → Option B) (w : A) (ws : List A)
     → flat_map E (filter_map W (w ∷ ws)) ≡ flat_map E (option_to_list (W w)) ++ flat_map E (filter_map W ws)
 named_more {B = B} E W w ws = step (W w)

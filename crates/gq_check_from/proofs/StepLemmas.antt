@@ -1,4 +1,4 @@
--- StepLemmas: rules on lists of names and of steps, and on walks, as the code goes through them.
+-- StepLemmas: rules on lists of names and of steps, and on walks, in the order of the code's loops.
 use Rattle.std.proofs.Common.{inl, inr, eq-eqb, false, ℕ, zero, suc, ◌+◌, ◌<◌, ◌≤◌, ◌==◌, ◌≡◌, length, get_or, drop, map, arith, List, [], ◌∷◌, ◌++◌, true, not, refl, ap, sym, ◌∙◌, Ok, Err}
 use Rattle.std.proofs.lemmas.List.{append_assoc, append-nil, drop_more}
 use Rattle.std.proofs.lemmas.Bool.{cases_eq}
@@ -13,9 +13,9 @@ use Rattle.gq_rules_typing.specs.Patterns.{edge_types}
 use Rattle.gq_rules_typing.specs.SelectTypes.{with_alias, all_known, way_known, nameless, is_end, typing_hop, typing_steps}
 use Rattle.gq_check_from.specs.Walks.{passes, known_targets, hop_within, step_within}
 
--- ---- lists from the left
+-- ---- lists, from left to right
 
--- what came before, with what is left
+-- the earlier results, with those of the rest
 abbrev pub after : {A : Type 0} → List A → Judged (List A) → Judged (List A)
 after done j = j >>= λ rest. Ok (done ++ rest)
 
@@ -34,7 +34,7 @@ pub ruleset all_laws = (after_none, after_one, after_all)
 
 -- ---- walks
 
--- what a rule gives doesn't count where the next one doesn't read it
+-- the result of a rule is irrelevant if the next one doesn't read it
 passed : {A B : Type 0} (j : Judged A) (k : Judged B) → (j >> k) ≡ (passes j >> k)
 passed (Ok a) k = refl
 passed (Err e) k = refl
@@ -43,7 +43,7 @@ passed_behind : {A B C : Type 0} (i : Judged A) (j : Judged B) (k : Judged C) �
 passed_behind (Ok a) j k = passed j k
 passed_behind (Err e) j k = refl
 
--- the same, once a scope is there
+-- the same, given a scope
 then_same : {A B : Type 0} (j : Judged A) (f g : A → Judged B) → ((a : A) → f a ≡ g a) → (j >>= f) ≡ (j >>= g)
 then_same (Ok a) f g same = same a
 then_same (Err e) f g same = refl
@@ -61,7 +61,7 @@ bind_bind : {A B C : Type 0} (j : Judged A) (f : A → Judged B) (g : B → Judg
 bind_bind (Ok a) f g = refl
 bind_bind (Err e) f g = refl
 
--- a step more
+-- one more step
 steps_more : (s : Scope Bytes) (ends : List ℕ) (step : Step Bytes) (rest : List (Step Bytes))
     → typing_steps s ends (step ∷ rest) ≡ (step_within s ends (is_end rest) step >>= λ s₂. typing_steps s₂ ends rest)
 steps_more s ends step rest =
@@ -102,7 +102,7 @@ last_at list i low = elim (cases_eq (i + 1) (length list)) [
     apart : (n m : ℕ) → (n ≡ m → ⊥) → (n == m) ≡ false
     apart n m other = grind (arith, nat_tests)
 
--- the same of the code's list
+-- the same for the code's list
 pub steps_at : (s : Scope Bytes) (ends : List ℕ) (list : List StepTree) (i : ℕ) (x : StepTree) → i < length list → x ≡ get_or list i x
     → typing_steps s ends (map view_step (drop i list)) ≡ (step_within s ends (i + 1 == length list) (view_step x) >>= λ s₂. typing_steps s₂ ends (map view_step (drop (i + 1) list)))
 steps_at s ends list i x low at =

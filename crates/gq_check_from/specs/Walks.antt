@@ -1,4 +1,4 @@
--- Walks: the rules on FROM, over names that are bytes, a definition for each function; and where a walk leads if no type is named.
+-- Walks: the rules on FROM over byte names, a definition for each function; and where a walk leads if no type is named.
 use Rattle.std.specs.Prelude.{ℕ, Bool, true, not, ◌&&◌, ◌||◌, nat_lt, nat_le, length, List, [], ◌∷◌, map, slice_get, Option, Some, None, Ok}
 use Rattle.std.specs.List.{flat_map}
 use Rattle.std.specs.Str.{bytes_eq}
@@ -15,11 +15,11 @@ use Rattle.gq_rules_typing.specs.SelectTypes.{with_alias, all_known, suits_way, 
 
 -- ---- where walks lead
 
--- edge types, each in its own way
+-- edge types, each in its default direction
 abbrev pub own_ways : Sorts → List ℕ → List (Way × ℕ)
 own_ways sorts ts = map (λ t. (own_way sorts t, t)) ts
 
--- the far ends, where no vertex type is named
+-- the far ends, if no vertex type is named
 abbrev pub open_ends : Setting Bytes → List (Way × ℕ) → List ℕ
 open_ends setting edges = or_all setting.sorts.own_vertices (flat_map (ends_of setting.sorts) edges)
 
@@ -29,7 +29,7 @@ last_alias (Some s) = s.target_alias
 
 -- ---- rules
 
--- whatever it gives
+-- the rule holds, whatever its result
 abbrev pub passes : {A : Type 0} → Judged A → Judged Bool
 passes j = j >> Ok true
 
@@ -53,7 +53,7 @@ one_type s n = vertex_type s n >>= λ t. Ok (t ∷ [])
 abbrev pub one_alias : Option Bytes → Option Bytes → Bytes → Judged Bool
 one_alias source target x = unless (UnknownName x) (is_alias bytes_eq source x || is_alias bytes_eq target x)
 
--- an edge type that may be walked in this way
+-- an edge type that may be walked in this direction
 abbrev pub walked : Scope Bytes → Way → ℕ → Judged ℕ
 walked s w t = or_fault Mismatch (slice_get s.setting.sorts.edges t) >>= λ e. matched (suits_way e w) >> Ok t
 
@@ -62,7 +62,7 @@ hop_within s ends h =
     allowed (not s.with_paths) >> known_edges s h.edges >> with_alias h.edge_alias (EdgeAlias (edge_types s.setting h.edges)) s >>= λ s₁.
     known_targets s₁ h.targets >> with_alias h.target_alias (Alias ends) s₁
 
--- a step, which is the last or not
+-- a step, which is the last one or not
 abbrev pub step_within : Scope Bytes → List ℕ → Bool → Step Bytes → Judged (Scope Bytes)
 step_within s ends is_last step =
     each_judged (way_known s) step.ways >>= λ edges. nameless is_last step.edge_alias >> with_alias step.edge_alias (EdgeAlias edges) s >>= λ s₁.

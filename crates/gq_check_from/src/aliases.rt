@@ -1,4 +1,4 @@
-// Aliases come into view.
+// Declaration of aliases.
 ghost use Rattle.std.specs.Prelude.{◌≡◌, false, IfOk};
 ghost use Rattle.gq_rules_typing.specs.Scopes as typing;
 ghost use Rattle.gq_rules_typing.specs.SelectTypes as spec;
@@ -13,7 +13,7 @@ use gq_scope::{Entry, Scope};
 use gq_value::Txt;
 use std::alloc::Global;
 
-/// A vertex alias of these types is a new name; there may be none.
+/// Declares a vertex alias of these types, whose name must be new; there may be no alias.
 pub fn with_alias(
     alloc: Global,
     scope: &mut Scope<'_>,
@@ -27,7 +27,7 @@ pub fn with_alias(
     with_entry(alloc, scope, name, Entry::Alias(kept))
 }
 
-/// An edge alias, likewise.
+/// Declares an edge alias in the same way.
 pub(crate) fn with_edge_alias(
     alloc: Global,
     scope: &mut Scope<'_>,
@@ -41,7 +41,7 @@ pub(crate) fn with_edge_alias(
     with_entry(alloc, scope, name, Entry::EdgeAlias(kept))
 }
 
-/// A name that may be left out comes into view as what it is; a tuple type is none of these.
+/// Makes an optional name visible as what it refers to; it isn't a tuple type.
 #[tactic(auto, using(crate::proofs::ScopeLemmas::grow_laws))]
 fn with_entry(
     alloc: Global,

@@ -1,4 +1,4 @@
-// Where edge types lead. It depends on the catalog alone, so checking and execution share it.
+// Where edge types lead. It depends only on the catalog, so checking and execution share it.
 ghost use Rattle.std.specs.Prelude.{◌≡◌, ◌++◌, None, slice_get, IfOk, OnOk};
 ghost use Rattle.std.specs.List.{flat_map};
 ghost use Rattle.std.specs.Option.{option_copied, option_map};
@@ -20,7 +20,7 @@ pub(crate) fn edge_at(catalog: &Catalog, t: u32) -> Option<&EdgeType>
     catalog.edge_by_number(t)
 }
 
-/// A directed type is walked from FROM to TO, an undirected one from either end.
+/// The default direction: a directed type is walked from FROM to TO, an undirected one from either end.
 #[tactic(auto, using(crate::proofs::SortLemmas::way_laws))]
 fn own_way(catalog: &Catalog, t: u32) -> Way
     ensures { result ≡ spec.own_way (sorts_of catalog.now None) t }
@@ -37,7 +37,7 @@ fn own_way(catalog: &Catalog, t: u32) -> Way
     }
 }
 
-/// Puts last where an edge type leads, walked in a way.
+/// Appends the types to which an edge type leads, walked in a direction.
 #[tactic(auto, using(crate::proofs::SortLemmas::way_laws))]
 pub fn push_ends(
     catalog: &Catalog,
@@ -67,7 +67,7 @@ pub fn push_ends(
     }
 }
 
-/// The far ends of edge types, each walked in its own way.
+/// The far ends of edge types, each walked in its default direction.
 pub fn hop_far(alloc: Global, catalog: &Catalog, edges: &[u32]) -> Result<Vec<u32>, OutOfMemory>
     ensures { IfOk result (λ v. v.items ≡ flat_map (spec.ends_of (sorts_of catalog.now None)) (walks.own_ways (sorts_of catalog.now None) edges.now)) }
 {
@@ -78,7 +78,7 @@ pub fn hop_far(alloc: Global, catalog: &Catalog, edges: &[u32]) -> Result<Vec<u3
     Ok(far)
 }
 
-/// The types in order, each once; where there are none, all of the graph, which are `own`.
+/// The distinct types in order; if there are none, all types of the graph, which are `own`.
 pub fn or_all(alloc: Global, own: &[u32], types: Vec<u32>) -> Result<Numbers, OutOfMemory>
     ensures { IfOk result (λ l. l ≡ spec.or_all own.now types.items) }
 {

@@ -9,13 +9,13 @@ use gq_value::Txt;
 use std::alloc::{AllocFailed, Global};
 use thiserror::Error;
 
-/// Why a query isn't well typed: the first rule that fails in order of text.
+/// Why a query isn't well typed: the first rule that fails, in the order of the text.
 #[derive(Debug, Drop, Error)]
 pub enum CheckFault {
     #[error("type mismatch")]
     Mismatch,
 
-    /// No such name is visible, or it stands for something of another sort.
+    /// No such name is visible, or it refers to something else.
     #[error("unknown name")]
     UnknownName(Txt),
     #[error("no attribute")]
@@ -23,7 +23,7 @@ pub enum CheckFault {
     #[error("not allowed here")]
     NotAllowedHere,
 
-    /// The accumulator would depend on the order in which it is fed.
+    /// The accumulator would depend on the order of its inputs.
     #[error("depends on order")]
     OrderDependent(Txt),
 
@@ -33,13 +33,13 @@ pub enum CheckFault {
     #[error("two aliases")]
     TwoAliases,
 
-    /// The accumulator can't be of the kind that it is declared with.
+    /// The accumulator can't have the declared kind.
     #[error("bad kind")]
     BadKind(Txt),
     #[error("name twice")]
     NameTwice(Txt),
 
-    /// A limit is passed: of fields, of levels, of accumulators.
+    /// A limit on fields, levels or accumulators is exceeded.
     #[error("too many")]
     TooMany,
     #[error("out of memory")]
@@ -84,7 +84,7 @@ impl From<TypeFault> for CheckFault {
     }
 }
 
-/// UnknownName, or OutOfMemory where the name can't be kept; likewise the others.
+/// Returns UnknownName, or OutOfMemory if the name can't be copied. The other functions do likewise.
 pub fn unknown(alloc: Global, name: &str) -> CheckFault
     ensures { result ≢ CheckFault.OutOfMemory → fault_of result ≡ judging.UnknownName name.now }
 {

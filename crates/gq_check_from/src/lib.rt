@@ -5,7 +5,7 @@
 //! of `gq_rules_typing`. The faults of all checker crates, and the rules on names that they share, are here
 //! too.
 //!
-//! Read `specs/Faults.antt` first: what a fault means, when an answer is that of a rule, and which names a
+//! Read `specs/Faults.antt` first: what a fault means, when a result is that of a rule, and which names a
 //! scope gains. Then read `specs/Walks.antt`, the rules on patterns. `src/walks.rt` checks a pattern,
 //! `src/patterns.rt` finds its types, `src/aliases.rt` declares aliases.
 #![tactic(auto)]

@@ -1,4 +1,4 @@
-// Rules on names that all of the checker shares.
+// Rules on names that the whole checker shares.
 ghost use Rattle.std.specs.Prelude.{◌≡◌, true, false, is_some, IfOk};
 ghost use Rattle.gq_rules_typing.specs.Scopes as typing;
 ghost use Rattle.gq_scope.specs.Kept.{is_tuple};
@@ -10,7 +10,7 @@ use gq_base::OutOfMemory;
 use gq_scope::{Entry, Scope};
 use std::alloc::Global;
 
-/// A new name isn't visible already.
+/// Checks that a new name isn't visible already.
 #[tactic(auto, using(crate::proofs::NameLemmas::name_laws))]
 pub fn new_name(alloc: Global, scope: &Scope<'_>, name: &str) -> Result<(), CheckFault>
     ensures judged { Judges (λ _. true) (typing.new_name (scope_in scope.now) name.now) result }
@@ -22,7 +22,7 @@ pub fn new_name(alloc: Global, scope: &Scope<'_>, name: &str) -> Result<(), Chec
     }
 }
 
-/// The number of the graph's vertex type of a name.
+/// Finds the number of the graph's vertex type of a name.
 #[tactic(auto, using(crate::proofs::NameLemmas::name_laws))]
 pub fn vertex_type(alloc: Global, scope: &Scope<'_>, name: &str) -> Result<u32, CheckFault>
     ensures { Judges (λ n. n) (typing.vertex_type (scope_in scope.now) name.now) result }
@@ -33,7 +33,7 @@ pub fn vertex_type(alloc: Global, scope: &Scope<'_>, name: &str) -> Result<u32, 
     }
 }
 
-/// The number of the graph's edge type of a name.
+/// Finds the number of the graph's edge type of a name.
 #[tactic(auto, using(crate::proofs::NameLemmas::name_laws))]
 pub fn edge_type(alloc: Global, scope: &Scope<'_>, name: &str) -> Result<u32, CheckFault>
     ensures { Judges (λ n. n) (typing.edge_type (scope_in scope.now) name.now) result }
@@ -44,7 +44,7 @@ pub fn edge_type(alloc: Global, scope: &Scope<'_>, name: &str) -> Result<u32, Ch
     }
 }
 
-/// Brings a name into view that isn't visible yet, as what it is; a tuple type is none of these.
+/// Makes a new name visible as what it refers to; it isn't a tuple type.
 #[tactic(auto, using(crate::proofs::GrowLemmas::add_laws))]
 pub fn add(scope: &mut Scope<'_>, name: &str, what: Entry) -> Result<(), OutOfMemory>
     requires fresh { is_some (typing.entry (scope_in scope.old) name.now) ≡ false }

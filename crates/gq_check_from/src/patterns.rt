@@ -1,4 +1,4 @@
-// Which types a walk goes along, and where it leads.
+// The edge types of a walk, and the types to which it leads.
 ghost use Rattle.std.specs.Prelude.{◌≡◌, ◌++◌, map, IfOk, OnOk};
 ghost use Rattle.std.specs.List.{filter_map, flat_map};
 ghost use Rattle.std.specs.Option.{option_copied, option_to_list};
@@ -16,7 +16,7 @@ use gq_tree::{HopTree, PatternTree, StepTree, TypesTree, Way};
 use gq_value::Txt;
 use std::alloc::Global;
 
-/// A name that may be left out, as a text.
+/// An optional name as a text.
 pub fn text_of(name: &Option<Txt>) -> Option<&str>
     ensures { option_copied result ≡ name.now }
 {
@@ -26,9 +26,9 @@ pub fn text_of(name: &Option<Txt>) -> Option<&str>
     }
 }
 
-// ---- the types that are named
+// ---- named types
 
-/// The edge types that are named, but for names that are none.
+/// The edge types with these names; unknown names are skipped.
 fn named_edges(alloc: Global, scope: &Scope<'_>, names: &[Txt]) -> Result<Numbers, OutOfMemory>
     ensures { IfOk result (λ l. l ≡ filter_map (setting_in scope.now).words.edge_type names.now) }
 {
@@ -42,7 +42,7 @@ fn named_edges(alloc: Global, scope: &Scope<'_>, names: &[Txt]) -> Result<Number
     Ok(types)
 }
 
-/// The vertex types that are named, likewise.
+/// The vertex types with these names; unknown names are skipped.
 fn named_vertices(alloc: Global, scope: &Scope<'_>, names: &[Txt]) -> Result<Vec<u32>, OutOfMemory>
     ensures { IfOk result (λ v. v.items ≡ filter_map (setting_in scope.now).words.vertex_type names.now) }
 {
@@ -56,7 +56,7 @@ fn named_vertices(alloc: Global, scope: &Scope<'_>, names: &[Txt]) -> Result<Vec
     Ok(types)
 }
 
-/// Edge types, or all of the graph.
+/// The named edge types, or all of the graph.
 #[tactic(auto, using(crate::proofs::SortLemmas::own_laws))]
 pub(crate) fn edge_types(
     alloc: Global,
@@ -76,7 +76,7 @@ pub(crate) fn edge_types(
 
 // ---- far ends
 
-/// Puts last where the edge type of a name leads, where it is one.
+/// Appends the types to which the edge type of a name leads, if there is one.
 #[tactic(auto, using(crate::proofs::SortLemmas::named_way_laws))]
 fn push_named(
     scope: &Scope<'_>,
@@ -92,7 +92,7 @@ fn push_named(
     }
 }
 
-/// Where a step's edge types lead, each in its way.
+/// The types to which a step's edge types lead, each in its direction.
 fn step_far(alloc: Global, scope: &Scope<'_>, ways: &[(Way, Txt)]) -> Result<Vec<u32>, OutOfMemory>
     ensures { IfOk result (λ v. v.items ≡ flat_map (spec.ends_of (setting_in scope.now).sorts) (filter_map (spec.way_of (setting_in scope.now)) ways.now)) }
 {
@@ -103,7 +103,7 @@ fn step_far(alloc: Global, scope: &Scope<'_>, ways: &[(Way, Txt)]) -> Result<Vec
     Ok(far)
 }
 
-/// The vertex types that are named, in order.
+/// The named vertex types, in order.
 fn targets(alloc: Global, scope: &Scope<'_>, names: &[Txt]) -> Result<Numbers, OutOfMemory>
     ensures { IfOk result (λ l. l ≡ spec.by_number (filter_map (setting_in scope.now).words.vertex_type names.now)) }
 {
@@ -125,7 +125,7 @@ fn step_open(alloc: Global, scope: &Scope<'_>, step: &StepTree) -> Result<Number
     or_all(alloc, scope.own_vertices(), far)
 }
 
-/// Where a hop leads.
+/// The types to which a hop leads.
 fn hop_ends(alloc: Global, scope: &Scope<'_>, hop: &HopTree) -> Result<Numbers, OutOfMemory>
     ensures { IfOk result (λ l. l ≡ (spec.hop_step (setting_in scope.now) (view_hop hop.now)).targets) }
 {
@@ -138,7 +138,7 @@ fn hop_ends(alloc: Global, scope: &Scope<'_>, hop: &HopTree) -> Result<Numbers, 
     }
 }
 
-/// Where a step leads.
+/// The types to which a step leads.
 fn step_ends(alloc: Global, scope: &Scope<'_>, step: &StepTree) -> Result<Numbers, OutOfMemory>
     ensures { IfOk result (λ l. l ≡ (spec.path_step (setting_in scope.now) (view_step step.now)).targets) }
 {
@@ -148,7 +148,7 @@ fn step_ends(alloc: Global, scope: &Scope<'_>, step: &StepTree) -> Result<Number
     }
 }
 
-/// Where a path leads: the end of its last step.
+/// The types to which a path leads: those of its last step.
 fn path_ends(alloc: Global, scope: &Scope<'_>, steps: &[StepTree]) -> Result<Numbers, OutOfMemory>
     ensures { IfOk result (λ l. l ≡ spec.of_last (λ s. (spec.path_step (setting_in scope.now) s).targets) (spec.last_step (map view_step steps.now))) }
 {
@@ -158,7 +158,7 @@ fn path_ends(alloc: Global, scope: &Scope<'_>, steps: &[StepTree]) -> Result<Num
     }
 }
 
-/// The types of the target alias: those that a hop or the last step of a path leads to, as far as its names are known.
+/// The types of the target alias: those to which a hop or the last step of a path leads, as far as its names are known.
 pub fn end_types(
     alloc: Global,
     scope: &Scope<'_>,

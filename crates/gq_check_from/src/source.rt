@@ -1,4 +1,4 @@
-// What a SELECT goes through, and what it selects.
+// The source of a SELECT, and what it selects.
 ghost use Rattle.std.specs.Prelude.{◌≡◌, true};
 ghost use Rattle.std.specs.Option.{option_copied};
 ghost use Rattle.std.specs.Str.{bytes_eq};
@@ -15,7 +15,8 @@ use gq_graph::Numbers;
 use gq_scope::{Entry, Scope};
 use std::alloc::Global;
 
-/// The types of the source: a visible set variable's, else the vertex type of the name.
+/// The types of the source: those of the set variable of the name if one is visible, or else the vertex type of the
+/// name.
 pub fn source_types(alloc: Global, scope: &Scope<'_>, name: &str) -> Result<Numbers, CheckFault>
     ensures { Judges (λ l. l) (spec.source_types (scope_in scope.now) name.now) result }
 {
@@ -38,7 +39,7 @@ fn one_type(alloc: Global, scope: &Scope<'_>, name: &str) -> Result<Numbers, Che
     Ok(List::from_slice(alloc, &[t])?)
 }
 
-/// Whether a name is the alias, where there is one.
+/// Whether a name is the alias, if there is one.
 fn is_alias(alias: Option<&str>, name: &str) -> bool
     ensures { result ≡ patterns.is_alias bytes_eq (option_copied alias.entry) name.now }
 {
@@ -48,7 +49,7 @@ fn is_alias(alias: Option<&str>, name: &str) -> bool
     }
 }
 
-/// An unknown name, where it is no alias.
+/// Returns an unknown name if it is neither alias.
 fn one_alias(
     alloc: Global,
     source: Option<&str>,
@@ -64,7 +65,7 @@ fn one_alias(
     }
 }
 
-/// The types of the selected name, which is the source or the target alias.
+/// The types of the selected name, which must be the source or the target alias.
 #[tactic(auto, using(crate::proofs::ScopeLemmas::scope_laws))]
 pub fn selected_types(
     alloc: Global,

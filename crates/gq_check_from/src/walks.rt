@@ -22,9 +22,9 @@ use gq_tree::{HopTree, PatternTree, StepTree, TypesTree, Way};
 use gq_value::Txt;
 use std::alloc::Global;
 
-// ---- types that are named
+// ---- named types
 
-/// Names are edge types of the graph.
+/// Checks that names are edge types of the graph.
 fn edges_known(alloc: Global, scope: &Scope<'_>, names: &[Txt]) -> Result<(), CheckFault>
     ensures { Judges (λ _. true) (walks.passes (each_judged (walks.edge_known (scope_in scope.now)) names.now)) result }
 {
@@ -34,7 +34,7 @@ fn edges_known(alloc: Global, scope: &Scope<'_>, names: &[Txt]) -> Result<(), Ch
     Ok(())
 }
 
-/// Names are vertex types of the graph.
+/// Checks that names are vertex types of the graph.
 fn vertices_known(alloc: Global, scope: &Scope<'_>, names: &[Txt]) -> Result<(), CheckFault>
     ensures { Judges (λ _. true) (walks.passes (each_judged (walks.vertex_known (scope_in scope.now)) names.now)) result }
 {
@@ -82,9 +82,9 @@ fn known_targets_if(
     }
 }
 
-// ---- hops, which stand in v1
+// ---- hops, which are in v1
 
-/// The parts of a hop, in order.
+/// Checks the parts of a hop, in order.
 #[tactic(auto, using(crate::proofs::ScopeLemmas::walk_laws))]
 fn hop_parts(
     alloc: Global,
@@ -103,7 +103,7 @@ fn hop_parts(
     with_alias(alloc, scope, &tree.target_alias, ends)
 }
 
-/// A hop with its aliases.
+/// Checks a hop with its aliases.
 fn hop(alloc: Global, scope: &mut Scope<'_>, ends: &[u32], tree: &HopTree) -> Result<(), CheckFault>
     ensures judged { Judges (λ _. scope_in scope.new) (spec.typing_hop (scope_in scope.old) ends.now (view_hop tree.now)) result }
     ensures grows { IfOk result (λ _. Grows scope.old scope.new) }
@@ -111,7 +111,7 @@ fn hop(alloc: Global, scope: &mut Scope<'_>, ends: &[u32], tree: &HopTree) -> Re
     hop_parts(alloc, scope, ends, tree)
 }
 
-// ---- paths, which stand in v2
+// ---- paths, which are in v2
 
 fn is_both(way: Way) -> bool
     ensures { result ≡ spec.is_both way }
@@ -122,7 +122,7 @@ fn is_both(way: Way) -> bool
     }
 }
 
-/// A directed type has a sign, an undirected one has none.
+/// Whether a way suits a type: a directed type needs a `<` or `>`, an undirected one must have neither.
 fn suits_way(edge: &EdgeType, way: Way) -> bool
     ensures { result ≡ spec.suits_way (edge_sort edge.now) way }
 {
@@ -133,7 +133,7 @@ fn suits_way(edge: &EdgeType, way: Way) -> bool
     }
 }
 
-/// An edge type of the graph that may be walked in this way.
+/// Finds an edge type of the graph that may be walked in this direction.
 fn way_known(alloc: Global, scope: &Scope<'_>, way: Way, name: &str) -> Result<u32, CheckFault>
     ensures { Judges (λ t. t) (spec.way_known (scope_in scope.now) (way, name.now)) result }
 {
@@ -141,14 +141,14 @@ fn way_known(alloc: Global, scope: &Scope<'_>, way: Way, name: &str) -> Result<u
     walked(scope, way, t)
 }
 
-/// The edge type with a number, of those that the scope sees.
+/// The edge type with a number, among those that the scope sees.
 fn edge_of<'s>(scope: &'s Scope<'_>, t: u32) -> Option<&'s EdgeType>
     ensures { option_map edge_sort (option_copied result) ≡ slice_get (setting_in scope.now).sorts.edges t }
 {
     edge_at(scope.catalog(), t)
 }
 
-/// The edge type with a number, where it may be walked in this way.
+/// Checks that the edge type with a number may be walked in this direction.
 #[tactic(auto, using(crate::proofs::ScopeLemmas::walk_laws))]
 fn walked(scope: &Scope<'_>, way: Way, t: u32) -> Result<u32, CheckFault>
     ensures { Judges (λ t. t) (walks.walked (scope_in scope.now) way t) result }
@@ -162,7 +162,7 @@ fn walked(scope: &Scope<'_>, way: Way, t: u32) -> Result<u32, CheckFault>
     }
 }
 
-/// The edge types of a step.
+/// Finds the edge types of a step.
 #[tactic(auto, using(crate::proofs::StepLemmas::all_laws))]
 fn ways_known(alloc: Global, scope: &Scope<'_>, ways: &[(Way, Txt)]) -> Result<Numbers, CheckFault>
     ensures { Judges (λ l. l) (each_judged (spec.way_known (scope_in scope.now)) ways.now) result }
@@ -175,7 +175,7 @@ fn ways_known(alloc: Global, scope: &Scope<'_>, ways: &[(Way, Txt)]) -> Result<N
     Ok(types)
 }
 
-/// Only the last step names its edge and its vertex.
+/// Checks that only the last step names its edge and its vertex.
 fn nameless(is_last: bool, name: &Option<Txt>) -> Result<(), CheckFault>
     ensures { Judges (λ _. true) (spec.nameless is_last name.now) result }
 {
@@ -185,7 +185,7 @@ fn nameless(is_last: bool, name: &Option<Txt>) -> Result<(), CheckFault>
     }
 }
 
-/// A step, which is the last or not.
+/// Checks a step, which is the last one or not.
 #[tactic(auto, using(crate::proofs::ScopeLemmas::walk_laws))]
 fn step(
     alloc: Global,
@@ -220,7 +220,7 @@ fn steps(
     Ok(())
 }
 
-/// One to three steps.
+/// Checks that there are one to three steps.
 fn is_path(list: &[StepTree]) -> bool
     ensures { result ≡ walks.is_path (map view_step list.now) }
 {
@@ -244,7 +244,7 @@ fn path(
 
 // ---- walks
 
-/// The walk behind a source, with its aliases, which come into view; `ends` are the types of its target alias.
+/// Checks the walk after a source, and declares its aliases; `ends` are the types of its target alias.
 #[tactic(auto, using(crate::proofs::ScopeLemmas::grow_laws))]
 pub fn walk(
     alloc: Global,

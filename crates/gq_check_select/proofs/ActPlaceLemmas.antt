@@ -1,4 +1,4 @@
--- PlaceLemmas: what an expression may name, at the scope's own place.
+-- ActPlaceLemmas: what an expression may name, at the scope's own place.
 use Rattle.std.proofs.Common.{ℕ, ◌+◌, ◌<◌, ◌≡◌, true, List, length, get_or, drop, Option, Ok, Err, refl, ap, sym, ◌∙◌}
 use Rattle.std.proofs.lemmas.List.{drop_more}
 use Rattle.gq_value.specs.Accums.{Accum}
@@ -30,7 +30,7 @@ change_is h k change is = ap (λ (names : Names Bytes). change_written names k c
 
 pub ruleset written_laws = (change_is)
 
--- a statement of POST-ACCUM more, over names that are bytes
+-- one more statement of POST-ACCUM, over byte names
 one_alias : (h : Held) (source target : Option Bytes) (n : ℕ) (a : plain.Act Bytes) (rest : plain.Acts Bytes)
     → typing_post (scope_in h) source target n (plain.act_and a rest)
     ≡ (one_more n >>= λ m. typing_act (scope_in h) true m a >>= λ k. names_one source target a >> typing_post (scope_in h) source target k rest)

@@ -1,4 +1,4 @@
--- InputLemmas: the parts of a kind, and inputs that are judged from the left.
+-- InputLemmas: the parts of a kind, and inputs that are typed from left to right.
 use Rattle.std.proofs.Common.{ℕ, zero, suc, ◌+◌, ◌<◌, ◌≤◌, ◌≡◌, List, [], ◌∷◌, ◌++◌, length, get_or, drop, map, Option, Some, None, Ok, Err, refl, ap, sym, ◌∙◌, arith}
 use Rattle.std.specs.List.{slice_get}
 use Rattle.std.proofs.lemmas.List.{append_assoc, append-nil, drop_more}
@@ -15,9 +15,9 @@ use Rattle.gq_rules_typing.specs.Kinds.{kinds_in}
 use Rattle.gq_rules_typing.specs.ExpressionTypes.{Names}
 use Rattle.gq_rules_typing.specs.ActTypes.{typing_input, typing_inputs}
 
--- ---- lists from the left
+-- ---- lists from left to right
 
--- what came before, with what is left
+-- the earlier results, with those of the rest
 abbrev pub after : {A : Type 0} → List A → Judged (List A) → Judged (List A)
 after done j = j >>= λ rest. Ok (done ++ rest)
 
@@ -63,7 +63,7 @@ no_kinds : (n : ℕ) → drop {A = Accum} n [] ≡ []
 no_kinds zero = refl
 no_kinds (suc n) = refl
 
--- an input more, with the kind that stands at its place
+-- one more input, with the kind at its place
 inputs_step : {N : Type 0} (names : Names N) (ks : List Accum) (i : ℕ) (x : Input N) (xs : Inputs N)
     → typing_inputs names (drop i ks) (input_and x xs) ≡ (typing_input names (slice_get ks i) x >> typing_inputs names (drop (i + 1) ks) xs)
 inputs_step names [] i x xs =
@@ -79,7 +79,7 @@ inputs_step names (k ∷ ks) (suc i) x xs =
     inputs_step names ks i x xs
     ∙ ap (λ n. typing_input names (slice_get ks i) x >> typing_inputs names (drop n (k ∷ ks)) xs) (let e : suc (i + 1) ≡ suc i + 1 = omega arith in e)
 
--- the same of the code's list
+-- the same for the code's list
 pub parts_more : (names : Names Bytes) (ks : List Accum) (xs : List InputTree) (i : ℕ) (x : InputTree) → i < length xs → x ≡ get_or xs i x
     → typing_inputs names (drop i ks) (view_inputs (drop i xs)) ≡ (typing_input names (slice_get ks i) (view_input x) >> typing_inputs names (drop (i + 1) ks) (view_inputs (drop (i + 1) xs)))
 parts_more names ks xs i x low at =

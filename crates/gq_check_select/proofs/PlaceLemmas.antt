@@ -8,12 +8,12 @@ pub names_here : (h : Held) → names_in h ≡ names_at (scope_in h) h.place
 unfolding names_in
 names_here h = refl
 
--- the place is no part of the scope
+-- the scope of the rules doesn't depend on the place
 pub place_free : (h : Held) (p : Place Bytes) → scope_in (record h { place = p }) ≡ scope_in h
 unfolding scope_in setting_in sorts_in
 place_free h p = refl
 
--- what may be named where a scope is put at a place
+-- what may be named after the place of a scope is set
 pub names_put : (old new : Held) (p : Place Bytes) → new ≡ record old { place = p } → names_at (scope_in old) p ≡ names_in new
 unfolding names_in scope_in setting_in sorts_in
 names_put old new p is = ap names_in (sym is)

@@ -1,4 +1,4 @@
--- SelectLemmas: a SELECT is FROM with what is selected, and the clauses behind it.
+-- SelectLemmas: a SELECT is FROM with what is selected, followed by the clauses.
 use Rattle.std.proofs.Common.{◌≡◌, ℕ, List, false, refl, Ok, Err}
 use Rattle.gq_rules_typing.specs.Statements.{Bytes}
 use Rattle.gq_rules_typing.specs.Selecting.{Select}
@@ -11,7 +11,7 @@ use Rattle.gq_rules_typing.specs.SelectTypes.{with_alias, source_types, typing_w
 use Rattle.gq_check_from.specs.Walks.{passes}
 use Rattle.gq_check_select.specs.Selects.{clauses, select_within}
 
--- what the keys of ORDER BY give doesn't count
+-- the results of the keys of ORDER BY are irrelevant
 regroup : {P H E L K : Type 0} (p : Judged P) (h : Judged H) (e : Judged E) (l : Judged L) (k : Judged K) → (p >> h >> e >> l >> k) ≡ (p >> (h >> passes e) >> l >> k)
 regroup (Ok a) (Ok b) (Ok c) l k = refl
 regroup (Ok a) (Ok b) (Err f) l k = refl
@@ -21,7 +21,7 @@ regroup (Err f) h e l k = refl
 abbrev paired : {C D : Type 0} → C → D → Judged (C × D)
 paired z w = Ok (z, w)
 
--- four rules, of which the last two give what the rest reads
+-- four rules, the last two of which return what the rest reads
 module _ {A B C D E : Type 0} (b : A → Judged B) (c : B → Judged C) (d : C → Judged D) (k m : C → D → Judged E) (same : (z : C) (w : D) → k z w ≡ m z w) where
   fourth : (z : C) (j : Judged D) → (j >>= λ w. k z w) ≡ ((j >>= λ w. paired z w) >>= λ f. m f.0 f.1)
   fourth z (Ok w) = same z w

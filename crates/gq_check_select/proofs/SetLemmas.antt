@@ -1,4 +1,4 @@
--- SetLemmas: written sets and chains of sets, and assignments by what stands on their left.
+-- SetLemmas: written sets and chains of sets, and assignments by their left side.
 use Rattle.std.proofs.Common.{◌≡◌, ℕ, true, false, ◌||◌, List, [], ◌∷◌, ◌++◌, Option, Some, None, refl, ap, sym, ◌∙◌, Ok, Err}
 use Rattle.std.specs.List.{concat}
 use Rattle.std.specs.Option.{option_map, is_some}
@@ -20,7 +20,7 @@ use Rattle.gq_check_select.specs.Selects.{named_types, chain, is_empty, left_of,
 
 -- ---- seeds
 
--- put in order once
+-- sorted only once
 all_types_are : (tss : List (List ℕ)) → all_types tss ≡ by_number (concat tss)
 all_types_are [] = refl
 all_types_are (ts ∷ rest) =
@@ -29,7 +29,7 @@ all_types_are (ts ∷ rest) =
     (λ v. among_distinct (ts ++ by_number (concat rest)) v ∙ among_both ts (by_number (concat rest)) v ∙ ap (λ b. among ts v || b) (among_distinct (concat rest) v)
     ∙ sym (among_both ts (concat rest) v) ∙ sym (among_distinct (ts ++ concat rest) v))
 
--- what came before, with what is left
+-- the earlier results, with those of the rest
 abbrev pub seeds_after : List ℕ → Judged (List (List ℕ)) → Judged (List ℕ)
 seeds_after done j = j >>= λ tss. Ok (by_number (done ++ concat tss))
 
@@ -46,7 +46,7 @@ seeds_all done = ap (λ l. Ok (by_number l)) (append-nil done)
 
 pub ruleset seed_laws = (seeds_none, seeds_one, seeds_all)
 
--- a name that stands for one vertex
+-- a name that means one vertex
 pub named_types_are : (h : Held) (x : Bytes) → (base_type (here (scope_in h)) (Name x) >>= types_of (scope_in h)) ≡ named_types (scope_in h) x
 unfolding scope_in setting_in
 named_types_are h x = by_entry (entry (scope_in h) x) refl
@@ -81,7 +81,7 @@ pub ruleset sets_laws = (chain_is, empty_is)
 abbrev given : List ℕ → Judged (List ℕ)
 given types = Ok types
 
--- an expression is a set where it is a set variable's name alone
+-- an expression is a set if it is just the name of a set variable
 pub right_is : (s : Scope Bytes) (t : Tree Bytes) → right_types s (Expression t) ≡ option_map given (set_alone s t)
 right_is s (Name y) = by_entry (entry s y) refl
   where

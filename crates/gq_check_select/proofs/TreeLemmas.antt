@@ -1,4 +1,4 @@
--- TreeLemmas: what an input and an act of each variant stand for.
+-- TreeLemmas: the meaning of an input and of an act of each variant.
 use Rattle.std.proofs.Common.{◌≡◌, suc, List, [], ◌∷◌, length, refl, map, Option, None, Some, sym, ap, ◌∙◌}
 use Rattle.std.proofs.lemmas.Simd.{map-map}
 use Rattle.gq_tree.specs.Tree.{Tree}
@@ -36,7 +36,7 @@ pub view_act-Global : (a : Named) (c : ChangeTree) → view_act (act.Global a c)
 unfolding view_act
 view_act-Global a c = ap view_act (sym (act.rolls-Global a c)) ∙ fold-roll-ActTree (plain.Act Named) act_step (ActTree-F.Global a c)
 
--- the branches, viewed from within
+-- the branches, with their inner acts viewed
 viewed_twice : (branches : List (Node × List ActTree)) (others : Option (List (plain.Act Named)))
     → choices_of (map {A = Node × List (plain.Act Named)} {B = Tree Named × List (plain.Act Named)} (λ b. (view b.0, b.1)) (map {A = Node × List ActTree} {B = Node × List (plain.Act Named)} (λ b. (b.0, map view_act b.1)) branches)) others
     ≡ choices_of (map {A = Node × List ActTree} {B = Tree Named × List (plain.Act Named)} (λ b. (view b.0, map view_act b.1)) branches) others

@@ -1,4 +1,4 @@
--- Selects: a SELECT cut into FROM and its clauses, sets, and assignments by what stands on their left, over names that are bytes.
+-- Selects: a SELECT split into FROM and its clauses, sets, and assignments by their left side, over byte names.
 use Rattle.std.specs.Prelude.{ℕ, Bool, true, false, List, [], ◌∷◌, map, Option, Some, None, Ok, Err}
 use Rattle.std.specs.List.{list_all}
 use Rattle.gq_tree.specs.Tree.{Tree, Name}
@@ -59,7 +59,7 @@ changes s q =
     typing_acts s false 0 q.accum >>
     typing_post s q.alias (target_alias q.walk) 0 q.post
 
--- the clauses behind FROM
+-- the clauses after FROM
 abbrev pub clauses : Scope Bytes → Select Bytes → Judged Bool
 clauses s q = changes s q >> tail s q.selected q.having q.order >> optional (number (names_at s InLimit)) q.limit
 
@@ -71,7 +71,7 @@ select_within s q = from s q >>= λ f. clauses f.0 q >> Ok f.1
 abbrev pub all_of : Scope Bytes → Bytes → Judged (List ℕ)
 all_of s n = vertex_type s n >>= λ t. Ok (t ∷ [])
 
--- a name that stands for one vertex, in a statement
+-- a name that means one vertex, in a statement
 abbrev pub named_types : Scope Bytes → Bytes → Judged (List ℕ)
 named_types s x = of_entry (entry s x)
   where
@@ -88,14 +88,14 @@ seeds_types s seeds = each_judged (seed_types s) seeds >>= λ tss. Ok (all_types
 abbrev pub view_terms : List (SetOp × code.SetTermTree) → List (SetOp × SetTerm Bytes)
 view_terms others = map (λ s. (s.0, view_term s.1)) others
 
--- one term more on the right
+-- one more term on the right
 abbrev pub joined_term : Scope Bytes → List ℕ → SetOp × SetTerm Bytes → Judged (List ℕ)
 joined_term s b next = term_types s next.1 >>= λ c. Ok (joined_types next.0 b c)
 
 abbrev pub chain : Scope Bytes → SetTerm Bytes → List (SetOp × SetTerm Bytes) → Judged (List ℕ)
 chain s t rest = term_types s t >>= λ a. through_judged (joined_term s) a rest
 
--- `{}` alone
+-- just `{}`
 abbrev pub is_empty : SetTerm Bytes → List (SetOp × SetTerm Bytes) → Bool
 is_empty (Seeds []) [] = true
 is_empty t rest = false
@@ -114,7 +114,7 @@ abbrev pub set_in : Option Entry → Option (List ℕ)
 set_in (Some (SetVariable types)) = Some types
 set_in e = None
 
--- of one whose name stands alone
+-- the types of a set variable, if the expression is just its name
 abbrev pub set_alone : Scope Bytes → Tree Bytes → Option (List ℕ)
 set_alone s (Name y) = set_in (entry s y)
 set_alone s t = None
@@ -137,7 +137,7 @@ abbrev pub convert : Scope Bytes → Base → Right Bytes → Judged Bool
 convert s b (Expression t) = converting (here s) b t
 convert s b right = Err Mismatch
 
--- no set, and a value for the name of a variable
+-- the right side isn't a set, and it is a value for a variable
 abbrev pub assign_with : Scope Bytes → Right Bytes → Option (Judged (List ℕ)) → Option Entry → Judged Bool
 assign_with s right None (Some (Variable b)) = convert s b right
 assign_with s right set e = Err Mismatch
@@ -152,7 +152,7 @@ declare_with s x (Some set) = set >>= λ types. Ok (with_entry x (SetVariable ty
 abbrev pub declare : Scope Bytes → Bytes → Right Bytes → Judged (Scope Bytes)
 declare s x right = declare_with s x (right_types s right)
 
--- what is no set is read, and then refused
+-- a right side that isn't a set is typed, and then refused
 abbrev pub refused : Scope Bytes → Right Bytes → Judged (Scope Bytes)
 refused s right = right_value right >>= typing (here s) >> Err Mismatch
 

@@ -18,7 +18,8 @@ use gq_tree::{ActTree, Node};
 use gq_type::condition;
 use std::alloc::Global;
 
-/// The statements of ACCUM, in a scope whose place is the block. How many there are, nested ones counted: 1,000 at most.
+/// Checks the statements of ACCUM, in a scope at the place of the block. Returns their number, with nested ones: at
+/// most 1,000.
 pub fn accum(alloc: Global, scope: &Scope<'_>, list: &[ActTree]) -> Result<u32, CheckFault>
     requires { scope.now.place ≡ InBlock }
     ensures { Judges (λ n. n) (spec.typing_acts (scope_in scope.now) false 0 (view_acts list.now)) result }
@@ -26,7 +27,7 @@ pub fn accum(alloc: Global, scope: &Scope<'_>, list: &[ActTree]) -> Result<u32, 
     acts(list, alloc, scope, false, 0)
 }
 
-/// One statement more, behind so many.
+/// Counts one more statement.
 fn one_more(count: u32) -> Result<u32, CheckFault>
     ensures { Judges (λ n. n) (spec.one_more count) result }
 {
@@ -37,7 +38,7 @@ fn one_more(count: u32) -> Result<u32, CheckFault>
     }
 }
 
-/// The condition of an IF.
+/// Checks the condition of an IF.
 #[tactic(auto, using(crate::proofs::ActPlaceLemmas::place_laws))]
 fn tested(alloc: Global, scope: &Scope<'_>, post: bool, node: &Node) -> Result<(), CheckFault>
     requires { scope.now.place ≡ spec.place_of post }
@@ -47,7 +48,7 @@ fn tested(alloc: Global, scope: &Scope<'_>, post: bool, node: &Node) -> Result<(
     Ok(())
 }
 
-// ---- statements behind so many; how many there are then
+// ---- statements, given the number so far; they return the number after them
 
 #[cycle(acts)]
 fn acts(
@@ -105,7 +106,7 @@ fn act(
 
 // ---- POST-ACCUM
 
-/// A statement of POST-ACCUM, with all that is nested in it, names one vertex alias at most.
+/// Checks that a statement of POST-ACCUM, with everything nested in it, names at most one vertex alias.
 fn names_one(source: Option<&str>, target: Option<&str>, item: &ActTree) -> Result<(), CheckFault>
     ensures { Judges (λ _. true) (trees.names_one (option_copied source.entry) (option_copied target.entry) (view_act item.now)) result }
 {
@@ -116,7 +117,7 @@ fn names_one(source: Option<&str>, target: Option<&str>, item: &ActTree) -> Resu
     }
 }
 
-/// One statement of POST-ACCUM more, behind so many.
+/// Checks one more statement of POST-ACCUM, given the number so far.
 fn post_act(
     alloc: Global,
     scope: &Scope<'_>,
@@ -135,8 +136,8 @@ fn post_act(
     Ok(total)
 }
 
-/// The statements of POST-ACCUM, in a scope whose place is POST-ACCUM, of a block with these aliases. How many there are,
-/// nested ones counted: 1,000 at most.
+/// Checks the statements of POST-ACCUM, in a scope at that place, of a block with these aliases. Returns their number,
+/// with nested ones: at most 1,000.
 pub fn post_accum(
     alloc: Global,
     scope: &Scope<'_>,

@@ -20,10 +20,10 @@ use gq_tree::{Node, RightTree, SetTypesTree};
 use gq_type::{converting, type_of};
 use std::alloc::Global;
 
-/// What stands on the left of `=`.
+/// The left side of `=`.
 #[derive(Drop)]
 pub(crate) enum AssignTarget {
-    /// No visible name.
+    /// A name that isn't visible.
     New,
 
     /// A set variable, with its types.
@@ -32,7 +32,7 @@ pub(crate) enum AssignTarget {
     /// A parameter or a local.
     Value,
 
-    /// A tuple type, which no name of a variable is.
+    /// A tuple type; a variable can't have such a name.
     Tuple,
 
     /// An alias or an accumulator.
@@ -60,7 +60,7 @@ fn left_of(alloc: Global, scope: &Scope<'_>, name: &str) -> Result<AssignTarget,
 
 // ---- the right side
 
-/// The types of a set variable, where the name is one.
+/// The types of a set variable, if the name is that of one.
 fn set_named<'s>(scope: &'s Scope<'_>, name: &str) -> Option<&'s [u32]>
     ensures { option_copied result ≡ selects.set_in (typing.entry (scope_in scope.now) name.now) }
 {
@@ -74,7 +74,7 @@ fn set_named<'s>(scope: &'s Scope<'_>, name: &str) -> Option<&'s [u32]>
     }
 }
 
-/// The types of a set variable whose name stands alone.
+/// The types of a set variable, if the expression is just its name.
 #[tactic(auto, using(gq_tree::proofs::ViewLemmas::view_laws, crate::proofs::SetLemmas::right_laws))]
 fn set_alone<'s>(scope: &'s Scope<'_>, node: &Node) -> Option<&'s [u32]>
     ensures { option_copied result ≡ selects.set_alone (scope_in scope.now) (view node.now) }
@@ -108,7 +108,7 @@ fn copied(alloc: Global, types: Option<&[u32]>) -> Result<Numbers, CheckFault>
     }
 }
 
-/// The types of the right side, where it is a set; else type mismatch.
+/// The types of the right side if it is a set, or else type mismatch.
 #[tactic(auto, using(crate::proofs::SetLemmas::right_laws))]
 fn right_types<'q>(
     alloc: Global,
@@ -126,7 +126,7 @@ fn right_types<'q>(
     }
 }
 
-/// Types that are assigned lie within those of the variable.
+/// Checks that the assigned types are among those of the variable.
 fn kept_within(alloc: Global, name: &str, fixed: &[u32], types: &[u32]) -> Result<(), CheckFault>
     ensures { Judges (λ _. true) (selects.kept_within name.now fixed.now types.now) result }
 {
@@ -139,7 +139,7 @@ fn kept_within(alloc: Global, name: &str, fixed: &[u32], types: &[u32]) -> Resul
 
 // ---- `x = ..`
 
-/// A set variable keeps its types.
+/// Checks an assignment to a set variable, which keeps its types.
 fn assign_set<'q>(
     alloc: Global,
     scope: &mut Scope<'q>,
@@ -155,7 +155,7 @@ fn assign_set<'q>(
     kept_within(alloc, name, fixed, types.as_slice())
 }
 
-/// A parameter or a local is given a value that converts to its type.
+/// Checks an assignment to a parameter or a local, of a value that converts to its type.
 fn assign_value(
     alloc: Global,
     scope: &Scope<'_>,
@@ -198,7 +198,7 @@ fn convert(
     }
 }
 
-/// A set that is assigned to a new name declares it.
+/// Declares a new name to which a set is assigned.
 fn declare<'q>(
     alloc: Global,
     scope: &mut Scope<'q>,
@@ -256,7 +256,7 @@ fn fixed_types(
     }
 }
 
-/// An expression that is no set is read before it is refused.
+/// Types an expression that isn't a set, and then refuses it.
 #[tactic(auto, using(crate::proofs::PlaceLemmas::place_laws))]
 fn refused(alloc: Global, scope: &Scope<'_>, right: &RightTree) -> Result<(), CheckFault>
     requires { scope.now.place ≡ typing.InStatement }
@@ -271,7 +271,7 @@ fn refused(alloc: Global, scope: &Scope<'_>, right: &RightTree) -> Result<(), Ch
     }
 }
 
-/// The set of a new variable lies within its types.
+/// Declares a new variable, whose set must have types among its own.
 fn declare_fixed<'q>(
     alloc: Global,
     scope: &mut Scope<'q>,
@@ -293,8 +293,8 @@ fn declare_fixed<'q>(
     Ok(())
 }
 
-/// An assignment, in a scope whose place is a statement: `x = ..`, or with types `x (T) = ..`, which declares x. An assignment of
-/// a set to a new name declares it too.
+/// Checks an assignment, in a scope at the place of a statement: `x = ..`, or with types `x (T) = ..`, which declares
+/// x. An assignment of a set to a new name declares it too.
 #[tactic(auto, using(crate::proofs::SetLemmas::assign_laws))]
 pub fn assignment<'q>(
     alloc: Global,

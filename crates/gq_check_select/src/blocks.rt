@@ -16,7 +16,7 @@ use gq_scope::Scope;
 use gq_tree::SelectTree;
 use std::alloc::Global;
 
-/// FROM and the selected name: aliases come into view. The types of the vertices selected.
+/// Checks FROM and the selected name, and makes the aliases visible. Returns the types of the selected vertices.
 #[tactic(auto, using(gq_check_from::proofs::ScopeLemmas::walk_laws))]
 fn from(alloc: Global, scope: &mut Scope<'_>, query: &SelectTree) -> Result<Numbers, CheckFault>
     ensures judged { Judges (λ types. (scope_in scope.new, types)) (selects.from (scope_in scope.old) (view_select query.now)) result }
@@ -35,7 +35,7 @@ fn from(alloc: Global, scope: &mut Scope<'_>, query: &SelectTree) -> Result<Numb
     )
 }
 
-/// FROM and the clauses behind it.
+/// Checks FROM and the clauses after it.
 fn block<'q>(
     alloc: Global,
     scope: &mut Scope<'q>,
@@ -52,8 +52,9 @@ fn block<'q>(
     Ok(types)
 }
 
-/// A SELECT, in order of text: FROM, the selected name, WHERE, ACCUM, POST-ACCUM, HAVING, ORDER BY and LIMIT. The types of the
-/// vertices that it gives, or the fault of the first rule that fails; OutOfMemory may come at any time. Its aliases end with it.
+/// Checks a SELECT in the order of the text: FROM, the selected name, WHERE, ACCUM, POST-ACCUM, HAVING, ORDER BY and
+/// LIMIT. Returns the types of its vertices, or the fault of the first rule that fails; may return OutOfMemory at any
+/// time. Removes its aliases at its end.
 pub fn select<'q>(
     alloc: Global,
     scope: &mut Scope<'q>,

@@ -1,4 +1,4 @@
-// Changes of accumulators, judged at their sign.
+// Changes of accumulators, checked according to their sign.
 ghost use Rattle.std.specs.Prelude.{◌≡◌, true};
 ghost use Rattle.gq_value.specs.AccumViews.{accum_of};
 ghost use Rattle.gq_rules_typing.specs.SelectViews.{view_change};
@@ -17,7 +17,7 @@ use gq_type::{converting, declared_kind};
 use gq_value::Kind;
 use std::alloc::Global;
 
-/// v of `v.@a` is a source or target alias.
+/// Checks that v of `v.@a` is a source or target alias.
 #[tactic(auto, using(gq_type::proofs::ScopeLemmas::scope_laws))]
 fn vertex_alias(alloc: Global, scope: &Scope<'_>, name: &str) -> Result<(), CheckFault>
     ensures { Judges (λ _. true) (spec.vertex_alias (scope_in scope.now) name.now) result }
@@ -33,7 +33,7 @@ fn vertex_alias(alloc: Global, scope: &Scope<'_>, name: &str) -> Result<(), Chec
     }
 }
 
-/// The type that `=` sets an accumulator of a kind to; type mismatch for one that can't be set.
+/// The type of value to which `=` sets an accumulator of a kind; type mismatch for one that can't be set.
 fn settable(kind: &Kind) -> Result<Base<'_>, CheckFault>
     ensures { Judges base_is (spec.settable (accum_of kind.now)) result }
 {
@@ -43,7 +43,7 @@ fn settable(kind: &Kind) -> Result<Base<'_>, CheckFault>
     }
 }
 
-/// A ListAccum takes no input in ACCUM.
+/// Refuses an input to a ListAccum, which isn't allowed in ACCUM.
 fn in_any_order(alloc: Global, name: &str, kind: &Kind) -> Result<(), CheckFault>
     ensures { Judges (λ _. true) (trees.in_any_order name.now (accum_of kind.now)) result }
 {
@@ -54,7 +54,7 @@ fn in_any_order(alloc: Global, name: &str, kind: &Kind) -> Result<(), CheckFault
     }
 }
 
-/// A change in ACCUM: inputs alone, and none to a ListAccum.
+/// Checks a change in ACCUM: only inputs, and none to a ListAccum.
 #[tactic(auto, using(gq_type::proofs::ScopeLemmas::scope_laws, crate::proofs::ActPlaceLemmas::place_laws))]
 fn given(
     alloc: Global,
@@ -75,7 +75,8 @@ fn given(
     }
 }
 
-/// A change of an accumulator of a kind: inputs, or a value that it is set to. So it is in statements, and at an alias in POST-ACCUM.
+/// Checks a change of an accumulator of a kind: inputs, or a new value. This is for statements, and for an alias in
+/// POST-ACCUM.
 pub fn written(
     alloc: Global,
     scope: &Scope<'_>,
@@ -94,7 +95,7 @@ pub fn written(
     }
 }
 
-/// A change of a global accumulator in POST-ACCUM: inputs alone.
+/// Checks a change of a global accumulator in POST-ACCUM: only inputs.
 #[tactic(auto, using(crate::proofs::ActPlaceLemmas::place_laws))]
 fn fed(alloc: Global, scope: &Scope<'_>, kind: &Kind, change: &ChangeTree) -> Result<(), CheckFault>
     requires { scope.now.place ≡ InPost }
@@ -106,7 +107,7 @@ fn fed(alloc: Global, scope: &Scope<'_>, kind: &Kind, change: &ChangeTree) -> Re
     }
 }
 
-/// A change at an alias; `post` tells POST-ACCUM.
+/// Checks a change at an alias; `post` is true in POST-ACCUM.
 #[tactic(auto, using(crate::proofs::ActPlaceLemmas::written_laws))]
 pub(crate) fn at_alias(
     alloc: Global,
@@ -133,7 +134,7 @@ pub(crate) fn at_alias(
     }
 }
 
-/// A change of a global accumulator.
+/// Checks a change of a global accumulator.
 pub(crate) fn at_global(
     alloc: Global,
     scope: &Scope<'_>,

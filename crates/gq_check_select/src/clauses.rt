@@ -1,4 +1,4 @@
-// The clauses behind FROM, each at its place.
+// The clauses after FROM, each at its place.
 ghost use Rattle.std.specs.Prelude.{◌≡◌, true, false, IfOk};
 ghost use Rattle.std.specs.Option.{option_copied, option_map};
 ghost use Rattle.gq_tree.specs.View.{view};
@@ -23,7 +23,7 @@ use gq_tree::{ActTree, Node, SelectTree};
 use gq_type::{condition, is_number, is_numeric, number, type_of};
 use std::alloc::Global;
 
-// ---- what may be left out, at the scope's place
+// ---- optional expressions, at the scope's place
 
 fn condition_if(alloc: Global, scope: &Scope<'_>, node: &Option<Node>) -> Result<(), CheckFault>
     ensures { Judges (λ _. true) (spec.optional (forms.condition (names_in scope.now)) (option_map view node.now)) result }
@@ -49,9 +49,9 @@ fn number_if(alloc: Global, scope: &Scope<'_>, node: &Option<Node>) -> Result<()
     }
 }
 
-// ---- what is ordered by
+// ---- keys of an order
 
-/// A number, a STRING or an average.
+/// Whether a type can be a key of an order: a number, a STRING or an average.
 fn is_sortable(x: Typed<'_>) -> bool
     ensures { result ≡ spec.is_sortable (typed_is x.entry) }
 {
@@ -101,9 +101,9 @@ fn sort_keys(
     }
 }
 
-// ---- clauses; each says where it stands
+// ---- clauses; each sets the place
 
-/// WHERE.
+/// Checks WHERE.
 fn filter(alloc: Global, scope: &mut Scope<'_>, node: &Option<Node>) -> Result<(), CheckFault>
     ensures judged { Judges (λ _. true) (spec.optional (forms.condition (names_at (scope_in scope.old) typing.InBlock)) (option_map view node.now)) result }
     ensures placed { scope.new ≡ record scope.old { place = typing.InBlock } }
@@ -126,7 +126,7 @@ fn accum_if(
     }
 }
 
-/// ACCUM.
+/// Checks ACCUM.
 #[tactic(auto, using(crate::proofs::PlaceLemmas::place_laws))]
 fn accums(
     alloc: Global,
@@ -157,7 +157,7 @@ fn post_if(
     }
 }
 
-/// POST-ACCUM.
+/// Checks POST-ACCUM.
 #[tactic(auto, using(crate::proofs::PlaceLemmas::place_laws))]
 fn posts(
     alloc: Global,
@@ -186,7 +186,7 @@ fn tail_here(
     sort_keys(alloc, scope, order)
 }
 
-/// HAVING and ORDER BY, which name the selected alias alone.
+/// Checks HAVING and ORDER BY, which may name only the selected alias.
 fn tail<'q>(
     alloc: Global,
     scope: &mut Scope<'q>,
@@ -202,7 +202,7 @@ fn tail<'q>(
     tail_here(alloc, scope, having, order)
 }
 
-/// LIMIT.
+/// Checks LIMIT.
 fn limit(alloc: Global, scope: &mut Scope<'_>, node: &Option<Node>) -> Result<(), CheckFault>
     ensures judged { Judges (λ _. true) (spec.optional (forms.number (names_at (scope_in scope.old) typing.InLimit)) (option_map view node.now)) result }
     ensures placed { scope.new ≡ record scope.old { place = typing.InLimit } }
@@ -211,7 +211,7 @@ fn limit(alloc: Global, scope: &mut Scope<'_>, node: &Option<Node>) -> Result<()
     number_if(alloc, scope, node)
 }
 
-/// WHERE, ACCUM and POST-ACCUM.
+/// Checks WHERE, ACCUM and POST-ACCUM.
 #[tactic(auto, using(crate::proofs::PlaceLemmas::place_laws))]
 fn changes(alloc: Global, scope: &mut Scope<'_>, query: &SelectTree) -> Result<u32, CheckFault>
     ensures judged { Judges (λ n. n) (selects.changes (scope_in scope.old) (view_select query.now)) result }
@@ -228,7 +228,7 @@ fn changes(alloc: Global, scope: &mut Scope<'_>, query: &SelectTree) -> Result<u
     )
 }
 
-/// All clauses behind FROM, in order. The next expression stands in a statement again.
+/// Checks all clauses after FROM, in order. Then sets the place back to a statement.
 #[tactic(auto, using(crate::proofs::PlaceLemmas::place_laws))]
 pub(crate) fn clauses<'q>(
     alloc: Global,

@@ -1,4 +1,4 @@
-// Inputs: what `+=` feeds an accumulator.
+// Inputs: the operands of `+=`.
 ghost use Rattle.std.specs.Prelude.{◌≡◌, ◌≢◌, map, length, slice_get, true, Ok, Err, MatchResult};
 ghost use Rattle.std.specs.Option.{option_copied, option_map};
 ghost use Rattle.gq_value.specs.AccumViews.{accum_of};
@@ -20,9 +20,10 @@ use gq_type::{as_base, base_type, convert_all, converts, type_of};
 use gq_value::Kind;
 use std::alloc::Global;
 
-// ---- what a kind takes
+// ---- the inputs of a kind
 
-/// Whether a value of a type is an input. Where there are more inputs than parts, one has no kind, and takes each value.
+/// Whether a value of a type is an input of the kind. If there are more inputs than parts, an extra one has no kind,
+/// and accepts any value.
 fn takes(kind: Option<&Kind>, base: Base<'_>) -> bool
     ensures { result ≡ spec.takes (option_map accum_of (option_copied kind.entry)) (base_is base.entry) }
 {
@@ -41,7 +42,8 @@ fn converts_into(base: Base<'_>, want: Option<Base<'_>>) -> bool
     }
 }
 
-/// Whether keys of these types and so many inputs are an input: there are as many as the kind has parts.
+/// Whether keys of these types and `count` inputs are an input of the kind: there must be as many inputs as the kind
+/// has parts.
 fn takes_keys(kind: Option<&Kind>, keys: &[Base<'_>], count: usize) -> bool
     ensures { result ≡ spec.takes_keys (option_map accum_of (option_copied kind.entry)) (map base_is keys.now) count }
 {
@@ -53,7 +55,7 @@ fn takes_keys(kind: Option<&Kind>, keys: &[Base<'_>], count: usize) -> bool
     }
 }
 
-/// How many kinds stand under a key.
+/// The number of kinds under a key.
 #[tactic(auto, using(gq_value::proofs::AccumLemmas::accum_laws))]
 fn part_count(kind: &Kind) -> usize
     ensures { result ≡ length (part_kinds (accum_of kind.now)) }
@@ -117,7 +119,7 @@ fn typed_all<'s>(
     Ok(types)
 }
 
-/// The types of keys that are values each.
+/// The types of keys, each of which must be a value.
 #[tactic(auto, using(crate::proofs::InputLemmas::all_laws))]
 fn bases<'s>(alloc: Global, typed: &[Typed<'s>]) -> Result<Vec<Base<'s>>, CheckFault>
     ensures { MatchResult result
@@ -134,8 +136,9 @@ fn bases<'s>(alloc: Global, typed: &[Typed<'s>]) -> Result<Vec<Base<'s>>, CheckF
 
 // ---- inputs
 
-/// An input of an accumulator of a kind, at the scope's place: one value of the kind's type, or keys with an input for each
-/// part. Where it is nested below keys and there is no such part, its kind is None, and it is judged by itself.
+/// Checks an input of an accumulator of a kind, at the scope's place: one value of the kind's type, or keys with an
+/// input for each part. If it is nested below keys and there is no corresponding part, its kind is None, and it is
+/// checked on its own.
 #[cycle(inputs)]
 #[tactic(auto, using(crate::proofs::TreeLemmas::input_laws))]
 pub(crate) fn input(
@@ -162,7 +165,7 @@ pub(crate) fn input(
     }
 }
 
-/// Inputs behind keys, one for each part of a kind.
+/// Checks inputs after keys, one for each part of a kind.
 #[cycle(inputs)]
 fn parts(
     inputs: &[InputTree],

@@ -1,4 +1,4 @@
-// Whether a statement names an alias, also within its expressions. What stands behind a dot is no name of an alias.
+// Whether a statement names an alias, also within its expressions. A name after a dot isn't that of an alias.
 ghost use Rattle.std.specs.Prelude.{◌≡◌};
 ghost use Rattle.std.specs.Str.{bytes_eq};
 ghost use Rattle.std.specs.Option.{option_copied};
@@ -10,7 +10,7 @@ ghost use Rattle.gq_check_select.specs.Trees.{view_inputs};
 
 use gq_tree::{ActTree, AddSign, ChangeTree, InputTree, MulSign, Node, Part};
 
-/// Whether a name is the alias, where there is one.
+/// Whether a name is the alias, if there is one.
 fn is_alias(alias: Option<&str>, name: &str) -> bool
     ensures { result ≡ patterns.is_alias bytes_eq (option_copied alias.entry) name.now }
 {
@@ -143,7 +143,7 @@ fn in_change(change: &ChangeTree, alias: Option<&str>) -> bool
 
 // ---- statements
 
-/// Whether a statement of POST-ACCUM, or one that is nested in it, names the alias, where there is one.
+/// Whether a statement of POST-ACCUM, or one that is nested in it, names the alias, if there is one.
 pub(crate) fn in_act(act: &ActTree, alias: Option<&str>) -> bool
     ensures { result ≡ spec.in_act (patterns.is_alias bytes_eq (option_copied alias.entry)) (view_act act.now) }
 {

@@ -18,7 +18,7 @@ use gq_type::{declared_kind, vertex_of};
 use gq_value::Kind;
 use std::alloc::Global;
 
-/// The types of a set variable that is visible.
+/// The types of a visible set variable.
 #[tactic(auto, using(gq_type::proofs::ScopeLemmas::scope_laws))]
 pub fn set_types<'s>(
     alloc: Global,
@@ -48,7 +48,7 @@ pub(crate) fn own_types(alloc: Global, scope: &Scope<'_>) -> Result<Numbers, Out
     List::from_slice(alloc, scope.own_vertices())
 }
 
-/// A vertex has its type, or may be of any type of the graph.
+/// The types of a vertex: its own, or all types of the graph.
 fn types_of(alloc: Global, scope: &Scope<'_>, base: Base<'_>) -> Result<Numbers, CheckFault>
     ensures { Judges (λ l. l) (spec.types_of (scope_in scope.now) (base_is base.entry)) result }
 {
@@ -60,7 +60,7 @@ fn types_of(alloc: Global, scope: &Scope<'_>, base: Base<'_>) -> Result<Numbers,
     }
 }
 
-/// The types of what a SetAccum of vertices holds.
+/// The types of the elements of a SetAccum of vertices.
 #[tactic(auto, using(gq_value::proofs::AccumLemmas::accum_laws))]
 fn content_types(alloc: Global, scope: &Scope<'_>, kind: &Kind) -> Result<Numbers, CheckFault>
     ensures { Judges (λ l. l) (spec.content_types (scope_in scope.now) (accum_of kind.now)) result }
@@ -74,7 +74,7 @@ fn content_types(alloc: Global, scope: &Scope<'_>, kind: &Kind) -> Result<Number
     }
 }
 
-/// The types of a name that stands for one vertex, in a statement.
+/// The types of a name that means one vertex, in a statement.
 #[tactic(auto, using(gq_type::proofs::ScopeLemmas::scope_laws))]
 fn named_types(alloc: Global, scope: &Scope<'_>, name: &str) -> Result<Numbers, CheckFault>
     ensures { Judges (λ l. l) (selects.named_types (scope_in scope.now) name.now) result }
@@ -118,7 +118,7 @@ fn append(all: &mut Vec<u32>, types: &[u32]) -> Result<(), OutOfMemory>
     Ok(())
 }
 
-/// The types of what a written set holds, put in order once.
+/// The types of the elements of a written set, sorted only once.
 #[tactic(auto, using(crate::proofs::SetLemmas::seed_laws))]
 fn seeds_types(alloc: Global, scope: &Scope<'_>, seeds: &[SeedTree]) -> Result<Numbers, CheckFault>
     ensures { Judges (λ l. l) (selects.seeds_types (scope_in scope.now) (map view_seed seeds.now)) result }
@@ -145,7 +145,7 @@ fn term_types(alloc: Global, scope: &Scope<'_>, term: &SetTermTree) -> Result<Nu
     }
 }
 
-/// A UNION has the types of both sides, the others those of the left side.
+/// The types of an operation: a UNION has those of both sides, the others have those of the left side.
 fn joined(alloc: Global, op: SetOp, left: Numbers, right: &[u32]) -> Result<Numbers, OutOfMemory>
     ensures { IfOk result (λ l. l ≡ spec.joined_types op left right.now) }
 {
@@ -171,7 +171,7 @@ fn chain(
     Ok(types)
 }
 
-/// Whether it is `{}` alone.
+/// Whether a chain is just `{}`.
 fn is_empty(first: &SetTermTree, others: &[(SetOp, SetTermTree)]) -> bool
     ensures { result ≡ selects.is_empty (view_term first.now) (selects.view_terms others.now) }
 {

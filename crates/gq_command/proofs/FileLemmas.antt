@@ -1,18 +1,18 @@
--- Files that are written from the front on: a header, and then the lines of one number after another.
+-- Files that are written sequentially: a header, and then the lines of one number after another.
 use Rattle.std.proofs.Common.{◌≡◌, ℕ, zero, suc, ◌+◌, ◌≤◌, List, [], ◌∷◌, ◌++◌, ap, sym, ◌∙◌, arith, append_assoc, add-one}
 use Rattle.std.proofs.lemmas.List.{flat_map_more}
 use Rattle.std.specs.List.{flat_map, range_with_len}
 
--- one number more, at the end of a run of numbers
+-- a range of numbers, extended by one
 range-more : (a n next : ℕ) → a + n ≡ next → range_with_len a (suc n) ≡ range_with_len a n ++ next ∷ []
 range-more a zero next at = let same : a ≡ next = omega arith in ap (λ k. k ∷ []) same
 range-more a (suc n) next at = ap (λ l. a ∷ l) (range-more (a + 1) n next (omega arith))
 
--- the same of the numbers below one
+-- the same for the numbers below one
 below-more : (i : ℕ) → range_with_len 0 (i + 1) ≡ range_with_len 0 i ++ i ∷ []
 below-more i = rw add-one (range-more 0 i i (omega arith))
 
--- the lines of one number more
+-- the lines of one more number
 pub one_more : (line : ℕ → List ℕ) (head before after : List ℕ) (i : ℕ) → before ≡ head ++ flat_map line (range_with_len 0 i) → after ≡ before ++ line i → after ≡ head ++ flat_map line (range_with_len 0 (i + 1))
 one_more line head before after i so_far written =
     written

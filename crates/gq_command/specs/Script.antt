@@ -1,6 +1,6 @@
 -- Script: the script of sample mode, line by line. It is the same for every number of people.
 --
--- Here it stands line by line. The code has it as one text.
+-- Here it is a list of lines. The code has it as one text.
 use Rattle.std.specs.Prelude.{ℕ, List, [], ◌∷◌, ◌++◌, codes}
 use Rattle.std.specs.List.{flat_map}
 

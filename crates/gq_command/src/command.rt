@@ -1,4 +1,4 @@
-// What a command line asks for.
+// The command of a command line.
 ghost use Rattle.std.specs.Prelude.{◌≡◌};
 
 use gq_base::OutOfMemory;
@@ -6,29 +6,29 @@ use gq_io::Shape;
 use gq_value::Txt;
 use thiserror::Error;
 
-/// What a command line asks for.
+/// The command of a command line.
 #[derive(Debug, Drop)]
 pub struct Command {
-    /// How the work of a block is cut: by default 4 workers, chunks of 1,024 and 16 stripes.
+    /// How the work of a block is divided: by default 4 workers, chunks of 1,024 and 16 stripes.
     pub shape: Shape,
 
-    /// How often the bodies of all loops of a query's run may be entered: 1 to 1,000,000,000, by default 1,000,000.
+    /// The limit on loop iterations in a query's run: 1 to 1,000,000,000, by default 1,000,000.
     pub turns: u64,
 
     pub task: Task,
 }
 
-/// What is to be run.
+/// The task to run.
 #[derive(Debug, Drop)]
 pub enum Task {
-    /// The script in a file, with a file of arguments for its queries where one is named.
+    /// The script in a file, and optionally a file of arguments for its queries.
     Script { path: Txt, arguments: Option<Txt> },
 
-    /// The sample of so many people, 1 to 1,000,000.
+    /// The sample with this number of people, 1 to 1,000,000.
     Sample(u32),
 }
 
-/// Why there is no command.
+/// Why a command line gives no command.
 #[derive(Clone, Copy, Debug, PartialEq, Eq, Error)]
 pub enum WordsFault {
     /// The command line is invalid.

@@ -1,4 +1,4 @@
-// The files. Each is written into one buffer that grows.
+// The files. Each is written into one growing buffer.
 ghost use Rattle.std.specs.Prelude.{◌≡◌, ◌<◌, ◌≤◌, ◌++◌, IfOk, OnOk};
 ghost use Rattle.std.specs.Fmt.{decimal};
 ghost use Rattle.gq_command.specs.Sample.{edge_line, edge_lines, knows_file, last_field, people_file, person, person_line};
@@ -7,7 +7,7 @@ use gq_base::OutOfMemory;
 use itoa::Buffer;
 use std::alloc::Global;
 
-/// The file of `n` people: the header `id,age`, and a line for each.
+/// Returns the file of `n` people: the header `id,age`, and a line for each.
 ///
 /// Person i is `pi`, and is i mod 90 years old.
 pub fn people_csv(alloc: Global, n: u32) -> Result<Vec<u8>, OutOfMemory>
@@ -21,7 +21,7 @@ pub fn people_csv(alloc: Global, n: u32) -> Result<Vec<u8>, OutOfMemory>
     Ok(file)
 }
 
-/// The file of the edges among `n` people: the header `from,to,w`, and two lines for each person.
+/// Returns the file of the edges among `n` people: the header `from,to,w`, and two lines for each person.
 ///
 /// The edges of person i lead to i + 1 and to 7 i + 3, both mod n, with the weights i and i + 1, both mod 100. Lines
 /// may name the same edge.
@@ -63,7 +63,7 @@ fn push_edge_line(file: &mut Vec<u8>, from: u32, to: u32, weight: u32) -> Result
     Ok(())
 }
 
-// The last field of a line, which is a number, and what stands before and behind it.
+// Appends the last field of a line, which is a number, with the comma before it and the line feed after it.
 fn push_last(file: &mut Vec<u8>, number: u32) -> Result<(), OutOfMemory>
     ensures { OnOk result (file.new.items ≡ file.old.items ++ last_field number) }
 {

@@ -8,7 +8,7 @@ use clap::error::ErrorKind;
 use clap::{Arg, ArgMatches, Command, Error};
 use std::alloc::{AllocError, Global};
 
-/// What `clap` matches of the arguments, where they are valid.
+/// Returns what `clap` matches of the arguments, if they are valid.
 pub fn matches_in<'a>(alloc: Global, words: &'a [String]) -> Result<ArgMatches<'a>, WordsFault>
     ensures rows { IfOk result (λ found. matched (map string_bytes words.entry.now) ≡ Some (rows_of (found_of found))) }
     ensures usage { IsErrOf result WordsFault.Usage → matched (map string_bytes words.entry.now) ≡ None }
@@ -19,7 +19,7 @@ pub fn matches_in<'a>(alloc: Global, words: &'a [String]) -> Result<ArgMatches<'
     }
 }
 
-/// The value of an option or a positional, where it is given.
+/// Returns the value of an option or a positional, if it is given.
 pub fn value_of<'a>(found: &ArgMatches<'a>, name: &str) -> Option<&'a str>
     ensures { option_map (λ text. text.now) result ≡ first_of name.now (rows_of (found_of found.now)) }
 {

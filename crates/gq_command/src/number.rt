@@ -4,7 +4,7 @@ ghost use Rattle.std.specs.Char.{is_ascii_digit};
 ghost use Rattle.gq_command.specs.Number.{number_or, number_to};
 ghost use Rattle.gq_command.specs.Ranges.{IsUpTo};
 
-/// The value of an option: its default where it isn't given, and None where it is no number from 1 to this.
+/// Returns the value of an option: its default if it isn't given, and None if it isn't a number from 1 to `most`.
 pub fn number_or(text: Option<&str>, default: u64, most: u64) -> Option<u64>
     requires { IsUpTo most default }
     ensures number { result ≡ number_or default most (option_map (λ t. t.now) text.entry) }
@@ -16,7 +16,7 @@ pub fn number_or(text: Option<&str>, default: u64, most: u64) -> Option<u64>
     }
 }
 
-/// The number from 1 to this that the text is.
+/// Returns the number from 1 to `most` that the text is.
 pub fn number_to(text: &str, most: u64) -> Option<u64>
     ensures number { result ≡ number_to most text.now }
     ensures range { IfSome result (λ n. IsUpTo most n) }

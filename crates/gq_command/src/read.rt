@@ -14,9 +14,10 @@ use gq_io::Shape;
 use gq_value::Txt;
 use std::alloc::Global;
 
-/// The command that the arguments after the program's name ask for.
+/// Parses the arguments after the program's name into a command.
 ///
-/// A number is one to ten ASCII digits. A script and `--sample` exclude one another, and so do `--args` and `--sample`.
+/// A number is one to ten ASCII digits. A script and `--sample` are mutually exclusive, and so are `--args` and
+/// `--sample`.
 pub fn read_words(alloc: Global, words: &[String]) -> Result<Command, WordsFault>
     ensures command { IfOk result (λ command. command_of (map string_bytes words.now) ≡ Some command) }
     ensures range { IfOk result (λ command. InRange command) }

@@ -14,7 +14,8 @@ const JOB: &[u8] =
 const QUERY: &[u8] =
     b"INTERPRET QUERY () FOR GRAPH sample {\n  SumAccum<INT> @got, @@total;\n  MaxAccum<INT> @@top;\n  S = {person.*};\n  T = SELECT t FROM S:s -(knows:e)-> person:t\n      ACCUM t.@got += e.w, @@total += e.w\n      POST-ACCUM @@top += t.@got;\n  PRINT S.size() AS people, T.size() AS reached, @@total AS total, @@top AS top;\n}\n";
 
-/// The script that loads the two files of `n` people and prints a line of sums over them; it is the same for each `n`.
+/// Returns the script that loads the two files of `n` people and prints a line of sums over them; it is the same for
+/// each `n`.
 pub fn sample_script(alloc: Global, _n: u32) -> Result<Vec<u8>, OutOfMemory>
     ensures { IfOk result (λ script. script.items ≡ script_text) }
 {

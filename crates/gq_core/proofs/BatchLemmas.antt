@@ -1,4 +1,4 @@
--- Lists of batches: all empty, or one of them with one contribution more. What a list is kept in stands behind `f`.
+-- Lists of batches: all empty, or one of them with one more contribution. `f` maps a stored list to its contents.
 use Rattle.std.proofs.Common.{◌≡◌, ℕ, ◌+◌, ◌%◌, ◌<◌, ◌≢◌, cond, List, [], ◌∷◌, ◌++◌, length, map, set, take, replicate, Some, slice_get, sym, ◌∙◌, ap, ap₂, arith, eq-eqb, ne_eqb, length-set}
 use Rattle.std.specs.Prelude.{option_map}
 use Rattle.std.proofs.lemmas.Option.{same_Some, slice_get-map}
@@ -9,20 +9,20 @@ use Rattle.gq_core.specs.Batches.{Gains}
 use Rattle.gq_core.proofs.TotalLemmas.{at_same, at_other}
 
 module _ {V X : Type 0} (f : V → List X) where
-  -- one empty list more
+  -- one more empty list
   pub empty_more : (vs : List V) (n : ℕ) (v : V) → map f vs ≡ replicate n [] → f v ≡ [] → map f (vs ++ v ∷ []) ≡ replicate (n + 1) []
   empty_more vs n v all e = map-append f vs (v ∷ []) ∙ (ap₂ (λ (xs : List (List X)) (x : List X). xs ++ x ∷ []) all e ∙ replicate-append-replicate n 1 [])
 
   pub empty_count : (vs : List V) (n : ℕ) → map f vs ≡ replicate n [] → length vs ≡ n
   empty_count vs n all = sym (length-map vs f) ∙ (ap length all ∙ length-replicate n [])
 
-  -- one list more is emptied
+  -- one more list is emptied
   pub emptied_more : (vs : List V) (i : ℕ) (v : V) → i < length vs → take i (map f vs) ≡ replicate i [] → f v ≡ [] → take (i + 1) (map f (set vs i v)) ≡ replicate (i + 1) []
   emptied_more vs i v h all e =
       let l : i < length (map f vs) = let k = length-map vs f in omega arith in
       ap (take (i + 1)) (map-set f vs i v) ∙ (take_more_set (map f vs) i (f v) l ∙ (ap₂ (λ (xs : List (List X)) (x : List X). xs ++ x ∷ []) all e ∙ replicate-append-replicate i 1 []))
 
--- the list at the remainder gains the contribution
+-- the list at the index of the remainder gains the contribution
 pub gained : {V A : Type 0} (f : V → List (ℕ × A)) (vs : List V) (i : ℕ) (old v : V) (target : ℕ) (input : A) → i ≡ target % length vs → slice_get vs i ≡ Some old → f v ≡ f old ++ (target, input) ∷ []
     → Gains (map f vs) (map f (set vs i v)) target input
 gained {V} {A} f vs i old v target input place was more = record {

@@ -1,4 +1,4 @@
--- ContentLemmas: inputs in another order give the same content.
+-- ContentLemmas: the order of inputs doesn't affect the content.
 use Rattle.std.proofs.Common.{◌≡◌, ℕ, ◌%◌, true, List, map, sym, ◌∙◌}
 use Rattle.std.specs.List.Sorted.{IsPermutation}
 use Rattle.std.proofs.lemmas.List.Sorted.{IsPermutation-map, IsPermutation-sym}
@@ -17,7 +17,7 @@ use Rattle.gq_core.specs.Accounts.{IsInOrder}
 use Rattle.gq_core.specs.Contents.{IsFinished, HasAll, inputs_to, all_of, given_to}
 use Rattle.gq_core.proofs.ShuffleLemmas.{has_inputs}
 
--- a part with the inputs of all, in another order, merged into what was there
+-- a part, fed the inputs of all in another order, merged into the earlier content
 part_of_all : (k : Accum) (c : Holds k) (all mine : List Input) → has_no_list k ≡ true → IsProper k c → IsPermutation all mine
     → merged k c (after k (fresh k) (map given mine)) ≡ after k c (map given all)
 part_of_all k c all mine h proper p = merged_part k c (map given mine) proper ∙ sym (order_law k c (map given all) (map given mine) h (IsPermutation-map given all mine p))

@@ -1,4 +1,4 @@
--- Draw, Split and Join keep the accounts.
+-- Draw, Split and Join preserve the accounts.
 use Rattle.std.proofs.Common.{◌≡◌, ℕ, zero, suc, ◌+◌, ◌<◌, ◌≤◌, ◌≢◌, ◌==◌, nat_lt, min, List, [], ◌∷◌, ◌++◌, length, set, Option, Some, slice_get, sym, ◌∙◌, refl, ap, subst, arith, lt-ltb, length-set, length-append}
 use Rattle.std.proofs.lemmas.Option.{none-some}
 use Rattle.gq_core.specs.declared.worker.Phase.{Phase}
@@ -11,7 +11,7 @@ use Rattle.gq_core.proofs.StripeLemmas.{IsQuiet, quiet_idle, quiet_ended, quiet_
 use Rattle.gq_core.proofs.MoveLemmas.{knows_same}
 
 module _ (chunks stripes : ℕ) (s : State) (r : Accounts chunks stripes s) (w : ℕ) (v : Worker) (was : slice_get s.workers w ≡ Some v) where
-  -- an idle worker changes, and the next number rises
+  -- an idle worker changes its phase, and the next number increases
   draws : (n : ℕ) (tickets serving : ℕ → ℕ) (book : ℕ → List ℕ) (away : ℕ → Option ℕ) (u : Worker) → v.phase ≡ Idle → u.puts ≡ v.puts → ((i : ℕ) → IsQuiet i u.phase) → IsFair stripes u → Knows stripes serving u.phase
       → ((i : ℕ) → tickets i ≡ s.tickets i) → ((i : ℕ) → serving i ≡ s.serving i) → ((i : ℕ) → book i ≡ s.book i) → ((i : ℕ) → away i ≡ s.away i)
       → ((c : ℕ) → total (λ v. times c v.draws) (set s.workers w u) ≡ below c (min n chunks)) → total (λ v. length v.draws) (set s.workers w u) ≡ min n chunks
@@ -60,7 +60,7 @@ module _ (chunks stripes : ℕ) (s : State) (r : Accounts chunks stripes s) (w :
       (λ c. total_same (λ v. times c v.draws) s.workers w v u was refl ∙ (r.drawn c ∙ ap (below c) (sym same)))
       (total_same (λ v. length v.draws) s.workers w v u was refl ∙ (r.drawn_all ∙ sym same))
 
--- one worker more
+-- one more worker
 lifted_more : (vs : List Worker) (u : Worker) (i k : ℕ) → HasLifted vs k i → HasLifted (vs ++ u ∷ []) k i
 lifted_more vs u i k (x, at, lift) = (x, at_before vs u k x at, lift)
   where
@@ -97,11 +97,11 @@ pub record IsPlain (stripes : ℕ) (p : Phase) : Type 0 where
   pub quiet : (i : ℕ) → IsQuiet i p
 
 module _ (chunks stripes : ℕ) (s : State) (r : Accounts chunks stripes s) (w x : ℕ) (v u : Worker) (was : slice_get s.workers w ≡ Some v) (other : slice_get s.workers x ≡ Some u) (apart : x ≢ w) where
-  -- the second is still there after the first has changed
+  -- the second worker is unchanged after the first has changed
   there : slice_get (set s.workers w (gathered v u)) x ≡ Some u
   there = at_other s.workers w x (gathered v u) apart ∙ other
 
-  -- the first has what both had, and the second nothing
+  -- the first has what both had, and the second has nothing
   joined : (f : Worker → ℕ) → f (gathered v u) ≡ f v + f u → f (newcomer Joined) ≡ 0 → total f (set (set s.workers w (gathered v u)) x (newcomer Joined)) ≡ total f s.workers
   joined f both none = let a = total-set f s.workers w v (gathered v u) was in let b = total-set f (set s.workers w (gathered v u)) x u (newcomer Joined) there in omega arith
 

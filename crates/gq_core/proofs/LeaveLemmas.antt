@@ -1,4 +1,4 @@
--- Leave keeps the accounts: a worker that has laid its chunk has put it, and the next ticket is served.
+-- Leave preserves the accounts: a worker that has laid its chunk has put it, and the next ticket is served.
 use Rattle.std.proofs.Common.{◌≡◌, ℕ, ◌+◌, ◌<◌, ◌≤◌, ◌≢◌, ◌==◌, ◌&&◌, nat_lt, Bool, true, false, List, [], ◌∷◌, ◌++◌, length, set, Option, Some, slice_get, sym, ◌∙◌, refl, ap, subst, arith, eq-eqb, ne_eqb, length-set}
 use Rattle.std.proofs.lemmas.Option.{none-some}
 use mathlib.Core.Logic.{dite}
@@ -11,7 +11,7 @@ use Rattle.gq_core.specs.Accounts.{one_if, below, times, put_at, put_of, owes_at
 use Rattle.gq_core.proofs.TotalLemmas.{is, is_same, is_other, below_yes, below_no, below_one, below-next, first_same, second_other, each_set, total-set, total_same, total_two, put_at-append, put_of-append}
 use Rattle.gq_core.proofs.StripeLemmas.{IsQuiet, quiet_laid, alike_quiet, lifted_set, lifted_unset, balanced_same}
 
--- a stripe from j on is j, or one behind it
+-- a stripe from j on is j, or a later one
 below_step : (i j : ℕ) → below j (i + 1) ≡ is i j + below (j + 1) (i + 1)
 below_step i j = dite (ℕ_discrete i j)
     (λ (e : i ≡ j). let a = is_same i j e in let b = below_yes j (i + 1) (omega arith) in let d = below_no (j + 1) (i + 1) (omega arith) in omega arith)
@@ -23,7 +23,7 @@ both_step : (a : Bool) (i j : ℕ) → one_if (a && nat_lt j (i + 1)) ≡ one_if
 both_step true i j = below_step i j
 both_step false i j = refl
 
--- what a worker is about behind a stripe: it owes the stripes behind it, and counts for nothing else
+-- a worker that is done with a stripe: it owes the later stripes, and counts for nothing else
 pub record IsBehind (stripes : ℕ) (t : Turn) (p : Phase) : Type 0 where
   pub owes : (c i : ℕ) → i < stripes → owes_of c i p ≡ one_if ((c == t.chunk) && nat_lt (t.stripe + 1) (i + 1))
   pub owes_all : (i : ℕ) → i < stripes → owes_at i p ≡ below (t.stripe + 1) (i + 1)
@@ -36,7 +36,7 @@ has_ticket s t j nobody serving same turn = dite (ℕ_discrete t.stripe j)
     let d = is_same (s.serving j) t.ticket (ap s.serving (sym e) ∙ sym turn) in absurd (omega arith))
     (λ (ne : t.stripe ≢ j). turn ∙ sym (same t.stripe ne))
 
--- where no other worker has the ticket that is served at stripe j, what others know stays when serving rises there
+-- if no other worker has the served ticket of stripe j, incrementing serving there keeps what other workers know
 serves : (s : State) (p : Phase) (j : ℕ) → ((i : ℕ) → i ≡ j → ticket_of i (s.serving j) p ≡ 0) → (stripes : ℕ) (serving : ℕ → ℕ) → ((i : ℕ) → i ≢ j → serving i ≡ s.serving i) → Knows stripes s.serving p → Knows stripes serving p
 serves s Idle j nobody stripes serving same k = tt
 serves s Ended j nobody stripes serving same k = tt

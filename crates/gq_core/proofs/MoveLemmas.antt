@@ -1,4 +1,4 @@
--- Ticket, Look, Lift and Lay keep the accounts: one worker changes its phase at a stripe.
+-- Ticket, Look, Lift and Lay preserve the accounts: one worker changes its phase at a stripe.
 use Rattle.std.proofs.Common.{◌≡◌, ℕ, ◌+◌, ◌<◌, ◌≤◌, ◌≢◌, ◌==◌, List, [], ◌∷◌, ◌++◌, length, set, Option, Some, None, slice_get, sym, ◌∙◌, refl, ap, ap₂, subst, arith, eq-eqb, length-set}
 use Rattle.std.proofs.lemmas.Option.{none-some, same_Some}
 use mathlib.Core.Logic.{dite}
@@ -23,7 +23,7 @@ knows_same stripes serving serving' same (Laid t) k = (k.0, k.1 ∙ sym (same t.
 knows_same stripes serving serving' same Joined k = tt
 
 module _ (chunks stripes : ℕ) (s : State) (r : Accounts chunks stripes s) (w : ℕ) (v : Worker) (was : slice_get s.workers w ≡ Some v) where
-  -- another phase with the same debts, where each stripe's accounts are known
+  -- another phase with the same debts, given the accounts of each stripe
   pub moves : (tickets serving : ℕ → ℕ) (book : ℕ → List ℕ) (away : ℕ → Option ℕ) (p : Phase)
       → ((c i : ℕ) → owes_of c i p ≡ owes_of c i v.phase) → ((i : ℕ) → owes_at i p ≡ owes_at i v.phase) → ((i : ℕ) → serving i ≡ s.serving i) → Knows stripes s.serving p
       → ((i : ℕ) → i < stripes → IsBalanced (record { next = s.next; tickets = tickets; serving = serving; book = book; away = away; workers = set s.workers w (in_phase p v) }) i)

@@ -1,4 +1,4 @@
--- Each event leaves a machine in order, and so does any list of events.
+-- Each event keeps a machine in order, and so does any list of events.
 use Rattle.std.proofs.Common.{◌≡◌, ℕ, zero, suc, ◌+◌, ◌<◌, ◌≤◌, ◌≢◌, ◌==◌, nat_lt, ◌&&◌, not, Bool, true, false, if◌then◌else◌, min, List, [], ◌∷◌, ◌++◌, length, set, replicate, Option, Some, None, slice_get, sym, ◌∙◌, refl, ap, subst, arith, eq-eqb, ne_eqb, lt-ltb, le-ltb, ltb-true, length-set}
 use Rattle.std.specs.Prelude.{IfSome, is_none, unwrap_or}
 use Rattle.std.proofs.lemmas.Option.{none-some, same_Some}
@@ -22,7 +22,7 @@ use Rattle.gq_core.proofs.MoveLemmas.{ticket_keeps, look_keeps, lift_keeps, lay_
 use Rattle.gq_core.proofs.LeaveLemmas.{IsBehind, leave_keeps}
 use Rattle.gq_core.proofs.DrawLemmas.{IsPlain, draw_keeps, end_keeps, split_keeps, join_keeps}
 
--- a choice by a test, where what holds of both sides may use the test
+-- a conditional, where the proof of each branch may use the test
 choose : {A : Type 0} (P : A → Type 0) (t : Bool) (x y : A) → (t ≡ true → P x) → (t ≡ false → P y) → P (if t then x else y)
 choose P true x y f g = f refl
 choose P false x y f g = g refl
@@ -46,7 +46,7 @@ pub made : (o : Option Worker) → (unwrap_or o (newcomer Joined)).phase ≢ Joi
 made None h = absurd (h refl)
 made (Some v) h = refl
 
--- what stays of each stripe where it stays of the one that is changed
+-- what holds of each stripe is kept if it is kept for the changed one
 stays : {B : Type 0} (f : Stripe → B) (xs : List Stripe) (j : ℕ) (s : Stripe) → f s ≡ f (unwrap_or (slice_get xs j) fresh) → (i : ℕ) → f (unwrap_or (slice_get (set xs j s) i) fresh) ≡ f (unwrap_or (slice_get xs i) fresh)
 stays f [] j s e i = refl
 stays f (x ∷ xs) zero s e zero = e
@@ -62,7 +62,7 @@ here [] j s h = absurd (omega arith)
 here (x ∷ xs) zero s h = refl
 here (x ∷ xs) (suc j) s h = here xs j s (omega arith)
 
--- a stripe with other numbers, and the same book and inputs
+-- a stripe with other numbers, but the same book and inputs
 fed_same : (job : FeedJob) (m : Machine) → IsInOrder job m → (j : ℕ) (s : Stripe) → s.book ≡ (stripe_at m j).book → s.inputs ≡ (stripe_at m j).inputs
     → (i : ℕ) → i < job.stripes → (unwrap_or (slice_get (set m.stripes j s) i) fresh).inputs ≡ batches_of job.chunks job.stripes i (unwrap_or (slice_get (set m.stripes j s) i) fresh).book
 fed_same job m r j s book inputs i h =
@@ -277,12 +277,12 @@ kept : (job : FeedJob) (m : Machine) → IsInOrder job m → (o : Option Machine
 kept job m r None h = r
 kept job m r (Some x) h = h
 
--- any events
+-- any list of events
 pub order_run : (job : FeedJob) (m : Machine) → IsInOrder job m → (es : List Event) → IsInOrder job (run job m es)
 order_run job m r [] = r
 order_run job m r (e ∷ es) = order_run job (unwrap_or (happens job m e) m) (kept job m r (happens job m e) (order_after job m r e)) es
 
--- the beginning
+-- the initial state
 fresh_at : (n j : ℕ) → unwrap_or (slice_get (replicate n fresh) j) fresh ≡ fresh
 fresh_at zero j = refl
 fresh_at (suc n) zero = refl

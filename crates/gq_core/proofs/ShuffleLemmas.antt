@@ -1,4 +1,4 @@
--- A finished machine holds each chunk once at each stripe, and so all inputs.
+-- A finished machine has each chunk once at each stripe, and so all inputs.
 use Rattle.std.proofs.Common.{◌≡◌, ℕ, zero, suc, ◌+◌, ◌%◌, ◌<◌, ◌≤◌, ◌≢◌, ◌==◌, Bool, true, false, cond, min, List, [], ◌∷◌, ◌++◌, length, map, take, get_or, sym, ◌∙◌, refl, ap, ap₂, subst, arith, eq-eqb, ne_eqb, append_assoc}
 use Rattle.std.specs.Prelude.{filter, flat_map}
 use Rattle.std.specs.List.Sorted.{IsPermutation}
@@ -19,14 +19,14 @@ use Rattle.gq_core.specs.Accounts.{below, times, total, put_of, owes_of, laid_of
 use Rattle.gq_core.specs.Contents.{has_chunk, IsFinished, numbers, all_of, inputs_to, put_times, IsShuffled}
 use Rattle.gq_core.proofs.TotalLemmas.{is_same, is_other, below_yes, below_no, below-next, total_agrees, times-append}
 
--- a number that stands in a list, with what is before and behind it
+-- a number that is in a list, with the parts before and after it
 found : (x : ℕ) (xs : List ℕ) → 0 < times x xs → (before : List ℕ) × (behind : List ℕ) × (xs ≡ before ++ x ∷ behind)
 found x [] h = absurd (omega arith)
 found x (y ∷ ys) h = dite (ℕ_discrete x y)
     (λ (e : x ≡ y). ([], ys, ap (λ (z : ℕ). z ∷ ys) (sym e)))
     (λ (ne : x ≢ y). let n = is_other x y ne in let r = found x ys (omega arith) in (y ∷ r.0, r.1, ap (λ (zs : List ℕ). y ∷ zs) r.2))
 
--- a list that has each number below n once, and no other: what its numbers stand for is that of the numbers in order, in another order
+-- a list that has exactly the numbers below n, each once: mapped, it is a permutation of the numbers in order, mapped
 shuffled : {B : Type 0} (f : ℕ → List B) (n : ℕ) (xs : List ℕ) → ((c : ℕ) → times c xs ≡ below c n) → IsPermutation (flat_map f (numbers n)) (flat_map f xs)
 shuffled f zero [] counts = IsPermutation-refl []
 shuffled f zero (x ∷ xs) counts = let h = counts x in let a = is_same x x refl in let b = below_no x 0 (omega arith) in absurd (omega arith)
@@ -92,7 +92,7 @@ inputs_to-batch_of {A} target stripes (x ∷ xs) = dite (ℕ_discrete x.0 target
     dropped h true = test rest false h
     dropped h false = refl
 
--- what is true of a machine whose workers hold no chunk
+-- what holds of a machine whose workers hold no chunk
 owes_none : (p : Phase) → has_chunk p ≡ false → (c j : ℕ) → owes_of c j p ≡ 0
 owes_none Idle h c j = refl
 owes_none Ended h c j = refl

@@ -1,4 +1,4 @@
--- What the code reads off a machine in order, and what an event's answer says of the machine behind it.
+-- What the code reads from a machine in order, and what the result of an event says of the machine after it.
 use Rattle.std.proofs.Common.{◌≡◌, ℕ, ◌+◌, ◌<◌, ◌≤◌, ◌≢◌, ◌==◌, ◌&&◌, nat_lt, min, Bool, true, false, not, List, [], ◌∷◌, ◌++◌, length, set, get_or, if◌then◌else◌, Option, Some, None, slice_get, Result, Ok, Err, sym, ◌∙◌, refl, ap, ap₂, subst, arith, eq-eqb, ne_eqb, get_or-set_other}
 use Rattle.std.specs.Prelude.{IfOk, OnErr, IfSome, is_some, is_none, unwrap_or}
 use Rattle.std.proofs.lemmas.Option.{slice_get_within, slice_get_read}
@@ -21,7 +21,7 @@ here_owed j i = dite (ℕ_discrete j i)
     (λ (e : j ≡ i). let a = is_same j i e in let b = below_yes i (j + 1) (omega arith) in omega arith)
     (λ (ne : j ≢ i). let a = is_other j i ne in omega arith)
 
--- who has a ticket owes the put
+-- a worker with a ticket owes the put
 ticket_owed : (j : ℕ) (p : Phase) → ticket_at j p ≤ owes_at j p
 ticket_owed j Idle = omega arith
 ticket_owed j Ended = omega arith
@@ -39,7 +39,7 @@ module _ (job : FeedJob) (m : Machine) (r : IsInOrder job m) (w : ℕ) where
   knows : (p : Phase) → (worker_at m w).phase ≡ p → p ≢ Joined → Knows job.stripes (state_of m).serving p
   knows p e h = subst (Knows job.stripes (state_of m).serving) e (r.accounts.knows w (worker_at m w) (at (λ q. h (sym e ∙ q))))
 
-  -- a stripe gives no more tickets than there are chunks
+  -- a stripe gives at most as many tickets as there are chunks
   pub tickets_below : (c j : ℕ) → (worker_at m w).phase ≡ Holds c j → (stripe_at m j).tickets < length job.chunks
   tickets_below c j e =
       let v : Worker = worker_at m w in let here = at (λ q. let d : Holds c j ≡ Joined = sym e ∙ q in cc) in
@@ -49,7 +49,7 @@ module _ (job : FeedJob) (m : Machine) (r : IsInOrder job m) (w : ℕ) where
       (λ k u there. let f = (r.accounts.fair k u there).owed_all j inside in let t = ticket_owed j u.phase in omega arith) w v here (omega arith) in
       let numbered = (r.accounts.balanced j inside).numbered in let all = r.accounts.drawn_all in omega arith
 
-  -- who has laid a chunk has a ticket
+  -- a worker that has laid a chunk has a ticket
   pub serving_below : (t : Turn) → (worker_at m w).phase ≡ Laid t → (stripe_at m t.stripe).serving < (stripe_at m t.stripe).tickets
   serving_below t e =
       let v : Worker = worker_at m w in let j : ℕ = t.stripe in let n : ℕ = (stripe_at m j).serving in let here = at (λ q. let d : Laid t ≡ Joined = sym e ∙ q in cc) in
@@ -58,7 +58,7 @@ module _ (job : FeedJob) (m : Machine) (r : IsInOrder job m) (w : ℕ) where
       let some = total_at (λ v. ticket_of j n v.phase) m.workers w v here in
       dite (dec_lt n (stripe_at m j).tickets) (λ h. h) (λ (h : ¬ (n < (stripe_at m j).tickets)). let z = below_no n (stripe_at m j).tickets (omega arith) in absurd (omega arith))
 
-  -- a chunk that is held is one of the job's
+  -- a lifted chunk is one of the job's
   pub chunk_below : (t : Turn) → (worker_at m w).phase ≡ Lifted t → t.chunk < length job.chunks
   chunk_below t e =
       let v : Worker = worker_at m w in let j : ℕ = t.stripe in let c : ℕ = t.chunk in let here = at (λ q. let d : Lifted t ≡ Joined = sym e ∙ q in cc) in
@@ -83,11 +83,11 @@ module _ (job : FeedJob) (m : Machine) (r : IsInOrder job m) (w : ℕ) where
 pub made_within : (m : Machine) (w : ℕ) (p : Phase) → (worker_at m w).phase ≡ p → p ≢ Joined → w < length m.workers
 made_within m w p e h = slice_get_within m.workers w (worker_at m w) (made (slice_get m.workers w) (λ q. h (sym e ∙ q)))
 
--- nor is a free one's
+-- and so was a free worker, which is live and holds no chunk
 pub free_within : (m : Machine) (w : ℕ) → is_free (worker_at m w).phase ≡ true → w < length m.workers
 free_within m w free = made_within m w (worker_at m w).phase refl (not_joined (worker_at m w).phase free)
 
--- the machine behind an event is in order, whatever the event answered
+-- the machine after an event is in order, whatever the event's result
 pub tells_order : (job : FeedJob) (m m' : Machine) (o : Option Machine) (b : Bool) → IsInOrder job m → IfSome o (IsInOrder job) → Tells o b m m' → IsInOrder job m'
 tells_order job m m' None b r after told = subst (IsInOrder job) (sym told.1) r
 tells_order job m m' (Some x) b r after told = subst (IsInOrder job) (sym told.1) after
@@ -97,7 +97,7 @@ pub answer_order : {E : Type 0} (job : FeedJob) (m m' : Machine) (o : Option Mac
 answer_order job m m' o (Ok b) r after told same = tells_order job m m' o b r after told
 answer_order job m m' o (Err e) r after told same = subst (IsInOrder job) (sym same) r
 
--- what an event's answer says, where the machine is told by its parts
+-- what the result of an event says, with the machine given by its parts
 module _ (next : ℕ) (ss : List Stripe) (ws : List Worker) (w : ℕ) where
   abbrev pub whole : Machine
   whole = record { next = next; stripes = ss; workers = ws }
@@ -162,7 +162,7 @@ module _ (next : ℕ) (ss : List Stripe) (ws : List Worker) (w : ℕ) where
             (up ∙ ap₂ (λ (q : Phase) (y : Worker). record { phase = q; draws = y.draws; puts = y.puts ++ (t.chunk, t.stripe) ∷ [] }) goes (sym (worker_read w v made is_v))),
       )
 
-  -- a place is read twice
+  -- reading an index twice yields the same
   pub stripe_twice : (j : ℕ) (s t : Stripe) → j < length ss → s ≡ get_or ss j s → t ≡ get_or ss j t → t ≡ s
   stripe_twice j s t h is_s is_t = sym (stripe_read j t h is_t) ∙ stripe_read j s h is_s
 
@@ -178,7 +178,7 @@ module _ (next : ℕ) (ss : List Stripe) (ws : List Worker) (w : ℕ) where
       subst (λ b. Tells (if b then Some (with_worker x (newcomer Joined) (with_worker w (gathered (worker_at whole w) (worker_at whole x)) whole)) else None) true whole new) (sym all)
       (refl, ap (λ zs. record { next = next; stripes = ss; workers = zs }) (set_comm ws x w n g (λ e. apart (sym e)) ∙ ap₂ (λ (a b : Worker). set (set ws w a) x b) same is_n))
 
-  -- what was taken out is put back
+  -- an item that was taken out is put back
   pub put_back : (x : ℕ) (v n g u : Worker) → w ≢ x → v ≡ get_or (set ws x n) w v → g ≡ v → u ≡ get_or ws x u → set (set (set ws x n) w g) x u ≡ ws
   put_back x v n g u apart is_v is_g is_u =
       ap (λ zs. set zs x u) (ap (set (set ws x n) w) (is_g ∙ is_v) ∙ set-get_or (set ws x n) w v)

@@ -1,4 +1,4 @@
--- The accounts of a stripe stay where one worker changes to another that counts the same there.
+-- The accounts of a stripe are kept if a worker changes to one that counts the same there.
 use Rattle.std.proofs.Common.{◌≡◌, ℕ, ◌+◌, ◌≢◌, ◌==◌, List, set, Option, Some, slice_get, sym, ◌∙◌, refl, ap, ap₂, ne_eqb}
 use Rattle.std.proofs.lemmas.Option.{none-some, same_Some}
 use mathlib.Core.Logic.{dite}
@@ -82,7 +82,7 @@ alike_quiet i v u q q' puts puts_of = record {
   lift_back = λ e. absurd (q'.lift e);
 }
 
--- who has a stripe away, after a change of one worker
+-- which worker has a stripe away, after a change of one worker
 pub lifted_set : (vs : List Worker) (w : ℕ) (v u : Worker) (i : ℕ) → slice_get vs w ≡ Some v → (lifts v.phase ≡ Some i → lifts u.phase ≡ Some i) → (k : ℕ) → HasLifted vs k i → HasLifted (set vs w u) k i
 lifted_set vs w v u i was keeps k (x, at, lift) = dite (ℕ_discrete k w)
     (λ (e : k ≡ w). let same : x ≡ v = same_Some x v (sym at ∙ (ap (slice_get vs) e ∙ was)) in
@@ -93,7 +93,7 @@ pub lifted_unset : (vs : List Worker) (w : ℕ) (v u : Worker) (i : ℕ) → sli
 lifted_unset vs w v u i was keeps k (x, at, lift) =
     each_set (λ (n : ℕ) (y : Worker). lifts y.phase ≡ Some i → HasLifted vs n i) vs w v u was (λ e. (v, was, keeps e)) (λ n y _ there e. (y, there, e)) k x at lift
 
--- the numbers of stripe i stay, and so do its accounts
+-- if the numbers of stripe i are kept, so are its accounts
 pub balanced_same : (s : State) (w : ℕ) (v u : Worker) → slice_get s.workers w ≡ Some v → (next : ℕ) (tickets serving : ℕ → ℕ) (book : ℕ → List ℕ) (away : ℕ → Option ℕ) (i : ℕ)
     → tickets i ≡ s.tickets i → serving i ≡ s.serving i → book i ≡ s.book i → away i ≡ s.away i → IsAlike i v u → IsBalanced s i
     → IsBalanced (record { next = next; tickets = tickets; serving = serving; book = book; away = away; workers = set s.workers w u }) i

@@ -1,4 +1,4 @@
--- Totals over workers, lists with another item at a place, and tests as numbers.
+-- Totals over workers, lists with one item replaced, and tests as numbers.
 use Rattle.std.proofs.Common.{◌≡◌, ℕ, zero, suc, ◌+◌, ◌<◌, ◌≤◌, ◌≢◌, ◌==◌, Bool, true, false, ◌&&◌, List, [], ◌∷◌, ◌++◌, length, set, Some, slice_get, sym, ◌∙◌, refl, ap, subst, arith, eq-eqb, ne_eqb, lt-ltb, le-ltb}
 use Rattle.std.proofs.lemmas.Option.{none-some, same_Some}
 use mathlib.Core.Logic.{dite}
@@ -31,7 +31,7 @@ below-next c x = dite (ℕ_discrete c x)
     (λ (h : x ≤ c). let b = below_no c x h in let d = below_no c (x + 1) (omega arith) in omega arith)
     (λ (h : ¬ (x ≤ c)). let b = below_yes c x (omega arith) in let d = below_yes c (x + 1) (omega arith) in omega arith))
 
--- two tests, of which one is known
+-- two tests, the first of which is known
 pub first_same : (a b : Bool) → a ≡ true → one_if (a && b) ≡ one_if b
 first_same a b e = ap (λ t. one_if (t && b)) e
 
@@ -46,7 +46,7 @@ pub second_other : (a b : Bool) → b ≡ false → one_if (a && b) ≡ 0
 second_other true b e = ap one_if e
 second_other false b e = refl
 
--- a list with another item at a place
+-- a list with one item replaced
 pub at_same : {A : Type 0} (xs : List A) (k : ℕ) (v u : A) → slice_get xs k ≡ Some v → slice_get (set xs k u) k ≡ Some u
 at_same [] k v u at = absurd (none-some v at)
 at_same (x ∷ xs) zero v u at = refl
@@ -59,7 +59,7 @@ at_other (x ∷ xs) zero (suc i) u n = refl
 at_other (x ∷ xs) (suc k) zero u n = refl
 at_other (x ∷ xs) (suc k) (suc i) u n = at_other xs k i u (λ e. n (ap suc e))
 
--- what holds of each item still does after a change, where it holds of the new one
+-- what holds of each item still does after a change, if it holds of the new item
 pub each_set : {A : Type 0} (P : ℕ → A → Type 0) (xs : List A) (k : ℕ) (v u : A) → slice_get xs k ≡ Some v → P k u → ((i : ℕ) (x : A) → i ≢ k → slice_get xs i ≡ Some x → P i x)
     → (i : ℕ) (x : A) → slice_get (set xs k u) i ≡ Some x → P i x
 each_set {A} P xs k v u was mine others i x at = dite (ℕ_discrete i k)
@@ -67,7 +67,7 @@ each_set {A} P xs k v u was mine others i x at = dite (ℕ_discrete i k)
     let f : P i u = subst (λ (n : ℕ). P n u) (sym e) mine in subst (P i) (same_Some u x here) f)
     (λ (ne : i ≢ k). others i x ne (sym (at_other xs k i u ne) ∙ at))
 
--- likewise where one item comes behind them
+-- likewise if one item is appended
 pub each_more : {A : Type 0} (P : ℕ → A → Type 0) (xs : List A) (u : A) → P (length xs) u → ((i : ℕ) (x : A) → slice_get xs i ≡ Some x → P i x)
     → (i : ℕ) (x : A) → slice_get (xs ++ u ∷ []) i ≡ Some x → P i x
 each_more P [] u mine others zero x at = subst (P 0) (same_Some u x at) mine
@@ -75,7 +75,7 @@ each_more P [] u mine others (suc i) x at = absurd (none-some x at)
 each_more P (y ∷ ys) u mine others zero x at = others 0 x at
 each_more P (y ∷ ys) u mine others (suc i) x at = each_more (λ i x. P (suc i) x) ys u mine (λ i x at. others (suc i) x at) i x at
 
--- one worker in another's place changes a total by what they differ
+-- replacing one worker changes a total by the difference between the two
 pub total-set : (f : Worker → ℕ) (vs : List Worker) (k : ℕ) (v u : Worker) → slice_get vs k ≡ Some v → total f (set vs k u) + f v ≡ total f vs + f u
 total-set f [] k v u at = absurd (none-some v at)
 total-set f (x ∷ xs) zero v u at = let e : f x ≡ f v = ap f (same_Some x v at) in omega arith
@@ -101,7 +101,7 @@ total_two f (x ∷ xs) zero (suc i) v u at there ne = let e : f x ≡ f v = ap f
 total_two f (x ∷ xs) (suc k) zero v u at there ne = let e : f x ≡ f u = ap f (same_Some x u there) in let r = total_at f xs k v at in omega arith
 total_two f (x ∷ xs) (suc k) (suc i) v u at there ne = let r = total_two f xs k i v u at there (λ e. ne (ap suc e)) in omega arith
 
--- one total is at most another where each worker's part is, and less where one worker's is
+-- a total is at most another if each worker's part is, and less if one worker's part is less
 pub total_le : (f g : Worker → ℕ) (vs : List Worker) → ((k : ℕ) (v : Worker) → slice_get vs k ≡ Some v → f v ≤ g v) → total f vs ≤ total g vs
 total_le f g [] h = omega arith
 total_le f g (x ∷ xs) h = let a = h 0 x refl in let r = total_le f g xs (λ k v at. h (suc k) v at) in omega arith
@@ -116,7 +116,7 @@ pub total_agrees : (f g : Worker → ℕ) (vs : List Worker) → ((k : ℕ) (v :
 total_agrees f g [] h = refl
 total_agrees f g (x ∷ xs) h = let a = h 0 x refl in let r = total_agrees f g xs (λ k v at. h (suc k) v at) in omega arith
 
--- counts in lists that are joined
+-- counts in concatenated lists
 pub times-append : (x : ℕ) (ys zs : List ℕ) → times x (ys ++ zs) ≡ times x ys + times x zs
 times-append x [] zs = omega arith
 times-append x (y ∷ ys) zs = let r = times-append x ys zs in omega arith

@@ -1,5 +1,6 @@
--- Contents: what a machine holds once its job is done: each chunk was put once at each stripe, and so a stripe holds the
--- inputs to its targets, whatever the order of the events. The code has no part in it: this is a law of the machine.
+-- Contents: the contents of a finished machine, in which each chunk was put once at each stripe.
+-- So a stripe holds the inputs to its targets, whatever the order of the events. The code doesn't compute this: it is a
+-- law of the machine.
 use Rattle.std.specs.Prelude.{◌≡◌, ℕ, zero, suc, ◌≤◌, ◌%◌, ◌==◌, Bool, true, false, List, [], ◌∷◌, ◌++◌, length, map, filter, flat_map, slice_get, Some}
 use Rattle.std.specs.List.Sorted.{IsPermutation}
 use Rattle.gq_value.specs.declared.kind.Input.{Input}
@@ -46,17 +47,18 @@ inputs_to target inputs = map (λ input. input.1) (filter (λ input. input.0 == 
 abbrev pub put_times : Machine → ℕ → ℕ → ℕ
 put_times m chunk stripe = total (λ v. put_of chunk stripe v.puts) m.workers
 
--- the chunks that were laid at a stripe are all chunks, and its inputs are what of all contributions goes to it, in another order
+-- the chunks that were laid at a stripe are all chunks, and its inputs are a permutation of all contributions that
+-- belong to it
 pub record IsShuffled (job : FeedJob) (m : Machine) (stripe : ℕ) : Type 0 where
   pub book : IsPermutation (numbers (length job.chunks)) (stripe_at m stripe).book
   pub inputs : IsPermutation (batch_of job.stripes stripe (all_of job.chunks)) (stripe_at m stripe).inputs
 
--- what a target is fed, in order
+-- the inputs of a target, in order
 abbrev pub given_to : ℕ → List (ℕ × Input) → List Given
 given_to target inputs = map given (inputs_to target inputs)
 
--- a target's opening, merged with the content of what its stripe has for it, is the content after all inputs to it in chunk
--- order. It is of a kind with no ListAccum at any level, and its opening is what inputs can lead to
+-- a target's initial content, merged with the content of its inputs in its stripe, is the content after all its inputs
+-- in chunk order, if its kind has no ListAccum at any level and inputs can lead to its initial content
 abbrev pub HasAll : FeedJob → Machine → ℕ → Type 0
 HasAll job m target = (k : Accum) (c : Holds k) → has_no_list k ≡ true → IsProper k c
     → merged k c (after k (fresh k) (given_to target (stripe_at m (target % job.stripes)).inputs)) ≡ after k c (given_to target (all_of job.chunks))

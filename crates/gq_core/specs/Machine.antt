@@ -16,7 +16,7 @@ pub record Machine : Type 0 where
   pub stripes : List Stripe
   pub workers : List Worker
 
--- a stripe where nothing was put yet
+-- a stripe at which nothing was put yet
 abbrev pub fresh : Stripe
 fresh = record { tickets = 0; serving = 0; book = []; inputs = []; away = None }
 
@@ -24,7 +24,7 @@ fresh = record { tickets = 0; serving = 0; book = []; inputs = []; away = None }
 abbrev pub newcomer : Phase → Worker
 newcomer phase = record { phase = phase; draws = []; puts = [] }
 
--- one worker, and nothing drawn
+-- the initial machine: one worker, and nothing drawn
 abbrev pub opening : FeedJob → Machine
 opening job = record { next = 0; stripes = replicate job.stripes fresh; workers = newcomer Idle ∷ [] }
 
@@ -36,23 +36,23 @@ worker_at m w = unwrap_or (slice_get m.workers w) (newcomer Joined)
 abbrev pub stripe_at : Machine → ℕ → Stripe
 stripe_at m j = unwrap_or (slice_get m.stripes j) fresh
 
--- a worker in another phase
+-- a worker with its phase replaced
 abbrev pub in_phase : Phase → Worker → Worker
 in_phase phase v = record v { phase = phase }
 
--- the machine with another worker at w
+-- the machine with worker w replaced
 abbrev pub with_worker : ℕ → Worker → Machine → Machine
 with_worker w v m = record m { workers = slice_set m.workers w v }
 
--- the machine with another stripe at j
+-- the machine with stripe j replaced
 abbrev pub with_stripe : ℕ → Stripe → Machine → Machine
 with_stripe j s m = record m { stripes = slice_set m.stripes j s }
 
--- the machine with the worker w in another phase
+-- the machine with worker w in another phase
 abbrev pub moved : ℕ → Phase → Machine → Machine
 moved w phase m = with_worker w (in_phase phase (worker_at m w)) m
 
--- the worker with the number n as its own: it holds that chunk at the first stripe, or ends where there is no such chunk
+-- the worker after drawing the number n: it holds that chunk at the first stripe, or ends if there is no such chunk
 abbrev pub drawn : FeedJob → ℕ → Worker → Worker
 drawn job n v = if nat_lt n (length job.chunks) then record v { phase = Holds n 0; draws = v.draws ++ n ∷ [] } else in_phase Ended v
 
@@ -68,17 +68,17 @@ ticket m w (Holds c j) =
     Some (with_stripe j (record s { tickets = s.tickets + 1 }) (moved w (Waits (record { chunk = c; stripe = j; ticket = s.tickets })) m))
 ticket m w _ = None
 
--- Look: one that waits is served if it is its turn; else nothing changes
+-- Look: one that waits is served if its ticket is the served one; else nothing changes
 abbrev pub look : Machine → ℕ → Phase → Option Machine
 look m w (Waits t) = Some (if t.ticket == (stripe_at m t.stripe).serving then moved w (Served t) m else m)
 look m w _ = None
 
--- Lift: one that is served takes the stripe away, if it is at home
+-- Lift: one that is served takes the stripe away, if it isn't away
 abbrev pub lift : Machine → ℕ → Phase → Option Machine
 lift m w (Served t) = let s = stripe_at m t.stripe in if is_none s.away then Some (with_stripe t.stripe (record s { away = Some w }) (moved w (Lifted t) m)) else None
 lift m w _ = None
 
--- a stripe that is at home again, with this chunk and its batch behind what was there
+-- a stripe that is back, with this chunk and its batch appended
 abbrev pub laid : FeedJob → Turn → Stripe → Stripe
 laid job t s = record s {
   away = None;
@@ -91,11 +91,11 @@ abbrev pub lay : FeedJob → Machine → ℕ → Phase → Option Machine
 lay job m w (Lifted t) = Some (with_stripe t.stripe (laid job t (stripe_at m t.stripe)) (moved w (Laid t) m))
 lay job m w _ = None
 
--- where a chunk is put after a stripe: at the next one, and after the last one nowhere
+-- where a chunk is put after a stripe: at the next one, or nowhere after the last
 abbrev pub behind : FeedJob → Turn → Phase
 behind job t = if nat_lt (t.stripe + 1) job.stripes then Holds t.chunk (t.stripe + 1) else Idle
 
--- Leave: one that has laid its chunk has put it there, and lets the next ticket be served
+-- Leave: one that has laid its chunk records the put, and lets the next ticket be served
 abbrev pub leave : FeedJob → Machine → ℕ → Phase → Option Machine
 leave job m w (Laid t) =
     let s = stripe_at m t.stripe in let v = worker_at m w in
@@ -113,21 +113,21 @@ is_free Idle = true
 is_free Ended = true
 is_free _ = false
 
--- Split: fewer than 1,024 workers make one more
+-- Split: makes one more worker, if there are fewer than 1,024
 abbrev pub split : Machine → Phase → Option Machine
 split m phase = if is_live phase && nat_lt (length m.workers) 1024 then Some (record m { workers = m.workers ++ newcomer Idle ∷ [] }) else None
 
--- a worker that keeps its own phase, with the draws and puts of another
+-- a worker that keeps its phase and gains the draws and puts of another
 abbrev pub gathered : Worker → Worker → Worker
 gathered v u = record v { draws = v.draws ++ u.draws; puts = v.puts ++ u.puts }
 
--- Join: of two workers that hold no chunk the first takes all from the second
+-- Join: of two workers that hold no chunk, the first takes over the draws and puts of the second
 abbrev pub join : Machine → ℕ → ℕ → Option Machine
 join m w x =
     let v = worker_at m w in let u = worker_at m x in
     if not (w == x) && is_free v.phase && is_free u.phase then Some (with_worker x (newcomer Joined) (with_worker w (gathered v u) m)) else None
 
--- the machine after an event, or None where the event isn't enabled
+-- the machine after an event, or None if the event isn't enabled
 abbrev pub happens : FeedJob → Machine → Event → Option Machine
 happens job m (Draw w) = draw job m w (worker_at m w).phase
 happens job m (Ticket w) = ticket m w (worker_at m w).phase
@@ -138,12 +138,13 @@ happens job m (Leave w) = leave job m w (worker_at m w).phase
 happens job m (Split w) = split m (worker_at m w).phase
 happens job m (Join w x) = join m w x
 
--- what a step answers, and what it leaves: the machine after its event, or false and the machine as it was
+-- the result of a step and the machine after it: true and the machine after the event, or false and an unchanged
+-- machine
 abbrev pub Tells : Option Machine → Bool → Machine → Machine → Type 0
 Tells None answer old new = (answer ≡ false) × (new ≡ old)
 Tells (Some after) answer old new = (answer ≡ true) × (new ≡ after)
 
--- the machine after these events, of which those that are not enabled change nothing
+-- the machine after these events; those that aren't enabled change nothing
 abbrev pub run : FeedJob → Machine → List Event → Machine
 run job m [] = m
 run job m (e ∷ es) = run job (unwrap_or (happens job m e) m) es

@@ -1,4 +1,4 @@
-// Batches.
+// Batches of contributions.
 ghost use Rattle.std.specs.Prelude.{◌≡◌, ◌<◌, [], length, replicate, slice_get, Some, IfOk, OnOk, OnErr};
 ghost use Rattle.gq_core.specs.Batches.{Gains};
 
@@ -7,9 +7,9 @@ use gq_value::Input;
 use std::alloc::Global;
 use std::marker::Model;
 
-/// The contributions of one chunk, cut by stripes: a list for each, at least one. Contracts see the lists.
+/// The contributions of one chunk, grouped by stripe: a list for each, at least one. Contracts see the lists.
 ///
-/// One worker fills them chunk after chunk, so what is cleared keeps its memory.
+/// One worker fills them for one chunk after another, so clearing keeps the memory.
 #[derive(Debug, Drop)]
 pub struct Batches {
     lists: Vec<Vec<(u64, Input)>>,
@@ -31,7 +31,7 @@ impl Model for Batches {
 }
 
 impl Batches {
-    /// Lists without contributions, one for each stripe.
+    /// Returns empty lists, one for each stripe.
     pub fn new(alloc: Global, stripes: u32) -> Result<Batches, OutOfMemory>
         requires { 0 < stripes }
         ensures { IfOk result (λ b. b ≡ replicate stripes []) }
@@ -43,7 +43,7 @@ impl Batches {
         Ok(Batches { lists })
     }
 
-    /// How many stripes there are.
+    /// The number of stripes.
     pub fn stripes(&self) -> usize
         ensures stripes { result ≡ length self.now }
         ensures some { 0 < result }
@@ -59,8 +59,8 @@ impl Batches {
         self.lists[stripe].as_slice()
     }
 
-    /// Adds one contribution to the list of its stripe. After `OutOfMemory` the lists are as they were, and the input is
-    /// given up.
+    /// Appends one contribution to the list of its stripe. After `OutOfMemory` the lists are unchanged, and the input
+    /// is dropped.
     pub fn add(&mut self, target: u64, input: Input) -> Result<(), OutOfMemory>
         ensures ok { OnOk result (Gains self.old self.new target input) }
         ensures err { OnErr result (self.new ≡ self.old) }
@@ -70,7 +70,7 @@ impl Batches {
         Ok(())
     }
 
-    /// Empties the list of each stripe, and keeps their memory.
+    /// Empties the list of each stripe and keeps the memory.
     pub fn clear(&mut self)
         ensures { self.new ≡ replicate (length self.old) [] }
     {

@@ -1,4 +1,4 @@
-// Copies of inputs, which own their texts and rows.
+// Copies of inputs, including their texts and rows.
 ghost use Rattle.std.specs.Prelude.{◌≡◌, ◌<◌, ◌++◌, IfOk, OnOk, OnErr};
 ghost use Rattle.gq_core.specs.Batches.{batch_of};
 
@@ -31,7 +31,7 @@ fn copy_of_inputs(alloc: Global, inputs: &[Input]) -> Result<Inputs, OutOfMemory
     Ok(copy)
 }
 
-/// A copy of contributions, in order.
+/// Copies contributions, in order.
 pub fn copy_of_all(alloc: Global, inputs: &[(u64, Input)]) -> Result<Contributions, OutOfMemory>
     ensures { IfOk result (λ copy. copy ≡ inputs.now) }
 {
@@ -42,7 +42,7 @@ pub fn copy_of_all(alloc: Global, inputs: &[(u64, Input)]) -> Result<Contributio
     Ok(copy)
 }
 
-/// Puts a copy of what of `inputs` goes to a stripe behind `list`. After OutOfMemory part of it may be there.
+/// Appends copies of those of `inputs` that belong to a stripe to `list`. After OutOfMemory some of them may be there.
 fn push_batch(
     alloc: Global,
     list: &mut Contributions,
@@ -62,7 +62,7 @@ fn push_batch(
     Ok(())
 }
 
-/// Puts a copy of what of `inputs` goes to a stripe behind `list`, which after OutOfMemory is as it was.
+/// Appends copies of those of `inputs` that belong to a stripe to `list`, which is unchanged after OutOfMemory.
 pub fn add_batch(
     alloc: Global,
     list: &mut Contributions,

@@ -1,4 +1,4 @@
-// What may happen next.
+// The events of the machine.
 
 /// One step of one worker, by the worker's number.
 #[derive(Clone, Copy, Debug, PartialEq, Eq)]
@@ -9,21 +9,21 @@ pub enum Event {
     /// Takes a ticket at the stripe where its chunk is to be put next.
     Ticket(u32),
 
-    /// Looks whether its ticket is served.
+    /// Checks whether its ticket is served.
     Look(u32),
 
     /// Takes the stripe away, to work on it.
     Lift(u32),
 
-    /// Brings the stripe back, with the chunk's batch behind what was there.
+    /// Brings the stripe back, with the chunk's batch appended.
     Lay(u32),
 
-    /// Lets the next ticket be served, and goes to the next stripe.
+    /// Lets the next ticket be served, and moves on to the next stripe.
     Leave(u32),
 
     /// Makes a new worker.
     Split(u32),
 
-    /// The first worker takes the draws and puts of the second, which is then gone.
+    /// The first worker takes over the draws and puts of the second, which then no longer exists.
     Join(u32, u32),
 }

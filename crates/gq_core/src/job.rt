@@ -6,7 +6,7 @@ use gq_base::{List, OutOfMemory};
 use gq_value::Input;
 use std::alloc::Global;
 
-/// What candidates contribute: targets, each with an input.
+/// The contributions of candidates: targets, each with an input.
 pub type Contributions = List<(u64, Input)>;
 
 /// What is to be fed: chunks of contributions, in order, and the number of stripes, at least 1.
@@ -18,7 +18,7 @@ pub struct FeedJob {
 }
 
 impl FeedJob {
-    /// A job without chunks, which takes no memory.
+    /// Returns a job without chunks; allocates nothing.
     pub fn new(alloc: Global, stripes: u32) -> FeedJob
         requires { 0 < stripes }
         ensures chunks { result.chunks ≡ [] }
@@ -30,7 +30,7 @@ impl FeedJob {
         }
     }
 
-    /// Puts a copy of `inputs` behind the chunks. After `OutOfMemory` the job is as it was.
+    /// Appends a copy of `inputs` as a chunk. After `OutOfMemory` the job is unchanged.
     pub fn add_chunk(&mut self, alloc: Global, inputs: &Contributions) -> Result<(), OutOfMemory>
         ensures ok { OnOk result (self.new.chunks ≡ self.old.chunks ++ inputs.now ∷ []) }
         ensures err { OnErr result (self.new.chunks ≡ self.old.chunks) }

@@ -1,4 +1,4 @@
-// What is true of every run.
+// Laws of every run.
 ghost use Rattle.std.specs.Prelude.{◌≡◌, ◌≢◌, ℕ, ◌+◌, ◌%◌, ◌<◌, ◌≤◌, List, length, slice_get, Some};
 ghost use Rattle.std.specs.List.Sorted.{IsPermutation};
 ghost use Rattle.gq_core.specs.declared.job.FeedJob.{FeedJob};
@@ -20,8 +20,8 @@ pub fn any_events()
         (target : ℕ) → IsPermutation (inputs_to target (all_of job.chunks)) (inputs_to target (stripe_at m (target % job.stripes)).inputs) }
 {}
 
-/// Does nothing. Its contract says what the accounts come to: no chunk is drawn by two workers, no ticket of a stripe is
-/// held by two, and no chunk stands twice in a stripe's book.
+/// Does nothing. Its contract states what the accounts imply: no two workers draw the same chunk or hold the same
+/// ticket of a stripe, and no chunk is in a stripe's book twice.
 pub fn once_at_most()
     ensures drawn { (job : FeedJob) (m : Machine) → IsInOrder job m → (w x : ℕ) (v u : Worker) → x ≢ w → slice_get m.workers w ≡ Some v → slice_get m.workers x ≡ Some u →
         (chunk : ℕ) → times chunk v.draws + times chunk u.draws ≤ 1 }
@@ -30,8 +30,8 @@ pub fn once_at_most()
     ensures laid { (job : FeedJob) (m : Machine) → IsInOrder job m → (stripe chunk : ℕ) → stripe < job.stripes → times chunk (stripe_at m stripe).book ≤ 1 }
 {}
 
-/// Does nothing. Its contract is a law of every job and every list of events: once each chunk was drawn and no worker holds
-/// one, each target's content is what one worker would have given, whatever the order of the events.
+/// Does nothing. Its contract is a law of every job and every list of events: once each chunk was drawn and no worker
+/// holds one, each target's content is the one that a single worker would compute, whatever the order of the events.
 pub fn one_content()
     ensures { (job : FeedJob) (events : List Event) → let m = run job (opening job) events in IsFinished job m → (target : ℕ) → HasAll job m target }
 {}

@@ -1,8 +1,8 @@
 //! A protocol for the worker threads of a block, as a state machine that takes one event at a time, and the lists
 //! of inputs that it hands on. Blocks of the engine use the lists (`Batches`), and not the machine yet.
 //!
-//! A job is cut into chunks, and its contributions go to stripes. Workers take chunks, and put the batch of
-//! each chunk into each stripe in turn, in the order of the tickets that they take there. Here a single
+//! A job is cut into chunks, and its contributions belong to stripes. Workers take chunks, and put the batch of
+//! each chunk into one stripe after another, in the order of the tickets that they take there. In this crate a single
 //! thread makes the steps, in any order; `gq_stripe` makes the same steps with atomic operations on many
 //! threads.
 //!

@@ -35,7 +35,7 @@ impl Model for Core {
 }
 
 impl Core {
-    /// A core with worker 0 alone, which has drawn nothing.
+    /// Returns a core with only worker 0, which has drawn nothing.
     pub fn open(alloc: Global, job: &FeedJob) -> Result<Core, OutOfMemory>
         ensures opening { IfOk result (λ core. core ≡ opening job.now) }
         ensures order { IfOk result (IsInOrder job.now) }
@@ -54,7 +54,7 @@ impl Core {
     }
 }
 
-/// Takes one event, and answers whether it was enabled. After false and after `OutOfMemory` the core is as it was.
+/// Executes one event and returns whether it was enabled. After false and after `OutOfMemory` the core is unchanged.
 pub fn step(
     alloc: Global,
     core: &mut Core,

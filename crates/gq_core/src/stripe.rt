@@ -7,7 +7,7 @@ use crate::worker::Turn;
 use gq_base::{List, OutOfMemory};
 use std::alloc::Global;
 
-/// One stripe: its tickets, the chunks that were laid there, with their inputs, and who has it away.
+/// One stripe: its tickets, the chunks that were laid there, with their inputs, and the worker that has it away.
 #[derive(Debug, Drop)]
 pub struct Stripe {
     /// The number that the next ticket gets.
@@ -19,7 +19,7 @@ pub struct Stripe {
     /// The chunks that were laid here, in order.
     pub book: List<u64>,
 
-    /// The batches of these chunks, one behind the other.
+    /// The batches of these chunks, concatenated.
     pub inputs: Contributions,
 
     /// The worker that has the stripe away.
@@ -29,7 +29,7 @@ pub struct Stripe {
 impl Stripe {
     ghost use Rattle.gq_core.specs.Machine.{fresh, laid};
 
-    /// A stripe where nothing was put yet, which takes no memory.
+    /// Returns a stripe at which nothing was put yet; allocates nothing.
     pub fn new(alloc: Global) -> Stripe
         ensures { result ≡ fresh }
     {
@@ -42,7 +42,7 @@ impl Stripe {
         }
     }
 
-    /// Gives the next ticket.
+    /// Returns the next ticket.
     pub fn give_ticket(&mut self) -> u64
         requires { self.old.tickets + 1 < 2 ^ 64 }
         ensures ticket { result ≡ self.old.tickets }
@@ -53,7 +53,7 @@ impl Stripe {
         ticket
     }
 
-    /// Lays a chunk's batch behind what was there, and is at home again. After `OutOfMemory` nothing has changed.
+    /// Appends a chunk's batch, and marks the stripe as back. After `OutOfMemory` nothing has changed.
     pub fn lay(&mut self, alloc: Global, job: &FeedJob, turn: Turn) -> Result<(), OutOfMemory>
         requires { turn.chunk < length job.now.chunks }
         ensures ok { OnOk result (self.new ≡ laid job.now turn self.old) }

@@ -13,7 +13,7 @@ pub struct Turn {
     pub ticket: u64,
 }
 
-/// What a worker is about.
+/// The phase of a worker.
 #[derive(Clone, Copy, Debug, PartialEq, Eq)]
 pub enum Phase {
     /// Holds no chunk, and may draw one.
@@ -25,26 +25,26 @@ pub enum Phase {
     /// Holds a chunk that is to be put at a stripe: first the chunk, then the stripe.
     Holds(u64, u32),
 
-    /// Has a ticket there.
+    /// Has a ticket for that stripe.
     Waits(Turn),
 
     /// Saw that its ticket is served.
     Served(Turn),
 
-    /// Has the stripe away.
+    /// Has taken the stripe away.
     Lifted(Turn),
 
-    /// Brought it back.
+    /// Has brought it back.
     Laid(Turn),
 
-    /// Gave its draws and puts to another worker, and counts no more.
+    /// Has handed its draws and puts to another worker, and no longer counts.
     Joined,
 }
 
 impl Phase {
     ghost use Rattle.gq_core.specs.Machine.{is_free};
 
-    /// Whether it is that of a live worker that holds no chunk.
+    /// Whether a worker in this phase is live and holds no chunk.
     pub fn is_free(self) -> bool
         ensures { result ≡ is_free self }
     {
@@ -52,7 +52,7 @@ impl Phase {
     }
 }
 
-/// A worker: what it is about, the chunks that it drew, and its puts, each a chunk and a stripe.
+/// A worker: its phase, the chunks that it drew, and its puts, each a chunk and a stripe.
 #[derive(Debug, Drop)]
 pub struct Worker {
     pub phase: Phase,
@@ -63,7 +63,7 @@ pub struct Worker {
 impl Worker {
     ghost use Rattle.gq_core.specs.Machine.{newcomer, gathered};
 
-    /// A worker that has drawn nothing, which takes no memory.
+    /// Returns a worker that has drawn nothing; allocates nothing.
     pub fn new(alloc: Global, phase: Phase) -> Worker
         ensures { result ≡ newcomer phase }
     {
@@ -74,7 +74,7 @@ impl Worker {
         }
     }
 
-    /// Draws a chunk, and holds it at the first stripe.
+    /// Records the draw of a chunk, and holds it at the first stripe.
     pub fn draw(&mut self, chunk: u64) -> Result<(), OutOfMemory>
         ensures ok { OnOk result (self.new ≡ record self.old { phase = Holds chunk 0; draws = self.old.draws ++ chunk ∷ [] }) }
         ensures err { OnErr result (self.new ≡ self.old) }
@@ -84,7 +84,7 @@ impl Worker {
         Ok(())
     }
 
-    /// Has put its chunk at a stripe, and goes on to another phase.
+    /// Records the put of its chunk at a stripe, and changes to another phase.
     pub fn put(&mut self, chunk: u64, stripe: u32, next: Phase) -> Result<(), OutOfMemory>
         ensures ok { OnOk result (self.new ≡ record self.old { phase = next; puts = self.old.puts ++ (chunk, stripe) ∷ [] }) }
         ensures err { OnErr result (self.new ≡ self.old) }
@@ -94,7 +94,7 @@ impl Worker {
         Ok(())
     }
 
-    /// Takes the draws and puts of another worker beside its own, or none of them.
+    /// Adds the draws and puts of another worker to its own, or none of them.
     pub fn gather(&mut self, other: &Worker) -> Result<(), OutOfMemory>
         ensures ok { OnOk result (self.new ≡ gathered self.old other.now) }
         ensures err { OnErr result (self.new ≡ self.old) }
@@ -111,7 +111,7 @@ impl Worker {
     }
 }
 
-/// Puts copies of `items` behind a list. After `OutOfMemory` some of them may be there.
+/// Appends copies of `items` to a list. After `OutOfMemory` some of them may be there.
 fn push_all<T: Copy>(list: &mut List<T>, items: &[T]) -> Result<(), OutOfMemory>
     ensures ok { OnOk result (list.new ≡ list.old ++ items.now) }
     ensures err { OnErr result ((part : _) × (list.new ≡ list.old ++ part)) }
@@ -122,7 +122,7 @@ fn push_all<T: Copy>(list: &mut List<T>, items: &[T]) -> Result<(), OutOfMemory>
     Ok(())
 }
 
-/// Puts copies of `items` behind a list, which after `OutOfMemory` is as it was.
+/// Appends copies of `items` to a list, which is unchanged after `OutOfMemory`.
 fn append<T: Copy>(list: &mut List<T>, items: &[T]) -> Result<(), OutOfMemory>
     ensures ok { OnOk result (list.new ≡ list.old ++ items.now) }
     ensures err { OnErr result (list.new ≡ list.old) }

@@ -1,4 +1,4 @@
--- Attributes that trees tell are of plain types.
+-- Attributes from trees have plain types.
 use Rattle.std.proofs.Common.{◌≡◌, List, true, All, map, get_or, refl, ℕ}
 use Rattle.std.proofs.lemmas.List.Elements.{All-map}
 use Rattle.gq_graph.specs.Defaults.{is_plain, is_plain_sort, sort_of}

@@ -1,4 +1,4 @@
--- A job with a new name, for a graph that is there.
+-- A job with a new name, for an existing graph.
 use Rattle.std.proofs.Common.{◌≡◌, ℕ, List, Some, false, cond, Err, ap, ◌∙◌}
 use Rattle.gq_graph.specs.Catalog.{Schema, graph_of}
 use Rattle.gq_tree.specs.declared.job.JobTree.{JobTree}

@@ -1,4 +1,4 @@
--- A statement is denied where its declaration is refused.
+-- A statement is denied if its declaration is refused.
 use Rattle.std.proofs.Common.{◌≡◌, ◌≢◌, ℕ, Bool, List, ◌++◌, length, map, Option, Some, ap, sym, ◌∙◌}
 use Rattle.gq_graph.specs.declared.types.Attribute.{Attribute}
 use Rattle.gq_graph.specs.declared.types.IdShape.{IdShape}
@@ -15,7 +15,7 @@ use Rattle.gq_tree.specs.declared.schema.GraphTree.{GraphTree}
 use Rattle.gq_ddl.specs.Attributes.{attribute_of, discriminator_of, id_of}
 use Rattle.gq_ddl.specs.Declarations.{unless_refused, vertex_created, ends_created, graph_created, members_of}
 
--- what the fault of a declaration becomes denies its statement
+-- the statement fault that a declaration's fault becomes denies the statement
 abbrev pub Becomes : SchemaFault → StatementFault → Type 0
 Becomes f statement = (due : Option SchemaFault) (schema old new : Schema) → (f ≢ fault.OutOfMemory → due ≡ Some f) → new ≡ old → Denies (unless_refused due schema) old new statement
 

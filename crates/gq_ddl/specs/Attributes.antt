@@ -1,4 +1,4 @@
--- Attributes: the attributes and the id that the tree of a declaration tells.
+-- Attributes: the attributes and the id in the tree of a declaration.
 use Rattle.std.specs.Prelude.{ℕ, Bool, true, false, nat_lt, if◌then◌else◌, pos, neg_ℤ, List, map, fold, Option, None, codes}
 use Rattle.std.specs.Option.{option_map}
 use Rattle.std.specs.Str.{str_eq_ignore_ascii_case}
@@ -25,11 +25,11 @@ kind_of kind.Bool = base.Bool
 kind_of kind.Text = base.Text
 kind_of kind.Time = base.Time
 
--- a value that suits no attribute: that of a number below INT
+-- a value that suits no attribute: that of a number below the range of INT
 abbrev pub no_default : Value
 no_default = value.Vertex 0
 
--- the value of a number, with or without a minus sign: an INT where that can hold it, and else a UINT
+-- the value of a number, with or without a minus sign: an INT if it fits, or else a UINT
 abbrev pub number_value : Bool → ℕ → Value
 number_value false n = if nat_lt n 9223372036854775808 then value.Int (pos n) else value.UInt n
 number_value true n = if nat_lt 9223372036854775808 n then no_default else value.Int (neg_ℤ (pos n))
@@ -53,7 +53,7 @@ abbrev pub shown_by : Bool → VertexOption → Bool
 shown_by shown (option.Stats text) = shown
 shown_by shown (option.IdAsAttribute text) = str_eq_ignore_ascii_case text (codes "true")
 
--- whether options show the id as an attribute: the last of them that speaks of it counts
+-- whether options show the id as an attribute: the last of them that mentions it decides
 abbrev pub is_shown : List VertexOption → Bool
 is_shown options = fold shown_by false options
 

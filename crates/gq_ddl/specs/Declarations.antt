@@ -1,4 +1,4 @@
--- Declarations: what CREATE VERTEX, CREATE EDGE and CREATE GRAPH make of a catalog, or why they are refused.
+-- Declarations: the effect of CREATE VERTEX, CREATE EDGE and CREATE GRAPH on a catalog, or why they are refused.
 use Rattle.std.specs.Prelude.{ℕ, Bool, true, false, List, ◌++◌, map, length, Option, Some, None, option_and_then, Result, Ok, Err}
 use Rattle.gq_graph.specs.declared.types.Attribute.{Attribute}
 use Rattle.gq_graph.specs.Catalog.{Schema, with_vertex_type, with_edge_types, edge_types_of, end_of, with_graph}
@@ -17,7 +17,7 @@ use Rattle.gq_tree.specs.declared.schema.MembersTree.TheVariants as members
 use Rattle.gq_tree.specs.declared.schema.GraphTree.{GraphTree}
 use Rattle.gq_ddl.specs.Attributes.{attribute_of, discriminator_of, id_of}
 
--- the refusal of a statement whose declaration is refused so; OutOfMemory refuses nothing
+-- the refusal of a statement, given that of its declaration; OutOfMemory isn't a refusal
 abbrev pub refusal_of : SchemaFault → Option Refusal
 refusal_of (fault.NameTaken x) = Some (refusal.NameTaken x)
 refusal_of (fault.NoSuchType x) = Some (refusal.NoSuchType x)
@@ -27,7 +27,7 @@ refusal_of fault.TooMany = Some refusal.TooMany
 refusal_of fault.OutOfMemory = None
 refusal_of (fault.BadDefault x) = Some (refusal.BadDefault x)
 
--- a refusal where one is due, and else the catalog
+-- the refusal if there is one, or else the catalog
 abbrev pub refused_or : Option Refusal → Schema → Result Schema Refusal
 refused_or None schema = Ok schema
 refused_or (Some due) schema = Err due
@@ -43,7 +43,7 @@ vertex_created schema tree =
     (vertex_refusal schema tree.name (id_of tree) (map attribute_of tree.attributes))
     (with_vertex_type schema tree.name (id_of tree) (map attribute_of tree.attributes))
 
--- an edge type with discriminators, which are its first attributes, and with its reverse type, where it has one
+-- an edge type with discriminators, which become its first attributes, and with its reverse type, if it has one
 abbrev pub edge_with : Schema → Bool → EndsTree → Option (List ℕ) → List Attribute → List Attribute → Result Schema Refusal
 edge_with schema directed ends reverse discriminators attributes =
     unless_refused

@@ -1,4 +1,4 @@
--- FittingLaws: jobs stay those of their catalog while it grows, and one more may join them.
+-- FittingLaws: jobs stay valid while their catalog grows, and a valid job may be added.
 use Rattle.std.proofs.Common.{ℕ, zero, suc, ◌≡◌, List, [], ◌∷◌, ◌++◌, get_or, All, Some, Bool, true, false, cond, subst, arith}
 use Rattle.std.specs.List.{find}
 use Rattle.gq_graph.specs.Catalog.{Schema}
@@ -19,11 +19,11 @@ all_and P [] x all last (suc k) d low = absurd (omega arith)
 all_and P (y ∷ xs) x all last zero d low = all 0 y (omega arith)
 all_and P (y ∷ xs) x all last (suc k) d low = all_and P xs x (λ j e less. all (suc j) e (omega arith)) last k d (omega arith)
 
--- one job more
+-- one more job
 pub jobs_and : (schema : Schema) (jobs : List NamedJob) (entry : NamedJob) → JobsFit schema jobs → All (LineFits schema) entry.job.lines → JobsFit schema (jobs ++ entry ∷ [])
 jobs_and schema jobs entry fit last = all_and (λ (e : NamedJob). All (LineFits schema) e.job.lines) jobs entry fit last
 
--- what is found among items has what all of them have
+-- an item that is found has what all items have
 pub all_found : {A : Type 0} (P : A → Type 0) (p : A → Bool) (xs : List A) (x : A) → All P xs → find p xs ≡ Some x → P x
 all_found P p [] x all is = absurd (cc)
 all_found {A} P p (y ∷ xs) x all is = by (p y) is (λ later. all_found P p xs x (λ j e less. all (suc j) e (omega arith)) later)

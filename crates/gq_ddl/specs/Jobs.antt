@@ -1,4 +1,4 @@
--- Jobs: the named loading jobs of a session, and what CREATE LOADING JOB makes of them, or why it is refused.
+-- Jobs: the named loading jobs of a session, and the effect of CREATE LOADING JOB on them, or why it is refused.
 use Rattle.std.specs.Prelude.{ℕ, Bool, if◌then◌else◌, List, [], ◌∷◌, ◌++◌, find, Option, Some, None, option_map, option_and_then, bytes_eq, Result, Ok, Err}
 use Rattle.std.specs.List.{list_any}
 use Rattle.gq_graph.specs.Catalog.{Schema, graph_of}
@@ -17,7 +17,7 @@ use Rattle.gq_ddl.specs.declared.named.NamedJob.{NamedJob}
 abbrev pub is_named : List ℕ → NamedJob → Bool
 is_named name entry = bytes_eq entry.name name
 
--- whether a job of the name is there
+-- whether a job of the name exists
 abbrev pub has_job : List NamedJob → List ℕ → Bool
 has_job jobs name = list_any (is_named name) jobs
 
@@ -30,7 +30,7 @@ job_named jobs name = option_map (λ (entry : NamedJob). entry.job) (entry_of jo
 
 -- ---- CREATE LOADING JOB
 
--- the refusal of a statement whose job is refused so; OutOfMemory refuses nothing
+-- the refusal of a statement, given that of its job; OutOfMemory isn't a refusal
 abbrev pub refusal_of : JobFault → Option Refusal
 refusal_of (fault.NoSuchType x) = Some (refusal.NoSuchType x)
 refusal_of (fault.WrongCount x) = Some (refusal.WrongCount x)
@@ -39,7 +39,7 @@ refusal_of (fault.UnknownFile x) = Some (refusal.UnknownName x)
 refusal_of fault.BadOption = Some refusal.BadOption
 refusal_of fault.OutOfMemory = None
 
--- a refusal where one is due, and else the jobs
+-- the refusal if there is one, or else the jobs
 abbrev pub refused_or : Option Refusal → List NamedJob → Result (List NamedJob) Refusal
 refused_or None jobs = Ok jobs
 refused_or (Some due) jobs = Err due
@@ -48,16 +48,16 @@ refused_or (Some due) jobs = Err due
 abbrev pub unless_refused : Option JobFault → List NamedJob → Result (List NamedJob) Refusal
 unless_refused due jobs = refused_or (option_and_then refusal_of due) jobs
 
--- one job more
+-- the jobs with one more
 abbrev pub with_job : List NamedJob → List ℕ → Job → List NamedJob
 with_job jobs name job = jobs ++ record { name = name; job = job } ∷ []
 
--- the job of a tree for its graph, whose number is known, or which isn't there
+-- the job of a tree for its graph, given the graph's number if the graph exists
 abbrev pub job_for : Schema → List NamedJob → JobTree → Option ℕ → Result (List NamedJob) Refusal
 job_for schema jobs tree None = Err (refusal.UnknownName tree.graph)
 job_for schema jobs tree (Some graph) = unless_refused (job_refusal schema graph tree) (with_job jobs tree.name (job_of schema graph tree))
 
--- CREATE LOADING JOB: its name is new, its graph is there, and no rule on its lines fails
+-- CREATE LOADING JOB: its name is new, its graph exists, and no rule on its lines fails
 abbrev pub job_created : Schema → List NamedJob → JobTree → Result (List NamedJob) Refusal
 job_created schema jobs tree =
     if has_job jobs tree.name then Err (refusal.NameTaken tree.name) else job_for schema jobs tree (graph_of schema tree.graph)

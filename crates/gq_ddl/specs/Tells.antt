@@ -1,4 +1,4 @@
--- Tells: when an answer is the refusal that is due, or out of memory for its name.
+-- Tells: when a returned fault is the expected refusal, or OutOfMemory while its name was copied.
 use Rattle.std.specs.Prelude.{◌≡◌}
 use Rattle.gq_diagnostics.specs.declared.refusal.Refusal.{Refusal}
 use Rattle.gq_diagnostics.specs.declared.refusal.StatementFault.{StatementFault}

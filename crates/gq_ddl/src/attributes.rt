@@ -1,4 +1,4 @@
-// The attributes and the id that the tree of a declaration tells.
+// The attributes and the id in the tree of a declaration.
 ghost use Rattle.std.specs.Prelude.{◌≡◌, IfOk, All, map, true};
 ghost use Rattle.std.specs.Option.{option_map};
 ghost use Rattle.gq_graph.specs.Defaults.{is_plain};

@@ -13,7 +13,7 @@ use gq_tree::{EdgeTree, EndsTree, GraphTree, MembersTree, VertexTree};
 use gq_value::Txt;
 use std::alloc::Global;
 
-/// CREATE VERTEX. The catalog gains the type, or is as it was.
+/// Executes CREATE VERTEX. The catalog gains the type, or is unchanged.
 pub fn create_vertex(
     alloc: Global,
     catalog: &mut Catalog,
@@ -29,7 +29,7 @@ pub fn create_vertex(
     }
 }
 
-/// CREATE EDGE. The catalog gains the type, and its reverse type, or is as it was.
+/// Executes CREATE EDGE. The catalog gains the type and its reverse type, or is unchanged.
 pub fn create_edge(
     alloc: Global,
     catalog: &mut Catalog,
@@ -43,7 +43,7 @@ pub fn create_edge(
     }
 }
 
-/// CREATE GRAPH. The catalog gains the graph, whose number is the answer, or is as it was.
+/// Executes CREATE GRAPH. The catalog gains the graph, whose number is returned, or is unchanged.
 pub fn create_graph(catalog: &mut Catalog, tree: &GraphTree) -> Result<u32, StatementFault>
     ensures created { Answers (graph_created catalog.old tree.now) catalog.old catalog.new result }
     ensures number { IfOk result (λ number. number ≡ length catalog.old.graphs) }

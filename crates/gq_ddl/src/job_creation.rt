@@ -15,9 +15,9 @@ use gq_tree::JobTree;
 use gq_value::Txt;
 use std::alloc::Global;
 
-/// CREATE LOADING JOB. The jobs gain the one of the tree, or are as they were.
+/// Executes CREATE LOADING JOB. The jobs gain the one of the tree, or are unchanged.
 ///
-/// Refused where a job of the name is there, else where its graph isn't, else by the first rule that the job fails.
+/// Refused if a job of the name exists, or else if its graph doesn't, or else by the first rule that the job fails.
 pub fn create_job(
     alloc: Global,
     catalog: &Catalog,
@@ -25,7 +25,7 @@ pub fn create_job(
     tree: &JobTree,
 ) -> Result<(), StatementFault>
     ensures created { Answers (job_created catalog.now jobs.old tree.now) jobs.old jobs.new result }
-    // Jobs of the catalog stay so, and the new one is one.
+    // Jobs that are valid for the catalog stay so, and the new one is valid too.
     ensures fit { JobsFit catalog.now jobs.old → JobsFit catalog.now jobs.new }
 {
     if has_job(jobs.as_slice(), tree.name.as_str()) {
@@ -62,7 +62,7 @@ fn add_job(
     }
 }
 
-// A job of the name is there, or memory for the name is wanting.
+// A job of the name exists, or memory for the name ran out.
 fn name_taken(alloc: Global, name: &str) -> StatementFault
     ensures { Tells (Refusal.NameTaken name.now) result }
 {
@@ -72,7 +72,7 @@ fn name_taken(alloc: Global, name: &str) -> StatementFault
     }
 }
 
-// No graph has the name, or memory for the name is wanting.
+// No graph has the name, or memory for the name ran out.
 fn unknown_graph(alloc: Global, name: &str) -> StatementFault
     ensures { Tells (Refusal.UnknownName name.now) result }
 {

@@ -3,7 +3,7 @@
 //! A declaration adds one entry to the catalog or is refused by the first rule that fails. Loading jobs are
 //! checked when they are created and kept by name; they stay valid while the catalog grows.
 //!
-//! Read `specs/Declarations.antt` first, what each statement does to a catalog, then `specs/Attributes.antt`
+//! Read `specs/Declarations.antt` first (the effect of each statement on a catalog), then `specs/Attributes.antt`
 //! and, for loading jobs, `specs/Jobs.antt` and `specs/Fitting.antt`. `src/create.rt` has the statements on
 //! types and graphs, `src/named.rt` the jobs by name, `src/attributes.rt` the attributes of a declaration.
 #![tactic(auto)]

@@ -1,4 +1,4 @@
-// Jobs by their names.
+// Jobs by name.
 ghost use Rattle.std.specs.Prelude.{◌≡◌, All, IfSome};
 ghost use Rattle.std.specs.Option.{option_copied};
 ghost use Rattle.gq_graph.specs.Catalog.{Schema};
@@ -16,7 +16,7 @@ pub struct NamedJob {
     pub job: Job,
 }
 
-/// The job of a name. Takes no memory.
+/// Finds the job of a name. Allocates nothing.
 pub fn find_job<'a>(jobs: &'a [NamedJob], name: &str) -> Option<&'a Job>
     ensures found { option_copied result ≡ spec.job_named jobs.now name.now }
     ensures fits { (schema : Schema) → JobsFit schema jobs.now → IfSome result (λ job. All (LineFits schema) job.now.lines) }
@@ -27,7 +27,7 @@ pub fn find_job<'a>(jobs: &'a [NamedJob], name: &str) -> Option<&'a Job>
     }
 }
 
-/// Whether a job of the name is there.
+/// Whether a job of the name exists.
 pub(crate) fn has_job(jobs: &[NamedJob], name: &str) -> bool
     ensures { result ≡ spec.has_job jobs.now name.now }
 {

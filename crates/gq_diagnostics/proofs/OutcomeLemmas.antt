@@ -1,4 +1,4 @@
--- How a run that writes line after line keeps to its outcome.
+-- Lemmas on how a run that writes one line after another keeps to its outcome.
 use Rattle.std.proofs.Common.{◌≡◌, ℕ, zero, suc, ◌+◌, ◌<◌, ◌≤◌, List, [], ◌∷◌, ◌++◌, length, take, Option, Some, None, inl, inr, refl, ap, sym, ◌∙◌, subst, arith, length-append, append_assoc}
 use Rattle.std.specs.List.{concat}
 use Rattle.std.proofs.lemmas.List.{append-nil}
@@ -9,7 +9,7 @@ use Rattle.gq_diagnostics.specs.declared.status.Status.{Status}
 use Rattle.gq_diagnostics.specs.declared.status.Status.TheVariants.{Done, Refused, Usage, ReadFault, WriteFault, OutOfMemory}
 use Rattle.gq_diagnostics.specs.Outcome.{Outcome, KeepsTo, IsFinal, Ends, AppendsLines, lines_then, done}
 
--- ---- one answer keeps to an outcome
+-- ---- a single status keeps to an outcome
 
 module _ (outcome : Outcome) (old new : Option (List ℕ)) (A B : Type 0) where
   pub keeps_done : Ends outcome Done old new → KeepsTo outcome Done old new A B
@@ -44,7 +44,7 @@ module _ (outcome : Outcome) (old new : Option (List ℕ)) (A B : Type 0) where
     memory = λ is. prefix;
   }
 
--- no answer that ends a run sooner comes to its end
+-- a status of a run that ended early isn't final
 pub read_fault_not_final : IsFinal ReadFault → ⊥
 read_fault_not_final (inl is) = cc is
 read_fault_not_final (inr (inl is)) = cc is
@@ -71,7 +71,7 @@ keeps_more outcome status old new A B C D f g keeps = record {
   memory = keeps.memory;
 }
 
--- what keeps to one outcome keeps to the same one
+-- what keeps to an outcome keeps to an equal one
 pub keeps_same : (one outcome : Outcome) (status : Status) (old new : Option (List ℕ)) (A B : Type 0) → outcome ≡ one → KeepsTo one status old new A B → KeepsTo outcome status old new A B
 keeps_same one outcome status old new A B same keeps = subst (λ o. KeepsTo o status old new A B) (sym same) keeps
 
@@ -87,7 +87,7 @@ none_of old bytes = (0, omega arith, wrote_none old)
 pub no_lines_of : (old : Option (List ℕ)) (lines : List (List ℕ)) → AppendsLines old old lines
 no_lines_of old lines = (0, omega arith, wrote_none old)
 
--- a prefix of some lines is one of more
+-- a prefix of some lines is a prefix of more lines
 take_head : (xs ys : List ℕ) (n : ℕ) → n ≤ length xs → take n (xs ++ ys) ≡ take n xs
 take_head xs ys zero le = refl
 take_head [] ys (suc n) le = absurd (omega arith)
@@ -132,6 +132,6 @@ module _ (lines : List (List ℕ)) (old mid new : Option (List ℕ)) (wrote : Ap
     memory = λ is. prefix_after rest.lines (keeps.memory is);
   }
 
--- lines behind lines
+-- lines followed by lines
 pub lines_then_more : (a b : List (List ℕ)) (rest : Outcome) → lines_then a (lines_then b rest) ≡ lines_then (a ++ b) rest
 lines_then_more a b rest = ap (λ lines. record { lines = lines; status = rest.status }) (sym (append_assoc a b rest.lines))

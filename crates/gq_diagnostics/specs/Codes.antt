@@ -1,9 +1,9 @@
--- Codes: the number with which the program ends, and what it says on standard error.
+-- Codes: the exit code of the program, and what it writes to standard error.
 use Rattle.std.specs.Prelude.{ℕ, List, Option, Some, None, codes}
 use Rattle.gq_diagnostics.specs.declared.status.Status.{Status}
 use Rattle.gq_diagnostics.specs.declared.status.Status.TheVariants.{Done, Refused, Usage, ReadFault, WriteFault, OutOfMemory}
 
--- the number of an answer
+-- the exit code of a status
 abbrev pub code_of : Status → ℕ
 code_of Done = 0
 code_of Refused = 1
@@ -12,7 +12,7 @@ code_of ReadFault = 3
 code_of WriteFault = 4
 code_of OutOfMemory = 5
 
--- what is said where the answer isn't on standard output
+-- what is written to standard error if the reason isn't on standard output
 abbrev pub message_of : Status → Option (List ℕ)
 message_of Done = None
 message_of Refused = None

@@ -1,4 +1,4 @@
--- Messages: what a refusal says, and the line that it prints.
+-- Messages: the message of a refusal, and the line that it prints.
 use Rattle.std.specs.Prelude.{ℕ, List, ◌++◌, codes}
 use Rattle.std.specs.Fmt.{decimal}
 use Rattle.gq_json.specs.Json.{error_text}
@@ -38,10 +38,10 @@ message_of (SumOutOfRange x) = codes "sum out of range in " ++ x
 message_of (LoopBound n) = codes "loop bound " ++ decimal n ++ codes " reached"
 message_of PathBound = codes "more than 4194304 paths"
 
--- a message with the line of the script that it speaks of in front
+-- a message with the number of its script line in front
 abbrev pub placed_message : ℕ → List ℕ → List ℕ
 placed_message line message = codes "line " ++ decimal line ++ codes ": " ++ message
 
--- the line that a refused statement prints, by the line of the script where it begins
+-- the line that a refused statement prints, with the script line on which it begins
 abbrev pub refusal_text : ℕ → List ℕ → List ℕ
 refusal_text line message = error_text (placed_message line message)

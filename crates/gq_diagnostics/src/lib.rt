@@ -1,10 +1,10 @@
-//! Error messages, output lines and exit codes: why a statement is refused, and how a run answers.
+//! Error messages, output lines and exit codes: why a statement is refused, and the status of a run.
 //!
 //! A refused statement prints one line with its message; each line goes to the sink once. The status of a run
 //! determines the exit code and the text on standard error.
 //!
-//! Read `specs/Messages.antt` first: it has the words of every refusal. Then read `specs/Outcome.antt` (what
-//! a run prints and answers), `specs/Answers.antt` and `specs/Effects.antt` (what a statement does to a
+//! Read `specs/Messages.antt` first: it has the text of every refusal. Then read `specs/Outcome.antt` (the output
+//! and status of a run), `specs/Answers.antt` and `specs/Effects.antt` (the effect of a statement on a
 //! state) and `specs/Codes.antt`. `src/refusal.rt` has the refusals, `src/refusing.rt` writes their lines,
 //! `src/status.rt` has the status.
 #![tactic(auto)]

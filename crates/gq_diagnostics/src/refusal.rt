@@ -1,4 +1,4 @@
-// Refusals.
+// Refusals of statements.
 ghost use Rattle.std.specs.Prelude.{◌≡◌, ◌++◌, IfOk, IfSome, IfNone, codes, string_bytes};
 ghost use Rattle.gq_diagnostics.specs.Messages.{message_of, placed_message, refusal_text};
 
@@ -11,35 +11,35 @@ use thiserror::Error;
 /// Why a statement is refused. Each has one message.
 #[derive(Debug, Drop, Error)]
 pub enum Refusal {
-    /// A vertex or edge type, a job or a query of the name is there.
+    /// A vertex or edge type, a job or a query of the name exists.
     #[error("name taken")]
     NameTaken(Txt),
 
-    /// What is named is no type, or no type of the kind that is wanted.
+    /// The name isn't that of a type, or of a type of the required kind.
     #[error("no such type")]
     NoSuchType(Txt),
     #[error("attribute twice")]
     AttributeTwice(Txt),
 
-    /// The default of the attribute is no value of its type.
+    /// The attribute's default isn't a value of its type.
     #[error("bad default")]
     BadDefault(Txt),
 
-    /// There would be more of something than there may be.
+    /// A limit would be exceeded.
     #[error("too many")]
     TooMany,
     #[error("graph exists")]
     GraphExists(Txt),
 
-    /// Nothing of the name is there: no graph, job, query, file of a job, or name of a query.
+    /// Nothing of the name exists: no graph, job, query, file of a job, or name of a query.
     #[error("unknown name")]
     UnknownName(Txt),
 
-    /// A loading option's or a query mode's text is none that it may have.
+    /// The text of a loading option or a query mode isn't one of the allowed ones.
     #[error("bad option")]
     BadOption,
 
-    /// The values for the type aren't as many as it has.
+    /// The number of values isn't that of the type.
     #[error("wrong number of values")]
     WrongCount(Txt),
     #[error("not allowed here")]
@@ -85,7 +85,7 @@ pub enum Refusal {
     #[error("wrong number of arguments")]
     WrongArguments,
 
-    /// The argument of the parameter is no value of its type.
+    /// The argument of the parameter isn't a value of its type.
     #[error("bad argument")]
     BadArgument(Txt),
     #[error("number out of range")]
@@ -97,17 +97,17 @@ pub enum Refusal {
     #[error("sum out of range")]
     SumOutOfRange(Txt),
 
-    /// A loop's body would be entered with none of so many turns left.
+    /// A loop's body would be entered after its bound, this many iterations, is used up.
     #[error("loop bound reached")]
     LoopBound(u64),
 
-    /// A FROM would have more bindings than there may be.
+    /// A FROM would exceed the maximum number of bindings.
     #[error("too many paths")]
     PathBound,
 }
 
 impl Refusal {
-    /// What the refusal says.
+    /// The text of the refusal.
     pub fn message(&self, alloc: Global) -> Result<Txt, OutOfMemory>
         ensures { IfOk result (λ text. text ≡ message_of self.now) }
     {
@@ -146,7 +146,7 @@ impl Refusal {
     }
 }
 
-/// The line that a refused statement prints, by the line of the script where it begins. The line feed is included.
+/// The line that a refused statement prints, with the script line on which it begins and with its line feed.
 pub fn refusal_line(alloc: Global, line: u64, refusal: &Refusal) -> Result<Vec<u8>, OutOfMemory>
     ensures { IfOk result (λ text. text.items ≡ refusal_text line (message_of refusal.now)) }
 {
@@ -155,7 +155,7 @@ pub fn refusal_line(alloc: Global, line: u64, refusal: &Refusal) -> Result<Vec<u
     error_line(alloc, placed.as_str())
 }
 
-/// A message with the line of the script that it speaks of in front.
+/// A message with the number of its script line in front.
 pub fn placed(alloc: Global, line: u64, message: &str) -> Result<Txt, OutOfMemory>
     ensures { IfOk result (λ text. text ≡ placed_message line message.now) }
 {
@@ -178,13 +178,13 @@ fn loop_bound(alloc: Global, turns: u64) -> Result<Txt, OutOfMemory>
     Ok(Txt::from_string(text))
 }
 
-/// Why a statement didn't run to its end.
+/// Why a statement didn't complete.
 #[derive(Debug, Drop, Error)]
 pub enum StatementFault {
     #[error("refused")]
     Refused(Refusal),
 
-    /// A file could not be read, as the files counted.
+    /// A file couldn't be read, which the files counted.
     #[error("file could not be read")]
     ReadFault,
     #[error("out of memory")]

@@ -1,4 +1,4 @@
-// Lines of a run, handed to the sink once each.
+// Lines of a run, each passed to the sink once.
 ghost use Rattle.std.specs.Prelude.{◌≡◌, ◌++◌, ◌≢◌, ◌∷◌, []};
 ghost use Rattle.gq_io.specs.Counts.{Rose};
 ghost use Rattle.gq_diagnostics.specs.Outcome.{Outcome, done, ended_by, lines_then, refused_with, KeepsTo, OnlyWrites};
@@ -22,7 +22,7 @@ pub fn refuse<K: Sink>(alloc: Global, message: &str, out: &mut K) -> Status
     }
 }
 
-/// Ends a run with the refusal of a file: what is wrong, and its name.
+/// Ends a run with the refusal of a file: the reason, and its name.
 pub fn refuse_file<K: Sink>(alloc: Global, what: &str, name: &str, out: &mut K) -> Status
     ensures keeps { KeepsTo (refused_with (what.now ++ name.now)) result (K.written out.old) (K.written out.new) ⊥ (Rose (K.faults out.old) (K.faults out.new)) }
     ensures only_writes { OnlyWrites result (Rose (K.faults out.old) (K.faults out.new)) }

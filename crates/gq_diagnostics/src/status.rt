@@ -1,8 +1,8 @@
-// What a run answers.
+// The status of a run.
 ghost use Rattle.std.specs.Prelude.{◌≡◌, Some, None, IfSome, IfNone};
 ghost use Rattle.gq_diagnostics.specs.Codes.{code_of, message_of};
 
-/// What a run answers.
+/// The status of a run.
 #[derive(Clone, Copy, Debug, PartialEq, Eq)]
 pub enum Status {
     /// The script was read to its end, and each statement ran.
@@ -11,21 +11,21 @@ pub enum Status {
     /// The script was refused; the refusal is the last line written.
     Refused,
 
-    /// The words are no use of the command.
+    /// The arguments aren't a valid use of the command.
     Usage,
 
-    /// A file could not be read, as the files counted.
+    /// A file couldn't be read, which the files counted.
     ReadFault,
 
-    /// The output could not be written, as the sink counted.
+    /// The output couldn't be written, which the sink counted.
     WriteFault,
 
-    /// There was no memory.
+    /// Memory ran out.
     OutOfMemory,
 }
 
 impl Status {
-    /// The number with which the program ends: 0 to 5, in the order of the variants.
+    /// The exit code of the program: 0 to 5, in the order of the variants.
     pub fn code(self) -> u8
         ensures { result ≡ code_of self }
     {
@@ -39,7 +39,7 @@ impl Status {
         }
     }
 
-    /// What is said on standard error, where the answer isn't on standard output.
+    /// What is written to standard error if the reason isn't on standard output.
     pub fn message(self) -> Option<&'static str>
         ensures said { IfSome result (λ text. message_of self ≡ Some text.now) }
         ensures silent { IfNone result (message_of self ≡ None) }

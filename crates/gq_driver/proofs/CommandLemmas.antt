@@ -1,4 +1,5 @@
--- A command line means one outcome at most over files that are told, and a run that goes on behind a file keeps to what is meant.
+-- If the listing of the files is given, a command line means at most one outcome, and a run that goes on after a file
+-- keeps to it.
 use Rattle.std.proofs.Common.{◌≡◌, ℕ, ◌≤◌, List, ◌++◌, Option, Some, sym, ◌∙◌, subst, codes, arith}
 use Rattle.gq_io.specs.Counts.{Rose}
 use Rattle.gq_io.specs.Listing.{Listing}
@@ -9,7 +10,7 @@ use Rattle.gq_io.specs.Known.{Known, Told, Answer, Absent, TooLong, Bytes, MayAn
 use Rattle.gq_session.proofs.RunLemmas.{told_is_known}
 use Rattle.gq_driver.specs.CommandLine.{GoesOn, Asks, Whatever, Never}
 
--- ---- a file that is told has one answer
+-- ---- a file of the listing has one answer
 
 module _ (held : Option Listing) (name : List ℕ) (pairs : Listing) (told : held ≡ Some pairs) (Rest : List ℕ → Outcome → Type 0) (outcome : Outcome)
     (asks : Asks (Told pairs) name Rest outcome) where
@@ -19,7 +20,7 @@ module _ (held : Option Listing) (name : List ℕ) (pairs : Listing) (told : hel
       (asks.1 ∙ sym (subst (λ k. MayAnswer k name answer) (told_is_known held pairs before now met told) may))
       asks.2
 
-  -- the run goes on with these bytes
+  -- the run continues with these bytes
   pub rest_of : (bytes items : List ℕ) → bytes ≡ items → ((before now met : ℕ) → MayAnswer (known_of held before now met) name (Bytes items)) → Rest bytes outcome
   rest_of bytes items is may = subst (λ b. Rest b outcome) (sym is) (one_answer (Bytes items) 0 0 0 (may 0 0 0))
 
@@ -38,7 +39,7 @@ module _ (held : Option Listing) (name : List ℕ) (before now met : ℕ) (pairs
   pub keeps_too_long : MayAnswer (known_of held before now met) name TooLong → KeepsTo (refused_with (codes "file too large " ++ name)) status old new ⊥ B → KeepsTo outcome status old new A B
   keeps_too_long may keeps = keeps_refusal (codes "file too large ") (one_answer held name pairs told Whatever outcome asks TooLong before now met may) keeps
 
--- what is refused before any bytes are used is refused whatever comes of them
+-- a refusal before any bytes are used doesn't depend on what follows them
 module _ (known : Known) (name : List ℕ) (Rest : List ℕ → Outcome → Type 0) (outcome : Outcome) where
   pub asks_whatever : Asks known name Rest outcome → Asks known name Whatever outcome
   asks_whatever (Absent, may, on) = (Absent, may, on)
@@ -50,9 +51,9 @@ module _ (known : Known) (name : List ℕ) (Rest : List ℕ → Outcome → Type
   asks_never (TooLong, may, on) = (TooLong, may, on)
   asks_never (Bytes bytes, may, on) = absurd on
 
--- ---- a run that goes on behind a file
+-- ---- a run that goes on after a file
 
--- what it means
+-- the meaning of the run
 pub asks_on : (held mid : Option Listing) (name bytes items : List ℕ) (before now met : ℕ) (Rest : Known → List ℕ → Outcome → Type 0) (outcome : Outcome)
     → mid ≡ held → bytes ≡ items → ((before now met : ℕ) → MayAnswer (known_of held before now met) name (Bytes items)) → Rest (known_of mid before now met) bytes outcome
     → Asks (known_of held before now met) name (Rest (known_of held before now met)) outcome
@@ -62,7 +63,7 @@ asks_on held mid name bytes items before now met Rest outcome same is may rest =
   subst (λ h. Rest (known_of h before now met) items outcome) same (subst (λ b. Rest (known_of mid before now met) b outcome) is rest),
 )
 
--- how it keeps to that
+-- the run keeps to it
 pub keeps_on : (status : Status) (old mid new : Option (List ℕ)) (files_old files_mid files_new sink_old sink_mid sink_new : ℕ)
     → mid ≡ old → sink_mid ≡ sink_old → files_old ≤ files_mid → (outcome : Outcome)
     → KeepsTo outcome status mid new (Rose files_mid files_new) (Rose sink_mid sink_new)

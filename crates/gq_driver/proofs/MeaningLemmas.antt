@@ -1,4 +1,4 @@
--- MeaningLemmas: over files that are told a command line means one outcome: there is one, and there is no other.
+-- MeaningLemmas: if the listing of the files is given, a command line means exactly one outcome.
 use Rattle.std.proofs.Common.{◌≡◌, ℕ, ◌⊎◌, inl, inr, List, ◌++◌, length, Option, Some, None, refl, ap, sym, ◌∙◌, subst, arith, codes}
 use Rattle.serde_json.specs.Data.{Members}
 use Rattle.gq_io.specs.Listing.{Listing, named}
@@ -33,9 +33,10 @@ use Rattle.gq_driver.proofs.SomeStatements.{script_or_fault}
 use Rattle.gq_driver.proofs.SomeArguments.{object_or_none}
 use Rattle.gq_driver.proofs.SomeEffects.{some_runs, one_run}
 
--- ---- what tokens are read as
+-- ---- how tokens are parsed
 
--- tokens consist of one list of statements at most, or fail at one place alone: what `one_script` of `gq_stmt_read` promises
+-- tokens consist of at most one list of statements, or fail at only one place: what `one_script` of `gq_stmt_read`
+-- promises
 pub record HasOneScript : Type 0 where
   pub one : (bytes : List ℕ) (tokens : List Token) (statements others : List Placed) → IsScript bytes tokens statements → IsScript bytes tokens others → statements ≡ others
   pub one_fault : (bytes : List ℕ) (tokens : List Token) (number at other place : ℕ) → FailsAt bytes tokens number at → FailsAt bytes tokens other place → (number ≡ other) × (at ≡ place)
@@ -56,7 +57,7 @@ module _ (bytes : List ℕ) (tokens : List Token) where
       by (inl (at, deep)) = inl (TooDeep at, deep)
       by (inr low) = shallow low (script_or_fault bytes tokens)
 
-  -- a script that is shallow is nowhere too deep
+  -- a script that is shallow isn't too deep anywhere
   not_both : IsShallow bytes tokens → (at : ℕ) → IsTooDeepAt bytes tokens at → ⊥
   not_both low at deep = never_deep bytes tokens (length tokens) (omega arith) (λ n within. low n) at deep
 
@@ -152,7 +153,7 @@ module _ (bytes : List ℕ) (pairs : Listing) (turns : ℕ) where
 -- ---- command lines
 
 module _ (pairs : Listing) where
-  -- a file that is told has an answer, and one alone
+  -- a file of the listing has exactly one answer
   module _ (name : List ℕ) (Rest : List ℕ → Outcome → Type 0) where
     some_answer : ((bytes : List ℕ) → (o : Outcome) × Rest bytes o) → (answer : Answer) → (o : Outcome) × GoesOn name Rest answer o
     some_answer rest Absent = (refused_with (codes "missing file " ++ name), refl)

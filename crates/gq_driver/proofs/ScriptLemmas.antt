@@ -1,4 +1,5 @@
--- A script means one outcome at most over files that are told, and a call that keeps to one keeps to what is meant.
+-- If the listing of the files is given, a script means at most one outcome, and a call that keeps to one keeps to its
+-- meaning.
 use Rattle.std.proofs.Common.{◌≡◌, ℕ, List, [], Option, Some, inl, inr, ap, ◌∙◌, subst, codes}
 use Rattle.serde_json.specs.Data.{Members}
 use Rattle.gq_token.specs.declared.token.Token.{Token}
@@ -17,7 +18,7 @@ use Rattle.gq_driver.specs.Messages.{message_at, name_of, fault_message}
 use Rattle.gq_driver.specs.Scripts.{StatementsMean, ArgumentsMean, TokensMean, ScriptMeans}
 
 module _ (bytes : List ℕ) (known : Known) (turns : ℕ) (status : Status) (old new : Option (List ℕ)) (A B : Type 0) where
-  -- the call keeps to this
+  -- the call keeps to this outcome
   abbrev pub Keeps : Outcome → Type 0
   Keeps outcome = KeepsTo outcome status old new A B
 

@@ -1,4 +1,4 @@
--- SomeArguments: a file of arguments is an object, or it is none.
+-- SomeArguments: a file of arguments is a JSON object, or it isn't.
 use Rattle.std.proofs.Common.{◌≡◌, ℕ, ◌⊎◌, inl, inr, Bool, true, false, List, Option, Some, None, refl, sym, ◌∙◌}
 use Rattle.std.specs.Str.{is_utf8}
 use Rattle.std.proofs.lemmas.Str.{IsUtf8-from_is_utf8, is_utf8-from_IsUtf8}
@@ -9,7 +9,7 @@ use Rattle.gq_arguments.specs.Objects.{IsObject}
 some_same : {X : Type 0} {x y : X} → Some x ≡ Some y → x ≡ y
 some_same e = cc
 
--- a file is an object, or none
+-- a file is an object, or it isn't
 pub object_or_none : (file : List ℕ) → ((members : Members) × IsObject file members) ⊎ ((members : Members) → IsObject file members → ⊥)
 object_or_none file = by (is_utf8 file) (read file) refl refl
   where

@@ -1,4 +1,4 @@
--- SomeEffects: over files that are told each statement does something, and so does each list of statements; and one thing alone.
+-- SomeEffects: if the listing of the files is given, each statement and each list of statements has exactly one effect.
 use Rattle.std.proofs.Common.{◌≡◌, ℕ, zero, suc, ◌+◌, List, [], ◌∷◌, ◌++◌, length, Option, Some, None, refl, ap, sym, ◌∙◌, subst}
 use Rattle.gq_io.specs.Listing.{Listing, named}
 use Rattle.gq_io.specs.Known.{Told, Answer, Absent, TooLong, Bytes, answer_of}
@@ -31,7 +31,7 @@ use Rattle.gq_session.specs.Runs.{Follows, Runs}
 -- ---- loads
 
 module _ {S : Type 0} (place_of : ℕ → LoadPath) (loaded_by : S → ℕ → List ℕ → Loaded S) (pairs : Listing) where
-  -- where the rest of a job does something, whatever comes before it does
+  -- if the rest of a job has an effect, so has the job from an earlier LOAD on
   module _ (Rest : Effect S → S → List FileReport → Type 0) (rest : (t : S) (more : List FileReport) → (e : Effect S) × Rest e t more) (s : S) (number : ℕ) (reports : List FileReport) where
     some_loaded : (path : List ℕ) (loaded : Loaded S) → (e : Effect S) × Continues place_of loaded_by (Told pairs) path reports loaded (Rest e) e
     some_loaded path (Loads t counts) = rest t (reports ++ report_of path counts ∷ [])
@@ -93,12 +93,12 @@ module _ (pairs : Listing) (s : State) where
 -- ---- lists of statements
 
 module _ (bytes : List ℕ) (pairs : Listing) where
-  -- what follows a statement's effect, where the rest means something from each state on
+  -- a statement's effect followed by the rest has an outcome, if the rest has one from each state
   some_behind : (line : ℕ) (effect : Effect State) (Rest : State → Outcome → Type 0) → ((t : State) → (o : Outcome) × Rest t o) → (o : Outcome) × Follows line effect Rest o
   some_behind line (Refused message) Rest rest = (ended_by (refusal_text line message), refl)
   some_behind line (Becomes t lines) Rest rest = let others = rest t in (lines_then lines others.0, (others.0, others.1, refl))
 
-  -- statements print and answer something
+  -- statements have an outcome
   pub some_runs : (s : State) (statements : List Placed) → (o : Outcome) × Runs bytes (Told pairs) s statements o
   some_runs s [] = (done, refl)
   some_runs s (p ∷ others) =
@@ -106,13 +106,13 @@ module _ (bytes : List ℕ) (pairs : Listing) where
       let on = some_behind (line_of bytes p.from) does.0 (λ t. Runs bytes (Told pairs) t others) (λ t. some_runs t others) in
       (on.0, (does.0, does.1, on.1))
 
-  -- one effect is followed by one thing
+  -- one effect is followed by only one outcome
   one_behind : (line : ℕ) (effect : Effect State) (Rest : State → Outcome → Type 0) → ((t : State) (a b : Outcome) → Rest t a → Rest t b → a ≡ b)
       → (o p : Outcome) → Follows line effect Rest o → Follows line effect Rest p → o ≡ p
   one_behind line (Refused message) Rest rest o p a b = a ∙ sym b
   one_behind line (Becomes t lines) Rest rest o p (x, on, is) (y, other, as_well) = is ∙ ap (lines_then lines) (rest t x y on other) ∙ sym as_well
 
-  -- and no other thing
+  -- and no other outcome
   pub one_run : (s : State) (statements : List Placed) (o p : Outcome) → Runs bytes (Told pairs) s statements o → Runs bytes (Told pairs) s statements p → o ≡ p
   one_run s [] o p a b = a ∙ sym b
   one_run s (q ∷ others) o p (e, does, on) (f, might, other) =

@@ -9,15 +9,15 @@ use Rattle.gq_token.specs.Nesting.{depth_with, IsTooDeepAt, IsShallow}
 use Rattle.gq_token.proofs.NestingLemmas.{IsNested, nested_start, nested_more, nested_deep, nested_end}
 
 module _ (bytes : List ℕ) (tokens : List Token) where
-  -- how the tokens nest
+  -- the nesting of the tokens
   abbrev Nests : Type 0
   Nests = ((at : ℕ) × IsTooDeepAt bytes tokens at) ⊎ IsShallow bytes tokens
 
-  -- stands for a token where there is none
+  -- the default for a token that doesn't exist
   abbrev no_token : Token
   no_token = record { shape = Word; from = 0; to = 0 }
 
-  -- a token more, where the rest nests somehow behind it
+  -- one more token, if the nesting of the rest after it is known
   module _ (left count depth : ℕ) (behind_else : Bool) (low : length tokens - count ≤ suc left) (nested : IsNested bytes tokens count depth behind_else)
       (next : (deeper : ℕ) (behind : Bool) → length tokens - (count + 1) ≤ left → IsNested bytes tokens (count + 1) deeper behind → Nests) where
     abbrev here : Token
@@ -36,7 +36,7 @@ module _ (bytes : List ℕ) (tokens : List Token) where
     one_more (inr over) = inr (nested_end bytes tokens count depth behind_else nested over)
     one_more (inl below) = past below (cases_lt 64 deeper)
 
-  -- from a token on, of at most so many
+  -- from a token on, with at most `left` tokens left
   nests_from : (left count depth : ℕ) (behind_else : Bool) → length tokens - count ≤ left → IsNested bytes tokens count depth behind_else → Nests
   nests_from zero count depth behind_else low nested = inr (nested_end bytes tokens count depth behind_else nested (omega arith))
   nests_from (suc left) count depth behind_else low nested =

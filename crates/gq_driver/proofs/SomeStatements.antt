@@ -1,4 +1,4 @@
--- SomeStatements: tokens are those of a script, or one of its statements can't be read.
+-- SomeStatements: tokens form a script, or one of its statements can't be parsed.
 use Rattle.std.proofs.Common.{◌≡◌, ℕ, zero, suc, ◌+◌, ◌-◌, ◌<◌, ◌≤◌, ◌⊎◌, inl, inr, Bool, true, false, All, List, [], ◌∷◌, ◌++◌, length, take, drop, get_or, Option, Some, None, refl, ap, sym, ◌∙◌, subst, arith, length-append, length-drop, length-take}
 use Rattle.std.specs.Prelude.{slice_get}
 use Rattle.std.specs.Option.{option_map}
@@ -21,7 +21,7 @@ use Rattle.gq_tree.specs.declared.statement.Placed.{Placed}
 use Rattle.gq_stmt_read.specs.Statements.{statement_parser}
 use Rattle.gq_stmt_read.proofs.StatementReads.{firsts, statement_reads, statement_longest, statement_none, statement_begins}
 
--- what is left where a text stands in front is what stands behind so many lexemes
+-- the rest after a prefix is the suffix after as many lexemes
 behind : (all : Lexemes) (at : ℕ) (text rest : Lexemes) → drop at all ≡ text ++ rest → drop (at + length text) all ≡ rest
 behind all at text rest is = sym (drop-drop (length text) at all) ∙ ap (drop (length text)) is ∙ drop-append_seam text rest
 
@@ -32,7 +32,7 @@ module _ (bytes : List ℕ) (tokens : List Token) where
   as_many : length all ≡ length tokens
   as_many = length-map tokens (lexeme_of bytes)
 
-  -- stands for a token where there is none
+  -- the default for a token that doesn't exist
   abbrev no_token : Token
   no_token = record { shape = Word; from = 0; to = 0 }
 
@@ -43,7 +43,7 @@ module _ (bytes : List ℕ) (tokens : List Token) where
     cuts : Cuts bytes tokens at statements end
     rest : AreSemicolons bytes tokens end (length tokens)
 
-  -- or one behind these can't be read
+  -- or a statement after these can't be parsed
   record IsStuck (at : ℕ) : Type 0 where
     statements : List Placed
     end : ℕ
@@ -58,7 +58,7 @@ module _ (bytes : List ℕ) (tokens : List Token) where
   abbrev Reads : ℕ → Type 0
   Reads at = IsStuck at ⊎ IsRead at
 
-  -- from a token to itself there is nothing but lone `;`
+  -- between a token and itself there are only lone `;`
   nothing_between : (at : ℕ) → at ≤ length tokens → AreSemicolons bytes tokens at at
   nothing_between at low = record {
     from_le = omega arith;
@@ -130,7 +130,7 @@ module _ (bytes : List ℕ) (tokens : List Token) where
     -- ---- a statement
 
     module _ (is : is_of (sign ";") lexeme ≡ false) where
-      -- none begins there
+      -- no statement begins there
       stuck_here : statement_parser (drop at all) ≡ None → Reads at
       stuck_here none = inl (record {
         statements = [];
@@ -144,7 +144,7 @@ module _ (bytes : List ℕ) (tokens : List Token) where
         none = statement_none all at none;
       })
 
-      -- one does, and the rest is read behind it
+      -- a statement does, and the rest is parsed after it
       past_statement : (s : Statement) (rest : Lexemes) → statement_parser (drop at all) ≡ Some (s, rest) → ((to : ℕ) → at < to → to ≤ length tokens → Reads to) → Reads at
       past_statement s rest reads next =
           let spelled : Spelled StatementOf (drop at all) s rest = (statement_reads 0).sound (drop at all) s rest reads in
@@ -181,12 +181,12 @@ module _ (bytes : List ℕ) (tokens : List Token) where
       parsed None reads next = stuck_here reads
       parsed (Some (s, rest)) reads next = past_statement s rest reads next
 
-    -- what stands there, and what is behind it
+    -- the token there, and the rest after it
     one_read : (b : Bool) → is_of (sign ";") lexeme ≡ b → ((to : ℕ) → at < to → to ≤ length tokens → Reads to) → Reads at
     one_read true is next = past_semicolon is (next (at + 1) (omega arith) (omega arith))
     one_read false is next = parsed is (statement_parser (drop at all)) refl next
 
-  -- from a token on, of at most so many
+  -- from a token on, with at most `left` tokens left
   read_from : (left at : ℕ) → at ≤ length tokens → length tokens - at ≤ left → Reads at
   read_from zero at low few = at_end at low (omega arith)
   read_from (suc left) at low few = by (cases_lt at (length tokens)) (λ to further within. read_from left to within (omega arith))

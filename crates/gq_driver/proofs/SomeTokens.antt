@@ -1,4 +1,4 @@
--- SomeTokens: a text is cut into tokens, or has a fault.
+-- SomeTokens: a text is split into tokens, or has a fault.
 use Rattle.std.proofs.Common.{◌≡◌, ◌≢◌, ℕ, zero, suc, ◌+◌, ◌-◌, ◌^◌, ◌<◌, ◌≤◌, ◌⊎◌, inl, inr, Bool, true, false, List, [], ◌∷◌, ◌++◌, length, take, drop, get_or, Option, Some, None, refl, ap, sym, ◌∙◌, arith, length-drop}
 use Rattle.std.specs.Prelude.{nat_eq, not, ◌==◌}
 use Rattle.std.specs.Str.{IsUtf8, is_utf8}
@@ -29,7 +29,7 @@ use Rattle.gq_token.proofs.StepLemmas.{remains, step_within, step_cut, step_faul
 
 -- ---- runs of bytes
 
--- some bytes go on with a run, up to one that doesn't
+-- some bytes continue a run, up to one that doesn't
 some_run : (goes : ℕ → Bool) (bytes : List ℕ) → (size : ℕ) × IsRun goes bytes size
 some_run goes [] = (0, record { within = omega arith; inside = refl; behind = λ below. absurd (omega arith) })
 some_run goes (c ∷ cs) = by (goes c) refl (some_run goes cs)
@@ -40,7 +40,7 @@ some_run goes (c ∷ cs) = by (goes c) refl (some_run goes cs)
 
 -- ---- ends
 
--- one of the first prefixes passes a test, or none of them does
+-- one of the first prefixes passes a test, or none does
 ends_below : (test : List ℕ → Bool) (bytes : List ℕ) (n : ℕ) → ((size : ℕ) × (size ≤ n) × (test (take size bytes) ≡ true)) ⊎ ((k : ℕ) → k ≤ n → test (take k bytes) ≡ false)
 ends_below test bytes zero = by (test (take 0 bytes)) refl
   where
@@ -74,7 +74,7 @@ some_end test bytes = by (ends_below test bytes (length bytes))
 
 -- ---- texts
 
--- a closed text says something or has a bad escape
+-- a closed text has a value or a bad escape
 said_or_bad : (bytes : List ℕ) → closes bytes ≡ true → ((ys : List ℕ) × (said bytes ≡ Some ys)) ⊎ ((n : ℕ) × (bad_escape bytes ≡ Some n))
 said_or_bad [] closed = cc
 said_or_bad (c ∷ []) closed = inl ([], rw closed refl)
@@ -101,7 +101,7 @@ said_or_bad (c ∷ d ∷ cs) closed = by (nat_eq c 34) (nat_eq c 92) refl refl c
 
 -- ---- one item
 
--- what begins a rest at a place: an item, or a fault
+-- the beginning of a rest at a place: an item, or a fault
 abbrev Begins : List ℕ → ℕ → Type 0
 Begins rest at = ((size : ℕ) × (item : Item) × IsItem rest size item) ⊎ ((fault : LexFault) × FaultHere rest at fault × (fault ≢ OutOfMemory))
 
@@ -117,7 +117,7 @@ module _ (rest : List ℕ) (at : ℕ) (some : 0 < length rest) where
   comment_begins is (inl (size, ends)) = inl (2 + size, Gap, block_item rest size (2 + size) some is ends refl)
   comment_begins is (inr never) = inr (OpenComment at, (block_open rest some is never, refl), λ e. cc)
 
-  -- a byte that begins nothing
+  -- a byte that can't begin an item
   nothing_begins : FaultHere rest at (BadToken at) → Begins rest at
   nothing_begins here = inr (BadToken at, here, λ e. cc)
 
@@ -165,12 +165,12 @@ module _ (rest : List ℕ) (at : ℕ) (some : 0 < length rest) where
 
 -- ---- all bytes
 
--- what bytes are cut into
+-- how bytes are split
 abbrev IsCut : List ℕ → Type 0
 IsCut bytes = ((fault : LexFault) × HasFault bytes fault) ⊎ ((tokens : List Token) × HasTokens bytes tokens)
 
 module _ (bytes : List ℕ) (utf8 : IsUtf8 bytes) where
-  -- from a place on, of at most so many bytes
+  -- from a place on, with at most `left` bytes left
   cut_from : (left at : ℕ) (found : List Token) → length bytes - at ≤ left → at ≤ length bytes → CutBefore bytes at found → IsCut bytes
   cut_from zero at found low within had = inr (found, cut_whole bytes at found utf8 had (omega arith))
   cut_from (suc left) at found low within had = by (cases_lt at (length bytes)) (λ to longer less inside more. cut_from left to longer less inside more)

@@ -1,5 +1,4 @@
--- Scripts: what the bytes of a script mean, over files of which something is known and with so many turns for each query: its lines
--- and its status.
+-- Scripts: the meaning of a script's bytes: its lines and status, given the turns per query and what is known of files.
 use Rattle.std.specs.Prelude.{◌≡◌, ◌⊎◌, List, ℕ, Option, Some, None, codes}
 use Rattle.serde_json.specs.Data.{Members}
 use Rattle.gq_token.specs.declared.token.Token.{Token}
@@ -19,24 +18,25 @@ use Rattle.gq_session.specs.Statements.{opening}
 use Rattle.gq_driver.specs.Messages.{message_at, name_of, fault_message}
 
 module _ (bytes : List ℕ) (known : Known) (turns : ℕ) where
-  -- what the statements of the script mean, one after another from a new session on, with this file of arguments, if one is named
+  -- the meaning of the statements of the script, run in order from a new session, with this file of arguments, if one
+  -- is named
   abbrev pub StatementsMean : Option (List ℕ) → List Placed → Outcome → Type 0
   StatementsMean arguments statements outcome = Runs bytes known (opening arguments turns) statements outcome
 
-  -- the same, where the bytes of the file, if one is named, have to be a JSON object
+  -- the same, if the bytes of the file, if one is named, have to be a JSON object
   abbrev pub ArgumentsMean : Option (List ℕ) → List Placed → Outcome → Type 0
   ArgumentsMean None statements outcome = StatementsMean None statements outcome
   ArgumentsMean (Some file) statements outcome =
       ((members : Members) × IsObject file members × StatementsMean (Some file) statements outcome)
       ⊎ (((members : Members) → IsObject file members → ⊥) × (outcome ≡ refused_with (codes "arguments unreadable")))
 
-  -- what the tokens of the script mean
+  -- the meaning of the tokens of the script
   abbrev pub TokensMean : Option (List ℕ) → List Token → Outcome → Type 0
   TokensMean arguments tokens outcome =
       ((fault : ScriptFault) × HasFault bytes tokens fault × (outcome ≡ refused_with (fault_message bytes fault)))
       ⊎ ((statements : List Placed) × IsShallow bytes tokens × IsScript bytes tokens statements × ArgumentsMean arguments statements outcome)
 
-  -- what the script means
+  -- the meaning of the script
   abbrev pub ScriptMeans : Option (List ℕ) → Outcome → Type 0
   ScriptMeans arguments outcome =
       ((fault : LexFault) × lex.HasFault bytes fault × (outcome ≡ refused_with (message_at bytes (name_of fault) (lex.place_of fault))))

@@ -1,4 +1,4 @@
-// The top call.
+// The top-level call.
 ghost use Rattle.std.specs.Prelude.{◌≡◌, ◌≢◌, ◌⊎◌, ◌≤◌, ℕ, Some, None, false, map, string_bytes};
 ghost use Rattle.gq_io.specs.Counts.{Rose};
 ghost use Rattle.gq_io.specs.Listing.{Listing};
@@ -17,12 +17,12 @@ use gq_query_run::{Runner, RunsQueries};
 use std::alloc::Global;
 use std::thread::Threads;
 
-/// Runs what the arguments after the program's name ask for, over these files, and writes its lines to the sink. Its queries run on
-/// this machine, on threads of this runtime.
+/// Runs the command of the arguments after the program's name, over these files, and writes its lines to the sink. Its
+/// queries run on this machine, on threads of this runtime.
 ///
-/// The command line is read first, then the script's file, then that of the queries' arguments, where one is named. The whole script
-/// is read before its first statement runs, and each line is written when its statement has ended. A sample has a script and files of
-/// its own.
+/// The command line is read first, then the script's file, then that of the queries' arguments, if one is named. The
+/// whole script is parsed before its first statement runs, and each line is written when its statement has ended. A
+/// sample has its own script and files.
 pub fn run<R: Threads + Sync, M: RunsQueries, F: Files, K: Sink>(
     rt: &R,
     machine: &M,
@@ -31,30 +31,31 @@ pub fn run<R: Threads + Sync, M: RunsQueries, F: Files, K: Sink>(
     files: &mut F,
     out: &mut K,
 ) -> Status
-    // Over files that are told: the lines and the status are those that the command line means, or a counted fault or `OutOfMemory`
-    // ended the run sooner: after a failed read with whole lines, else with a prefix of the bytes.
+    // If the listing of the files is given: the lines and the status are those that the command line means, or a
+    // counted fault or `OutOfMemory` ended the run sooner: after a failed read with whole lines, else with a prefix of
+    // the bytes.
     ensures told { (pairs : Listing) → F.held files.old ≡ Some pairs → (outcome : Outcome) → Means (Told pairs) (map string_bytes words.now) outcome
         → KeepsTo outcome result (K.written out.old) (K.written out.new) (Rose (F.faults files.old) (F.faults files.new)) (Rose (K.faults out.old) (K.faults out.new)) }
 
-    // Over all files: a run that comes to its end is one that the command line may have. Where the files aren't told, a file that is
-    // missing or too large has its cause in their counts.
+    // Over any files: a run that isn't cut short is one that the command line may have. If the listing isn't given, a
+    // file that is missing or too large is accounted for in the counts.
     ensures is_meant { IsFinal result → (outcome : Outcome)
         × Means (known_of (F.held files.old) (F.absences files.old) (F.absences files.new) (F.length_met files.new)) (map string_bytes words.now) outcome
         × Ends outcome result (K.written out.old) (K.written out.new) }
 
-    // An invalid command line is answered so, without a look at files and sink, and no other is.
+    // Only an invalid command line ends with `Usage`, and then files and sink are not used.
     ensures usage { result ≡ Status.Usage → command_of (map string_bytes words.now) ≡ None }
     ensures no_use { command_of (map string_bytes words.now) ≡ None → (result ≡ Status.Usage) ⊎ (result ≡ Status.OutOfMemory) }
     ensures silent { command_of (map string_bytes words.now) ≡ None → out.new ≡ out.old }
 
-    // A sample asks for no file, so that none can fail.
+    // A sample requests no file, so that none can fail.
     ensures untouched { command_asks_for_files (command_of (map string_bytes words.now)) ≡ false → files.new ≡ files.old }
     ensures sure { command_asks_for_files (command_of (map string_bytes words.now)) ≡ false → result ≢ Status.ReadFault }
 
     ensures read_fault { result ≡ Status.ReadFault → Rose (F.faults files.old) (F.faults files.new) }
     ensures write_fault { result ≡ Status.WriteFault → Rose (K.faults out.old) (K.faults out.new) }
 
-    // Where no device failed, the run comes to its end or memory is wanting.
+    // If no device failed, the run comes to its end or memory runs out.
     ensures steady { (Rose (F.faults files.old) (F.faults files.new) → ⊥) → (Rose (K.faults out.old) (K.faults out.new) → ⊥) → IsFinal result ⊎ (result ≡ Status.OutOfMemory) }
 {
     match read_words(alloc, words) {

@@ -1,4 +1,4 @@
-// Scripts and their arguments, by the names of their files.
+// Scripts and their arguments, by file name.
 ghost use Rattle.std.specs.Prelude.{◌≡◌, ◌≤◌, ◌++◌, ℕ, Some, None, codes, IfOk, IfErr, OnOk};
 ghost use Rattle.gq_io.specs.Counts.{Rose};
 ghost use Rattle.gq_io.specs.Listing.{Listing};
@@ -14,7 +14,7 @@ use gq_value::Txt;
 use std::alloc::Global;
 use std::thread::Threads;
 
-/// Runs the script in this file, where the arguments for its queries are in that one, if any.
+/// Runs the script in this file, with the arguments for its queries in that one, if any.
 pub fn run_file<R: Threads + Sync, M: RunsQueries, F: Files, K: Sink>(
     rt: &R,
     alloc: Global,
@@ -82,7 +82,8 @@ fn run_with_arguments<R: Threads + Sync, M: RunsQueries, F: Files, K: Sink>(
     }
 }
 
-// All bytes of a file, or how the run ends without them: a file that isn't there or is too large refuses it.
+// Returns all bytes of a file, or how the run ends without them: a file that doesn't exist or is too large refuses the
+// run.
 fn file_of<F: Files, K: Sink>(
     alloc: Global,
     name: &str,

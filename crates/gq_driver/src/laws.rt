@@ -1,4 +1,4 @@
-// What is true of every command line.
+// Laws about command lines.
 ghost use Rattle.std.specs.Prelude.{◌≡◌, ℕ, List};
 ghost use Rattle.gq_io.specs.Listing.{Listing};
 ghost use Rattle.gq_io.specs.Known.{Told};
@@ -7,8 +7,9 @@ ghost use Rattle.gq_driver.specs.CommandLine.{Means};
 
 use gq_stmt_read::one_script;
 
-/// Does nothing but call a law of scripts. Its contract is a law: over files that are told, each command line means an outcome, its
-/// lines and its status, and no other. So `run`, which keeps to each that the command line means, keeps to one.
+/// Only calls a law of scripts. Its contract is a law: if the listing of the files is given, each command line means
+/// exactly one outcome: its lines and its status. So `run`, which keeps to each outcome that the command line means,
+/// keeps to one.
 pub fn one_outcome()
     ensures exists { (pairs : Listing) (words : List (List ℕ)) → (outcome : Outcome) × Means (Told pairs) words outcome }
     ensures unique { (pairs : Listing) (words : List (List ℕ)) (outcome other : Outcome) → Means (Told pairs) words outcome → Means (Told pairs) words other → outcome ≡ other }

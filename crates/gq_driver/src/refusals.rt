@@ -1,4 +1,4 @@
-// Refusals of scripts that can't be read.
+// Refusals of scripts that can't be parsed.
 ghost use Rattle.std.specs.Prelude.{◌≡◌, ◌≤◌, IfOk, length};
 ghost use Rattle.gq_io.specs.Counts.{Rose};
 ghost use Rattle.gq_token.specs.Faults.{place_of};
@@ -15,7 +15,7 @@ use gq_token::{LexFault, line_of};
 use gq_value::Txt;
 use std::alloc::Global;
 
-/// Refuses a script that can't be cut into tokens.
+/// Refuses a script that can't be split into tokens.
 pub fn refuse_cut<K: Sink>(alloc: Global, bytes: &[u8], fault: LexFault, out: &mut K) -> Status
     requires within { place_of fault ≤ length bytes.now }
     ensures keeps { KeepsTo (refused_with (message_at bytes.now (name_of fault) (place_of fault))) result (K.written out.old) (K.written out.new) ⊥ (Rose (K.faults out.old) (K.faults out.new)) }
@@ -31,7 +31,7 @@ pub fn refuse_cut<K: Sink>(alloc: Global, bytes: &[u8], fault: LexFault, out: &m
     }
 }
 
-/// Refuses a script of which a statement can't be read.
+/// Refuses a script with a statement that can't be parsed.
 pub fn refuse_syntax<K: Sink>(
     alloc: Global,
     bytes: &[u8],
@@ -56,7 +56,7 @@ fn syntax_text(alloc: Global, number: u64) -> Result<Txt, OutOfMemory>
     Ok(Txt::from_string(text))
 }
 
-// Refuses a script with the line of a place in front.
+// Refuses a script with the line number of a place in front of the message.
 fn refuse_placed<K: Sink>(alloc: Global, bytes: &[u8], what: &str, at: usize, out: &mut K) -> Status
     requires { at ≤ length bytes.now }
     ensures keeps { KeepsTo (refused_with (placed_message (line_of bytes.now at) what.now)) result (K.written out.old) (K.written out.new) ⊥ (Rose (K.faults out.old) (K.faults out.new)) }
@@ -68,7 +68,7 @@ fn refuse_placed<K: Sink>(alloc: Global, bytes: &[u8], what: &str, at: usize, ou
     }
 }
 
-/// Refuses a script for something at one of its bytes, whose line is named.
+/// Refuses a script for one of its bytes, with its line number.
 pub fn refuse_at<K: Sink>(alloc: Global, bytes: &[u8], what: &str, at: usize, out: &mut K) -> Status
     requires { at ≤ length bytes.now }
     ensures keeps { KeepsTo (refused_with (message_at bytes.now what.now at)) result (K.written out.old) (K.written out.new) ⊥ (Rose (K.faults out.old) (K.faults out.new)) }

@@ -13,7 +13,7 @@ use gq_query_run::{Runner, RunsQueries};
 use std::alloc::Global;
 use std::thread::Threads;
 
-/// Runs the sample of so many people, whose script and files are functions of their number.
+/// Runs the sample with this number of people, whose script and files are functions of the number.
 pub fn run_sample<R: Threads + Sync, M: RunsQueries, K: Sink>(
     rt: &R,
     alloc: Global,

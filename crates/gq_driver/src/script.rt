@@ -1,4 +1,4 @@
-// From the bytes of a script to its lines.
+// Runs the bytes of a script.
 ghost use Rattle.std.specs.Prelude.{◌≡◌, ◌≤◌, ℕ, All, Some, length};
 ghost use Rattle.std.specs.Option.{option_copied};
 ghost use Rattle.gq_io.specs.Counts.{Rose};
@@ -20,8 +20,8 @@ use gq_tree::Placed;
 use std::alloc::Global;
 use std::thread::Threads;
 
-/// Runs the script with these bytes, where the file of arguments, if one is named, has those. Its queries run by what is given, on
-/// threads of this runtime.
+/// Runs the script with these bytes; the file of arguments, if one is named, has those bytes. Its queries run on the
+/// given machine, on threads of this runtime.
 pub fn run_script<R: Threads + Sync, M: RunsQueries, F: Files, K: Sink>(
     rt: &R,
     alloc: Global,

@@ -1,4 +1,4 @@
--- Edges under their names: the walk to the row of a name.
+-- Edges by their names: the walk to the row of a name.
 use Rattle.std.proofs.Common.{ℕ, ◌≡◌, ◌<◌, Bool, true, false, List, length, get_or, Option, Some, None, ap, sym, ◌∙◌, subst}
 use Rattle.gq_base.specs.Last.{IsLast}
 use Rattle.gq_base.proofs.Seeks.{Seeks, seek_starts, seek_goes, seek_none, seek_found, seek_exact}

@@ -1,5 +1,5 @@
--- The name of an edge, as one thing: two edges have one name exactly where their types, their ends in order, and the values
--- of their discriminators are the same.
+-- The name of an edge as one value: two edges have the same name exactly if their types, their ends in order, and the
+-- values of their discriminators are the same.
 use Rattle.std.proofs.Common.{ℕ, ◌+◌, ◌*◌, ◌%◌, ◌<◌, ◌≡◌, ◌==◌, nat_lt, nat_le, cond, ◌&&◌, ◌||◌, not, Bool, true, false, List, [], ◌∷◌, take, map, refl, ap, sym, ◌∙◌, arith, eq-eqb}
 use Rattle.std.specs.declared.cmp.Ordering.{Ordering}
 use Rattle.std.specs.declared.cmp.Ordering.TheVariants.{Less, Equal, Greater}
@@ -102,7 +102,7 @@ is_named naming a b same =
     ap (λ t. t && (same_ends naming.directed a b && same_values (take naming.key a.attributes) (take naming.key b.attributes))) kind
     ∙ ap (λ t. t && same_values (take naming.key a.attributes) (take naming.key b.attributes)) ends ∙ values
 
--- the key is that of the name
+-- the key of an edge, computed from its name
 abbrev name_key : Naming → EdgeName → ℕ
 name_key naming n = tag_of naming.key n.kind n.values * 18446744073709551616 + (n.first * 4294967296 + n.second)
 
@@ -113,7 +113,7 @@ by_test : (t : Bool) (x y : ℕ) (P : ℕ → Type 0) → (t ≡ true → P x) �
 by_test true x y P one other = one refl
 by_test false x y P one other = other refl
 
--- a tag that is no hash is the type of edges that are named by their ends
+-- a tag that isn't a hash is the type, and those edges are named by their ends alone
 exact_tag : (key kind : ℕ) (values : List Val) → tag_of key kind values < 2147483648 → (key ≡ 0) × (tag_of key kind values ≡ kind)
 exact_tag key kind values =
     by_test ((key == 0) && nat_lt kind 2147483648) kind (2147483648 + values_hash (mixed 0 kind) values % 2147483648)
@@ -130,7 +130,7 @@ parts_same : (t u f g s r : ℕ) → f < 4294967296 → g < 4294967296 → s < 4
     → t * 18446744073709551616 + (f * 4294967296 + s) ≡ u * 18446744073709551616 + (g * 4294967296 + r) → (t ≡ u) × ((f ≡ g) × (s ≡ r))
 parts_same t u f g s r a b c d is = (omega arith, (omega arith, omega arith))
 
--- the type of an edge, where its key is the whole name
+-- the type of an edge whose key is the whole name
 pub exact_kind : (naming other : Naming) (edge row : EdgeRow) → HasEnds edge → HasEnds row → edge_tag naming edge < 2147483648
     → edge_key other row ≡ edge_key naming edge → row.kind ≡ edge.kind
 exact_kind naming other edge row ends theirs low is =

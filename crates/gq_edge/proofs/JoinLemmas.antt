@@ -1,4 +1,4 @@
--- JoinLemmas: rows as edges without attributes, and their attributes beside them.
+-- JoinLemmas: rows as edges without attributes, with their attributes in a second list.
 use Rattle.std.proofs.Common.{ℕ, zero, suc, ◌+◌, ◌<◌, ◌≡◌, List, [], ◌∷◌, ◌++◌, length, get_or, set, map, refl, ap, sym, ◌∙◌, subst, arith}
 use Rattle.std.specs.Prelude.{Bool, true, false, Result, Ok, Err, OnOk, OnErr, is_ok}
 use Rattle.gq_graph.specs.declared.rows.EdgeRow.{EdgeRow}
@@ -6,7 +6,7 @@ use Rattle.gq_graph.specs.Edges.{edge_at, no_edge}
 use Rattle.gq_value.specs.declared.value.Value.{Value}
 use Rattle.gq_edge.specs.Joined.{joined}
 
--- an edge with other attributes
+-- an edge with its attributes replaced
 abbrev pub with : EdgeRow → List Value → EdgeRow
 with edge row = record edge { attributes = row }
 
@@ -36,7 +36,7 @@ joined_set (e ∷ edges) [] n r long low = absurd (omega (arith, long))
 joined_set (e ∷ edges) (s ∷ rows) zero r long low = refl
 joined_set (e ∷ edges) (s ∷ rows) (suc n) r long low = ap (λ l. with e s ∷ l) (joined_set edges rows n r (omega (arith, long)) (omega (arith, low)))
 
--- ---- what the table's rows are
+-- ---- the rows of the table
 
 pub view_long : (edges : List EdgeRow) (rows : List (List Value)) (all : List EdgeRow) → joined edges rows ≡ all → length edges ≡ length rows → length edges ≡ length all
 view_long edges rows all view long = sym (length_joined edges rows long) ∙ ap length view
@@ -57,7 +57,7 @@ set_is edges rows now all n row view long low done =
     ap (joined edges) done ∙ joined_set edges rows n row long (omega (arith, low, view_long edges rows all view long))
     ∙ ap (λ l. set l n (with (edge_at l n) row)) view
 
--- a row that is built of the parts of another
+-- a row built from the parts of another
 pub built : (here : EdgeRow) (kind from to : ℕ) (row own : List Value) {read : EdgeRow} → read ≡ here → kind ≡ read.kind → from ≡ read.from → to ≡ read.to → row ≡ own
     → ◌≡◌ {A = EdgeRow} (record { kind = kind; from = from; to = to; attributes = row }) (with here own)
 built here kind from to row own {read} is k f t r =
@@ -67,7 +67,7 @@ built here kind from to row own {read} is k f t r =
     made : ℕ → ℕ → ℕ → List Value → EdgeRow
     made a b c d = record { kind = a; from = b; to = c; attributes = d }
 
--- ---- answers that are tested
+-- ---- results of tests
 
 pub when_ok : {T E P : Type 0} (r : Result T E) → OnOk r P → is_ok r ≡ true → P
 when_ok (Ok x) h is = h

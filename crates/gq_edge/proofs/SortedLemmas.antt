@@ -1,4 +1,4 @@
--- The tree of names: what it finds, and what it has after one row more.
+-- The tree of names: what it finds, and its contents after a row is added.
 use Rattle.std.proofs.Common.{ℕ, zero, suc, ◌+◌, ◌<◌, ◌≡◌, ◌==◌, Bool, true, false, cond, List, [], ◌∷◌, ◌++◌, length, take, set, get_or, map, Option, Some, None, Ordering, Less, Equal, Greater, OnOk, Result, Ok, Err, refl, ap, sym, ◌∙◌, subst, arith}
 use Rattle.std.specs.Option.{option_or}
 use Rattle.std.specs.List.{position, position_from, find}
@@ -33,7 +33,7 @@ pub on_ok : {T E P Q : Type 0} (r : Result T E) → OnOk r P → (P → Q) → O
 on_ok (Ok x) h f = f h
 on_ok (Err e) h f = h
 
--- rows of values that compare as equal are one
+-- rows of values that compare as equal are equal
 then_equal : (o p : Ordering) → is_eq (ordering_then o p) ≡ true → (o ≡ Equal) × (is_eq p ≡ true)
 then_equal Less p is = absurd (cc)
 then_equal Equal p is = (refl, is)
@@ -60,14 +60,14 @@ row_back a b is =
     let first : a.first ≡ b.first = cc in let second : a.second ≡ b.second = cc in let kind : a.kind ≡ b.kind = cc in
     let values : a.values ≡ b.values = cc in name_same kind first second values
 
--- a row of values that was made value by value
+-- a row of values that was built value by value
 pub built : (e o t u w rest all : List Val) (a b c x y z : Val) → e ≡ [] → o ≡ e ++ a ∷ [] → t ≡ o ++ b ∷ [] → u ≡ t ++ c ∷ [] → w ≡ u ++ rest
     → a ≡ x → b ≡ y → c ≡ z → rest ≡ all → w ≡ x ∷ y ∷ z ∷ all
 built e o t u w rest all a b c x y z none one two three four first second third last =
     let made : w ≡ a ∷ b ∷ c ∷ rest = four ∙ ap (λ l. l ++ rest) (three ∙ ap (λ l. l ++ c ∷ []) (two ∙ ap (λ l. l ++ b ∷ []) (one ∙ ap (λ l. l ++ a ∷ []) none))) in
     made ∙ ap (λ v. v ∷ b ∷ c ∷ rest) first ∙ ap (λ v. x ∷ v ∷ c ∷ rest) second ∙ ap (λ v. x ∷ y ∷ v ∷ rest) third ∙ ap (λ l. x ∷ y ∷ z ∷ l) last
 
--- the first that passes, after one more
+-- the first that passes, after one more is appended
 position_push : {X : Type 0} (p : X → Bool) (xs : List X) (y : X) → (p y ≡ true → position p xs ≡ None)
     → position p (xs ++ y ∷ []) ≡ cond (p y) (Some (length xs)) (position p xs)
 position_push p xs y new = position_from-zero p (xs ++ y ∷ []) ∙ more 0 xs ∙ by (p y) refl
@@ -95,7 +95,7 @@ position_push p xs y new = position_from-zero p (xs ++ y ∷ []) ∙ more 0 xs �
         at_last (position_from p 0 xs) (0 + length xs) (sym (position_from-zero p xs) ∙ new is) ∙ ap Some e
     by false is = nothing (position_from p 0 xs) ∙ sym (position_from-zero p xs)
 
--- the first whose image passes one test, and the first that passes another one
+-- the first whose image passes a test is the first that passes the other test
 pub position_map : {X Y : Type 0} (p : Y → Bool) (f : X → Y) (q : X → Bool) (xs : List X) (d : X) → ((k : ℕ) → k < length xs → p (f (get_or xs k d)) ≡ q (get_or xs k d))
     → position p (map f xs) ≡ position q xs
 position_map p f q xs d same = position_from-zero p (map f xs) ∙ by 0 xs same ∙ sym (position_from-zero q xs)
@@ -110,7 +110,7 @@ position_map p f q xs d same = position_from-zero p (map f xs) ∙ by 0 xs same 
 pub sorted_none : (tree : Names) → IsEmpty tree → AreSorted [] (Some tree)
 sorted_none tree empty = λ name. ap (lookup (is_at (name_cmp name))) empty
 
--- one name more, which is new
+-- one more name, which is new
 pub sorted_push : (names : List (List Val)) (row : List Val) (n : ℕ) (key : Vec Value) (old new : Names)
     → ((k : ℕ) → k < length names → get_or names k [] ≡ row → ⊥) → n ≡ length names → map val key.items ≡ row → AreSorted names (Some old)
     → Updates name_cmp old new key (Some n) → AreSorted (names ++ row ∷ []) (Some new)
@@ -124,7 +124,7 @@ sorted_push names row n key old new fresh at is sorted updates = λ name.
     seek_none (is_name name) [] names (λ k low. missed (is_name name (get_or names k [])) (λ other.
     fresh k low (held (get_or names k []) (map val name.items) other ∙ sym (held row (map val name.items) hit))))))
 
--- one row more of those that are there
+-- one more of the rows that exist
 pub sorted_next : (names : List (List Val)) (n : ℕ) (key : Vec Value) (old new : Names)
     → ((i j : ℕ) → i < j → j < length names → get_or names i [] ≡ get_or names j [] → ⊥) → n < length names → map val key.items ≡ get_or names n []
     → AreSorted (take n names) (Some old) → Updates name_cmp old new key (Some n) → AreSorted (take (n + 1) names) (Some new)
@@ -134,7 +134,7 @@ sorted_next names n key old new apart low is sorted updates =
     (sorted_push (take n names) (get_or names n []) n key old new
     (λ k under same. let before : k < n = omega (arith, under, count) in apart k n before low (sym (get_or-take n names k [] before) ∙ same)) (sym count) is sorted updates)
 
--- the naming of a type, by the first that is of that type
+-- the naming of a type is the first one of that type
 pub find_first : (p : Naming → Bool) (xs : List Naming) (i : ℕ) (d : Naming) → i < length xs → find p (take i xs) ≡ None → p (get_or xs i d) ≡ true
     → find p xs ≡ Some (get_or xs i d)
 find_first p [] i d low none is = absurd (omega arith)

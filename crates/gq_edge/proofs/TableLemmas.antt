@@ -1,4 +1,4 @@
--- The table of edges: each row under its name, and each type that has rows with its naming.
+-- The table of edges: each row by its name, and the naming of each type that has rows.
 use Rattle.std.proofs.Common.{inl, inr, ℕ, zero, suc, ◌+◌, ◌<◌, ◌≡◌, ◌≢◌, ◌==◌, Bool, true, false, cond, List, [], ◌∷◌, ◌++◌, length, get_or, set, take, map, Option, Some, None, refl, ap, sym, ◌∙◌, subst, arith, eq-eqb, length-set}
 use Rattle.std.specs.Option.{is_some, unwrap_or, option_or}
 use Rattle.std.specs.List.{find}
@@ -27,19 +27,19 @@ missed : (b : Bool) → (b ≡ true → ⊥) → b ≡ false
 missed true not = absurd (not refl)
 missed false not = refl
 
--- the naming of a type that is known
+-- the naming of a known type
 known_is : (o : Option Naming) (d : Naming) → is_some o ≡ true → o ≡ Some (unwrap_or o d)
 known_is None d is = absurd (cc)
 known_is (Some n) d is = refl
 
--- a row of the naming's type is named so
+-- a row of the naming's type is named by it
 agreed_type : (naming : Naming) (rows : List EdgeRow) (namings : List Naming) (keys : List ℕ) (k : ℕ) → AreNamed rows namings keys
     → Agrees namings naming → (edge_at rows k).kind ≡ naming.kind → k < length rows → naming_at namings (edge_at rows k).kind ≡ naming
 agreed_type naming rows namings keys k named agrees same low =
     let known = known_is (naming_of namings (edge_at rows k).kind) (record { kind = 0; directed = false; key = 0 }) (named.known k low) in
     agrees (naming_at namings (edge_at rows k).kind) (ap (naming_of namings) (sym same) ∙ known)
 
--- and so is one that has the edge's name
+-- and so is a row that has the edge's name
 agreed : (naming : Naming) (edge : EdgeRow) (rows : List EdgeRow) (namings : List Naming) (keys : List ℕ) (k : ℕ) → AreNamed rows namings keys
     → Agrees namings naming → edge.kind ≡ naming.kind → k < length rows → is_edge naming edge (edge_at rows k) ≡ true
     → naming_at namings (edge_at rows k).kind ≡ naming
@@ -82,7 +82,7 @@ or_second : (o r : Option Naming) → is_some o ≡ false → option_or o r ≡ 
 or_second None r is = refl
 or_second (Some n) r is = absurd (cc)
 
--- a type that is known keeps its naming
+-- a known type keeps its naming
 pub noted_known : (namings : List Naming) (naming : Naming) (kind : ℕ) → is_some (naming_of namings kind) ≡ true → naming_of (noted namings naming) kind ≡ naming_of namings kind
 noted_known namings naming kind is = by (is_some (naming_of namings naming.kind))
   where
@@ -90,7 +90,7 @@ noted_known namings naming kind is = by (is_some (naming_of namings naming.kind)
     by true = refl
     by false = find-append (λ (n : Naming). n.kind == kind) namings (naming ∷ []) ∙ or_first (naming_of namings kind) (naming_of (naming ∷ []) kind) is
 
--- and the naming's own type has that naming
+-- and the naming's own type now has it
 pub noted_own : (namings : List Naming) (naming : Naming) → Agrees namings naming → naming_of (noted namings naming) naming.kind ≡ Some naming
 noted_own namings naming agrees = by (is_some (naming_of namings naming.kind)) refl
   where
@@ -104,7 +104,7 @@ noted_own namings naming agrees = by (is_some (naming_of namings naming.kind)) r
     by false is =
         find-append (λ (n : Naming). n.kind == naming.kind) namings (naming ∷ []) ∙ or_second (naming_of namings naming.kind) (naming_of (naming ∷ []) naming.kind) is ∙ own
 
--- nothing is noted where the type is known
+-- nothing is noted if the type is known
 pub noted_already : (namings : List Naming) (naming : Naming) → is_some (naming_of namings naming.kind) ≡ true → noted namings naming ≡ namings
 noted_already namings naming is = ap (λ t. cond t namings (namings ++ naming ∷ [])) is
 
@@ -148,7 +148,7 @@ map_agree f g d [] same = refl
 map_agree f g d (x ∷ xs) same =
     ap (λ y. y ∷ map f xs) (same 0 (omega arith)) ∙ ap (λ ys. g x ∷ ys) (map_agree f g d xs (λ k low. same (suc k) (omega arith)))
 
--- what is kept of each row beside its naming, after one edge more
+-- what is kept of each row with its naming, after an edge is added
 pub known_added : {X : Type 0} (f : Naming → EdgeRow → X) (rows : List EdgeRow) (namings : List Naming) (keys : List ℕ) (naming : Naming) (edge : EdgeRow)
     → AreNamed rows namings keys → Agrees namings naming → edge.kind ≡ naming.kind
     → map (λ (r : EdgeRow). f (naming_at (noted namings naming) r.kind) r) (rows ++ edge ∷ []) ≡ map (λ (r : EdgeRow). f (naming_at namings r.kind) r) rows ++ f naming edge ∷ []
@@ -161,7 +161,7 @@ known_added f rows namings keys naming edge named agrees kind =
     ap (λ (o : Option Naming). f (unwrap_or o (record { kind = 0; directed = false; key = 0 })) (edge_at rows k)) (noted_known namings naming (edge_at rows k).kind (named.known k low))))
     ∙ ap (λ (o : Option Naming). map (λ (r : EdgeRow). f (naming_at namings r.kind) r) rows ++ f (unwrap_or o (record { kind = 0; directed = false; key = 0 })) edge ∷ []) own
 
--- one edge more, of a new name
+-- one edge added, with a new name
 pub named_added : (rows : List EdgeRow) (namings : List Naming) (keys : List ℕ) (naming : Naming) (edge : EdgeRow) (key : ℕ) → Agrees namings naming
     → edge.kind ≡ naming.kind → edge_number rows naming edge ≡ None → length rows < most_edges → key ≡ edge_key naming edge → HasEnds edge
     → AreNamed rows namings keys → AreNamed (rows ++ edge ∷ []) (noted namings naming) (keys ++ key ∷ [])
@@ -219,7 +219,7 @@ pub number_low : (rows : List EdgeRow) (naming : Naming) (edge : EdgeRow) (n : �
     → (n < length rows) × (is_edge naming edge (edge_at rows n) ≡ true)
 number_low rows naming edge n is = let at = position-Some (is_edge naming edge) rows n no_edge is in (at.0, at.1)
 
--- a row with other attributes of the same name
+-- a row replaced by one with the same name and other attributes
 same_rows : (rows : List EdgeRow) (n : ℕ) (row : EdgeRow) → n < length rows → row.kind ≡ (edge_at rows n).kind → (k : ℕ)
     → (edge_at (set rows n row) k).kind ≡ (edge_at rows k).kind
 same_rows rows n row low kind k = elim (eqb_tells k n) [
@@ -278,7 +278,7 @@ named_replaced rows namings keys n row naming low own kind same ends named =
     by_place (x ∷ xs) (y ∷ ys) f d long same =
         ap (λ z. z ∷ map f xs) (same 0 (omega arith)) ∙ ap (λ zs. f y ∷ zs) (by_place xs ys f d (omega arith) (λ k low. same (suc k) (omega arith)))
 
--- an edge of a known name
+-- an edge with a known name
 pub found_row : (rows : List EdgeRow) (namings : List Naming) (keys : List ℕ) (naming : Naming) (edge : EdgeRow) (n : ℕ) → AreNamed rows namings keys
     → Agrees namings naming → edge.kind ≡ naming.kind → edge_number rows naming edge ≡ Some n
     → (n < length rows) × AreNamed (set rows n (record (edge_at rows n) { attributes = edge.attributes })) namings keys × (noted namings naming ≡ namings)
@@ -302,7 +302,7 @@ found_row rows namings keys naming edge n named agrees kind is =
     with_values : EdgeName → List Val → EdgeName
     with_values x v = record x { values = v }
 
--- what an upsert of a known name gives
+-- the result of an upsert with a known name
 pub replaced_is : (rows : List EdgeRow) (namings : List Naming) (now : EdgeTable) (after : List EdgeRow) (naming : Naming) (edge : EdgeRow) (n : ℕ)
     → ◌≡◌ {A = EdgeTable} (record { rows = rows; namings = namings }) now → edge_number rows naming edge ≡ Some n → noted namings naming ≡ namings
     → after ≡ set rows n (record (edge_at rows n) { attributes = edge.attributes })
@@ -326,7 +326,7 @@ same_bool : (a b : Bool) → (a ≡ true → b ≡ true) → (b ≡ true → a �
 same_bool true b one other = sym (one refl)
 same_bool false b one other = sym (missed b (λ is. let back : false ≡ true = other is in absurd (cc)))
 
--- a row whose name is that of the edge
+-- a row with the name of the edge
 pub row_hit : (naming : Naming) (edge : EdgeRow) (rows : List EdgeRow) (namings : List Naming) (keys : List ℕ) (k : ℕ) → AreNamed rows namings keys
     → Agrees namings naming → edge.kind ≡ naming.kind → k < length rows → row_name namings (edge_at rows k) ≡ name_row naming edge
     → is_edge naming edge (edge_at rows k) ≡ true

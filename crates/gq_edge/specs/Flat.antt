@@ -1,4 +1,4 @@
--- Flat: an edge whose attributes are lent, as a row.
+-- Flat: an edge with borrowed attributes, as a row.
 use Rattle.gq_graph.specs.declared.rows.EdgeRow.{EdgeRow}
 use Rattle.gq_edge.specs.declared.rows.EdgeRef.{EdgeRef}
 

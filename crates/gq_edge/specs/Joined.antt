@@ -1,4 +1,4 @@
--- Joined: edges without attributes and their attributes, as rows.
+-- Joined: rows as two lists, one of edges without attributes and one of their attributes.
 use Rattle.std.specs.Prelude.{List, [], ◌∷◌}
 use Rattle.gq_graph.specs.declared.rows.EdgeRow.{EdgeRow}
 use Rattle.gq_value.specs.declared.value.Value.{Value}

@@ -1,4 +1,4 @@
--- Sorted: the tree of names, which a table of edges has beside the keys once keys were chosen to share a bucket.
+-- Sorted: the tree of names, which a table of edges adds to the keys once they seem chosen to share a bucket.
 use Rattle.std.specs.Prelude.{ℕ, ◌≡◌, Bool, List, [], ◌∷◌, map, take, Option, Some, None, position}
 use Rattle.std.specs.declared.cmp.Ordering.{Ordering}
 use Rattle.std.specs.Ordering.{is_eq, on}
@@ -15,7 +15,7 @@ use Rattle.gq_value.specs.Order.{place}
 use Rattle.gq_edge.specs.Keyed.{first_end, second_end}
 use Rattle.gq_edge.specs.Named.{naming_at}
 
--- numbers by names
+-- edge numbers by name
 abbrev pub Names : Type 0
 Names = BTreeMap (Vec Value) ℕ
 
@@ -37,7 +37,7 @@ name_cmp a b = slice_cmp (on val place) a.items b.items
 abbrev pub is_name : Vec Value → List Val → Bool
 is_name name row = is_eq (slice_cmp place row (map val name.items))
 
--- the tree, where there is one, has the number of each of these names, and no other
+-- the tree, if there is one, maps these names to their numbers, and has no other names
 abbrev pub AreSorted : List (List Val) → Option Names → Type 0
 AreSorted names None = Unit {0}
 AreSorted names (Some tree) = (name : Vec Value) → get name_cmp tree name ≡ position (is_name name) names

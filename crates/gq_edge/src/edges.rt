@@ -16,16 +16,16 @@ use gq_value::{Row, Value};
 use std::alloc::Global;
 use std::marker::Model;
 
-/// How many edges a store holds at most.
+/// The maximum number of edges in a store.
 pub const MOST_EDGES: usize = 16_777_216;
 
-/// The edges of a store. Contracts see their rows, and how the edges of each type that has rows are named.
+/// The edges of a store. Contracts see their rows, and the naming of each type that has rows.
 #[derive(Drop)]
 pub struct Edges {
     rows: EdgeRows,
     namings: Vec<Naming>,
     index: KeyIndex,
-    /// Kept from when so many rows first shared a bucket that their names must have been chosen for it.
+    /// Present once a bucket was so crowded that the names must have been chosen for it.
     names: Option<Names>,
 }
 
@@ -50,7 +50,7 @@ impl Model for Edges {
 }
 
 impl Edges {
-    /// No edges.
+    /// Returns an empty table.
     pub fn new(alloc: Global) -> Edges
         ensures { result ≡ record { rows = []; namings = [] } }
     {
@@ -89,9 +89,9 @@ impl Edges {
         self.rows.attributes(edge)
     }
 
-    /// Gives the edge of that name the attributes, or puts it last. The first `key` attributes belong to the name, and the
-    /// ends have no order where the edge isn't directed. The values are moved out of the row, of whose content nothing is said
-    /// then. Unchanged after a refusal.
+    /// Replaces the attributes of the edge of that name, or appends a new edge. The first `key` attributes are part of
+    /// the name, and the ends are unordered if the edge isn't directed. Moves the values out of the row, whose content
+    /// is unspecified afterwards. A refusal leaves the table unchanged.
     pub fn upsert(
         &mut self,
         kind: u32,
@@ -153,18 +153,18 @@ impl Edges {
         }
     }
 
-    /// Where the search begins for an edge that has no discriminators. It is for reading ahead, with `touch`, and tells nothing of the
-    /// edges; with discriminators the search begins elsewhere.
+    /// The entry at which the search for an edge without discriminators begins, for prefetching with `touch`. It says
+    /// nothing about the edges; with discriminators the search begins elsewhere.
     pub fn first(&self, kind: u32, directed: bool, from: u32, to: u32) -> u32 {
         self.index.first(plain_key(kind, directed, from, to))
     }
 
-    /// Reads what stands where a search begins, and gives some of it, so that the read isn't left out.
+    /// Reads the entry at which a search begins and returns part of it, so that the compiler keeps the read.
     pub fn touch(&self, place: u32) -> u32 {
         self.index.touch(place)
     }
 
-    /// An equal table with memory of its own.
+    /// Copies the table into newly allocated memory.
     pub fn duplicate(&self) -> Result<Edges, OutOfMemory>
         ensures { IfOk result (λ copy. copy ≡ self.now) }
     {
@@ -182,7 +182,7 @@ impl Edges {
     }
 }
 
-/// Puts an edge of a new name last.
+/// Appends an edge with a new name.
 fn add(
     rows: &mut EdgeRows,
     namings: &mut Vec<Naming>,
@@ -222,7 +222,7 @@ fn add(
     Ok(number)
 }
 
-/// Puts a new row and its key last. Where there is no memory for them, the tree, which has the name already, is given up.
+/// Appends a new row and its key. If memory runs out, drops the tree, which has the name already.
 fn push(
     rows: &mut EdgeRows,
     index: &mut KeyIndex,
@@ -247,7 +247,7 @@ fn push(
     }
 }
 
-/// Puts a new row and its key last. Unchanged after OutOfMemory.
+/// Appends a new row and its key. Unchanged after `OutOfMemory`.
 fn push_both(
     rows: &mut EdgeRows,
     index: &mut KeyIndex,
@@ -273,7 +273,7 @@ fn push_both(
     }
 }
 
-/// Gives an edge other attributes, if there is memory for them.
+/// Replaces an edge's attributes; `false` if there is no memory for them.
 fn replace(rows: &mut EdgeRows, number: u32, attributes: &mut Row) -> bool
     requires { number < length rows.old }
     ensures done { result ≡ true → rows.new ≡ slice_set rows.old number (record (edge_at rows.old number) { attributes = attributes.old }) }
@@ -282,7 +282,7 @@ fn replace(rows: &mut EdgeRows, number: u32, attributes: &mut Row) -> bool
     rows.set(number, attributes).is_ok()
 }
 
-/// Keeps how the edges of a type are named, where there is room for it.
+/// Notes how the edges of a type are named, if there is room for it.
 fn note(namings: &mut Vec<Naming>, naming: Naming)
     requires { vec_len namings.old < vec_capacity namings.old }
     ensures { namings.new.items ≡ noted namings.old.items naming }

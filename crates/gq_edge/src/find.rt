@@ -1,4 +1,4 @@
-// Edges by name.
+// Lookup of edges by name.
 ghost use Rattle.std.specs.Prelude.{◌≡◌, ◌≤◌, length, take};
 ghost use Rattle.gq_graph.specs.Edges as edges;
 ghost use Rattle.gq_edge.specs.Named.{IsFindable};
@@ -12,8 +12,8 @@ use gq_base::KeyIndex;
 use gq_graph::Naming;
 use std::alloc::Global;
 
-/// The number of the row of an edge's name: by the tree of names, if there is one and memory for the name, and else by
-/// the keys of the rows.
+/// Finds the number of the row with an edge's name: in the tree of names if there is one and memory for the name, and
+/// otherwise by the keys of the rows.
 pub(crate) fn find(
     rows: &EdgeRows,
     index: &KeyIndex,
@@ -35,7 +35,7 @@ pub(crate) fn find(
     find_by_key(rows, index, naming, edge)
 }
 
-/// The same by the keys of the rows. No row is read where the key is the whole name.
+/// The same by the keys of the rows. If the key is the whole name, no row is read.
 fn find_by_key(rows: &EdgeRows, index: &KeyIndex, naming: Naming, edge: EdgeRef<'_>) -> Option<u32>
     requires within { naming.key ≤ length edge.attributes.now }
     requires findable { IsFindable naming (edge_of edge) rows.now index.now }

@@ -10,10 +10,11 @@ use gq_base::{Key, mixed, text_hash, wide_hash};
 use gq_graph::Naming;
 use gq_value::Value;
 
-/// Tags from here on are hashes.
+/// Tags from here on are hashes; smaller ones are types.
 pub(crate) const HASHED: u32 = 0x8000_0000;
 
-/// What an edge is found by: its ends are the word, and its type is the tag where nothing else belongs to the name.
+/// The key by which an edge is found: its ends are the word, and its type is the tag if nothing else is part of the
+/// name.
 pub(crate) fn edge_key(naming: Naming, edge: EdgeRef<'_>) -> Key
     requires { naming.key ≤ length edge.attributes.now }
     ensures number { number_of result ≡ spec.edge_key naming (edge_of edge.entry) }
@@ -34,7 +35,7 @@ pub(crate) fn plain_key(kind: u32, directed: bool, from: u32, to: u32) -> Key {
     }
 }
 
-/// Both ends, of which the smaller is first where there is no direction.
+/// Both ends as one number; the smaller is first if the edge is undirected.
 fn ends(directed: bool, from: u32, to: u32) -> u64
     ensures word { result ≡ spec.first_end directed from to * 4294967296 + spec.second_end directed from to }
     ensures small { (from < 4294967296) × (to < 4294967296) }

@@ -1,10 +1,10 @@
-//! The edges of a store, each with a name of its own.
+//! The edges of a store, each with a unique name.
 //!
 //! The name of an edge is its type, its two ends (unordered if the type is undirected) and the values of its
 //! discriminators. `Edges` keeps types and ends in one list and attributes in another, and finds a row by the key of its
-//! name, which has the discriminators in it, so edges that differ only in these are found as fast as others.
+//! name, which includes the discriminators. So edges that differ only in these are found as fast as others.
 //!
-//! Read `Edges.antt` of `gq_graph` first: what an upsert does to a list of rows. Then read `specs/Named.antt`
+//! Read `Edges.antt` of `gq_graph` first: the effect of an upsert on a list of rows. Then read `specs/Named.antt`
 //! and `specs/Keyed.antt`. The table is in `src/edges.rt`, its rows are in `src/rows.rt`, the
 //! lookup is in `src/find.rt`.
 #![tactic(auto)]

@@ -1,4 +1,4 @@
-// Edges by name, in order.
+// A tree of edges by name.
 ghost use Rattle.std.specs.Prelude.{◌≡◌, ◌<◌, ◌≤◌, ◌++◌, ◌∷◌, [], length, map, take, IfOk, OnOk, OnErr, None, Some};
 ghost use Rattle.std.specs.BTreeMap.{Updates, IsUnchanged};
 ghost use Rattle.gq_value.specs.Views.{val};
@@ -37,7 +37,7 @@ pub(crate) fn name_of(
     Ok(name)
 }
 
-/// Both ends, of which the smaller is first where there is no direction.
+/// Both ends; the smaller is first if the edge is undirected.
 fn ends(directed: bool, from: u32, to: u32) -> (u32, u32)
     ensures { (result.0 ≡ first_end directed from to) × (result.1 ≡ second_end directed from to) }
 {
@@ -72,8 +72,8 @@ fn add(name: &mut Vec<Value>, value: Value) -> Result<(), OutOfMemory>
     Ok(())
 }
 
-/// Puts the name of a new edge into the tree, which is to stand behind `rows`. The tree is made where the bucket of the
-/// edge's key is crowded. After OutOfMemory all rows are found as before.
+/// Inserts the name of a new edge, which will follow `rows`, into the tree, if there is one. Builds the tree if the
+/// bucket of the edge's key is crowded. After `OutOfMemory` all rows are found as before.
 pub(crate) fn insert(
     names: &mut Option<Names>,
     alloc: Global,
@@ -100,7 +100,7 @@ pub(crate) fn insert(
     }
 }
 
-/// Makes the tree of the names of all rows where the bucket of a key is crowded.
+/// Builds the tree of the names of all rows if the bucket of a key is crowded.
 fn make_if_crowded(
     names: &mut Option<Names>,
     alloc: Global,
@@ -119,7 +119,7 @@ fn make_if_crowded(
     Ok(())
 }
 
-/// The names of all rows.
+/// Builds the tree of the names of all rows.
 pub(crate) fn sorted(
     alloc: Global,
     rows: &EdgeRows,
@@ -141,7 +141,7 @@ pub(crate) fn sorted(
     Ok(names)
 }
 
-/// How the edges of a type that has rows are named.
+/// The naming of a type that has rows.
 fn naming_at(namings: &[Naming], kind: u32) -> Naming
     ensures { result ≡ named.naming_at namings.now kind }
 {
@@ -157,7 +157,7 @@ fn naming_at(namings: &[Naming], kind: u32) -> Naming
     }
 }
 
-/// Gives a name that number. After OutOfMemory each name has the number that it had.
+/// Maps a name to that number. After `OutOfMemory` all names keep their numbers.
 fn put(names: &mut Names, name: Vec<Value>, number: u32) -> Result<(), OutOfMemory>
     ensures put { OnOk result (Updates spec.name_cmp names.old names.new name (Some number)) }
     ensures stays { OnErr result (IsUnchanged names.old names.new) }

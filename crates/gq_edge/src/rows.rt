@@ -9,7 +9,7 @@ use gq_value::{Row, Value};
 use std::alloc::Global;
 use std::marker::Model;
 
-/// The type of an edge and its two ends by number of vertex. Contracts see an edge without attributes.
+/// The type of an edge and its two ends, by vertex number. Contracts see an edge without attributes.
 #[derive(Clone, Copy)]
 pub struct EdgeEnds {
     kind: u32,
@@ -55,7 +55,7 @@ impl EdgeEnds {
     }
 }
 
-/// An edge whose attributes are lent.
+/// An edge with borrowed attributes.
 #[derive(Clone, Copy)]
 pub(crate) struct EdgeRef<'a> {
     pub kind: u32,
@@ -64,7 +64,7 @@ pub(crate) struct EdgeRef<'a> {
     pub attributes: &'a [Value],
 }
 
-/// An edge with its attributes lent.
+/// Returns an edge that borrows its attributes.
 pub(crate) fn lent(kind: u32, from: u32, to: u32, attributes: &Row) -> EdgeRef<'_>
     ensures { edge_of result ≡ edge_with kind from to attributes.now }
 {
@@ -100,7 +100,7 @@ impl Model for EdgeRows {
 }
 
 impl EdgeRows {
-    /// No rows.
+    /// Returns a table without rows.
     pub fn new(alloc: Global) -> EdgeRows
         ensures { result ≡ [] }
     {
@@ -110,14 +110,14 @@ impl EdgeRows {
         }
     }
 
-    /// How many rows there are.
+    /// The number of rows.
     pub fn len(&self) -> usize
         ensures { result ≡ length self.now }
     {
         self.ends.len()
     }
 
-    /// What gives the memory.
+    /// The allocator of the rows.
     pub fn allocator(&self) -> Global {
         *self.ends.allocator()
     }
@@ -154,7 +154,7 @@ impl EdgeRows {
         }
     }
 
-    /// Puts a row last, whose values are moved. Unchanged after OutOfMemory.
+    /// Appends a row and moves its values. Unchanged after `OutOfMemory`.
     pub fn push(
         &mut self,
         kind: u32,
@@ -171,7 +171,7 @@ impl EdgeRows {
         Ok(())
     }
 
-    /// Gives a row other attributes, which are moved. Unchanged after OutOfMemory.
+    /// Replaces the attributes of a row and moves the new values. Unchanged after `OutOfMemory`.
     pub fn set(&mut self, number: u32, attributes: &mut Row) -> Result<(), OutOfMemory>
         requires { number < length self.old }
         ensures ok { OnOk result (self.new ≡ slice_set self.old number (record (edge_at self.old number) { attributes = attributes.old })) }
@@ -180,7 +180,7 @@ impl EdgeRows {
         self.attributes.set(number, attributes)
     }
 
-    /// Equal rows with memory of their own.
+    /// Copies the rows into newly allocated memory.
     pub fn duplicate(&self) -> Result<EdgeRows, OutOfMemory>
         ensures { IfOk result (λ copy. copy ≡ self.now) }
     {
@@ -192,7 +192,7 @@ impl EdgeRows {
     }
 }
 
-/// Puts ends last where there is room for them.
+/// Appends ends if there is room for them.
 fn put(all: &mut Vec<EdgeEnds>, ends: EdgeEnds)
     requires { vec_len all.old < vec_capacity all.old }
     ensures { all.new.items ≡ all.old.items ++ ends ∷ [] }

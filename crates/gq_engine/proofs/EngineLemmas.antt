@@ -1,4 +1,4 @@
--- EngineLemmas: the run of a plan, as that of its query.
+-- EngineLemmas: the run of a plan is the run of its query.
 use Rattle.std.proofs.Common.{◌≡◌, List, Result, subst}
 use Rattle.gq_json.specs.declared.out.Printed.{Printed}
 use Rattle.gq_rules_meaning.specs.Answers.{Answer}

@@ -13,6 +13,6 @@ use Rattle.gq_plan_ir.specs.PlanView.{accum_names, view_plan}
 use Rattle.gq_eval_context.specs.Looks.{graph_for}
 use Rattle.gq_flow.specs.Plans.{Objects}
 
--- what a plan prints over a catalog and a store
+-- the output of a plan over a catalog and a store
 abbrev pub plan_over : Schema → Store → Calendar → Plan → List Val → ℕ → Answer Fault Objects
 plan_over schema store clock plan arguments turns = run_plan (world_of (accum_names plan) [] (graph_for schema store.vertices store.edges plan) clock) (view_plan plan) arguments turns

@@ -1,4 +1,4 @@
-// What runs queries.
+// The machine that runs queries.
 ghost use Rattle.std.specs.Prelude.{map};
 ghost use Rattle.gq_value.specs.Views.{val};
 ghost use Rattle.gq_rules_meaning.specs.Answers.{Answer};
@@ -58,8 +58,9 @@ impl<'g> RunsQueries for Engine<'g> {
     }
 }
 
-/// Runs a plan over a store with its index.
-fn run_plan<'x, R: Threads + Sync>(
+/// Runs a plan over a store with its index, with so many turns of loops in all. It answers what the plan prints, or why the
+/// run ended.
+pub fn run_plan<'x, R: Threads + Sync>(
     workers: &'x Workers<'x, R>,
     alloc: Global,
     catalog: &'x Catalog,
@@ -80,7 +81,7 @@ fn run_plan<'x, R: Threads + Sync>(
     told(run_query(workers, alloc, graph, plan, arguments, turns))
 }
 
-/// What a run of a plan gives, as the run of a query.
+/// Converts the result of a plan's run to that of a query's run.
 fn told(answer: Result<List<Printed>, PlanFault>) -> Result<List<Printed>, QueryFault>
     ensures { (o : Answer Fault Objects) → Prints o answer → Runs o result }
 {

@@ -8,4 +8,4 @@
 
 mod engine;
 
-pub use engine::Engine;
+pub use engine::{Engine, run_plan};

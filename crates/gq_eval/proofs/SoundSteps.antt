@@ -1,4 +1,4 @@
--- SoundSteps: what operators, functions and tests give is a value, so nothing is lent there.
+-- SoundSteps: the results of operators, functions and tests are values, so nothing is borrowed there.
 use Rattle.std.specs.Prelude.{ℕ, zero, suc, ℤ, [], ◌∷◌, Option, Some, None, Result, Ok, Err, IfOk}
 use Rattle.std.proofs.Common.{subst}
 use Rattle.gq_tree.specs.declared.expr.AddSign.TheVariants as plus

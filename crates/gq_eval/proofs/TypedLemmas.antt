@@ -83,7 +83,7 @@ module _ {N : Type 0} (world : World N) where
   has ty (Faults w) v s e = absurd (cc e)
   has ty Stuck v s e = absurd s
 
-  -- what has a type of values has a value
+  -- a meaning with a type of values has a value
   never : (ty : Typed) (m : Meant) → IsOfValues ty → Suits world ty m → value_of_meant m ≡ Stuck → ⊥
   never (Of c) m i s e = of_base m s e
     where

@@ -1,4 +1,4 @@
--- Typed: when an expression is well typed for what it sees, and what values and contents have a type.
+-- Typed: when an expression is well typed in its context, and which values and contents have a type.
 use Rattle.std.specs.Prelude.{◌≡◌, true, Ok}
 use Rattle.gq_tree.specs.Tree.{Tree}
 use Rattle.gq_value.specs.Val.{Val, Vertex, Fraction}
@@ -14,7 +14,7 @@ use Rattle.gq_rules_meaning.specs.Fitting.{is_value, is_vertex_of, HoldsValues}
 use Rattle.gq_rules_meaning.specs.Laws.{LookFits}
 use Rattle.gq_rules_meaning.specs.Meanings.{IsContent, Outcome}
 
--- an expression has a type, for names that what is seen fits
+-- an expression has a type, for names that the context fits
 pub record IsTyped {N : Type 0} (look : Look N) (t : Tree N) : Type 0 where
   pub names : Names N
   pub fits : LookFits names look

@@ -1,4 +1,4 @@
-// Collections that expressions are.
+// Whole collections as values of expressions.
 ghost use Rattle.std.specs.Prelude.{◌≡◌, IfOk, Err};
 ghost use Rattle.gq_value.specs.declared.value.EvalFault.TheVariants as fault;
 ghost use Rattle.gq_value.specs.declared.value.Wrong.{Wrong};
@@ -17,8 +17,9 @@ use gq_plan_ir::Expr;
 use gq_value::EvalFault;
 use std::alloc::Global;
 
-/// A duplicate of the whole collection that an expression is, or the first fault in order of text. What stands at a key that
-/// isn't held is the opening. What an expression that is no collection, or isn't well typed, comes to ends as `OutOfMemory` does.
+/// A duplicate of the whole collection that an expression denotes, or the first fault in order of text. The content at
+/// a key that isn't held is the opening. An expression that isn't a collection, or is stuck because it isn't well
+/// typed, ends with `OutOfMemory`.
 #[tactic(auto, using(crate::proofs::TypedLemmas::whole_laws))]
 pub fn eval_whole<V: Sees>(alloc: Global, expr: &Expr, sight: &V) -> Result<Content, EvalFault>
     ensures content { IfOk result (IsContentOf (meaning (V.look sight.now) (view expr.now))) }

@@ -30,7 +30,7 @@ use gq_tree::{AddSign, MulSign};
 use gq_value::{Number, Row, Value};
 use std::alloc::Global;
 
-/// What an expression is, or the first fault in order of text.
+/// Evaluates an expression, or returns the first fault in order of text.
 #[cycle(eval)]
 #[tactic(auto, using(gq_plan_ir::proofs::ViewLaws::view_laws, gq_value::specs::ViewLaws::view_laws, gq_eval_builtins::proofs::RunLemmas::run_laws, gq_eval_builtins::proofs::RunLemmas::cmp_laws, crate::proofs::SoundSteps::minus_sound))]
 pub fn run<'v, V: Sees>(expr: &'v Expr, alloc: Global, sight: &'v V) -> Result<Seen<'v>, Halt>
@@ -54,7 +54,8 @@ pub fn run<'v, V: Sees>(expr: &'v Expr, alloc: Global, sight: &'v V) -> Result<S
     }
 }
 
-/// What an operation on operands gives. A function of its own, since the common names and fields are to pay for no operand's room.
+/// Evaluates an operation on operands. A separate function, so that common names and fields don't pay for an operand's
+/// stack space.
 #[cycle(eval)]
 #[tactic(auto, using(gq_plan_ir::proofs::ViewLaws::view_laws, gq_eval_builtins::proofs::RunLemmas::run_laws, gq_eval_builtins::proofs::RunLemmas::cmp_laws, crate::proofs::SoundSteps::minus_sound))]
 fn operated<'v, V: Sees>(expr: &'v Expr, alloc: Global, sight: &'v V) -> Result<Seen<'v>, Halt>
@@ -97,7 +98,7 @@ fn operated<'v, V: Sees>(expr: &'v Expr, alloc: Global, sight: &'v V) -> Result<
     }
 }
 
-/// Up to 9223372036854775807 an INT, a larger one a UINT.
+/// A number literal: an INT up to 9223372036854775807, else a UINT.
 #[tactic(auto, using(gq_value::specs::ViewLaws::view_laws))]
 fn literal<'a>(n: u64) -> Seen<'a>
     ensures told { literal n ≡ Gives (meant result) }
@@ -110,7 +111,7 @@ fn literal<'a>(n: u64) -> Seen<'a>
     }
 }
 
-/// The value that an expression is.
+/// The value of an expression.
 #[cycle(eval)]
 #[tactic(auto, using(gq_eval_builtins::proofs::RunLemmas::run_laws))]
 pub fn run_value<'v, V: Sees>(
@@ -124,7 +125,7 @@ pub fn run_value<'v, V: Sees>(
     value(seen)
 }
 
-/// The truth that an expression is.
+/// The truth value of an expression.
 #[cycle(eval)]
 #[tactic(auto, using(gq_eval_builtins::proofs::RunLemmas::run_laws))]
 pub fn run_truth<V: Sees>(expr: &Expr, alloc: Global, sight: &V) -> Result<bool, Halt>
@@ -134,7 +135,7 @@ pub fn run_truth<V: Sees>(expr: &Expr, alloc: Global, sight: &V) -> Result<bool,
     truth(&x)
 }
 
-/// A product, from what stands before.
+/// Evaluates a product, from the operands before.
 #[cycle(eval)]
 #[tactic(auto, using(gq_eval_builtins::proofs::RunLemmas::chain_laws))]
 fn run_factors<'v, V: Sees>(
@@ -170,7 +171,7 @@ fn times<'v, V: Sees>(
     product(sign, &x, &y)
 }
 
-/// A sum, from what stands before.
+/// Evaluates a sum, from the operands before.
 #[cycle(eval)]
 #[tactic(auto, using(gq_eval_builtins::proofs::RunLemmas::chain_laws))]
 fn run_terms<'v, V: Sees>(
@@ -206,7 +207,7 @@ fn plus<'v, V: Sees>(
     summed(alloc, sign, &x, &y)
 }
 
-/// AND, from a truth; what stands behind a false operand isn't evaluated.
+/// Evaluates AND, from a truth; the operands after a false one aren't evaluated.
 #[cycle(eval)]
 #[tactic(auto, using(gq_eval_builtins::proofs::ListSteps::truth_at))]
 fn run_all<'v, V: Sees>(
@@ -229,7 +230,7 @@ fn run_all<'v, V: Sees>(
     Ok(truly(holds))
 }
 
-/// OR, from a truth; what stands behind a true operand isn't evaluated.
+/// Evaluates OR, from a truth; the operands after a true one aren't evaluated.
 #[cycle(eval)]
 #[tactic(auto, using(gq_eval_builtins::proofs::ListSteps::truth_at))]
 fn run_any<'v, V: Sees>(
@@ -251,7 +252,7 @@ fn run_any<'v, V: Sees>(
     Ok(truly(holds))
 }
 
-/// What stands behind dots, from what stands before.
+/// Evaluates the parts after dots, from the value before them.
 #[cycle(eval)]
 #[tactic(auto, using(gq_eval_builtins::proofs::RunLemmas::chain_laws))]
 fn run_parts<'v, V: Sees>(
@@ -316,7 +317,7 @@ fn run_row<V: Sees>(exprs: &[Expr], alloc: Global, sight: &V, wants: Wants<'_>) 
 
 // ---- calls
 
-/// What a function gives, or a tuple of its arguments.
+/// Calls a function, or makes a tuple of its arguments.
 #[cycle(eval)]
 fn called<'v, V: Sees>(
     arguments: &'v [Expr],
@@ -356,7 +357,7 @@ fn made<'v, V: Sees>(
     }
 }
 
-/// A function of one argument. Of another number of arguments nothing is said.
+/// A function of one argument. Nothing is said of another number of arguments.
 #[cycle(eval)]
 #[tactic(auto, using(gq_eval_builtins::proofs::ListSteps::one_found))]
 fn single<'v, V: Sees>(
@@ -428,7 +429,7 @@ fn run_int<'v, V: Sees>(expr: &'v Expr, alloc: Global, sight: &'v V) -> Result<O
 
 // ---- methods
 
-/// What a method gives of what stands before its dot.
+/// Calls a method on the value before its dot.
 #[cycle(eval)]
 fn method_called<'v, V: Sees>(
     arguments: &'v [Expr],

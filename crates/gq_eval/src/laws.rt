@@ -1,4 +1,4 @@
-// What is true of well typed expressions. Nothing here runs.
+// Laws of well typed expressions. Nothing here runs.
 ghost use Rattle.std.specs.Prelude.{◌≡◌};
 ghost use Rattle.gq_value.specs.Accums.{Accum};
 ghost use Rattle.gq_tree.specs.Tree.{Tree};

@@ -1,10 +1,10 @@
 //! The evaluator of expressions: the value of a plan's expression, over any type with the trait `Sees`.
 //!
 //! `run` mirrors the definition in `Expressions.antt` of `gq_rules_meaning`, with a function for each list of
-//! operands. It lends values where it can; `eval` and `eval_whole` return owned ones. It accepts any
+//! operands. It borrows values where it can; `eval` and `eval_whole` return owned ones. It accepts any
 //! expression: one that isn't well typed ends with `Stuck` or `Outside`.
 //!
-//! Read `Meant.antt` of `gq_eval_operand` first, then `specs/Typed.antt`: what a well-typed expression gives.
+//! Read `Meant.antt` of `gq_eval_operand` first, then `specs/Typed.antt` (the results of well-typed expressions).
 //! The code begins in `src/expressions.rt`. `src/values.rt` and `src/collections.rt` have the owned results,
 //! and `src/laws.rt` the law that typed expressions are never stuck.
 #![tactic(auto)]

@@ -15,8 +15,8 @@ use gq_plan_ir::Expr;
 use gq_value::{EvalFault, Value};
 use std::alloc::Global;
 
-/// The value of an expression, or its first fault in order of text. A value of a well typed expression has its type. What an
-/// expression that isn't well typed is stuck at ends as `OutOfMemory` does.
+/// The value of an expression, or its first fault in order of text. The value of a well typed expression has its type.
+/// An expression that isn't well typed and is stuck ends with `OutOfMemory`.
 #[tactic(auto, using(crate::proofs::TypedLemmas::value_typed))]
 pub fn eval<V: Sees>(alloc: Global, expr: &Expr, sight: &V) -> Result<Value, EvalFault>
     ensures value { IfOk result (λ v. value_of (V.look sight.now) (view expr.now) ≡ Gives (val v)) }

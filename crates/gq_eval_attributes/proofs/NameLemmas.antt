@@ -34,7 +34,7 @@ place_low name xs n r at e = low xs (sym at ∙ e)
 
 pub ruleset name_laws = (among_attributes, place_low)
 
--- ---- a shown id stands first
+-- ---- a shown id comes first
 
 from_later : {A : Type 0} (p : A → Bool) (n : ℕ) (xs : List A) → position_from p (n + 1) xs ≡ option_map suc (position_from p n xs)
 from_later p n [] = refl
@@ -50,7 +50,7 @@ first_place p x xs e = position_from-zero p (x ∷ xs) ∙ ap (λ b. cond b (Som
 later_place : (p : Bytes → Bool) (x : Bytes) (xs : List Bytes) → p x ≡ false → position p (x ∷ xs) ≡ option_map suc (position p xs)
 later_place p x xs e = position_from-zero p (x ∷ xs) ∙ ap (λ b. cond b (Some 0) (position_from p 1 xs)) e ∙ from_later p 0 xs ∙ ap (option_map suc) (sym (position_from-zero p xs))
 
--- the fields of a vertex type, with the flag of its id at hand
+-- the fields of a vertex type, given the flag of its id
 fields_shown : (t : VertexType) → t.id.shown ≡ true → names_of (vertex_sort t).fields ≡ t.id.name ∷ names_of (attribute_fields t.attributes)
 fields_shown t e = ap (λ b. names_of (shown b)) e
   where

@@ -93,7 +93,7 @@ part_past no_part i cs e = refl
 part_past (part_and name j ps) zero cs e = cc
 part_past (part_and name j ps) (suc i) cs e = part_past ps i cs.1 e
 
--- ---- what a group holds at a row
+-- ---- the contents of a group at a row
 
 at_rows : (P : List Val → Bool) (row : List Val) (rows : List (List Val)) → list_all P rows ≡ true → among row_cmp row rows ≡ true → P row ≡ true
 at_rows P row [] h g = absurd (cc)

@@ -40,7 +40,7 @@ int_there xs vs i a x e f = ap value_meant (attribute_there xs vs i i a (value.I
 
 pub ruleset value_laws = (int_there)
 
--- ---- where the plan's table says that it stands
+-- ---- at the place that the plan's table gives
 
 pub in_the_table : (table : List (Option ℕ)) (t i : ℕ) (names : List Bytes) (name : Bytes) → Some i ≡ option_flatten (slice_get table t) → in_table table t names name ≡ Some i
 in_the_table table t i names name e = let f = entry (slice_get table t) e in simp (f) refl

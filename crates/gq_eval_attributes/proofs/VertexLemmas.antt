@@ -118,7 +118,7 @@ has_values schema rows v k t h there kind e = h.each v t there (ap (slice_get sc
 
 pub ruleset field_laws = (vertex_gone, vertex_untyped, vertex_type_said, vertex_no_place, vertex_at_place, has_values)
 
--- ---- a shown id stands first
+-- ---- a shown id comes first
 
 abbrev shown_fields : VertexType → Bool → Fields
 shown_fields t true = (t.id.name, id_base t.id.kind) ∷ attribute_fields t.attributes

@@ -72,7 +72,7 @@ vertex_read g c v k i j t result there kind typed p same h = record {
 
 pub ruleset vertex_laws = (nothing_read, vertex_read, has_values)
 
--- ---- a shown id stands first
+-- ---- a shown id comes first
 
 abbrev shown_fields : VertexType → Bool → Fields
 shown_fields t true = (t.id.name, id_base t.id.kind) ∷ attribute_fields t.attributes

@@ -1,4 +1,4 @@
--- WordLemmas: what functions and tuple types stand for, whatever tuple types a query has.
+-- WordLemmas: the meaning of functions and tuple types, whatever tuple types a query has.
 use Rattle.std.proofs.Common.{◌≡◌, ℕ, zero, suc, ◌+◌, ◌<◌, ◌==◌, Bool, true, false, cond, List, [], ◌∷◌, Option, Some, refl, ap, ◌∙◌, arith}
 use Rattle.std.specs.List.{slice_get}
 use Rattle.std.specs.Option.{option_map}

@@ -1,4 +1,4 @@
--- Attributes: what stands at a place of a row, with the type of the place. A shown id stands before the attributes.
+-- Attributes: the value at a place of a row, with the type of the place. A shown id comes before the attributes.
 use Rattle.std.specs.Prelude.{ℕ, List, map, Option, Some}
 use Rattle.gq_graph.specs.declared.types.Attribute.{Attribute}
 use Rattle.gq_graph.specs.declared.types.IdShape.{IdShape}

@@ -1,4 +1,4 @@
--- Reads: an INT that is read at once is what is meant, in each world over a catalog and a store.
+-- Reads: an INT that is read directly is the one meant, in each world over a catalog and a store.
 use Rattle.std.specs.Prelude.{◌≡◌, ℕ, ℤ, List, Option, IfSome}
 use Rattle.gq_value.specs.declared.value.Wrong.{Wrong}
 use Rattle.gq_value.specs.Val.{Val, Int}
@@ -17,6 +17,6 @@ use Rattle.gq_eval_attributes.specs.Worlds.{graph_is}
 abbrev pub value_meant : Outcome → Answer Wrong Val
 value_meant o = o >>= value_of_meant
 
--- where it answers, that is the INT that is meant in each world over a catalog and a store
+-- if it answers, that is the INT that is meant in each world over a catalog and a store
 pub record IsReadInt (g : code.Graph) (meaning : World Reference → Outcome) (result : Option ℤ) : Type 0 where
   pub each : (vertices edges : List ℕ) (names : List Bytes) (tuples : List (Reference × Fields)) (clock : Calendar) → IfSome result (λ x. (meaning (world_of names tuples (graph_is g vertices edges) clock) >>= value_of_meant) ≡ Gives (Int x))

@@ -17,6 +17,6 @@ use Rattle.gq_eval_operand.specs.Meant.{meant, Tells}
 abbrev pub graph_is : code.Graph → List ℕ → List ℕ → Graph
 graph_is g vertices edges = graph_of g.catalog.now (Some (record { name = []; vertices = vertices; edges = edges })) g.store.now.vertices g.store.now.edges.rows
 
--- the answer is what is meant in each world over a catalog and a store
+-- the answer is the one meant in each world over a catalog and a store
 pub record InWorld (g : code.Graph) (meaning : World Reference → Outcome) (result : Result Seen Halt) : Type 0 where
   pub each : (vertices edges : List ℕ) (names : List Bytes) (tuples : List (Reference × Fields)) (clock : Calendar) → Tells meant (meaning (world_of names tuples (graph_is g vertices edges) clock)) result

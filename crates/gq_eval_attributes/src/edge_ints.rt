@@ -8,8 +8,8 @@ use crate::int_items::{int_at, place_in};
 use gq_index::Graph;
 use gq_plan_ir::Field;
 
-/// The INT that an attribute of an edge is, of the edge and the type under which it was walked. None where it is something else, and where
-/// the plan's table doesn't say where it stands. Takes no memory.
+/// The INT value of an edge's attribute, by the edge and the type under which it was walked. None if it isn't an INT,
+/// or if the plan's table doesn't give its place. Takes no memory.
 #[tactic(auto, using(crate::proofs::ReadLemmas::edge_laws))]
 pub fn edge_int(graph: Graph<'_>, field: &Field, edge: u32, kind: u32) -> Option<i64>
     ensures { IsReadInt graph.entry (λ world. states.edge_field world (field_of field.now) edge kind) result }

@@ -56,7 +56,7 @@ pub(crate) fn edge_row(edges: &Edges, edge: u32) -> Option<&[Value]>
     None
 }
 
-/// Where a field stands among those of an edge type: as the plan says, or by its name.
+/// The place of a field among those of an edge type: from the plan, or by its name.
 fn place_of_field(places: &FieldPlaces, of: &EdgeType, kind: u32) -> Option<usize>
     ensures { result ≡ place_in places.now (OfEdgeType kind) (names_of (attribute_fields of.now.attributes)) }
 {

@@ -15,7 +15,7 @@ use gq_nest::Content;
 use gq_plan_ir::Field;
 use gq_value::{GroupShape, Kind, Row, Txt};
 
-/// The part of a group at a key row that a field names, or the part's opening where the row isn't held. Takes no memory.
+/// The part of a group at a key row that a field names, or the part's opening if the row isn't held. Takes no memory.
 #[tactic(auto, using(crate::proofs::PartLemmas::part_laws))]
 pub fn row_part<'a>(
     shape: &'a GroupShape,

@@ -9,7 +9,8 @@ use gq_eval_operand::{Halt, Operand, Seen, Sort};
 use gq_graph::{IdKind, IdShape};
 use gq_value::Value;
 
-/// An id, as a value of its type. Of a text that is no number in 64 bits, as no id of a number is, nothing is said.
+/// An id, as a value of its type. Nothing is said of a text that isn't a number in 64 bits, which the id of a number
+/// never is.
 #[tactic(auto, using(gq_value::specs::ViewLaws::view_laws))]
 pub(crate) fn id_value<'a>(shape: &IdShape, id: &'a str) -> Result<Seen<'a>, Halt>
     ensures told { Tells meant (id_shown shape.now id.entry.now) result }
@@ -28,7 +29,7 @@ pub(crate) fn id_value<'a>(shape: &IdShape, id: &'a str) -> Result<Seen<'a>, Hal
     }
 }
 
-/// The number that decimal digits are, within 64 bits.
+/// The number that decimal digits denote, within 64 bits.
 #[tactic(auto, using(crate::proofs::IdLemmas::digit_laws))]
 pub fn number_in(digits: &[u8]) -> Option<u64>
     ensures { IfSome result (λ n. number_in digits.now 0 ≡ n) }
@@ -43,7 +44,7 @@ pub fn number_in(digits: &[u8]) -> Option<u64>
     Some(n)
 }
 
-/// A number with one digit more, within 64 bits.
+/// A number with one more digit, within 64 bits.
 fn with_digit(n: u64, digit: u8) -> Option<u64>
     ensures { IfSome result (λ m. m ≡ 10 * n + (digit - 48)) }
 {
@@ -53,7 +54,7 @@ fn with_digit(n: u64, digit: u8) -> Option<u64>
     }
 }
 
-/// The number that decimal digits are, with a minus sign or without one, within 64 bits.
+/// The number that decimal digits denote, with or without a minus sign, within 64 bits.
 #[tactic(auto, using(crate::proofs::IdLemmas::integer_laws))]
 pub fn integer_in(text: &[u8]) -> Option<i64>
     ensures { IfSome result (λ x. integer_in text.now ≡ x) }

@@ -34,7 +34,7 @@ fn attribute_named(attributes: &[Attribute], name: &str) -> Option<usize>
         .position(|attribute| name == attribute.name.as_str())
 }
 
-/// The place of a name among the fields of a vertex type: a shown id stands first.
+/// The place of a name among the fields of a vertex type: a shown id comes first.
 #[tactic(auto, using(crate::proofs::NameLemmas::vertex_laws))]
 pub(crate) fn vertex_place(of: &VertexType, name: &str) -> Option<usize>
     ensures { result ≡ place_of (names_of (vertex_sort of.now).fields) name.now }

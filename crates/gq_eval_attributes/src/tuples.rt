@@ -41,7 +41,7 @@ pub fn tuple_field<'a>(
     }
 }
 
-/// `x.f` of a tuple that nothing holds: the field is copied, which takes memory for a text.
+/// `x.f` of an owned tuple: the field is copied, which takes memory for a text.
 #[tactic(auto, using(crate::proofs::TupleLemmas::field_laws))]
 pub fn made_field<'a>(
     alloc: Global,
@@ -68,7 +68,7 @@ pub fn made_field<'a>(
     }
 }
 
-/// Where a field stands among those of a tuple type: as the plan says, or by its name. `type` is a name as any other.
+/// The place of a field among those of a tuple type: from the plan, or by its name. `type` is a name like any other.
 #[tactic(auto, using(crate::proofs::TupleLemmas::place_laws))]
 fn place_of_field(of: &TupleType, number: u32, field: &Field) -> Option<usize>
     ensures { result ≡ references.field (OfTupleType number) (names_of (fields_in of.now)) (field_of field.now) }

@@ -17,7 +17,7 @@ use gq_plan_ir::Field;
 use gq_value::Value;
 use gq_vertex::Vertices;
 
-/// The INT that an attribute of a vertex is. None where it is something else, where the plan's table doesn't say where it stands, and of
+/// The INT value of a vertex's attribute. None if it isn't an INT, if the plan's table doesn't give its place, and for
 /// an id. Takes no memory.
 #[tactic(auto, using(crate::proofs::VertexReads::vertex_laws))]
 pub fn vertex_int(graph: Graph<'_>, field: &Field, vertex: u32) -> Option<i64>
@@ -44,7 +44,7 @@ pub fn vertex_int(graph: Graph<'_>, field: &Field, vertex: u32) -> Option<i64>
     }
 }
 
-/// The place among the attributes of a type of what stands at a place among its fields: a shown id stands before the attributes.
+/// Converts a place among the fields of a type to one among its attributes: a shown id comes before the attributes.
 #[tactic(auto, using(crate::proofs::VertexReads::place_laws))]
 fn among_attributes(of: &VertexType, place: u32) -> Option<u32>
     ensures { IfSome result (λ at. (row : VertexRow) → vertex_value of.now row (Some place) ≡ attribute_at of.now.attributes row.attributes (Some at)) }
@@ -56,7 +56,7 @@ fn among_attributes(of: &VertexType, place: u32) -> Option<u32>
     }
 }
 
-/// The INT that the attribute at a place of a vertex of a type is.
+/// The INT value of the attribute at a place of a vertex of a type.
 #[tactic(auto, using(crate::proofs::VertexReads::attribute_laws))]
 fn attribute_int(vertices: &Vertices, of: &VertexType, vertex: u32, place: u32) -> Option<i64>
     requires there { vertex < length vertices.now }

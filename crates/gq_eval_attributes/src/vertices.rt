@@ -44,7 +44,7 @@ pub fn vertex_field<'a>(graph: Graph<'a>, field: &Field, vertex: u32) -> Result<
     }
 }
 
-/// Where a field stands among those of a vertex type: as the plan says, or by its name.
+/// The place of a field among those of a vertex type: from the plan, or by its name.
 fn place_of_field(places: &FieldPlaces, of: &VertexType, kind: u32) -> Option<usize>
     ensures { result ≡ place_in places.now (OfVertexType kind) (names_of (vertex_sort of.now).fields) }
 {
@@ -55,7 +55,7 @@ fn place_of_field(places: &FieldPlaces, of: &VertexType, kind: u32) -> Option<us
     }
 }
 
-/// The field at a place of a vertex of a type: a shown id stands before the attributes.
+/// The field at a place of a vertex of a type: a shown id comes before the attributes.
 #[tactic(auto, using(crate::proofs::VertexLemmas::value_laws))]
 fn value_at<'a>(
     vertices: &'a Vertices,

@@ -1,4 +1,4 @@
--- CallSteps: what calls come to, from what their arguments are.
+-- CallSteps: the results of calls, from those of their arguments.
 use Rattle.std.proofs.Common.{◌≡◌, ℕ, List, [], ◌∷◌, map, Some, None, Result, refl, sym, ap, subst, ◌∙◌}
 use Rattle.gq_tree.specs.Tree.{Tree, Trees, Call, no_tree, tree}
 use Rattle.gq_value.specs.declared.value.Wrong.{Wrong}

@@ -1,4 +1,4 @@
--- ContainLemmas: values of one type are equal where they are the same.
+-- ContainLemmas: values of one type are equal if they are the same.
 use Rattle.std.proofs.Common.{◌≡◌, Bool, true, false, List, [], ◌∷◌, Some, refl, sym, ap, ap₂, subst, ◌∙◌}
 use Rattle.std.specs.Prelude.{◌&&◌, ◌||◌}
 use Rattle.std.specs.List.{list_all}

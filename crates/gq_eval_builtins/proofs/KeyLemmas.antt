@@ -1,4 +1,4 @@
--- KeyLemmas: what stands at the keys of sound maps and groups.
+-- KeyLemmas: the contents at the keys of sound maps and groups.
 use Rattle.std.proofs.Common.{◌≡◌, ℕ, zero, suc, ◌≤◌, length, arith, Bool, true, false, ◌&&◌, ◌||◌, List, [], ◌∷◌, map, None, refl, sym, ap, subst, ◌∙◌}
 use Rattle.std.specs.List.{list_all, slice_get}
 use Rattle.std.specs.Option.{option_map}
@@ -71,7 +71,7 @@ yet_holds k row = refl
 
 pub ruleset holds_laws = (map_holds, map_lacks, group_holds, group_lacks, yet_holds)
 
--- ---- what stands at a row
+-- ---- the content at a row
 
 at_rows : (P : List Val → Bool) (row : List Val) (rows : List (List Val)) → list_all P rows ≡ true → among row_cmp row rows ≡ true → P row ≡ true
 at_rows P row [] h g = absurd (cc)

@@ -51,7 +51,7 @@ pub none_list : {A : Type 0} (xs : List A) → length xs < 1 → xs ≡ []
 none_list [] n = refl
 none_list (x ∷ xs) n = absurd (omega (arith, n))
 
--- what is known of a look: its words stand for themselves, and it has a calendar
+-- properties of a look: its words denote themselves, and it has a calendar
 abbrev pub Knows : Look Reference → Type 0
 Knows look = (f : Function) → IsOwn f → function_named (setting look.world) (Calls f) ≡ Some f
 
@@ -201,7 +201,7 @@ pub ruleset truth_at = (all_stops_at, any_stops_at, all_goes_at, any_goes_at)
 
 -- ---- rows, at a place of the list of arguments
 
--- what is converted so far, and what is left of the arguments
+-- the arguments converted so far, and the remaining ones
 abbrev pub RowAt : Look Reference → List Base → List Expr → ℕ → List Val → Type 0
 RowAt look ws es i done = arguments look (map Some ws) (views es) ≡ after look done (arguments look (map Some (drop i ws)) (views (drop i es)))
 

@@ -1,4 +1,4 @@
--- MethodLemmas: what methods of sound contents give.
+-- MethodLemmas: the results of methods of sound contents.
 use Rattle.std.proofs.Common.{◌≡◌, ℕ, Bool, false, Some, None, refl, sym, ap, ◌∙◌}
 use Rattle.gq_value.specs.declared.value.Wrong.{Wrong}
 use Rattle.gq_value.specs.Accums.{Base, Accum, SetAccum, BagAccum, ListAccum, MapAccum, GroupByAccum, HeapAccum}

@@ -1,4 +1,4 @@
--- MethodSteps: what methods come to, from what stands before them and from their arguments.
+-- MethodSteps: the results of methods, from the value before the dot and from their arguments.
 use Rattle.std.proofs.Common.{◌≡◌, ℕ, ℤ, pos, List, [], ◌∷◌, map, Option, Some, None, Result, refl, sym, ap, subst, ◌∙◌}
 use Rattle.std.specs.Option.{option_map}
 use Rattle.gq_tree.specs.Tree.{Tree, Trees, Method, no_tree, tree}

@@ -1,4 +1,4 @@
--- RunLemmas: how the meaning of an expression goes on from that of its first part.
+-- RunLemmas: how the meaning of an expression continues from that of its first part.
 use Rattle.std.proofs.Common.{◌≡◌, ℕ, zero, suc, ◌+◌, Bool, true, false, List, [], ◌∷◌, ◌++◌, drop, map, Option, Some, None, Result, refl, sym, ap, subst, ◌∙◌}
 use Rattle.std.specs.List.{slice_get}
 use Rattle.std.proofs.lemmas.List.{append_assoc, append-nil, drop_more}
@@ -198,7 +198,7 @@ module _ {N : Type 0} (look : Look N) where
 
   -- ---- rows of arguments
 
-  -- what came before, with what is left
+  -- the results so far, with the remaining ones
   abbrev pub after : List Val → Answer Wrong (List Val) → Answer Wrong (List Val)
   after done o = o >>= λ rest. Gives (done ++ rest)
 

@@ -1,4 +1,4 @@
--- TimeLemmas: what any calendar gives, from what gq_time says.
+-- TimeLemmas: the results of any calendar, from the specification in gq_time.
 use Rattle.std.proofs.Common.{◌≡◌, ℕ, Bool, true, false, ℤ, pos, negsuc, List, [], ◌∷◌, Option, Some, None, Result, Err, refl, sym, ap, subst, ◌∙◌, arith}
 use Rattle.std.proofs.lemmas.Int.{ints}
 use Rattle.std.specs.Prelude.{◌&&◌, int_le, IfSome, IfNone}

@@ -1,4 +1,4 @@
--- Clock: what functions give, whatever calendar it is.
+-- Clock: the results of functions, for any calendar.
 use Rattle.std.specs.Prelude.{Result, ℤ}
 use Rattle.gq_rules_typing.specs.Words as words
 use Rattle.gq_time.specs.declared.shown.DateTimeParts.{DateTimeParts}
@@ -26,15 +26,15 @@ part_among words.Hour p = p.hour
 part_among words.Minute p = p.minute
 part_among words.Second p = p.second
 
--- the DATETIME of so many seconds, or Range where they are none
+-- the DATETIME of a number of seconds, or Range if they are none
 abbrev pub time_of_epoch : Val → Outcome
 time_of_epoch v = as_number v >>= λ x. at_time (if_in_calendar x)
 
--- so many units of this name later
+-- the time n units of this name later
 abbrev pub later : Calendar → Bytes → ℤ → ℤ → Outcome
 later clock unit n x = found (words.unit_named unit) >>= λ u. at_time (clock.add u n x)
 
--- how far a number is from 0
+-- the absolute value of a number
 abbrev pub magnitude_of : Val → Outcome
 magnitude_of v = as_number v >>= λ x. of_result (absolute v) >>= numbered
 

@@ -1,4 +1,4 @@
--- Elements: what the code asks of collections, of what is meant and of what holds it.
+-- Elements: the tests of the code on collections, on their meaning and on their contents.
 use Rattle.std.specs.Prelude.{Bool, false, List, [], length, Option, None}
 use Rattle.std.specs.List.{list_any}
 use Rattle.std.specs.Ordering.{is_eq}
@@ -18,11 +18,11 @@ use Rattle.gq_rules_meaning.specs.Collections.{size_of, has_element, has_row, go
 abbrev pub has_equal : List Val → Val → Bool
 has_equal ws v = list_any (λ w. is_eq (compare v w)) ws
 
--- whether what a content holds has it
+-- whether a content has the element
 abbrev pub has_in : Accum → Content → Val → Option Bool
 has_in k c v = has_element k (view k (out-Content c)) v
 
--- ---- methods of what is meant
+-- ---- methods on meanings
 
 abbrev pub size_meant : Meant → Outcome
 size_meant (IsContent k c) = found (size_of k c) >>= counted
@@ -52,7 +52,7 @@ abbrev pub keys_in : Meant → List Base
 keys_in (IsContent k c) = key_types k
 keys_in _ = []
 
--- ---- rows of keys, of what a content holds, and before any input
+-- ---- rows of keys, in a content, and before any input
 
 abbrev pub holds_row : Accum → Content → List Val → Outcome
 holds_row k c row = found (has_row k (view k (out-Content c)) row) >>= truly

@@ -1,4 +1,4 @@
--- Steps: parts of the meaning of an expression, as the code goes through them.
+-- Steps: parts of the meaning of an expression, in the steps of the code.
 use Rattle.std.specs.Prelude.{◌≡◌, Bool, [], ◌∷◌, None}
 use Rattle.gq_tree.specs.Tree.{Tree}
 use Rattle.gq_tree.specs.declared.expr.MulSign.{MulSign}
@@ -30,7 +30,7 @@ plus_meaning look m sign t = value_of_meant m >>= λ v. meaning look t >>= value
 abbrev pub int_value : {N : Type 0} → Look N → Tree N → Answer Wrong Val
 int_value look t = value_of look t >>= number_to number.Int
 
--- a function of the language's own that takes one argument as it is
+-- one of the language's own functions that takes one argument, unconverted
 pub record IsSingle (f : Reference) (g : Function) : Type 0 where
   pub own : IsOwn g
   pub wants : function_wants g ≡ None ∷ []

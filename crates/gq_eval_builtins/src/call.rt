@@ -24,7 +24,7 @@ pub fn is_single(builtin: Builtin) -> bool
     }
 }
 
-/// So many units later than a time, of operands that go.
+/// Adds `count` units to a time; consumes the operands.
 pub fn units_later<'a>(
     time: Operand<'_>,
     count: Operand<'_>,

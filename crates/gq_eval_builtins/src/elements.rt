@@ -14,8 +14,8 @@ use gq_value::{BaseType, Kind, Value, compare};
 use std::alloc::Global;
 use std::cmp::Ordering;
 
-/// Whether a set, bag or list has a value that is equal to another one. It takes memory for tuples, and where the other value isn't of
-/// the collection's type, which is never so of what is well typed.
+/// Whether a set, bag or list has a value that is equal to another one. It takes memory for tuples, and if the other
+/// value isn't of the collection's type, which is never so in a well typed expression.
 #[tactic(auto, using(crate::proofs::ContainLemmas::contain_laws))]
 pub(crate) fn has(
     alloc: Global,
@@ -53,7 +53,7 @@ fn is_equal(value: &Value, other: &Value) -> bool
     compare(value, other) == Ordering::Equal
 }
 
-/// Whether a value is of a type; of tuples it isn't asked.
+/// Whether a value is of a type; tuples aren't checked.
 #[tactic(auto, using(gq_value::specs::ViewLaws::view_laws, gq_eval_operand::proofs::ConvertLemmas::base_laws))]
 fn is_plain(base: &BaseType, value: &Value) -> bool
     ensures { result ≡ true → has_form (base_of base.now) (val value.now) ≡ true }

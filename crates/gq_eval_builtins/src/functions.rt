@@ -12,7 +12,7 @@ use gq_rules_typing::Builtin;
 use gq_value::{Txt, Value, absolute};
 use std::alloc::Global;
 
-/// What a function of the language's own gives for one argument. Takes memory for texts alone.
+/// The result of one of the language's own functions for one argument. Takes memory only for texts.
 #[tactic(auto, using(crate::proofs::FunctionLemmas::one_laws))]
 pub fn one<'a>(alloc: Global, builtin: Builtin, operand: &Operand<'a>) -> Result<Seen<'a>, Halt>
     ensures { ByClock (λ clock. function_of clock (builtin_is builtin) (valued operand.entry.now ∷ [])) result }
@@ -28,7 +28,7 @@ pub fn one<'a>(alloc: Global, builtin: Builtin, operand: &Operand<'a>) -> Result
     }
 }
 
-/// How far a number is from 0.
+/// The absolute value of a number.
 #[tactic(auto, using(crate::proofs::FunctionLemmas::magnitude_laws))]
 fn magnitude<'a>(operand: &Operand<'_>) -> Result<Seen<'a>, Halt>
     ensures { Tells meant (magnitude_of (valued operand.now)) result }
@@ -37,7 +37,7 @@ fn magnitude<'a>(operand: &Operand<'_>) -> Result<Seen<'a>, Halt>
     calculated(absolute(&x))
 }
 
-/// A value as a text; a text stays as it is, and is lent again.
+/// A value as a text; a text is returned as it is, borrowed.
 #[tactic(auto, using(gq_value::specs::ViewLaws::view_laws))]
 fn to_string<'a>(alloc: Global, operand: &Operand<'a>) -> Result<Seen<'a>, Halt>
     ensures { Tells meant (spelled (valued operand.entry.now)) result }
@@ -66,7 +66,7 @@ fn lent<'a>(alloc: Global, value: &'a Value) -> Result<Seen<'a>, Halt>
     }
 }
 
-/// The text of a value, with memory of its own.
+/// The text of a value, as an owned copy.
 #[tactic(auto, using(gq_value::specs::ViewLaws::view_laws))]
 fn spell(alloc: Global, value: &Value) -> Result<Txt, Halt>
     ensures { Tells itself (text_of (val value.now)) result }

@@ -1,4 +1,4 @@
-// What stands at the keys of maps and groups.
+// The contents at the keys of maps and groups.
 ghost use Rattle.std.specs.Prelude.{◌≡◌, IfOk, map, length, slice_get};
 ghost use Rattle.std.specs.Option.{option_copied, option_map};
 ghost use Rattle.gq_value.specs.Accums.{Base, MapAccum};
@@ -24,7 +24,7 @@ pub enum Wants<'a> {
 }
 
 impl<'a> Wants<'a> {
-    /// The type of the argument at a place, where there may be one.
+    /// The type of the argument at a place, if there may be one.
     #[tactic(auto, using(crate::proofs::KeyLemmas::want_laws))]
     pub fn at(self, place: usize) -> Option<&'a BaseType>
         ensures { slice_get (wants_are self.entry) place ≡ option_map base_of (option_copied result) }
@@ -41,7 +41,7 @@ impl<'a> Wants<'a> {
     }
 }
 
-/// The types of the keys of a map or group; of all else there are none.
+/// The types of the keys of a map or group; anything else has none.
 pub fn key_wants<'a>(seen: &Seen<'a>) -> Wants<'a>
     ensures { wants_are result ≡ keys_in (meant seen.entry.now) }
 {
@@ -118,7 +118,7 @@ fn holds_yet<'a>(kind: &Kind) -> Result<Seen<'a>, Halt>
     }
 }
 
-/// `get`: what stands at a key row of a map or group, or else its opening. Takes no memory.
+/// `get`: the content at a key row of a map or group, or else its opening. Takes no memory.
 #[tactic(auto, using(crate::proofs::KeyLemmas::got_laws))]
 pub fn get<'a>(seen: &Seen<'a>, row: Row) -> Result<Seen<'a>, Halt>
     requires { Sound seen.now }
@@ -149,7 +149,7 @@ fn got<'a>(kind: &'a Kind, content: &'a Content, row: Row) -> Result<Seen<'a>, H
     }
 }
 
-/// What stands at a key of a map of this kind, whose contents are of another one.
+/// The content at a key of a map of this kind, whose contents are of another kind.
 #[tactic(auto, using(crate::proofs::KeyLemmas::at_key_laws))]
 fn at_key<'a>(
     kind: &Kind,

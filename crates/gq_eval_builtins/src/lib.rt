@@ -1,7 +1,7 @@
 //! The built-in functions of GSQL, and the methods of its collections and vertex sets.
 //!
 //! Each function here implements one line of the definitions, `Calls.antt` or `Collections.antt` of
-//! `gq_rules_meaning`. Time functions hold for any calendar that gives what `gq_time` specifies.
+//! `gq_rules_meaning`. Time functions hold for any calendar that agrees with the specification in `gq_time`.
 //!
 //! Read `specs/Clock.antt` first, then `specs/Wants.antt` (the types to which arguments are converted),
 //! `specs/Elements.antt` and `specs/Steps.antt`. Functions are called in `src/call.rt` and implemented in

@@ -1,4 +1,4 @@
-// Methods without arguments of their own.
+// Methods without arguments.
 ghost use Rattle.std.specs.Prelude.{◌≡◌, IfOk};
 ghost use Rattle.gq_value.specs.Accums.{INT};
 ghost use Rattle.gq_value.specs.Val.{Int};
@@ -33,7 +33,7 @@ pub fn sized<'v, V: Sees>(
     }
 }
 
-/// `outdegree`: how many edges can be walked from a vertex. The types at hand are those of the edge type's name.
+/// `outdegree`: the number of edges that can be walked from a vertex. `kinds` are the types of the edge type's name.
 #[tactic(auto, using(crate::proofs::MethodSteps::degree_laws, gq_value::specs::ViewLaws::view_laws))]
 pub fn degree_of<'v, V: Sees>(
     edge: &Option<Txt>,
@@ -72,7 +72,7 @@ pub fn attached<'v, V: Sees>(slot: u32, sight: &'v V, before: Seen<'v>) -> Resul
     sight.attached(slot, vertex)
 }
 
-/// What the accumulator of a vertex held before the block.
+/// The value of a vertex's accumulator before the block.
 #[tactic(auto, using(crate::proofs::RunLemmas::part_laws))]
 pub fn earlier<'v, V: Sees>(slot: u32, sight: &'v V, before: Seen<'v>) -> Result<Seen<'v>, Halt>
     ensures told { Tells meant (meaning_part (V.look sight.entry.now) (meant before.entry) (plain.Before (Slot slot))) result }

@@ -43,7 +43,7 @@ pub fn size<'a>(seen: &Seen<'_>) -> Result<Seen<'a>, Halt>
     }
 }
 
-/// The type of the values that `contains` looks for, where it is a set, bag or list.
+/// The type of the values that `contains` looks for, if it is a set, bag or list.
 #[tactic(auto, using(gq_value::proofs::AccumLemmas::accum_laws))]
 pub fn contained<'a>(seen: &Seen<'a>) -> Option<&'a BaseType>
     ensures { contained_in (meant seen.entry.now) ≡ option_map base_of (option_copied result) }
@@ -92,7 +92,7 @@ pub fn contains<'a>(alloc: Global, seen: &Seen<'_>, operand: &Operand<'_>) -> Re
     }
 }
 
-/// As `has`; a text that is lent is copied.
+/// As `has`; a borrowed text is copied.
 #[tactic(auto, using(gq_value::specs::ViewLaws::view_laws))]
 fn has_operand(
     alloc: Global,

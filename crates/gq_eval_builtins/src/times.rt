@@ -39,7 +39,7 @@ fn seconds_of(value: &Value) -> Result<i64, Halt>
     }
 }
 
-/// A DATETIME of these seconds, or Range where there is none.
+/// A DATETIME of these seconds, or Range if there is none.
 #[tactic(auto, using(gq_value::specs::ViewLaws::view_laws))]
 fn time<'a>(seconds: Option<i64>) -> Result<Seen<'a>, Halt>
     ensures { Tells meant (at_time seconds) result }
@@ -57,7 +57,7 @@ fn in_calendar(seconds: i64) -> bool
     seconds >= -62_167_219_200 && seconds <= 253_402_300_799
 }
 
-/// The seconds, where they are a DATETIME.
+/// The seconds, if they are a DATETIME.
 fn if_in_calendar(seconds: i64) -> Option<i64>
     ensures { result ≡ if_in_calendar seconds }
 {
@@ -79,7 +79,7 @@ pub(crate) fn to_datetime<'a>(operand: &Operand<'_>) -> Result<Seen<'a>, Halt>
     }
 }
 
-/// The DATETIME of so many seconds.
+/// The DATETIME of a number of seconds.
 pub(crate) fn epoch_to_datetime<'a>(operand: &Operand<'_>) -> Result<Seen<'a>, Halt>
     ensures { ByClock (λ clock. function_of clock words.EpochToDatetime (valued operand.now ∷ [])) result }
 {
@@ -89,7 +89,7 @@ pub(crate) fn epoch_to_datetime<'a>(operand: &Operand<'_>) -> Result<Seen<'a>, H
     }
 }
 
-/// A whole number past the greatest INT is no DATETIME.
+/// A whole number past the greatest INT isn't a DATETIME.
 #[tactic(auto, using(gq_value::specs::ViewLaws::view_laws, crate::proofs::TimeLemmas::past_int))]
 fn time_of<'a>(value: &Value) -> Result<Seen<'a>, Halt>
     ensures { Tells meant (time_of_epoch (val value.now)) result }
@@ -127,7 +127,7 @@ pub fn datetime_diff<'a>(left: &Operand<'_>, right: &Operand<'_>) -> Result<Seen
     }
 }
 
-/// The DATETIME so many units later.
+/// The DATETIME that is a number of units later.
 #[tactic(auto, using(crate::proofs::TimeLemmas::add_laws))]
 pub fn datetime_add<'a>(
     time: &Operand<'_>,
@@ -145,7 +145,7 @@ pub fn datetime_add<'a>(
     later(x, n, unit)
 }
 
-/// So many units after these seconds.
+/// Adds `n` units to these seconds.
 #[tactic(auto, using(crate::proofs::TimeLemmas::add_laws))]
 fn later<'a>(x: i64, n: i64, unit: &str) -> Result<Seen<'a>, Halt>
     ensures { ByClock (λ clock. later clock unit.now n x) result }

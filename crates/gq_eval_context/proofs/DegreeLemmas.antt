@@ -30,7 +30,7 @@ abbrev by_type : Sight → ℕ → ℕ → Option EdgeType → ℕ
 by_type sight v k None = 0
 by_type sight v k (Some t) = degree sight (k, t) v
 
--- what the index says
+-- the entries of the index
 abbrev IndexTells : List (List Traversal) → ℕ → ℕ → ℕ → Type 0
 IndexTells index v k r = (sight : Sight) → (type : EdgeType) → index ≡ adjacency sight → v < length sight.kinds → slice_get sight.types k ≡ Some type → r ≡ degree sight (k, type) v
 
@@ -96,7 +96,7 @@ pub ruleset walked_laws = (no_type, vertex_there, few_edges, vertex_gone)
 
 -- ---- of several types
 
--- what is counted so far, and what the types that are left have
+-- the count so far, and that of the remaining types
 pub record Counted (g : code.Graph) (own : List ℕ) (v i total : ℕ) : Type 0 where
   pub all : total + sum (map (degree_of (graph_is g own own) v) (drop i own)) ≡ sum (map (degree_of (graph_is g own own) v) own)
   pub few : total ≤ i * most_edges

@@ -1,4 +1,4 @@
--- FaultLemmas: what ends a step ends all that comes behind it.
+-- FaultLemmas: an end of a step ends all steps after it.
 use Rattle.std.proofs.Common.{◌≡◌, ℕ, ap}
 use Rattle.gq_value.specs.declared.value.Wrong.{Wrong}
 use Rattle.gq_rules_meaning.specs.Answers.{Answer, ◌>>=◌, blaming}

@@ -1,4 +1,4 @@
--- FieldLemmas: the field of what stands before a dot, in the cases of the code.
+-- FieldLemmas: the field of the value before a dot, in the cases of the code.
 use Rattle.std.proofs.Common.{◌≡◌, ℕ, zero, suc, ◌+◌, Bool, ℤ, List, [], ◌∷◌, map, Option, Some, None, Result, Err, refl, sym, ap, subst, ◌∙◌, arith}
 use Rattle.std.specs.List.{slice_get}
 use Rattle.std.specs.Option.{option_map}
@@ -43,7 +43,7 @@ part_reads g ts ps cs (field.Named c) r h = record { each = λ vertices edges na
 pub stuck_reads : (g : code.Graph) (ts : List TupleType) (m : World Reference → Outcome) → ((world : World Reference) → m world ≡ Stuck) → Reads g ts m (Err halt.Stuck)
 stuck_reads g ts m h = record { each = λ vertices edges names clock. h _ }
 
--- the same of what is seen, by what it is
+-- the same for each form of Seen
 pub of_seen : (g : code.Graph) (ts : List TupleType) (seen it : Seen) (f : Field) (r : Result Seen Halt) → seen ≡ it → Reads g ts (λ world. states.field_of world (meant it) (field_of f)) r → Reads g ts (λ world. states.field_of world (meant seen) (field_of f)) r
 of_seen g ts seen it f r e h = subst (λ s. Reads g ts (λ world. states.field_of world (meant s) (field_of f)) r) (sym e) h
 
@@ -87,7 +87,7 @@ abbrev fields_at : Option (Reference × Fields) → Fields
 fields_at None = []
 fields_at (Some t) = t.1
 
--- what a tuple's field reads, with the fields of its type
+-- the value of a tuple's field, with the fields of its type
 abbrev read_by : Fields → ℕ → List Val → Reference → Outcome
 read_by fields n row f = value_at (bases_of fields) row (references.field (OfTupleType n) (names_of fields) f)
 

@@ -1,4 +1,4 @@
--- SeesLemmas: what an `EvalContext` tells is what it stands for.
+-- SeesLemmas: what an `EvalContext` returns is what it means.
 use Rattle.std.proofs.Common.{◌≡◌, ℕ, ◌+◌, map, Some, None, Result, refl, ap, subst, ◌∙◌, arith}
 use Rattle.std.specs.List.{slice_get}
 use Rattle.std.specs.Option.{option_map}
@@ -21,7 +21,7 @@ use Rattle.gq_eval_operand.specs.declared.halt.Halt.{Halt}
 use Rattle.gq_eval_operand.specs.Meant.{meant, Tells}
 use Rattle.gq_frame.specs.Slots.{slots_are, ReadsAs}
 
--- ---- accumulators, of a context that is one at hand
+-- ---- accumulators of a given context
 
 pub reads_now : (clock : Calendar) (v w : Viewed) (n x : ℕ) (r : Result Seen Halt) → w ≡ v → ReadsAs w.accums n x r → Tells meant (read_slot (world_in clock v) (slots_are v.accums) (Slot n) x) r
 reads_now clock v w n x r e h = (subst (λ (u : Viewed). ReadsAs u.accums n x r) e h).each (world_in clock v) refl

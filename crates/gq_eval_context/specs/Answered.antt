@@ -11,7 +11,7 @@ use Rattle.gq_eval_context.specs.declared.after.BlockFault.TheVariants as fault
 abbrev pub after_is : After → blocks.After Reference
 after_is a = record { slots = slots_are a.accums; sources = a.sources; targets = a.targets }
 
--- a block ends as the definitions do; OutOfMemory may come at any time
+-- a block ends as the definitions do; OutOfMemory may occur at any time
 abbrev pub EndsAs : {A : Type 0} → Answer blocks.BlockFault A → BlockFault → Type 0
 EndsAs o (fault.Eval at w) = o ≡ Faults (blocks.AtPlace at w)
 EndsAs o (fault.SumRange n) = o ≡ Faults (blocks.SumRange n)

@@ -1,4 +1,4 @@
--- FieldReads: what a field of a plan reads, of a catalog, a store and the query's tuple types.
+-- FieldReads: the value of a field of a plan, from a catalog, a store and the query's tuple types.
 use Rattle.std.specs.Prelude.{ℕ, List, Option, Some, None, slice_get, Result}
 use Rattle.gq_value.specs.Val.{Val}
 use Rattle.gq_value.specs.Accums.{Base, TUPLE}
@@ -21,7 +21,7 @@ use Rattle.gq_eval_attributes.specs.declared.tuple_type.TupleType.{TupleType}
 use Rattle.gq_eval_attributes.specs.Tuples.{fields_in, tuples_are}
 use Rattle.gq_eval_attributes.specs.Worlds.{graph_is}
 
--- the answer is what is meant in each world over a catalog and a store, with these tuple types
+-- the answer is the one meant in each world over a catalog and a store, with these tuple types
 pub record Reads (g : code.Graph) (tuples : List TupleType) (meaning : World Reference → Outcome) (result : Result Seen Halt) : Type 0 where
   pub each : (vertices edges : List ℕ) (names : List Bytes) (clock : Calendar) → Tells meant (meaning (world_of names (tuples_are tuples) (graph_is g vertices edges) clock)) result
 

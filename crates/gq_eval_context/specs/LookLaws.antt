@@ -1,5 +1,5 @@
--- LookLaws: what an `EvalContext` shows is what the definitions see, of names that are alike with what it has at its places. Words of a plan
--- stand for themselves, whatever tuple types a query has.
+-- LookLaws: an `EvalContext` shows what the definitions see, for names that agree with its places. Words of a
+-- plan denote themselves, whatever tuple types a query has.
 use Rattle.std.specs.Prelude.{◌≡◌, ◌==◌, ℕ, List, [], ◌∷◌, ◌++◌, Bool, true, false, if◌then◌else◌, Some, refl}
 use Rattle.std.specs.Option.{option_or, option_map}
 use Rattle.std.proofs.Common.{◌∙◌, ap, sym}
@@ -58,7 +58,7 @@ names_seen v names alike (Does m) = ap thing_meant (sym (elsewhere (Does m) (λ 
 abbrev with_named : Calendar → Viewed → (Reference → Outcome) → Look Reference
 with_named clock v named = record (look_of clock v) { named = named }
 
--- a context is what the definitions see, with the names of its aliases before those that are alike with its places
+-- a context shows what the definitions see, with the names of its aliases before those that agree with its places
 pub look_is_sight : (clock : Calendar) (v : Viewed) (names : List (Reference × Thing)) → Alike v names
     → look_of clock v ≡ sight (world_in clock v) (aliases_named v.aliases ++ names) (slots_are v.accums) (slots_are v.before)
 look_is_sight clock v names alike = ap (with_named clock v) (fun_ext (names_seen v names alike))
@@ -68,7 +68,7 @@ pub look_over : (clock : Calendar) (s : Over) (state : State Reference) (aliases
     → look_of clock (viewed s aliases accums before) ≡ sight (world_over clock s) (aliases_named aliases ++ state.names) (slots_are accums) (slots_are before)
 look_over clock s state aliases accums before shows = look_is_sight clock (viewed s aliases accums before) state.names shows.names
 
--- with no alias, and the accumulators of the frame, it is what the state shows
+-- with no alias, and the accumulators of the frame, it shows what the state shows
 pub look_shows : (clock : Calendar) (s : Over) (state : State Reference) → Shows s.plan.places s.frame state
     → look_of clock (viewed s [] s.frame.accums s.frame.accums) ≡ seen (world_over clock s) state
 look_shows clock s state shows = look_over clock s state [] s.frame.accums s.frame.accums shows ∙ ap (λ slots. sight (world_over clock s) state.names slots slots) (sym shows.slots)

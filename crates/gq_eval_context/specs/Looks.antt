@@ -1,4 +1,4 @@
--- Looks: what an `EvalContext` stands for, in the words of the definitions.
+-- Looks: the meaning of an `EvalContext`, in terms of the definitions.
 use Rattle.std.specs.Prelude.{List, [], Some}
 use Rattle.gq_graph.specs.Catalog.{Schema}
 use Rattle.gq_graph.specs.Edges.{EdgeTable}

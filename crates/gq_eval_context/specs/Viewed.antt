@@ -1,4 +1,4 @@
--- Viewed: what an `EvalContext` and a `BlockContext` lend, and when they belong together.
+-- Viewed: what an `EvalContext` and a `BlockContext` borrow, and when the parts belong together.
 use Rattle.std.specs.Prelude.{◌≡◌, ℕ, ◌≤◌, List, length, Option}
 use Rattle.gq_graph.specs.Catalog.{Schema, most_types}
 use Rattle.gq_graph.specs.Edges.{EdgeTable}
@@ -15,7 +15,8 @@ use Rattle.gq_frame.specs.declared.frame.Thing.{Thing}
 use Rattle.gq_frame.specs.Names.{Placed}
 use Rattle.gq_frame.specs.Slots.{AreSound}
 
--- a catalog and a store, a plan with its tuple types, what names and accumulators hold, and the aliases with their places
+-- a catalog and a store, a plan with its tuple types, the contents of names and accumulators, and the aliases with
+-- their places
 pub record Viewed : Type 0 where
   pub schema : Schema
   pub vertices : List VertexRow
@@ -36,9 +37,9 @@ pub record Belongs (index : List (List Traversal)) (v : Viewed) : Type 0 where
   pub accums : AreSound v.accums
   pub earlier : AreSound v.before
 
--- ---- what a block runs over
+-- ---- the context of a block
 
--- a catalog and a store, a plan with its tuple types, and what names and accumulators hold
+-- a catalog and a store, a plan with its tuple types, and the contents of names and accumulators
 pub record Over : Type 0 where
   pub schema : Schema
   pub vertices : List VertexRow
@@ -47,7 +48,7 @@ pub record Over : Type 0 where
   pub tuples : List TupleType
   pub frame : Frame
 
--- the same of what a block runs over
+-- the same for the context of a block
 pub record GoTogether (index : List (List Traversal)) (s : Over) : Type 0 where
   pub indexed : index ≡ adjacency (sight_of s.schema s.vertices s.edges)
   pub attributes : HaveAttributes s.schema s.vertices
@@ -55,6 +56,6 @@ pub record GoTogether (index : List (List Traversal)) (s : Over) : Type 0 where
   pub few : length s.plan.edges ≤ most_types
   pub accums : AreSound s.frame.accums
 
--- what an expression sees over it: with aliases, with accumulators as they are by now, and as they were before the block
+-- what an expression sees in it: aliases, the current accumulators, and those from before the block
 abbrev pub viewed : Over → List (ℕ × Placed) → Accums → Accums → Viewed
 viewed s aliases accums before = record { schema = s.schema; vertices = s.vertices; edges = s.edges; plan = s.plan; tuples = s.tuples; things = s.frame.things; accums = accums; before = before; aliases = aliases }

@@ -1,9 +1,9 @@
-// What a block leaves.
+// The result of a block.
 use gq_frame::Accums;
 use gq_index::VertexList;
 use gq_value::Wrong;
 
-/// What a block leaves: the accumulators, and the distinct matched vertices by number.
+/// The result of a block: the accumulators, and the distinct matched vertices by number.
 #[derive(Drop)]
 pub struct After {
     pub accums: Accums,

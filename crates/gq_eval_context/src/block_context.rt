@@ -1,4 +1,4 @@
-// What a block runs over.
+// The context of a block.
 ghost use Rattle.std.specs.Prelude.{◌≡◌, map};
 ghost use Rattle.gq_frame.specs.Names.{alias_of};
 ghost use Rattle.gq_frame.specs.Slots.{AreSound};
@@ -11,8 +11,8 @@ use gq_index::Graph;
 use gq_plan_ir::Plan;
 use std::marker::Model;
 
-/// What a block runs over: a graph, a plan with its tuple types, and what names and accumulators hold. Contracts see what it lends,
-/// without the index.
+/// The read-only context of a block: a graph, a plan with its tuple types, and the contents of names and accumulators.
+/// Contracts see what it borrows, without the index.
 #[derive(Drop)]
 pub struct BlockContext<'a> {
     pub graph: Graph<'a>,
@@ -45,7 +45,8 @@ impl<'a> Model for BlockContext<'a> {
 }
 
 impl<'a> BlockContext<'a> {
-    /// What an expression sees over it: with these aliases, with accumulators as they are by now, and as they were before the block.
+    /// The context of an expression in it: with these aliases, the current accumulators, and those from before the
+    /// block.
     pub fn eval_context(
         &self,
         aliases: &'a [Alias<'a>],

@@ -46,7 +46,7 @@ pub(crate) fn degree_under(graph: Graph<'_>, own: &[u32], vertex: u32, edge: &st
     }
 }
 
-/// How many edges of a type can be walked from a vertex. Of a type or a vertex that isn't there, there are none.
+/// How many edges of a type can be walked from a vertex; 0 for a type or a vertex that doesn't exist.
 #[tactic(auto, using(crate::proofs::DegreeLemmas::walked_laws))]
 fn walked(graph: Graph<'_>, vertex: u32, kind: u32) -> u64
     requires indexed { graph.index.now ≡ adjacency (sight_of graph.catalog.now graph.store.now.vertices graph.store.now.edges) }
@@ -58,7 +58,7 @@ fn walked(graph: Graph<'_>, vertex: u32, kind: u32) -> u64
         None => 0,
         Some(_) => {
             if vertex < graph.store.vertices.len() {
-                // No degree is above the number of edges, which its table keeps in bounds.
+                // No degree is above the number of edges, which the edge table bounds.
                 let _edges = graph.store.edges.len();
                 graph.index.degree(vertex, kind)
             } else {

@@ -1,11 +1,11 @@
-// What one expression sees.
+// The context of one expression.
 use gq_eval_attributes::TupleType;
 use gq_frame::{Accums, Alias, Thing};
 use gq_index::Graph;
 use gq_plan_ir::Plan;
 use std::marker::Model;
 
-/// What an expression of a plan sees. Contracts see what it lends, without the index.
+/// The read-only context of an expression of a plan. Contracts see what it borrows, without the index.
 #[derive(Drop)]
 pub struct EvalContext<'a> {
     pub graph: Graph<'a>,
@@ -14,14 +14,14 @@ pub struct EvalContext<'a> {
     /// The plan's tuple types, by their numbers.
     pub tuples: &'a [TupleType],
 
-    /// What stands at the places of the plan.
+    /// The contents of the plan's places.
     pub things: &'a [Option<Thing>],
     pub accums: &'a Accums,
 
-    /// What the accumulators held before the block.
+    /// The accumulators from before the block.
     pub before: &'a Accums,
 
-    /// The aliases that are bound; where two have one place the first counts.
+    /// The aliases that are bound; if two have one place the first counts.
     pub aliases: &'a [Alias<'a>],
 }
 

@@ -5,7 +5,8 @@ ghost use Rattle.gq_eval_context.specs.Faults.{fault_at};
 use crate::after::BlockFault;
 use gq_eval_operand::Halt;
 
-/// The fault of a block whose evaluation at a vertex has ended. Where it is stuck, of which nothing is promised, it is `OutOfMemory`.
+/// The fault of a block whose evaluation at a vertex has ended. `Stuck`, of which nothing is promised, becomes
+/// `OutOfMemory`.
 pub fn fault_at(vertex: u32, halt: Halt) -> BlockFault
     ensures { result ≡ fault_at vertex halt }
 {

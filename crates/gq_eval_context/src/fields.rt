@@ -1,4 +1,4 @@
-// Fields of whatever stands before a dot.
+// Fields of the value before a dot.
 ghost use Rattle.std.specs.Prelude.{◌≡◌, IfOk, map, slice_get};
 ghost use Rattle.std.specs.Option.{option_copied};
 ghost use Rattle.gq_value.specs.Views.{val};
@@ -19,7 +19,7 @@ use gq_plan_ir::Field;
 use gq_value::{Row, Value};
 use std::alloc::Global;
 
-/// The field of what stands before a dot.
+/// The field of the value before a dot.
 #[tactic(auto, using(crate::proofs::FieldLemmas::seen_laws))]
 pub(crate) fn field_seen<'v>(
     alloc: Global,
@@ -75,7 +75,7 @@ fn of_value<'v>(
     }
 }
 
-/// The field of a tuple that something holds.
+/// The field of a borrowed tuple.
 #[tactic(auto, using(crate::proofs::FieldLemmas::tuple_laws))]
 fn of_tuple<'v>(
     tuples: &'v [TupleType],
@@ -96,7 +96,7 @@ fn of_tuple<'v>(
     }
 }
 
-/// The field of a tuple that nothing holds.
+/// The field of an owned tuple.
 #[tactic(auto, using(crate::proofs::FieldLemmas::tuple_laws))]
 fn of_made<'v>(
     alloc: Global,

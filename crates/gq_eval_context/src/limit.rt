@@ -6,7 +6,7 @@ ghost use Rattle.gq_eval_context.specs.Limits.{most_of};
 use gq_eval_operand::{Halt, Operand, number};
 use gq_value::Value;
 
-/// How many a LIMIT of this value keeps. A negative number counts as 0.
+/// How many vertices a LIMIT of this value keeps. A negative number counts as 0.
 #[tactic(auto, using(gq_value::specs::ViewLaws::view_laws, crate::proofs::LimitLemmas::limit_laws))]
 pub fn limit_count(value: &Operand<'_>) -> Result<u64, Halt>
     ensures { Tells itself (most_of (as_number (valued value.now))) result }

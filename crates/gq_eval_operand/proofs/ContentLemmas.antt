@@ -1,4 +1,4 @@
--- ContentLemmas: what sound contents read as.
+-- ContentLemmas: the values that sound contents read as.
 use Rattle.std.proofs.Common.{◌≡◌, ℕ, ℤ, true, false, refl, sym, ap, ◌∙◌}
 use Rattle.gq_value.specs.Val.{Val, Fraction}
 use Rattle.gq_value.specs.declared.kind.Number.{Number}

@@ -1,4 +1,4 @@
--- ConvertLemmas: types as they are kept, and numbers as those of a type.
+-- ConvertLemmas: types as stored, and numbers as numbers of a type.
 use Rattle.std.proofs.Common.{◌≡◌, ℕ, List, map, Result, refl, sym, ap, subst, ◌∙◌}
 use Rattle.gq_value.specs.declared.kind.BaseType.{BaseType, BaseType-F, fold-roll-BaseType}
 use Rattle.gq_value.specs.declared.kind.BaseType.TheVariants as base

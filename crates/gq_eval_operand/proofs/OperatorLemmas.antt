@@ -1,4 +1,4 @@
--- OperatorLemmas: what operations on numbers come to, operand by operand.
+-- OperatorLemmas: the results of operations on numbers, operand by operand.
 use Rattle.std.proofs.Common.{◌≡◌, ◌≢◌, List, ℕ, zero, suc, ◌+◌, ◌-◌, ◌<◌, ◌≤◌, Bool, true, false, not, if◌then◌else◌, ℤ, neg_ℤ, Result, Ok, Err, refl, sym, ap, subst, ◌∙◌, arith}
 use Rattle.gq_plan_ir.specs.AddSign.TheVariants as sign
 use Rattle.gq_plan_ir.specs.MulSign.{MulSign}
@@ -76,7 +76,7 @@ calculated_is op v a w b is at =
     second_is v a w (λ y. of_result (op v w) >>= numbered) is ∙ has_number w b _ _ at (λ y. refl)
     ∙ ap (λ x. of_result (op x w) >>= numbered) (same_number v a is) ∙ ap (λ y. of_result (op a y) >>= numbered) (same_number w b at)
 
--- an operation's answer is what is meant
+-- an operation's answer is the one that is meant
 pub told : {A B : Type 0} (view : B → A) (next : Val → Answer Wrong A) (free : Type 0) (answer : Result Value EvalFault) (o : Result Val Wrong) (r : Result B Halt)
     → value_answers.Gives free answer o → Told view next answer r → Tells view (of_result o >>= next) r
 told view next free (Ok v) o r is t = subst (λ o. Tells view (of_result o >>= next) r) (sym is) t

@@ -1,4 +1,4 @@
--- Meant: what each form of Seen stands for in the definitions, and when an answer is the one that was meant.
+-- Meant: the meaning of each form of Seen in the definitions, and when an answer is the one that was meant.
 use Rattle.std.specs.Prelude.{◌≡◌, ℕ, ℤ, Bool, true, false, if◌then◌else◌, List, map, Result, Ok, Err}
 use Rattle.gq_value.specs.declared.value.Value.{Value}
 use Rattle.gq_value.specs.declared.value.Wrong.{Wrong}
@@ -30,7 +30,7 @@ use Rattle.gq_eval_operand.specs.declared.seen.Seen.TheVariants as seen
 use Rattle.gq_eval_operand.specs.declared.halt.Halt.{Halt}
 use Rattle.gq_eval_operand.specs.declared.halt.Halt.TheVariants as halt
 
--- ---- what is seen
+-- ---- the forms of Seen
 
 abbrev pub sort_is : Sort → plain.Base
 sort_is sort.Int = plain.INT
@@ -54,7 +54,7 @@ keys_are shape = map (λ k. (k.0, base_of k.1)) shape.keys
 abbrev pub parts_are : GroupShape → plain.Parts
 parts_are shape = parts_of (map (λ p. (p.0, accum_of p.1)) shape.parts)
 
--- what stands at a key row of a map or group, or else its opening
+-- the content at a key row of a map or group, or else its opening
 abbrev pub at_row : {A : Type 0} → List (List Val) × (List Val → A) → List Val → A → A
 at_row h row opening = if among row_cmp row h.0 then h.1 row else opening
 
@@ -72,7 +72,7 @@ meant (seen.Edge r t) = IsEdge r t
 meant (seen.Set vs) = IsSet vs.now
 meant (seen.Member vs s v) = IsMember vs.now (sort_is s) v
 
--- what a content reads as, and what it reads as before any input
+-- the value that a content reads as, and the one before any input
 abbrev pub read_of : Accum → Content → Meant
 read_of k c = read k (view k (out-Content c))
 
@@ -88,7 +88,7 @@ itself a = a
 
 -- ---- answers
 
--- an evaluation ends as the meaning does; OutOfMemory may come at any time, and of what is outside nothing is said
+-- an evaluation ends as the meaning does; OutOfMemory may occur at any time, and nothing is said of Outside
 abbrev pub Halts : {A : Type 0} → Answer Wrong A → Halt → Type 0
 Halts o (halt.Wrong w) = o ≡ Faults w
 Halts o halt.Stuck = o ≡ Stuck
@@ -100,7 +100,7 @@ abbrev pub Tells : {A B : Type 0} → (B → A) → Answer Wrong A → Result B 
 Tells view o (Ok b) = o ≡ Gives (view b)
 Tells view o (Err h) = Halts o h
 
--- what comes of an operation on values, and then of what is made of its value
+-- the result of an operation on values, and of what is then made of its value
 abbrev pub Told : {A B : Type 0} → (B → A) → (Val → Answer Wrong A) → Result Value EvalFault → Result B Halt → Type 0
 Told view next (Ok v) r = Tells view (next (val v)) r
 Told view next (Err (eval_fault.Wrong w)) r = r ≡ Err (halt.Wrong w)
@@ -112,7 +112,7 @@ abbrev pub vertex_of_value : Val → Answer Wrong ℕ
 vertex_of_value (Vertex v) = Gives v
 vertex_of_value _ = Stuck
 
--- a whole number, as the value that it is
+-- a whole number as a value
 abbrev pub number_in : Val → Answer Wrong Val
 number_in (Int x) = Gives (Int x)
 number_in (UInt n) = Gives (UInt n)

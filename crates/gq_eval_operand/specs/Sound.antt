@@ -1,4 +1,4 @@
--- Sound: what holds of all that is seen: a collection that is lent is one of its kind, with values of its types and with sums in range.
+-- Sound: an invariant of all that is seen: a borrowed collection is of its kind, with typed values and sums in range.
 use Rattle.std.specs.Prelude.{◌≡◌, Bool, true, false, ◌&&◌, List}
 use Rattle.std.specs.List.{list_all}
 use Rattle.gq_value.specs.Val.{Val, Vals, Int, UInt, Truth, Text, Vertex, Tuple, none, more}
@@ -20,7 +20,7 @@ use Rattle.gq_eval_operand.specs.Meant.{keys_are, parts_are}
 -- ---- contents
 
 abbrev mutual
-  -- a value of the form of a type; whether a vertex is there isn't asked
+  -- a value of the form of a type; whether a vertex exists isn't checked
   pub has_form : Base → Val → Bool
   has_form INT (Int x) = true
   has_form UINT (UInt n) = true
@@ -62,7 +62,7 @@ pub record IsSound (k : Accum) (c : Content) : Type 0 where
 pub record ReadsAs (k : Accum) (b : Base) : Type 0 where
   pub each : (h : Holds k) → read k h ≡ Is b (value_in k h)
 
--- whatever is lent is sound
+-- all that is borrowed is sound
 abbrev pub Sound : Seen → Type 0
 Sound (seen.Whole k c) = IsSound (accum_of k.now) c.now × (is_scalar (accum_of k.now) ≡ false)
 Sound (seen.Opening k) = is_scalar (accum_of k.now) ≡ false

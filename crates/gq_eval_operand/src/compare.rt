@@ -14,7 +14,8 @@ use gq_tree::CmpSign;
 use gq_value::{Value, compare};
 use std::cmp::Ordering;
 
-/// A comparison: of numbers, averages and texts by every sign, of truths and vertices by `==` and `!=` alone. Takes no memory.
+/// A comparison: of numbers, averages and texts by every sign, of truths and vertices only by `==` and `!=`. Takes no
+/// memory.
 #[tactic(auto, using(crate::proofs::CompareLemmas::text_laws))]
 pub fn compared<'a>(
     sign: CmpSign,
@@ -32,7 +33,7 @@ pub fn compared<'a>(
     }
 }
 
-/// The value, where it isn't a text alone.
+/// The value; None only for a text.
 pub fn held<'o>(operand: &'o Operand<'_>) -> Option<&'o Value>
     ensures { MatchOption result (IsText (valued operand.entry.now)) (λ value. val value.now ≡ valued operand.entry.now) }
 {
@@ -53,7 +54,7 @@ fn values<'a>(sign: CmpSign, v: &Value, w: &Value) -> Result<Seen<'a>, Halt>
     }
 }
 
-/// Values of which one is a text.
+/// Compares two values, one of which is a text.
 #[tactic(auto, using(crate::proofs::CompareLemmas::text_laws))]
 fn texts<'a>(sign: CmpSign, left: &Operand<'_>, right: &Operand<'_>) -> Result<Seen<'a>, Halt>
     requires { IsText (valued left.now) ⊎ IsText (valued right.now) }
@@ -68,7 +69,7 @@ fn texts<'a>(sign: CmpSign, left: &Operand<'_>, right: &Operand<'_>) -> Result<S
     }
 }
 
-/// Which values are compared with which: numbers, truths, texts, vertices, tuples.
+/// The comparable groups of values: numbers, truths, texts, vertices, tuples.
 #[tactic(auto, using(gq_value::specs::ViewLaws::view_laws))]
 fn rank(value: &Value) -> u8
     ensures { result ≡ val.rank (val value.now) }

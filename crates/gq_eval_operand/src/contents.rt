@@ -1,4 +1,4 @@
-// What contents read as.
+// The values that contents read as.
 ghost use Rattle.std.specs.Prelude.{◌≡◌, IfOk, true};
 ghost use Rattle.gq_value.specs.Accums.{AvgAccum, INT, BOOL};
 ghost use Rattle.gq_value.specs.AccumViews.{accum_of};
@@ -12,7 +12,7 @@ use crate::seen::{Operand, Seen, Sort};
 use gq_nest::Content;
 use gq_value::{Fraction, Kind, Number, Value};
 
-/// What a content of a kind reads as: a number, truth or average as its value, a collection whole. Takes no memory.
+/// The value of a content of a kind: a number, truth or average, or the whole collection. Takes no memory.
 #[tactic(auto, using(gq_value::proofs::AccumLemmas::accum_laws, crate::proofs::ContentLemmas::read_laws, crate::proofs::ContentLemmas::whole_laws))]
 pub fn read<'a>(kind: &'a Kind, content: &'a Content) -> Result<Seen<'a>, Halt>
     requires { IsSound (accum_of kind.now) content.now }
@@ -31,7 +31,7 @@ pub fn read<'a>(kind: &'a Kind, content: &'a Content) -> Result<Seen<'a>, Halt>
     }
 }
 
-/// What a number or truth reads as.
+/// The value of a number or truth.
 #[tactic(auto, using(crate::proofs::ContentLemmas::scalar_laws))]
 fn scalar<'a>(kind: &Kind, sort: Sort<'a>, content: &Content) -> Seen<'a>
     requires sound { IsSound (accum_of kind.now) content.now }
@@ -66,7 +66,7 @@ fn sort_of<'a>(number: Number) -> Sort<'a>
     }
 }
 
-/// What a content of a kind reads as before any input. Takes no memory.
+/// The value of a content of a kind before any input. Takes no memory.
 #[tactic(auto, using(gq_value::proofs::AccumLemmas::accum_laws, gq_value::specs::ViewLaws::view_laws, crate::proofs::ContentLemmas::whole_laws))]
 pub fn opening<'a>(kind: &'a Kind) -> Seen<'a>
     ensures read { meant result ≡ opening_of (accum_of kind.entry.now) }

@@ -11,7 +11,7 @@ use crate::operand::number;
 use crate::seen::Operand;
 use gq_value::{BaseType, EvalFault, Number, Value, convert};
 
-/// A number where another number type is wanted, by value; all else stays. Takes no memory.
+/// Converts a number to another number type if one is required, by value; other values stay. Takes no memory.
 #[tactic(auto, using(crate::proofs::ConvertLemmas::base_laws))]
 pub fn converted<'a>(base: &BaseType, operand: Operand<'a>) -> Result<Operand<'a>, Halt>
     ensures { Tells valued (converted_to (base_of base.now) (valued operand.entry)) result }
@@ -33,7 +33,7 @@ pub fn converted_to<'a>(to: Number, operand: &Operand<'_>) -> Result<Operand<'a>
     made(convert(&x, to))
 }
 
-/// What an operation gave, or its fault.
+/// The result of an operation, or its fault.
 pub fn made<'a>(answer: Result<Value, EvalFault>) -> Result<Operand<'a>, Halt>
     ensures { Told valued Gives answer result }
 {

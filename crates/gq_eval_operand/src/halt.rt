@@ -8,10 +8,11 @@ pub enum Halt {
     /// An operation has no value.
     Wrong(Wrong),
 
-    /// What is named isn't there, or has a wrong type; never so of what is well typed.
+    /// Something named is missing or has a wrong type; never so for a well typed expression.
     Stuck,
 
-    /// A number or a time is past what the types can hold, of which nothing is said; never so of what is well typed.
+    /// A number or a time is beyond what the types can hold, of which nothing is said; never so for a well typed
+    /// expression.
     Outside,
     OutOfMemory,
 }

@@ -1,7 +1,7 @@
 //! The results of evaluating an expression, and the operators on them.
 //!
 //! A `Seen` is a value with its type, an average, a collection, a group row, an edge or a set, borrowed if
-//! possible. What an expression reads of the graph, of names and of accumulators comes from any type with the
+//! possible. An expression reads the graph, names and accumulators through any type with the
 //! trait `Sees`.
 //!
 //! Read `specs/Meant.antt` first: what each form of `Seen` denotes, and when an answer is the defined one.

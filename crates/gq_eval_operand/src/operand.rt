@@ -103,7 +103,7 @@ fn text_of(value: &Value) -> Option<&str>
     }
 }
 
-/// The value, with memory of its own. Takes memory for texts and tuples that are lent.
+/// The value, owned. Takes memory for texts and tuples that are borrowed.
 #[tactic(auto, using(gq_value::specs::ViewLaws::view_laws))]
 pub fn own(alloc: Global, operand: Operand<'_>) -> Result<Value, OutOfMemory>
     ensures { IfOk result (λ value. val value ≡ valued operand.entry) }

@@ -15,7 +15,7 @@ use gq_tree::{AddSign, MulSign};
 use gq_value::{EvalFault, Txt, Value, add, div, mul, negate, rem, sub};
 use std::alloc::Global;
 
-/// A number, which is of its own type.
+/// A number, with its own type.
 #[tactic(auto, using(crate::proofs::OperatorLemmas::numbered_laws))]
 pub fn numbered<'a>(operand: Operand<'a>) -> Seen<'a>
     ensures { numbered (valued operand.entry) ≡ Gives (meant result) }
@@ -57,7 +57,7 @@ pub fn truly<'a>(truth: bool) -> Seen<'a>
     Seen::Value(Sort::Bool, Operand::Made(Value::Bool(truth)))
 }
 
-/// The number that an operation gave, or its fault.
+/// The number that results from an operation, or its fault.
 pub fn calculated<'a>(answer: Result<Value, EvalFault>) -> Result<Seen<'a>, Halt>
     ensures { Told meant numbered answer result }
 {
@@ -82,7 +82,7 @@ pub fn product<'a>(sign: MulSign, left: &Operand<'_>, right: &Operand<'_>) -> Re
     }
 }
 
-/// `+` and `-`; two texts are joined by `+`. Takes memory for texts alone.
+/// `+` and `-`; two texts are joined by `+`. Takes memory only for texts.
 #[tactic(auto, using(crate::proofs::OperatorLemmas::summed_laws))]
 pub fn summed<'a>(
     alloc: Global,
@@ -122,7 +122,7 @@ fn difference<'a>(left: &Operand<'_>, right: &Operand<'_>) -> Result<Seen<'a>, H
     calculated(sub(&x, &y))
 }
 
-/// Two texts, the one followed by the other.
+/// The concatenation of two texts.
 #[tactic(auto, using(gq_value::specs::ViewLaws::view_laws))]
 fn joined<'a>(alloc: Global, left: &str, right: &str) -> Result<Seen<'a>, Halt>
     ensures { Tells meant (said (left.now ++ right.now)) result }
@@ -140,7 +140,7 @@ fn followed(alloc: Global, left: &str, right: &str) -> Result<Txt, OutOfMemory>
     Ok(Txt::from_string(text))
 }
 
-/// So many minus signs before a value, from the inner one on. Takes no memory.
+/// Applies `count` minus signs to a value, from the inner one on. Takes no memory.
 #[tactic(auto, using(crate::proofs::OperatorLemmas::minus_laws))]
 pub fn minus<'a>(count: usize, operand: Operand<'a>) -> Result<Seen<'a>, Halt>
     ensures { Tells meant (minus count (valued operand.entry)) result }
@@ -159,7 +159,7 @@ pub fn minus<'a>(count: usize, operand: Operand<'a>) -> Result<Seen<'a>, Halt>
     Ok(numbered(Operand::Made(x)))
 }
 
-/// So many NOTs before a truth.
+/// Applies `count` NOTs to a truth.
 #[tactic(auto, using(crate::proofs::OperatorLemmas::nots_laws))]
 pub fn nots(count: usize, truth: bool) -> bool
     ensures { result ≡ nots count truth }

@@ -1,4 +1,4 @@
-// What is seen.
+// Results of expressions.
 ghost use Rattle.std.specs.Prelude.{◌≡◌};
 ghost use Rattle.gq_value.specs.AccumViews.{base_of};
 ghost use Rattle.gq_plan_ir.specs.Meanings.{value_of_meant, vertex_of_meant};
@@ -31,7 +31,7 @@ pub enum Sort<'a> {
 }
 
 impl<'a> Sort<'a> {
-    /// A type as it is kept.
+    /// A type as it is stored.
     #[tactic(auto, using(crate::proofs::ConvertLemmas::base_laws))]
     pub fn of(base: &'a BaseType) -> Sort<'a>
         ensures { sort_is result ≡ base_of base.entry.now }
@@ -49,7 +49,7 @@ impl<'a> Sort<'a> {
     }
 }
 
-/// A value that an operation takes: made by another one, or lent by what holds it.
+/// An operand of an operation: the result of another one, or borrowed from its owner.
 #[derive(Drop)]
 pub enum Operand<'a> {
     Made(Value),
@@ -57,7 +57,7 @@ pub enum Operand<'a> {
     Text(&'a str),
 }
 
-/// What an expression is. Collections, sets and what stands in rows are lent.
+/// The result of an expression. Collections, sets and values in rows are borrowed.
 #[derive(Drop)]
 pub enum Seen<'a> {
     /// A value, with its type.
@@ -70,7 +70,7 @@ pub enum Seen<'a> {
     /// A collection of a kind before any input.
     Opening(&'a Kind),
 
-    /// What stands at a key row of a group, or its opening where the row isn't held.
+    /// The content at a key row of a group, or its opening if the row isn't held.
     Row(&'a GroupShape, &'a Content, Row),
 
     /// The parts of a group before any input.
@@ -82,7 +82,7 @@ pub enum Seen<'a> {
     /// A set, by the numbers of its vertices.
     Set(&'a [u32]),
 
-    /// Within `S[..]` the set, and the vertex in turn with its type.
+    /// Within `S[..]` the set, and the current vertex with its type.
     Member(&'a [u32], Sort<'a>, u32),
 }
 

@@ -1,4 +1,4 @@
--- ActLemmas: how what acts contribute goes on from what the first contributes.
+-- ActLemmas: the contributions of statements, from those of the first one.
 use Rattle.std.proofs.Common.{◌≡◌, ℕ, ◌+◌, ◌<◌, ◌≤◌, Bool, true, false, List, [], ◌∷◌, ◌++◌, map, drop, length, get_or, Option, Some, None, Result, Err, refl, sym, ap, subst, ◌∙◌}
 use Rattle.std.specs.List.{slice_get}
 use Rattle.std.specs.Option.{option_map}
@@ -40,9 +40,9 @@ use Rattle.gq_eval_builtins.proofs.TimeLemmas.{stops}
 use Rattle.gq_exec_contribute.specs.declared.feeding.Feeding.{Feeding}
 use Rattle.gq_exec_contribute.specs.Gathered.{contribution_of, shown, after}
 
--- ---- behind what was contributed before
+-- ---- after earlier contributions
 
--- what stops the first part stops the whole
+-- a halt of the first part is a halt of the whole
 after_stops : (xs : List Contribution) (o : Answer Wrong (List Contribution)) (f : List Contribution → Answer Wrong (List Contribution)) (h : Halt) → Halts (after xs o) h → Halts (after xs (o >>= f)) h
 after_stops xs (Gives ys) f (halt.Wrong w) s = absurd (cc s)
 after_stops xs (Gives ys) f halt.Stuck s = absurd (cc s)
@@ -76,9 +76,9 @@ after_next xs zs (Gives ys) p e = behind xs ys p ∙ ap (λ zs. after zs p) (giv
 after_next xs zs (Faults w) p e = absurd (cc e)
 after_next xs zs Stuck p e = absurd (cc e)
 
--- ---- one act after another
+-- ---- statements in order
 
--- what is gathered so far, and what the acts that are left contribute
+-- the inputs gathered so far, followed by the contributions of the remaining statements
 abbrev pub GatheredTo : Look Reference → List (states.Slot Reference) → List Act → List Contribution → ℕ → List Contribution → Type 0
 GatheredTo look slots acts xs i ys = after xs (contributions look slots (view_acts acts)) ≡ after ys (contributions look slots (view_acts (drop i acts)))
 
@@ -102,7 +102,7 @@ acts_end look slots acts xs ys i inv l = inv ∙ ap (λ bs. after ys (contributi
 
 pub ruleset acts_laws = (act_stops, act_next, acts_end)
 
--- ---- one act
+-- ---- one statement
 
 pub alias_stops : (look : Look Reference) (slots : List (states.Slot Reference)) (xs : List Contribution) (v a : Reference) (c : Change Reference) (h : Halt) → Halts (vertex_named look v) h → Halts (after xs (of_act look slots (plain.AtAlias v a c))) h
 alias_stops look slots xs v a c h s = within xs (vertex_named look v) (λ n. contributed look slots a n c) h s
@@ -165,7 +165,7 @@ pub ruleset change_laws = (slot_gone, input_gathered)
 
 -- ---- IF
 
--- IF and each ELSE IF, and what stands behind ELSE
+-- IF and each ELSE IF, and the statements of ELSE
 abbrev pub view_choices : List (Expr × List Act) → Option (List Act) → Choices Reference
 view_choices branches others = choices_of (map (λ b. (view b.0, map view_act b.1)) branches) (option_map (map view_act) others)
 
@@ -204,7 +204,7 @@ choice_none : (look : Look Reference) (slots : List (states.Slot Reference)) (bs
     → after xs (of_choices look slots (view_choices bs others)) ≡ Gives xs
 choice_none look slots bs others i xs inv l e = ap (after xs) (left look slots bs others None i inv l e) ∙ ap Gives (append-nil xs)
 
--- ---- the act IF
+-- ---- the statement IF
 
 same_choices : (bs : List (Expr × List Act)) → map {A = Expr × List (plain.Act Reference)} {B = Tree Reference × List (plain.Act Reference)} (λ b. (view b.0, b.1)) (map {A = Expr × List Act} {B = Expr × List (plain.Act Reference)} (λ b. (b.0, map view_act b.1)) bs)
     ≡ map {A = Expr × List Act} {B = Tree Reference × List (plain.Act Reference)} (λ b. (view b.0, map view_act b.1)) bs

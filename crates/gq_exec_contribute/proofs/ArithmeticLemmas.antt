@@ -60,9 +60,9 @@ over_is s x y (Some z) e h =
 
 pub ruleset product_laws = (times_is, over_is)
 
--- ---- operand after operand
+-- ---- operands in order
 
--- the terms so far go before those that follow
+-- the value of the terms so far, followed by the remaining ones
 pub record TermsTo (look : Look Reference) (x : ℤ) (terms : List (AddSign × Expr)) (i : ℕ) (y : ℤ) : Type 0 where
   pub goes : meaning_terms look (int_meant x) (view_terms terms) ≡ meaning_terms look (int_meant y) (view_terms (drop i terms))
 
@@ -101,7 +101,7 @@ pub ruleset chain_laws = (terms_first, factors_first, terms_next, factors_next, 
 
 -- ---- a whole sum, and a whole product
 
--- what follows sees the value alone
+-- the remaining terms depend on the value only
 same_terms : (look : Look Reference) (m n : Meant) (ts : Terms Reference) → value_of_meant m ≡ value_of_meant n → (meaning_terms look m ts >>= value_of_meant) ≡ (meaning_terms look n ts >>= value_of_meant)
 same_terms look m n tree.no_term e = e
 same_terms look m n (tree.term s t ts) e = ap (λ o. (o >>= λ v. meaning look t >>= value_of_meant >>= summed s v >>= λ n. meaning_terms look n ts) >>= value_of_meant) e

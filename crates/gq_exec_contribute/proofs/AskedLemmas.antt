@@ -1,4 +1,4 @@
--- AskedLemmas: what methods of accumulators give.
+-- AskedLemmas: results of methods of accumulators.
 use Rattle.std.proofs.Common.{◌≡◌, ℕ, ◌-◌, ◌<◌, ◌≤◌, Bool, true, false, List, [], ◌∷◌, take, drop, length, get_or, Option, Some, None, Ok, Bor, MatchOption, refl, sym, ap, subst, ◌∙◌, arith}
 use Rattle.std.specs.Prelude.{ℤ, pos, IfSome, slice_get}
 use Rattle.std.specs.Int.{w64}
@@ -18,7 +18,7 @@ use Rattle.gq_value.specs.declared.value.Wrong.{Wrong}
 use Rattle.gq_value.specs.Accums.{Accum, Base, MapAccum, INT}
 use Rattle.gq_value.specs.AccumViews.{accum_of}
 use Rattle.gq_value.specs.Typed.{is_scalar}
-use Rattle.gq_value.specs.Val.{Val, Int, Truth}
+use Rattle.gq_value.specs.Val.{Int, Truth}
 use Rattle.gq_value.specs.ViewLaws.{val-Int}
 use Rattle.gq_value.specs.Views.{val}
 use Rattle.gq_value.proofs.ArithmeticLemmas.{kept_int}
@@ -41,6 +41,7 @@ use Rattle.gq_rules_meaning.specs.Calls.{method_of, method_wants}
 use Rattle.gq_rules_meaning.specs.Collections.{got, has_row}
 use Rattle.gq_rules_meaning.specs.Expressions.{Look, arguments, meaning_part, meaning_parts, value_of, wanted}
 use Rattle.gq_rules_meaning.specs.Meanings.{Meant, Is, IsContent, Outcome, as_truth, truly, value_of_meant, vertex_of_meant}
+use Rattle.gq_frame.specs.declared.accums.Accums.{Accums}
 use Rattle.gq_frame.specs.declared.slots.Slots.{Slots}
 use Rattle.gq_frame.specs.Names.{AVertex}
 use Rattle.gq_frame.specs.Targets.{number_of}
@@ -68,12 +69,13 @@ use Rattle.gq_eval_builtins.proofs.MethodLemmas.{content_size}
 use Rattle.gq_eval_builtins.proofs.MethodSteps.{size_goes}
 use Rattle.gq_eval_context.specs.Viewed.{Over}
 use Rattle.gq_eval_context.specs.Looks.{world_over}
+use Rattle.gq_exec_contribute.specs.declared.asked.Accumulator.{Accumulator}
 use Rattle.gq_exec_contribute.specs.declared.cells.Cells.{Cells}
 use Rattle.gq_exec_contribute.specs.declared.cells.Taken.{Taken}
 use Rattle.gq_exec_contribute.specs.declared.cells.Taken.TheVariants as taken
 use Rattle.gq_exec_contribute.specs.declared.leaves.Leaves.{Leaves}
-use Rattle.gq_exec_contribute.specs.Asked.{HasEntry, HasIntKey, HasSize, HoldsKey, IsBehind, IsCollection, IsGot, IsKey, IsMap, IsSize, found_in, slot_read}
-use Rattle.gq_exec_contribute.specs.Prepared.{AreAllCells, HoldsInt, IsInt, IsTruth, IsVertex, ReadsInt, StandsAt, Takes, TakesKeyed, int_meant, parts_value, sees}
+use Rattle.gq_exec_contribute.specs.Asked.{Begins, HasEntry, HasIntKey, HasSize, HoldsKey, IsBehind, IsCollection, IsGot, IsKey, IsMap, IsSize, found_in, slot_read}
+use Rattle.gq_exec_contribute.specs.Prepared.{AreAllCells, HoldsInt, IsInt, IsTruth, IsVertex, ReadsInt, ReadsTruth, StandsAt, Takes, TakesKeyed, int_meant, sees_in}
 use Rattle.gq_exec_contribute.proofs.NameLemmas.{named}
 
 -- ---- collections
@@ -126,12 +128,11 @@ key_there c o m x r p e some h = record { map = map_is c o m e; is = (p.now, sub
 pub key_lacks : (c o : Content) (m : BTreeMap Value Content) (x : ℤ) (r : Option (Bor Content)) → c ≡ made.Map o m → r ≡ None → option_copied r ≡ found_in (value.Int x) m.entries → HoldsKey c x false
 key_lacks c o m x r e none h = record { map = map_is c o m e; is = subst (λ r. MatchOption r (LacksKey c (Int x ∷ [])) (λ p. HasKey c (Int x ∷ []) p.now)) none (gets_value c o m e (value.Int x) (Int x ∷ []) (int_key_is x) r h) }
 
--- ---- what the accumulator of a slot reads as
+-- ---- the meaning of the accumulator of a slot
 
-stands_read : (clock : Calendar) (o : Over) (n v : ℕ) (c : Content) (at : StandsAt o.frame.accums n v c) → is_scalar (accum_of at.slot.kind) ≡ false → slot_read clock o n v ≡ Gives (IsContent (accum_of at.slot.kind) (forms.view (accum_of at.slot.kind) (out-Content c)))
-stands_read clock o n v c at ns =
-    let a = o.frame.accums in
-    (content_read a n v (number_of a.slots n v) at.slot c (Ok (seen.Whole (record { ref_ptr = (0, 0); now = at.slot.kind }) (record { ref_ptr = (0, 0); now = c }))) at.declared at.within refl at.stands (whole_read (accum_of at.slot.kind) c ns)).each (world_over clock o) refl
+stands_read : (clock : Calendar) (o : Over) (accums : Accums) (n v : ℕ) (c : Content) (at : StandsAt accums n v c) → is_scalar (accum_of at.slot.kind) ≡ false → slot_read clock o accums n v ≡ Gives (IsContent (accum_of at.slot.kind) (forms.view (accum_of at.slot.kind) (out-Content c)))
+stands_read clock o accums n v c at ns =
+    (content_read accums n v (number_of accums.slots n v) at.slot c (Ok (seen.Whole (record { ref_ptr = (0, 0); now = at.slot.kind }) (record { ref_ptr = (0, 0); now = c }))) at.declared at.within refl at.stands (whole_read (accum_of at.slot.kind) c ns)).each (world_over clock o) refl
 
 -- ---- one part
 
@@ -157,19 +158,19 @@ size_part look m z w h =
     let as_int : ◌≡◌ {A = Answer Wrong Meant} (Gives (Is INT (val (value.Int z)))) (Gives (int_meant z)) = ap (λ v. Gives (Is INT v)) (val-Int z) in
     size_goes look m (Ok (seen.Value sort.Int (operand.Made (value.Int z)))) w (h ∙ sym as_int) ∙ as_int
 
-size_read : (clock : Calendar) (o : Over) (l : Leaves) (c : Candidate) (m : Meant) (part : code.Behind) (z : ℤ) → IsSize part → size_meant m ≡ Gives (int_meant z) → meaning_part (sees clock o l c) m (view_behind part) ≡ Gives (int_meant z)
-size_read clock o l c m part z is h = ap (meaning_part (sees clock o l c) m) is ∙ size_part (sees clock o l c) m z refl h
+size_read : (clock : Calendar) (o : Over) (l : Leaves) (accums : Accums) (c : Candidate) (m : Meant) (part : code.Behind) (z : ℤ) → IsSize part → size_meant m ≡ Gives (int_meant z) → meaning_part (sees_in clock o l accums c) m (view_behind part) ≡ Gives (int_meant z)
+size_read clock o l accums c m part z is h = ap (meaning_part (sees_in clock o l accums c) m) is ∙ size_part (sees_in clock o l accums c) m z refl h
 
-pub size_asked : (clock : Calendar) (o : Over) (l : Leaves) (c : Candidate) (n v : ℕ) (part : code.Behind) (content : Content) (r : Option ℤ) → StandsAt o.frame.accums n v content → IsSize part → IfSome r (HasSize content) → IfSome r (λ x. IsBehind clock o l c n v (part ∷ []) (Int x))
-size_asked clock o l c n v part content None at is h = tt
-size_asked clock o l c n v part content (Some z) at is h =
+pub size_asked : (clock : Calendar) (o : Over) (l : Leaves) (accums : Accums) (c : Candidate) (n v : ℕ) (part : code.Behind) (content : Content) (r : Option ℤ) → StandsAt accums n v content → IsSize part → IfSome r (HasSize content) → IfSome r (λ x. IsBehind clock o l accums c n v (part ∷ []) (Int x))
+size_asked clock o l accums c n v part content None at is h = tt
+size_asked clock o l accums c n v part content (Some z) at is h =
     let k = accum_of at.slot.kind in let ns = h.collection.each k at.sound.shows.of_kind in record {
-      is = one_part (sees clock o l c) (slot_read clock o n v) (view_behind part)
-          ∙ ap (λ u. (u >>= λ m. meaning_part (sees clock o l c) m (view_behind part)) >>= value_of_meant) (stands_read clock o n v content at ns)
-          ∙ ap (λ o. o >>= value_of_meant) (size_read clock o l c (IsContent k (forms.view k (out-Content content))) part z is (ap (λ o. o >>= size_meant) (sym (whole_read k content ns)) ∙ h.each k at.sound));
+      is = one_part (sees_in clock o l accums c) (slot_read clock o accums n v) (view_behind part)
+          ∙ ap (λ u. (u >>= λ m. meaning_part (sees_in clock o l accums c) m (view_behind part)) >>= value_of_meant) (stands_read clock o accums n v content at ns)
+          ∙ ap (λ o. o >>= value_of_meant) (size_read clock o l accums c (IsContent k (forms.view k (out-Content content))) part z is (ap (λ o. o >>= size_meant) (sym (whole_read k content ns)) ∙ h.each k at.sound));
     }
 
--- ---- what stands at a key
+-- ---- entries
 
 one_argument : (look : Look Reference) (t : Tree Reference) (x : ℤ) → IsInt look t x → FitsSigned w64 x → arguments look (Some INT ∷ []) (tree.tree t tree.no_tree) ≡ Gives (Int x ∷ [])
 one_argument look t x is fits = ap (λ u. u >>= wanted (Some INT) >>= λ v. arguments look [] tree.no_tree >>= λ vs. Gives (v ∷ vs)) is ∙ ap (λ r. of_result r >>= λ v. Gives (v ∷ [])) (kept_int x fits)
@@ -191,14 +192,14 @@ record IntMap (k : Accum) : Type 0 where
   part : Accum
   is : k ≡ MapAccum INT part
 
-int_map : (o : Over) (n v : ℕ) (c : Content) (at : StandsAt o.frame.accums n v c) → IsMap c → HasIntKey o.frame.accums.slots n → IntMap (accum_of at.slot.kind)
-int_map o n v c at map keys =
+int_map : (accums : Accums) (n v : ℕ) (c : Content) (at : StandsAt accums n v c) → IsMap c → HasIntKey accums.slots n → IntMap (accum_of at.slot.kind)
+int_map accums n v c at map keys =
     let m = map.each (accum_of at.slot.kind) at.sound.shows.of_kind in
     let b : m.0 ∷ [] ≡ INT ∷ [] = sym (ap key_types m.2) ∙ keys.each at.slot at.declared in
     let is : m.0 ≡ INT = cc b in record { part = m.1; is = m.2 ∙ ap (λ (b : Base). MapAccum b m.1) is }
 
-map_read : (clock : Calendar) (o : Over) (n v : ℕ) (c : Content) (at : StandsAt o.frame.accums n v c) → IntMap (accum_of at.slot.kind) → slot_read clock o n v ≡ Gives (IsContent (accum_of at.slot.kind) (forms.view (accum_of at.slot.kind) (out-Content c)))
-map_read clock o n v c at m = stands_read clock o n v c at (ap is_scalar m.is)
+map_read : (clock : Calendar) (o : Over) (accums : Accums) (n v : ℕ) (c : Content) (at : StandsAt accums n v c) → IntMap (accum_of at.slot.kind) → slot_read clock o accums n v ≡ Gives (IsContent (accum_of at.slot.kind) (forms.view (accum_of at.slot.kind) (out-Content c)))
+map_read clock o accums n v c at m = stands_read clock o accums n v c at (ap is_scalar m.is)
 
 method_is : (part : code.Behind) (m : code_method.Method) (ts us : List Expr) (t : Tree Reference) → part ≡ behind.Method m ts → us ≡ ts → views us ≡ tree.tree t tree.no_tree → view_behind part ≡ Method (Does (shown.method_of m)) (tree.tree t tree.no_tree)
 method_is part m ts us t is s one = ap view_behind is ∙ view_behind-Method m ts ∙ ap (λ l. Method (Does (shown.method_of m)) (views l)) (sym s) ∙ ap (Method (Does (shown.method_of m))) one
@@ -213,16 +214,16 @@ key_map : (look : Look Reference) (k : Accum) (m : IntMap k) (h : Holds k) (t : 
 key_map look k m h t x w is fits =
     subst (λ (k : Accum). (h : Holds k) → meaning_part look (IsContent k h) (Method (Does words.ContainsKey) (tree.tree t tree.no_tree)) ≡ (found (has_row k h (Int x ∷ [])) >>= truly)) (sym m.is) (λ h. asked_key look m.part h t x w is fits) h
 
-pub got_there : (clock : Calendar) (o : Over) (l : Leaves) (c : Candidate) (n v : ℕ) (part : code.Behind) (ts us : List Expr) (x : ℤ) (content : Content) (r : Option (Bor Content)) → part ≡ behind.Method method.Get ts → us ≡ ts → IsKey o (sees clock o l c) n us x → StandsAt o.frame.accums n v content
-    → IfSome r (λ p. HasEntry content x p.now) → IfSome r (λ p. IsGot clock o l c n v part p.now)
-got_there clock o l c n v part ts us x content None is s key at h = tt
-got_there clock o l c n v part ts us x content (Some p) is s key at h =
-    let k = accum_of at.slot.kind in let m = int_map o n v content at h.map key.keys in record {
+pub got_there : (clock : Calendar) (o : Over) (l : Leaves) (accums : Accums) (c : Candidate) (n v : ℕ) (part : code.Behind) (ts us : List Expr) (x : ℤ) (content : Content) (r : Option (Bor Content)) → part ≡ behind.Method method.Get ts → us ≡ ts → IsKey accums (sees_in clock o l accums c) n us x → StandsAt accums n v content
+    → IfSome r (λ p. HasEntry content x p.now) → IfSome r (λ p. IsGot clock o l accums c n v part p.now)
+got_there clock o l accums c n v part ts us x content None is s key at h = tt
+got_there clock o l accums c n v part ts us x content (Some p) is s key at h =
+    let k = accum_of at.slot.kind in let m = int_map accums n v content at h.map key.keys in record {
       kind = m.part;
       sound = inner_sound k INT m.part content p.now (Int x ∷ []) at.sound m.is h.has;
-      is = ap (λ u. u >>= λ m. meaning_part (sees clock o l c) m (view_behind part)) (map_read clock o n v content at m)
-          ∙ ap (meaning_part (sees clock o l c) (IsContent k (forms.view k (out-Content content)))) (method_is part method.Get ts us key.argument is s key.one)
-          ∙ get_map (sees clock o l c) k m (forms.view k (out-Content content)) key.argument x refl key.is key.fits
+      is = ap (λ u. u >>= λ m. meaning_part (sees_in clock o l accums c) m (view_behind part)) (map_read clock o accums n v content at m)
+          ∙ ap (meaning_part (sees_in clock o l accums c) (IsContent k (forms.view k (out-Content content)))) (method_is part method.Get ts us key.argument is s key.one)
+          ∙ get_map (sees_in clock o l accums c) k m (forms.view k (out-Content content)) key.argument x refl key.is key.fits
           ∙ part_got k INT m.part content p.now (Int x ∷ []) at.sound m.is h.has;
     }
 
@@ -230,44 +231,48 @@ holds : (a : Accum) (m : IntMap a) (content : Content) (x : ℤ) (b : Bool) → 
 holds a m content x true sound h = map_holds a INT m.part content h.is.0 (Int x ∷ []) sound m.is h.is.1
 holds a m content x false sound h = map_lacks a INT m.part content (Int x ∷ []) sound m.is h.is
 
-pub key_asked : (clock : Calendar) (o : Over) (l : Leaves) (c : Candidate) (n v : ℕ) (part : code.Behind) (ts us : List Expr) (x : ℤ) (content : Content) (r : Option Bool) → part ≡ behind.Method method.ContainsKey ts → us ≡ ts → IsKey o (sees clock o l c) n us x → StandsAt o.frame.accums n v content
-    → IfSome r (HoldsKey content x) → IfSome r (λ b. IsBehind clock o l c n v (part ∷ []) (Truth b))
-key_asked clock o l c n v part ts us x content None is s key at h = tt
-key_asked clock o l c n v part ts us x content (Some b) is s key at h =
-    let k = accum_of at.slot.kind in let m = int_map o n v content at h.map key.keys in record {
-      is = one_part (sees clock o l c) (slot_read clock o n v) (view_behind part)
-          ∙ ap (λ u. (u >>= λ m. meaning_part (sees clock o l c) m (view_behind part)) >>= value_of_meant) (map_read clock o n v content at m)
-          ∙ ap (λ b. meaning_part (sees clock o l c) (IsContent k (forms.view k (out-Content content))) b >>= value_of_meant) (method_is part method.ContainsKey ts us key.argument is s key.one)
-          ∙ ap (λ o. o >>= value_of_meant) (key_map (sees clock o l c) k m (forms.view k (out-Content content)) key.argument x refl key.is key.fits ∙ holds k m content x b at.sound h);
+pub key_asked : (clock : Calendar) (o : Over) (l : Leaves) (accums : Accums) (c : Candidate) (n v : ℕ) (part : code.Behind) (ts us : List Expr) (x : ℤ) (content : Content) (r : Option Bool) → part ≡ behind.Method method.ContainsKey ts → us ≡ ts → IsKey accums (sees_in clock o l accums c) n us x → StandsAt accums n v content
+    → IfSome r (HoldsKey content x) → IfSome r (λ b. IsBehind clock o l accums c n v (part ∷ []) (Truth b))
+key_asked clock o l accums c n v part ts us x content None is s key at h = tt
+key_asked clock o l accums c n v part ts us x content (Some b) is s key at h =
+    let k = accum_of at.slot.kind in let m = int_map accums n v content at h.map key.keys in record {
+      is = one_part (sees_in clock o l accums c) (slot_read clock o accums n v) (view_behind part)
+          ∙ ap (λ u. (u >>= λ m. meaning_part (sees_in clock o l accums c) m (view_behind part)) >>= value_of_meant) (map_read clock o accums n v content at m)
+          ∙ ap (λ b. meaning_part (sees_in clock o l accums c) (IsContent k (forms.view k (out-Content content))) b >>= value_of_meant) (method_is part method.ContainsKey ts us key.argument is s key.one)
+          ∙ ap (λ o. o >>= value_of_meant) (key_map (sees_in clock o l accums c) k m (forms.view k (out-Content content)) key.argument x refl key.is key.fits ∙ holds k m content x b at.sound h);
     }
 
--- ---- the INT that stands there, and its size
+-- ---- INT entries, and the size of an entry
 
-pub got_asked : (clock : Calendar) (o : Over) (l : Leaves) (c : Candidate) (n v : ℕ) (part : code.Behind) (entry : Content) (r : Option ℤ) → IsGot clock o l c n v part entry → IfSome r (HoldsInt entry) → IfSome r (λ x. IsBehind clock o l c n v (part ∷ []) (Int x))
-got_asked clock o l c n v part entry None got h = tt
-got_asked clock o l c n v part entry (Some z) got h = record {
-  is = one_part (sees clock o l c) (slot_read clock o n v) (view_behind part) ∙ ap (λ o. o >>= value_of_meant) got.is ∙ ap value_of_meant (h.each got.kind got.sound.shows.of_kind);
+pub got_asked : (clock : Calendar) (o : Over) (l : Leaves) (accums : Accums) (c : Candidate) (n v : ℕ) (part : code.Behind) (entry : Content) (r : Option ℤ) → IsGot clock o l accums c n v part entry → IfSome r (HoldsInt entry) → IfSome r (λ x. IsBehind clock o l accums c n v (part ∷ []) (Int x))
+got_asked clock o l accums c n v part entry None got h = tt
+got_asked clock o l accums c n v part entry (Some z) got h = record {
+  is = one_part (sees_in clock o l accums c) (slot_read clock o accums n v) (view_behind part) ∙ ap (λ o. o >>= value_of_meant) got.is ∙ ap value_of_meant (h.each got.kind got.sound.shows.of_kind);
 }
 
-pub got_size : (clock : Calendar) (o : Over) (l : Leaves) (c : Candidate) (n v : ℕ) (parts : List code.Behind) (part next : code.Behind) (entry : Content) (r : Option ℤ) → parts ≡ part ∷ next ∷ [] → IsGot clock o l c n v part entry → IsSize next → IfSome r (HasSize entry)
-    → IfSome r (λ x. IsBehind clock o l c n v parts (Int x))
-got_size clock o l c n v parts part next entry None list got is h = tt
-got_size clock o l c n v parts part next entry (Some z) list got is h = subst (λ l'. IsBehind clock o l c n v l' (Int z)) (sym list) (record {
-  is = two_parts (sees clock o l c) (slot_read clock o n v) (view_behind part) (tree.part (view_behind next) tree.no_part)
-      ∙ ap (λ u. (u >>= λ n. meaning_parts (sees clock o l c) n (tree.part (view_behind next) tree.no_part)) >>= value_of_meant) got.is
-      ∙ last (meaning_part (sees clock o l c) (read_of got.kind entry) (view_behind next))
-      ∙ ap (λ o. o >>= value_of_meant) (size_read clock o l c (read_of got.kind entry) next z is (h.each got.kind got.sound));
+pub got_size : (clock : Calendar) (o : Over) (l : Leaves) (accums : Accums) (c : Candidate) (n v : ℕ) (parts : List code.Behind) (part next : code.Behind) (entry : Content) (r : Option ℤ) → parts ≡ part ∷ next ∷ [] → IsGot clock o l accums c n v part entry → IsSize next → IfSome r (HasSize entry)
+    → IfSome r (λ x. IsBehind clock o l accums c n v parts (Int x))
+got_size clock o l accums c n v parts part next entry None list got is h = tt
+got_size clock o l accums c n v parts part next entry (Some z) list got is h = subst (λ l'. IsBehind clock o l accums c n v l' (Int z)) (sym list) (record {
+  is = two_parts (sees_in clock o l accums c) (slot_read clock o accums n v) (view_behind part) (tree.part (view_behind next) tree.no_part)
+      ∙ ap (λ u. (u >>= λ n. meaning_parts (sees_in clock o l accums c) n (tree.part (view_behind next) tree.no_part)) >>= value_of_meant) got.is
+      ∙ last (meaning_part (sees_in clock o l accums c) (read_of got.kind entry) (view_behind next))
+      ∙ ap (λ o. o >>= value_of_meant) (size_read clock o l accums c (read_of got.kind entry) next z is (h.each got.kind got.sound));
 })
 
-pub none_asked : (clock : Calendar) (o : Over) (l : Leaves) (c : Candidate) (n v : ℕ) (parts : List code.Behind) (r : Option ℤ) → length parts < 1 → IfSome r (ReadsInt clock o n v) → IfSome r (λ x. IsBehind clock o l c n v parts (Int x))
-none_asked clock o l c n v parts None few h = tt
-none_asked clock o l c n v parts (Some x) few h = subst (λ l'. IsBehind clock o l c n v l' (Int x)) (sym (none_list parts few)) (record { is = ap (λ o. (o >>= λ m. Gives m) >>= value_of_meant) h })
+pub none_asked : (clock : Calendar) (o : Over) (l : Leaves) (accums : Accums) (c : Candidate) (n v : ℕ) (parts : List code.Behind) (r : Option ℤ) → length parts < 1 → IfSome r (ReadsInt clock o accums n v) → IfSome r (λ x. IsBehind clock o l accums c n v parts (Int x))
+none_asked clock o l accums c n v parts None few h = tt
+none_asked clock o l accums c n v parts (Some x) few h = subst (λ l'. IsBehind clock o l accums c n v l' (Int x)) (sym (none_list parts few)) (record { is = ap (λ o. (o >>= λ m. Gives m) >>= value_of_meant) h })
 
-pub one_asked : (clock : Calendar) (o : Over) (l : Leaves) (c : Candidate) (n v : ℕ) (parts : List code.Behind) (part : code.Behind) (r : Option ℤ) → 1 ≤ length parts → length parts < 2 → part ≡ get_or parts 0 part → IfSome r (λ x. IsBehind clock o l c n v (part ∷ []) (Int x)) → IfSome r (λ x. IsBehind clock o l c n v parts (Int x))
-one_asked clock o l c n v parts part r many few is h = subst (λ l'. IfSome r (λ x. IsBehind clock o l c n v l' (Int x))) (sym (one_list parts part many few is)) h
+pub none_held : (clock : Calendar) (o : Over) (l : Leaves) (accums : Accums) (c : Candidate) (n v : ℕ) (parts : List code.Behind) (r : Option Bool) → length parts < 1 → IfSome r (ReadsTruth clock o accums n v) → IfSome r (λ b. IsBehind clock o l accums c n v parts (Truth b))
+none_held clock o l accums c n v parts None few h = tt
+none_held clock o l accums c n v parts (Some b) few h = subst (λ l'. IsBehind clock o l accums c n v l' (Truth b)) (sym (none_list parts few)) (record { is = ap (λ o. (o >>= λ m. Gives m) >>= value_of_meant) h })
 
-pub one_held : (clock : Calendar) (o : Over) (l : Leaves) (c : Candidate) (n v : ℕ) (parts : List code.Behind) (part : code.Behind) (r : Option Bool) → 1 ≤ length parts → length parts < 2 → part ≡ get_or parts 0 part → IfSome r (λ b. IsBehind clock o l c n v (part ∷ []) (Truth b)) → IfSome r (λ b. IsBehind clock o l c n v parts (Truth b))
-one_held clock o l c n v parts part r many few is h = subst (λ l'. IfSome r (λ b. IsBehind clock o l c n v l' (Truth b))) (sym (one_list parts part many few is)) h
+pub one_asked : (clock : Calendar) (o : Over) (l : Leaves) (accums : Accums) (c : Candidate) (n v : ℕ) (parts : List code.Behind) (part : code.Behind) (r : Option ℤ) → 1 ≤ length parts → length parts < 2 → part ≡ get_or parts 0 part → IfSome r (λ x. IsBehind clock o l accums c n v (part ∷ []) (Int x)) → IfSome r (λ x. IsBehind clock o l accums c n v parts (Int x))
+one_asked clock o l accums c n v parts part r many few is h = subst (λ l'. IfSome r (λ x. IsBehind clock o l accums c n v l' (Int x))) (sym (one_list parts part many few is)) h
+
+pub one_held : (clock : Calendar) (o : Over) (l : Leaves) (accums : Accums) (c : Candidate) (n v : ℕ) (parts : List code.Behind) (part : code.Behind) (r : Option Bool) → 1 ≤ length parts → length parts < 2 → part ≡ get_or parts 0 part → IfSome r (λ b. IsBehind clock o l accums c n v (part ∷ []) (Truth b)) → IfSome r (λ b. IsBehind clock o l accums c n v parts (Truth b))
+one_held clock o l accums c n v parts part r many few is h = subst (λ l'. IfSome r (λ b. IsBehind clock o l accums c n v l' (Truth b))) (sym (one_list parts part many few is)) h
 
 -- ---- the keys of a slot
 
@@ -287,63 +292,56 @@ int_keyed slots all n count parts cells there e one are = let h = are.each n cel
   each = λ s declared. let same : h.slot ≡ s = cc (sym h.declared ∙ declared) in ap (λ (s : code_slot.Slot). key_types (accum_of s.kind)) (sym same) ∙ keyed (accum_of h.slot.kind) cells.takes count parts e one h.takes;
 }
 
-pub key_made : (o : Over) (look : Look Reference) (n : ℕ) (arguments : List Expr) (argument : Expr) (x : ℤ) → HasIntKey o.frame.accums.slots n → 1 ≤ length arguments → length arguments < 2 → argument ≡ get_or arguments 0 argument → IsInt look (view argument) x → FitsSigned w64 x → IsKey o look n arguments x
-key_made o look n arguments argument x keys many few is read fits = record { argument = view argument; one = ap views (one_list arguments argument many few is); is = read; fits = fits; keys = keys }
+pub key_made : (accums : Accums) (look : Look Reference) (n : ℕ) (arguments : List Expr) (argument : Expr) (x : ℤ) → HasIntKey accums.slots n → 1 ≤ length arguments → length arguments < 2 → argument ≡ get_or arguments 0 argument → IsInt look (view argument) x → FitsSigned w64 x → IsKey accums look n arguments x
+key_made accums look n arguments argument x keys many few is read fits = record { argument = view argument; one = ap views (one_list arguments argument many few is); is = read; fits = fits; keys = keys }
 
-pub key_of : (o : Over) (look : Look Reference) (n : ℕ) (arguments : List Expr) (argument : Expr) (r : Option ℤ) → HasIntKey o.frame.accums.slots n → 1 ≤ length arguments → length arguments < 2 → argument ≡ get_or arguments 0 argument → IfSome r (IsInt look (view argument)) → IfSome r (FitsSigned w64)
-    → IfSome r (IsKey o look n arguments)
-key_of o look n arguments argument None keys many few is read fits = tt
-key_of o look n arguments argument (Some x) keys many few is read fits = key_made o look n arguments argument x keys many few is read fits
+pub key_of : (accums : Accums) (look : Look Reference) (n : ℕ) (arguments : List Expr) (argument : Expr) (r : Option ℤ) → HasIntKey accums.slots n → 1 ≤ length arguments → length arguments < 2 → argument ≡ get_or arguments 0 argument → IfSome r (IsInt look (view argument)) → IfSome r (FitsSigned w64)
+    → IfSome r (IsKey accums look n arguments)
+key_of accums look n arguments argument None keys many few is read fits = tt
+key_of accums look n arguments argument (Some x) keys many few is read fits = key_made accums look n arguments argument x keys many few is read fits
 
--- a method by its name
+-- a method, given which one it is
 pub method_part : (part : code.Behind) (m n : code_method.Method) (ts : List Expr) → part ≡ behind.Method m ts → m ≡ n → part ≡ behind.Method n ts
 method_part part m n ts is named = is ∙ ap (λ m. behind.Method m ts) named
 
 pub size_is : (part : code.Behind) (ts : List Expr) → part ≡ behind.Method method.Size ts → length ts ≡ 0 → IsSize part
 size_is part ts is none = ap view_behind is ∙ view_behind-Method method.Size ts ∙ ap (λ l. Method (Does words.Size) (views l)) (none_list ts (omega (arith, none)))
 
--- ---- behind names and globals
+-- ---- the accumulator that an expression begins with
 
-pub named_asked : (clock : Calendar) (o : Over) (l : Leaves) (c : Candidate) (p n v : ℕ) (part : code.Behind) (others : List code.Behind) (x : Val) → part ≡ behind.Attached n → IsVertex l c p v → IsBehind clock o l c n v others x → parts_value (sees clock o l c) p part others ≡ Gives x
-named_asked clock o l c p n v part others x e at h =
-    ap (λ b. ((sees clock o l c).named (Place p) >>= λ m. meaning_part (sees clock o l c) m b >>= λ n. meaning_parts (sees clock o l c) n (view_parts others)) >>= value_of_meant) (ap view_behind e ∙ view_behind-Attached n)
-    ∙ ap (λ u. (u >>= λ m. (vertex_of_meant m >>= (sees clock o l c).attached (Slot n)) >>= λ n. meaning_parts (sees clock o l c) n (view_parts others)) >>= value_of_meant) (named clock o l c p (AVertex at.0 v) at.1)
-    ∙ h.is
+pub begins_global : (clock : Calendar) (l : Leaves) (c : Candidate) (n : ℕ) (first : Expr) (parts : List code.Behind) (a : Accumulator) → first ≡ expr.Global n → a.slot ≡ n → a.vertex ≡ 0 → a.parts.now ≡ parts → Begins clock l c (Post (view first) (view_parts parts)) a
+begins_global clock l c n first parts a is s v p = record {
+  each = λ o accums.
+      ap (λ t. value_of (sees_in clock o l accums c) (Post t (view_parts parts))) (ap view is ∙ view-Global n)
+      ∙ sym (ap (λ n. (slot_read clock o accums n a.vertex >>= λ m. meaning_parts (sees_in clock o l accums c) m (view_parts a.parts.now)) >>= value_of_meant) s
+      ∙ ap (λ v. (slot_read clock o accums n v >>= λ m. meaning_parts (sees_in clock o l accums c) m (view_parts a.parts.now)) >>= value_of_meant) v
+      ∙ ap (λ ps. (slot_read clock o accums n 0 >>= λ m. meaning_parts (sees_in clock o l accums c) m (view_parts ps)) >>= value_of_meant) p);
+}
 
-pub named_int : (clock : Calendar) (o : Over) (l : Leaves) (c : Candidate) (p n v : ℕ) (part : code.Behind) (others : List code.Behind) (r : Option ℤ) → part ≡ behind.Attached n → IsVertex l c p v → IfSome r (λ x. IsBehind clock o l c n v others (Int x))
-    → IfSome r (λ x. parts_value (sees clock o l c) p part others ≡ Gives (Int x))
-named_int clock o l c p n v part others None e at h = tt
-named_int clock o l c p n v part others (Some x) e at h = named_asked clock o l c p n v part others (Int x) e at h
+pub begins_attached : (clock : Calendar) (l : Leaves) (c : Candidate) (p n v : ℕ) (part : code.Behind) (others : List code.Behind) (a : Accumulator) → part ≡ behind.Attached n → IsVertex l c p v → a.slot ≡ n → a.vertex ≡ v → a.parts.now ≡ others
+    → Begins clock l c (Post (tree.Name (Place p)) (view_parts (part ∷ others))) a
+begins_attached clock l c p n v part others a e at s u q = record {
+  each = λ o accums.
+      ap (λ b. ((sees_in clock o l accums c).named (Place p) >>= λ m. meaning_part (sees_in clock o l accums c) m b >>= λ n. meaning_parts (sees_in clock o l accums c) n (view_parts others)) >>= value_of_meant) (ap view_behind e ∙ view_behind-Attached n)
+      ∙ ap (λ w. (w >>= λ m. (vertex_of_meant m >>= (sees_in clock o l accums c).attached (Slot n)) >>= λ n. meaning_parts (sees_in clock o l accums c) n (view_parts others)) >>= value_of_meant) (named clock o l accums c p (AVertex at.0 v) at.1)
+      ∙ sym (ap (λ n. (slot_read clock o accums n a.vertex >>= λ m. meaning_parts (sees_in clock o l accums c) m (view_parts a.parts.now)) >>= value_of_meant) s
+      ∙ ap (λ v. (slot_read clock o accums n v >>= λ m. meaning_parts (sees_in clock o l accums c) m (view_parts a.parts.now)) >>= value_of_meant) u
+      ∙ ap (λ ps. (slot_read clock o accums n v >>= λ m. meaning_parts (sees_in clock o l accums c) m (view_parts ps)) >>= value_of_meant) q);
+}
 
-pub named_truth : (clock : Calendar) (o : Over) (l : Leaves) (c : Candidate) (p n v : ℕ) (part : code.Behind) (others : List code.Behind) (r : Option Bool) → part ≡ behind.Attached n → IsVertex l c p v → IfSome r (λ b. IsBehind clock o l c n v others (Truth b))
-    → IfSome r (λ b. parts_value (sees clock o l c) p part others ≡ Gives (Truth b))
-named_truth clock o l c p n v part others None e at h = tt
-named_truth clock o l c p n v part others (Some b) e at h = named_asked clock o l c p n v part others (Truth b) e at h
-
-parts_shown : (look : Look Reference) (first : Expr) (parts others : List code.Behind) (p : ℕ) (part : code.Behind) → first ≡ expr.Name p → parts ≡ part ∷ others → value_of look (Post (view first) (view_parts parts)) ≡ parts_value look p part others
-parts_shown look first parts others p part is list = ap (λ t. value_of look (Post t (view_parts parts))) (ap view is ∙ view-Name p) ∙ ap (λ l. value_of look (Post (tree.Name (Place p)) (view_parts l))) list
-
--- the first part and those behind it, as a slice's pattern names them
+-- the first part and the others, as a slice's pattern names them
 opened : {A : Type 0} (xs : List A) (x : A) → 1 ≤ length xs → x ≡ get_or xs 0 x → xs ≡ x ∷ take (length xs - 1) (drop 1 xs)
 opened xs x m h = drop_more xs 0 x m ∙ ap (λ z. z ∷ drop 1 xs) (sym h) ∙ ap (λ zs. x ∷ zs) (sym (take_rest xs 1))
 
-pub further_int : (look : Look Reference) (first : Expr) (parts : List code.Behind) (p : ℕ) (part : code.Behind) (r : Option ℤ) → first ≡ expr.Name p → 1 ≤ length parts → part ≡ get_or parts 0 part → IfSome r (λ x. parts_value look p part (take (length parts - 1) (drop 1 parts)) ≡ Gives (Int x))
-    → IfSome r (IsInt look (Post (view first) (view_parts parts)))
-further_int look first parts p part None is some at h = tt
-further_int look first parts p part (Some x) is some at h = parts_shown look first parts (take (length parts - 1) (drop 1 parts)) p part is (opened parts part some at) ∙ h
+pub begins_name : (clock : Calendar) (l : Leaves) (c : Candidate) (first : Expr) (parts : List code.Behind) (p : ℕ) (part : code.Behind) (r : Option Accumulator) → first ≡ expr.Name p → 1 ≤ length parts → part ≡ get_or parts 0 part
+    → IfSome r (Begins clock l c (Post (tree.Name (Place p)) (view_parts (part ∷ take (length parts - 1) (drop 1 parts))))) → IfSome r (Begins clock l c (Post (view first) (view_parts parts)))
+begins_name clock l c first parts p part r is some at h =
+    subst (λ (t : Tree Reference). IfSome r (Begins clock l c t)) (sym (ap (λ t. Post t (view_parts parts)) (ap view is ∙ view-Name p) ∙ ap (λ ps. Post (tree.Name (Place p)) (view_parts ps)) (opened parts part some at))) h
 
-pub further_truth : (look : Look Reference) (first : Expr) (parts : List code.Behind) (p : ℕ) (part : code.Behind) (r : Option Bool) → first ≡ expr.Name p → 1 ≤ length parts → part ≡ get_or parts 0 part → IfSome r (λ b. parts_value look p part (take (length parts - 1) (drop 1 parts)) ≡ Gives (Truth b))
-    → IfSome r (IsTruth look (Post (view first) (view_parts parts)))
-further_truth look first parts p part None is some at h = tt
-further_truth look first parts p part (Some b) is some at h = ap (λ o. o >>= as_truth) (parts_shown look first parts (take (length parts - 1) (drop 1 parts)) p part is (opened parts part some at) ∙ h)
+pub begun_int : (clock : Calendar) (o : Over) (l : Leaves) (accums : Accums) (c : Candidate) (t : Tree Reference) (a : Accumulator) (r : Option ℤ) → Begins clock l c t a → IfSome r (λ x. IsBehind clock o l accums c a.slot a.vertex a.parts.now (Int x)) → IfSome r (IsInt (sees_in clock o l accums c) t)
+begun_int clock o l accums c t a None b h = tt
+begun_int clock o l accums c t a (Some x) b h = b.each o accums ∙ h.is
 
-global_asked : (clock : Calendar) (o : Over) (l : Leaves) (c : Candidate) (n : ℕ) (first : Expr) (parts : List code.Behind) (x : Val) → first ≡ expr.Global n → IsBehind clock o l c n 0 parts x → value_of (sees clock o l c) (Post (view first) (view_parts parts)) ≡ Gives x
-global_asked clock o l c n first parts x is h = ap (λ t. value_of (sees clock o l c) (Post t (view_parts parts))) (ap view is ∙ view-Global n) ∙ h.is
-
-pub global_int : (clock : Calendar) (o : Over) (l : Leaves) (c : Candidate) (n : ℕ) (first : Expr) (parts : List code.Behind) (r : Option ℤ) → first ≡ expr.Global n → IfSome r (λ x. IsBehind clock o l c n 0 parts (Int x)) → IfSome r (IsInt (sees clock o l c) (Post (view first) (view_parts parts)))
-global_int clock o l c n first parts None is h = tt
-global_int clock o l c n first parts (Some x) is h = global_asked clock o l c n first parts (Int x) is h
-
-pub global_truth : (clock : Calendar) (o : Over) (l : Leaves) (c : Candidate) (n : ℕ) (first : Expr) (parts : List code.Behind) (r : Option Bool) → first ≡ expr.Global n → IfSome r (λ b. IsBehind clock o l c n 0 parts (Truth b)) → IfSome r (IsTruth (sees clock o l c) (Post (view first) (view_parts parts)))
-global_truth clock o l c n first parts None is h = tt
-global_truth clock o l c n first parts (Some b) is h = ap (λ o. o >>= as_truth) (global_asked clock o l c n first parts (Truth b) is h)
+pub begun_truth : (clock : Calendar) (o : Over) (l : Leaves) (accums : Accums) (c : Candidate) (t : Tree Reference) (a : Accumulator) (r : Option Bool) → Begins clock l c t a → IfSome r (λ x. IsBehind clock o l accums c a.slot a.vertex a.parts.now (Truth x)) → IfSome r (IsTruth (sees_in clock o l accums c) t)
+begun_truth clock o l accums c t a None b h = tt
+begun_truth clock o l accums c t a (Some x) b h = ap (λ o. o >>= as_truth) (b.each o accums ∙ h.is)

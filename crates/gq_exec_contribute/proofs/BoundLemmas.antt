@@ -1,4 +1,4 @@
--- BoundLemmas: a row of the aliases of a candidate.
+-- BoundLemmas: rows of a candidate's aliases.
 use Rattle.std.proofs.Common.{◌≡◌, ℕ, zero, suc, ◌+◌, ◌<◌, List, [], ◌∷◌, ◌++◌, map, take, set, length, Option, refl, sym, ap, ap₂, ◌∙◌, arith, append-nil, append_assoc}
 use Rattle.std.specs.Option.{option_to_list}
 use Rattle.gq_frame.specs.declared.frame.Alias.{Alias}

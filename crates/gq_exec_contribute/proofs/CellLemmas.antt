@@ -1,4 +1,4 @@
--- CellLemmas: where contents stand, and what they read as.
+-- CellLemmas: the targets of contents, and what contents read as.
 use Rattle.std.proofs.Common.{◌≡◌, ℕ, zero, suc, ◌+◌, ◌<◌, Bool, List, [], ◌∷◌, ◌++◌, length, Option, Some, None, refl, sym, ap, subst, ◌∙◌, arith}
 use Rattle.std.specs.Prelude.{ℤ, IfSome, slice_get}
 use Rattle.gq_value.specs.Val.{Int, Truth}
@@ -71,7 +71,7 @@ pub ruleset kind_laws = (sum_takes, min_takes, max_takes, bit_or_takes, bit_and_
 
 -- ---- the cells of each slot
 
--- those so far
+-- the cells of the first i slots
 pub record CellsTo (slots : Slots) (i : ℕ) (all : List Cells) : Type 0 where
   pub count : length all ≡ i
   pub each : AreAllCells slots all
@@ -163,19 +163,18 @@ and_holds c s b e is = record { each = read_scalar c s (Is BOOL (Truth b)) e (su
 
 pub ruleset truth_laws = (or_holds, and_holds)
 
--- ---- what an accumulator reads as
+-- ---- what accumulators read as
 
-read_as : (clock : Calendar) (o : Over) (n v : ℕ) (c : Content) (m : Meant) (r : Seen) → StandsAt o.frame.accums n v c → ((k : Accum) → IsOf k (out-Content c) → read_of k c ≡ m) → meant r ≡ m → read_slot (world_over clock o) (slots_are o.frame.accums) (Slot n) v ≡ Gives m
-read_as clock o n v c m r at holds is =
-    let a = o.frame.accums in
-    (content_read a n v (number_of a.slots n v) at.slot c (Ok r) at.declared at.within refl at.stands (ap Gives (holds (accum_of at.slot.kind) at.sound.shows.of_kind ∙ sym is))).each (world_over clock o) refl ∙ ap Gives is
+read_as : (clock : Calendar) (o : Over) (accums : Accums) (n v : ℕ) (c : Content) (m : Meant) (r : Seen) → StandsAt accums n v c → ((k : Accum) → IsOf k (out-Content c) → read_of k c ≡ m) → meant r ≡ m → read_slot (world_over clock o) (slots_are accums) (Slot n) v ≡ Gives m
+read_as clock o accums n v c m r at holds is =
+    (content_read accums n v (number_of accums.slots n v) at.slot c (Ok r) at.declared at.within refl at.stands (ap Gives (holds (accum_of at.slot.kind) at.sound.shows.of_kind ∙ sym is))).each (world_over clock o) refl ∙ ap Gives is
 
-pub int_read : (clock : Calendar) (o : Over) (n v : ℕ) (c : Content) (r : Option ℤ) → StandsAt o.frame.accums n v c → IfSome r (HoldsInt c) → IfSome r (ReadsInt clock o n v)
-int_read clock o n v c None at h = tt
-int_read clock o n v c (Some x) at h = read_as clock o n v c (Is INT (Int x)) (seen.Value sort.Int (operand.Made (value.Int x))) at h.each (ap (Is INT) (val-Int x))
+pub int_read : (clock : Calendar) (o : Over) (accums : Accums) (n v : ℕ) (c : Content) (r : Option ℤ) → StandsAt accums n v c → IfSome r (HoldsInt c) → IfSome r (ReadsInt clock o accums n v)
+int_read clock o accums n v c None at h = tt
+int_read clock o accums n v c (Some x) at h = read_as clock o accums n v c (Is INT (Int x)) (seen.Value sort.Int (operand.Made (value.Int x))) at h.each (ap (Is INT) (val-Int x))
 
-pub truth_read : (clock : Calendar) (o : Over) (n v : ℕ) (c : Content) (r : Option Bool) → StandsAt o.frame.accums n v c → IfSome r (HoldsTruth c) → IfSome r (ReadsTruth clock o n v)
-truth_read clock o n v c None at h = tt
-truth_read clock o n v c (Some b) at h = read_as clock o n v c (Is BOOL (Truth b)) (seen.Value sort.Bool (operand.Made (value.Bool b))) at h.each (ap (Is BOOL) (val-Bool b))
+pub truth_read : (clock : Calendar) (o : Over) (accums : Accums) (n v : ℕ) (c : Content) (r : Option Bool) → StandsAt accums n v c → IfSome r (HoldsTruth c) → IfSome r (ReadsTruth clock o accums n v)
+truth_read clock o accums n v c None at h = tt
+truth_read clock o accums n v c (Some b) at h = read_as clock o accums n v c (Is BOOL (Truth b)) (seen.Value sort.Bool (operand.Made (value.Bool b))) at h.each (ap (Is BOOL) (val-Bool b))
 
 pub ruleset held_laws = (int_read, truth_read)

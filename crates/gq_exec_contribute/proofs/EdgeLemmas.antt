@@ -1,4 +1,4 @@
--- EdgeLemmas: the edge's alias of a path.
+-- EdgeLemmas: the alias of the edge of a path.
 use Rattle.std.proofs.Common.{◌≡◌, ℕ, suc, ◌-◌, ◌≤◌, List, [], ◌∷◌, map, length, get_or, ap, ◌∙◌, arith}
 use Rattle.std.specs.Option.{option_map}
 use Rattle.gq_rules_typing.specs.Patterns.{edge_alias}

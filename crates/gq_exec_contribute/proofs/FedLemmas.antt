@@ -1,4 +1,4 @@
--- FedLemmas: an input that is read is what the input means.
+-- FedLemmas: an input that is read is the meaning of the input.
 use Rattle.std.proofs.Common.{◌≡◌, ℕ, suc, Bool, if◌then◌else◌, List, [], ◌∷◌, ◌++◌, map, take, drop, length, Some, Ok, Err, refl, sym, ap, ap₂, subst, ◌∙◌, arith}
 use Rattle.std.specs.Prelude.{ℤ, slice_get}
 use Rattle.std.specs.List.{All}
@@ -47,10 +47,11 @@ use Rattle.gq_eval_context.proofs.SeesLemmas.{tuple_there}
 use Rattle.gq_exec_contribute.specs.declared.cells.Taken.TheVariants as taken
 use Rattle.gq_exec_contribute.specs.declared.rows.Ints.{Ints}
 use Rattle.gq_exec_contribute.specs.declared.scalars.ScalarInput.TheVariants as scalar
+use Rattle.gq_frame.specs.declared.accums.Accums.{Accums}
 use Rattle.gq_exec_contribute.specs.declared.leaves.Leaves.{Leaves}
 use Rattle.gq_exec_contribute.specs.Aliases.{bound_to}
 use Rattle.gq_exec_contribute.specs.Scalars.{ints_of, one_int, made_of}
-use Rattle.gq_exec_contribute.specs.Prepared.{TakesInts, IsInt, IsTruth, IsNumber, IsPart, IsTuple, IsFed, HasInts, AllPairs, AddsKeys, AddsParts, parts_given, sees}
+use Rattle.gq_exec_contribute.specs.Prepared.{TakesInts, IsInt, IsTruth, IsNumber, IsPart, IsTuple, IsFed, HasInts, AllPairs, AddsKeys, AddsParts, parts_given, sees_in}
 use Rattle.gq_exec_contribute.proofs.RowLemmas.{pairs_long, pairs_each}
 
 -- ---- one value
@@ -70,7 +71,7 @@ int_fed look t x fits is = record { each = λ k takes. record { input = int_give
 pub element_fed : (look : Look Reference) (t : Tree Reference) (x : ℤ) → FitsSigned w64 x → IsInt look t x → IsFed look (Plain t) taken.Element (scalar.Element x)
 element_fed look t x fits is = record { each = λ k takes. record { input = int_given look t x k fits is takes ∙ sym (ap Gives (given_int x)); suited = ap (suits k) (given_int x) ∙ takes.suited x fits } }
 
--- what is a truth is the value of it
+-- an expression that is a truth has that value
 truth_value : (look : Look Reference) (t : Tree Reference) (b : Bool) → truth_of look t ≡ Gives b → value_of look t ≡ Gives (Truth b)
 truth_value look t b e = go (value_of look t) e
   where
@@ -123,7 +124,7 @@ module _ (look : Look Reference) where
   one_wanted : (b : Base) (x : ℤ) → b ≡ INT → FitsSigned w64 x → wanted (Some b) (Int x) ≡ Gives (Int x)
   one_wanted b x e fits = ap (λ (b : Base). wanted (Some b) (Int x)) e ∙ ap (λ b. of_result (if b then Ok (Int x) else Err Range)) (within_int x fits)
 
-  -- INTs as arguments that are to be INTs
+  -- INTs as arguments of type INT
   ints_wanted : (ws : List Base) (es : List Expr) (xs : List ℤ) → All (λ (b : Base). b ≡ INT) ws → length es ≡ length ws → AllPairs Key es xs → arguments look (map Some ws) (views es) ≡ Gives (map Int xs)
   ints_wanted ws [] [] h l p = refl
   ints_wanted ws [] (x ∷ xs) h l p = absurd p
@@ -134,7 +135,7 @@ module _ (look : Look Reference) where
       ∙ ap (λ o. o >>= λ v. arguments look (map Some ws) (views es) >>= λ vs. Gives (v ∷ vs)) (one_wanted w x (All-head (λ (b : Base). b ≡ INT) w ws h) p.0.fits)
       ∙ ap (λ o. o >>= λ vs. Gives (Int x ∷ vs)) (ints_wanted ws es xs (All-tail (λ (b : Base). b ≡ INT) w ws h) (omega (arith, l)) p.1)
 
-  -- INTs as inputs of parts that take such
+  -- INTs as inputs of parts that take INTs
   ints_given : (ks : List Accum) (fs : List Feed) (ys : List ℤ) → All TakesInts ks → length fs ≡ length ks → AllPairs (IsPart look) fs ys → inputs_of look ks (listed (map view_feed fs)) ≡ Gives (parts_given ys)
   ints_given [] [] [] h l p = refl
   ints_given (k ∷ ks) [] ys h l p = absurd (omega (arith, l))
@@ -183,16 +184,16 @@ pub ruleset keyed_laws = (keyed_fed)
 
 -- ---- tuples
 
-pub tuple_made : (clock : Calendar) (o : Over) (l : Leaves) (c : Candidate) (es : List Expr) (n count : ℕ) (none row : Ints) → length es ≡ count → HasInts o n count → ints_of none ≡ [] → AddsKeys (sees clock o l c) es none row
-    → IsTuple (sees clock o l c) (tree.Call (TupleType n) (views es)) count row
-tuple_made clock o l c es n count none row long has e p = let all : ints_of row ≡ p.ints = p.added ∙ ap (λ l. l ++ p.ints) e in record {
+pub tuple_made : (clock : Calendar) (o : Over) (l : Leaves) (accums : Accums) (c : Candidate) (es : List Expr) (n count : ℕ) (none row : Ints) → length es ≡ count → HasInts o n count → ints_of none ≡ [] → AddsKeys (sees_in clock o l accums c) es none row
+    → IsTuple (sees_in clock o l accums c) (tree.Call (TupleType n) (views es)) count row
+tuple_made clock o l accums c es n count none row long has e p = let all : ints_of row ≡ p.ints = p.added ∙ ap (λ l. l ++ p.ints) e in record {
   is =
-      ap (λ o. o >>= value_of_meant) (made_goes (sees clock o l c) (TupleType n) (views es) n (map base_of has.type.types) (map Int p.ints)
-      (tuple_there clock (viewed o (bound_to l.ends.now l.edge c) o.frame.accums o.frame.accums) n has.type has.there)
-      (ints_wanted (sees clock o l c) (map base_of has.type.types) es p.ints (bases_all has.type.types has.ints) (long ∙ sym has.many ∙ sym (bases_many has.type.types)) p.are))
+      ap (λ o. o >>= value_of_meant) (made_goes (sees_in clock o l accums c) (TupleType n) (views es) n (map base_of has.type.types) (map Int p.ints)
+      (tuple_there clock (viewed o (bound_to l.ends.now l.edge c) accums o.frame.accums) n has.type has.there)
+      (ints_wanted (sees_in clock o l accums c) (map base_of has.type.types) es p.ints (bases_all has.type.types has.ints) (long ∙ sym has.many ∙ sym (bases_many has.type.types)) p.are))
       ∙ sym (ap (λ xs. Gives (Tuple (vals_of (map Int xs)))) all);
-  many = ap length all ∙ sym (pairs_long (λ e x. IsNumber (sees clock o l c) (view e) x) es p.ints p.are) ∙ long;
-  fit = subst (All (FitsSigned w64)) (sym all) (pairs_each (λ e x. IsNumber (sees clock o l c) (view e) x) (FitsSigned w64) (λ e x h. h.fits) es p.ints p.are);
+  many = ap length all ∙ sym (pairs_long (λ e x. IsNumber (sees_in clock o l accums c) (view e) x) es p.ints p.are) ∙ long;
+  fit = subst (All (FitsSigned w64)) (sym all) (pairs_each (λ e x. IsNumber (sees_in clock o l accums c) (view e) x) (FitsSigned w64) (λ e x h. h.fits) es p.ints p.are);
 }
   where
     bases_all : (bs : List BaseType) → All (λ (b : BaseType). base_of b ≡ INT) bs → All (λ (b : Base). b ≡ INT) (map base_of bs)
@@ -206,7 +207,7 @@ tuple_made clock o l c es n count none row long has e p = let all : ints_of row 
 pub has_ints : (o : Over) (n count : ℕ) (t : TypeOfTuples) (bs : List BaseType) → slice_get o.tuples n ≡ Some t → bs ≡ t.types → length t.types ≡ count → All (λ (b : BaseType). base_of b ≡ INT) bs → HasInts o n count
 has_ints o n count t bs there same many ints = record { type = t; there = there; many = many; ints = subst (All (λ (b : BaseType). base_of b ≡ INT)) same ints }
 
--- ---- from the plan's own trees
+-- ---- the plan's own trees
 
 pub call_view : (e : Expr) (f : code_function.Function) (arguments es : List Expr) (n : ℕ) (fs : List BaseType) → e ≡ expr.Call f arguments → f ≡ a_function.Tuple n fs → es ≡ arguments → view e ≡ tree.Call (TupleType n) (views es)
 call_view e f arguments es n fs is made same = ap view is ∙ view-Call f arguments ∙ ap (λ f. tree.Call (function_of f) (views arguments)) made ∙ sym (ap (λ es. tree.Call (TupleType n) (views es)) same)

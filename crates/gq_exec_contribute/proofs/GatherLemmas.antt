@@ -1,6 +1,6 @@
--- GatherLemmas: what acts feed is what they contribute.
-use Rattle.std.proofs.Common.{◌≡◌, ℕ, ◌+◌, ◌<◌, ◌≤◌, Bool, true, false, List, [], ◌∷◌, ◌++◌, map, take, length, get_or, Some, Result, Ok, Err, refl, sym, ap, ap₂, subst, ◌∙◌, arith, append-nil, append_assoc}
-use Rattle.std.specs.Prelude.{IfOk, slice_get}
+-- GatherLemmas: the inputs that are read are the contributions of the statements.
+use Rattle.std.proofs.Common.{◌≡◌, ℕ, ◌+◌, ◌<◌, ◌≤◌, Bool, true, false, List, [], ◌∷◌, ◌++◌, map, take, length, get_or, Option, Some, None, Result, Ok, Err, refl, sym, ap, ap₂, subst, ◌∙◌, arith, append-nil, append_assoc}
+use Rattle.std.specs.Prelude.{IfOk, slice_get, IfSome}
 use Rattle.std.specs.List.{All}
 use Rattle.std.specs.Option.{option_map}
 use Rattle.std.proofs.lemmas.List.{map-append, take_all, take_more}
@@ -37,10 +37,10 @@ use Rattle.gq_exec_contribute.specs.declared.cells.Cells.{Cells}
 use Rattle.gq_exec_contribute.specs.declared.scalars.ScalarInput.{ScalarInput}
 use Rattle.gq_exec_contribute.specs.declared.leaves.Leaves.{Leaves}
 use Rattle.gq_exec_contribute.specs.Scalars.{made_of, as_input, as_inputs}
-use Rattle.gq_exec_contribute.specs.Prepared.{AreFound, IsVertex, IsInput, IsTarget, IsFed, AreInputs, Gathers, sees}
+use Rattle.gq_exec_contribute.specs.Prepared.{AreFound, AreIn, IsAdded, IsVertex, IsInput, IsTarget, IsFed, AreInputs, Gathers, sees, sees_at}
 use Rattle.gq_exec_contribute.proofs.NameLemmas.{named}
 
--- ---- what a change adds
+-- ---- the input of a change
 
 added_there : (look : Look Reference) (a : Accums) (n v : ℕ) (s : code_slot.Slot) (x : plain.Input Reference) → look.world.words.same ≡ same → slice_get a.slots.declared n ≡ Some s
     → contributed look (slots_are a) (Slot n) v (Adds x) ≡ (input_of look (accum_of s.kind) x >>= λ y. Gives (record { slot = n; vertex = v; input = y } ∷ []))
@@ -65,7 +65,18 @@ input_is clock o l c n v t ch f cells x found adds there target is = let h = fou
 
 pub ruleset input_laws = (input_is)
 
--- ---- one act
+pub added_is : (clock : Calendar) (o : Over) (l : Leaves) (accums : Accums) (n v : ℕ) (ch : code_change.Change) (f : Feed) (cells : Cells) (r : Option ScalarInput) → AreIn accums l → view_change ch ≡ Adds (view_feed f) → slice_get l.cells n ≡ Some cells
+    → IfSome r (IsFed (sees_at clock o l accums v) (view_feed f) cells.takes) → IfSome r (IsAdded (sees_at clock o l accums v) accums.slots n (view_change ch))
+added_is clock o l accums n v ch f cells None found adds there is = tt
+added_is clock o l accums n v ch f cells (Some x) found adds there is = let h = found.cells.each n cells there in record {
+  slot = h.slot;
+  declared = h.declared;
+  feed = view_feed f;
+  adds = adds;
+  input = (is.each (accum_of h.slot.kind) h.takes).input;
+}
+
+-- ---- one statement
 
 pub one_input : (slots : Slots) (gives : Answer Wrong (List Contribution)) (old new : List (ℕ × ScalarInput)) (x : ℕ × ScalarInput) → IsInput slots gives x → new ≡ old ++ x ∷ [] → Gathers slots gives old new true
 one_input slots gives old new x is push = (x ∷ [], push, record { contributed = is.contribution ∷ []; are = is.is; may = All-cons (MayTake slots) is.contribution [] is.may (All-nil (MayTake slots)); batched = is.batched })
@@ -81,7 +92,7 @@ pub attached_gathers : {E : Type 0} (clock : Calendar) (o : Over) (l : Leaves) (
 attached_gathers clock o l c p n v a ch old new (Err x) e at h = tt
 attached_gathers clock o l c p n v a ch old new (Ok b) e at h = of_answer o.frame.accums.slots _ _ old new b
     (ap (λ a. of_act (sees clock o l c) (slots_are o.frame.accums) (view_act a)) e ∙ ap (of_act (sees clock o l c) (slots_are o.frame.accums)) (view_act-Attached p n ch)
-    ∙ ap (λ m. (m >>= vertex_of_meant) >>= λ v. contributed (sees clock o l c) (slots_are o.frame.accums) (Slot n) v (view_change ch)) (named clock o l c p (AVertex at.0 v) at.1)) h
+    ∙ ap (λ m. (m >>= vertex_of_meant) >>= λ v. contributed (sees clock o l c) (slots_are o.frame.accums) (Slot n) v (view_change ch)) (named clock o l o.frame.accums c p (AVertex at.0 v) at.1)) h
 
 pub global_gathers : {E : Type 0} (clock : Calendar) (o : Over) (l : Leaves) (c : Candidate) (n : ℕ) (a : Act) (ch : code_change.Change) (old new : List (ℕ × ScalarInput)) (r : Result Bool E) → a ≡ act.Global n ch
     → IfOk r (Gathers o.frame.accums.slots (contributed (sees clock o l c) (slots_are o.frame.accums) (Slot n) 0 (view_change ch)) old new)
@@ -92,9 +103,9 @@ global_gathers clock o l c n a ch old new (Ok b) e h = of_answer o.frame.accums.
 
 pub ruleset act_laws = (attached_gathers, global_gathers)
 
--- ---- act after act
+-- ---- statements in order
 
--- what the first acts feed is there
+-- the inputs of the first i statements are appended
 pub record GatheredTo (clock : Calendar) (o : Over) (l : Leaves) (c : Candidate) (acts : List Act) (i : ℕ) (old now : List (ℕ × ScalarInput)) : Type 0 where
   pub more : List (ℕ × ScalarInput)
   pub added : now ≡ old ++ more
@@ -114,7 +125,7 @@ module _ (clock : Calendar) (o : Over) (l : Leaves) (c : Candidate) where
   pub gathered_first : (acts : List Act) (old : List (ℕ × ScalarInput)) → GatheredTo clock o l c acts 0 old old
   gathered_first acts old = record { more = []; added = sym (append-nil old); are = record { contributed = []; are = ap given_by (take_none acts); may = All-nil (MayTake slots); batched = refl } }
 
-  -- acts and one more
+  -- statements and one more
   one_more : (acts : List Act) (a : Act) → given_by (acts ++ a ∷ []) ≡ (given_by acts >>= λ xs. of_act (sees clock o l c) (slots_are o.frame.accums) (view_act a) >>= λ ys. Gives (xs ++ ys))
   one_more [] a = last (of_act (sees clock o l c) (slots_are o.frame.accums) (view_act a))
     where

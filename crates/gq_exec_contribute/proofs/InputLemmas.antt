@@ -1,4 +1,4 @@
--- InputLemmas: how the meaning of an input goes on from that of its parts.
+-- InputLemmas: the meaning of an input, from that of its parts.
 use Rattle.std.proofs.Common.{◌≡◌, ℕ, zero, suc, ◌+◌, ◌<◌, ◌≤◌, List, [], ◌∷◌, ◌++◌, map, drop, length, get_or, Option, Some, None, refl, sym, ap, subst, ◌∙◌, arith}
 use Rattle.std.specs.List.{slice_get}
 use Rattle.std.specs.Prelude.{ℤ, pos, negsuc, ◌^◌, true, if◌then◌else◌, Ok, Err}
@@ -58,7 +58,7 @@ use Rattle.gq_exec_contribute.specs.declared.kinds.Taking.TheVariants as taking
 use Rattle.gq_exec_contribute.specs.Taking.{taken, TakesAs}
 use Rattle.gq_exec_contribute.specs.Feeds.{one_input, inputs_shown}
 
--- ---- keys, and then parts
+-- ---- keys followed by parts
 
 module _ {N : Type 0} (look : Look N) where
   pub keys_stop : (k : Accum) (ws : List Base) (ts : Trees N) (xs : Inputs N) (h : Halt) → ws ≡ key_types k → Halts (arguments look (map Some ws) ts) h → Halts (input_of look k (Keys ts xs)) h
@@ -112,13 +112,13 @@ keyed_found look k f keys es feeds fs ws row ys is a b e g h =
 
 pub ruleset feed_laws = (keys_stop, parts_stop, keyed_given)
 
--- ---- the INT that an attribute is
+-- ---- INT attributes
 
 within_int : (z : ℤ) → FitsSigned w64 z → is_within number.Int z ≡ true
 within_int (pos n) h = let k : n < 2 ^ 63 = h.sfits in grind (arith, nat_tests)
 within_int (negsuc n) h = let k : n < 2 ^ 63 = h.sfits in grind (arith, nat_tests)
 
--- an INT that is taken as one stays what it is
+-- an INT isn't changed by a conversion to INT
 pub int_stays : (z : ℤ) → FitsSigned w64 z → number_to number.Int (Int z) ≡ Gives (Int z)
 int_stays z h = ap (λ b. of_result (if b then Ok (Int z) else Err Range)) (within_int z h)
 
@@ -136,7 +136,7 @@ one_list [] x m n e = absurd (omega arith)
 one_list (y ∷ []) x m n e = ap (λ z. z ∷ []) (sym e)
 one_list (y ∷ z ∷ zs) x m n e = absurd (omega arith)
 
--- the one part behind a name
+-- one part after a name
 pub part_read : (look : Look Reference) (first : Expr) (parts : List code.Behind) (place : ℕ) (b : code.Behind) (v : Val) → first ≡ expr.Name place → 1 ≤ length parts → length parts < 2 → b ≡ get_or parts 0 b
     → part_value look (Place place) (view_behind b) ≡ Gives v → value_of look (Post (view first) (view_parts parts)) ≡ Gives v
 part_read look first parts place b v is m n at e =
@@ -189,14 +189,14 @@ map_past k (suc i) h = refl
 
 pub ruleset kind_laws = (group_kind, group_past, map_past)
 
--- ---- parts, one after another
+-- ---- parts in order
 
--- inputs in front of others
+-- inputs followed by others
 abbrev in_front : Givens → Givens → Givens
 in_front no_given ys = ys
 in_front (given_and x xs) ys = given_and x (in_front xs ys)
 
--- what was fed before, and then this
+-- earlier inputs, followed by these
 abbrev pub after_inputs : Givens → Answer Wrong Givens → Answer Wrong Givens
 after_inputs xs o = o >>= λ ys. Gives (in_front xs ys)
 
@@ -212,7 +212,7 @@ shown_more : (xs : List Input) (x : Input) → inputs_shown (xs ++ x ∷ []) ≡
 shown_more [] x = refl
 shown_more (y ∷ xs) x = ap (given_and (given y)) (shown_more xs x)
 
--- what is fed so far, and what is left of the parts
+-- the inputs so far, followed by the remaining parts
 abbrev pub FedTo : Look Reference → List Accum → List Feed → ℕ → List Input → Type 0
 FedTo look ks fs i xs = inputs_of look ks (listed (map view_feed fs)) ≡ after_inputs (inputs_shown xs) (inputs_of look (drop i ks) (listed (map view_feed (drop i fs))))
 
@@ -254,7 +254,7 @@ fed_more look ks fs i xs new f k x inv n is e g push =
     ∙ after_one (inputs_shown xs) (given x) (inputs_of look (drop (i + 1) ks) (listed (map view_feed (drop (i + 1) fs))))
     ∙ ap (λ zs. after_inputs zs (inputs_of look (drop (i + 1) ks) (listed (map view_feed (drop (i + 1) fs))))) (sym (shown_more xs x) ∙ ap inputs_shown (sym push))
 
--- all feeds are gone over
+-- at the end of the feeds
 fed_end : (look : Look Reference) (ks : List Accum) (fs : List Feed) (i : ℕ) (xs : List Input) → FedTo look ks fs i xs → length fs ≤ i → i ≤ length fs → inputs_of look ks (listed (map view_feed fs)) ≡ after_inputs (inputs_shown xs) (inputs_of look (drop (length fs) ks) no_input)
 fed_end look ks fs i xs inv l m = inv ∙ ap (λ gs. after_inputs (inputs_shown xs) (inputs_of look (drop i ks) (listed (map view_feed gs)))) (drop_all i fs l)
     ∙ ap (λ n. after_inputs (inputs_shown xs) (inputs_of look (drop n ks) no_input)) (let e : i ≡ length fs = omega (arith, l, m) in e)

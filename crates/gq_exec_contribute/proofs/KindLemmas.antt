@@ -20,7 +20,7 @@ use Rattle.gq_exec_feed.proofs.SuitLemmas.{within_int}
 use Rattle.gq_exec_contribute.specs.declared.cells.Taken.TheVariants as taken
 use Rattle.gq_exec_contribute.specs.Prepared.{Takes, TakesInts, TakesKeyed, parts_given, group_of, heap_of}
 
--- ---- one after another
+-- ---- item by item
 
 pub all_step : {A : Type 0} (P : A → Type 0) (xs : List A) (i : ℕ) (x d : A) → i < length xs → x ≡ get_or xs i d → P x → All P (take i xs) → All P (take (i + 1) xs)
 all_step P xs i x d l e h so = All-more P xs i d l so (subst P e h)

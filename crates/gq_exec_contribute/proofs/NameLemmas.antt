@@ -1,4 +1,4 @@
--- NameLemmas: what names stand for.
+-- NameLemmas: names and fields.
 use Rattle.std.proofs.Common.{◌≡◌, ℕ, ◌==◌, Bool, true, false, if◌then◌else◌, List, ◌++◌, Option, Some, None, refl, sym, ap, ap₂, subst, ◌∙◌}
 use Rattle.std.specs.Prelude.{ℤ, IfSome, slice_get, Ok}
 use Rattle.std.specs.Option.{option_map, option_or, option_to_list}
@@ -42,13 +42,14 @@ use Rattle.gq_eval_context.specs.Viewed.{Over}
 use Rattle.gq_exec_source.specs.declared.ends.End.{End}
 use Rattle.gq_exec_source.specs.declared.ends.Ends.{Ends}
 use Rattle.gq_exec_source.specs.Ends.{end_things}
+use Rattle.gq_frame.specs.declared.accums.Accums.{Accums}
 use Rattle.gq_exec_contribute.specs.declared.leaves.Leaves.{Leaves}
 use Rattle.gq_exec_contribute.specs.Aliases.{target_bound, edge_bound, bound_to}
-use Rattle.gq_exec_contribute.specs.Prepared.{is_at, IsEdge, NoAlias, IsVertex, IsHeld, IsHeldInt, IsHeldTruth, IsInt, IsTruth, part_value, sees}
+use Rattle.gq_exec_contribute.specs.Prepared.{is_at, IsEdge, NoAlias, IsVertex, IsHeld, IsHeldInt, IsHeldTruth, IsInt, IsTruth, part_value, sees_in}
 
 -- ---- aliases by their places
 
--- an alias with another place is passed over
+-- an alias with another place is skipped
 past_end : (p : ℕ) (e : End) (v : ℕ) (rest : List (ℕ × Placed)) → is_at e.alias p ≡ false → under ◌==◌ p (option_to_list (end_things e v) ++ rest) ≡ under ◌==◌ p rest
 past_end p e v rest h = go e.alias h
   where
@@ -118,25 +119,25 @@ source_is l c p n m h = (l.ends.now.source.types, source_there l.ends.now l.edge
 
 pub ruleset vertex_laws = (target_is, source_is)
 
--- ---- what is seen
+-- ---- contexts
 
-pub named : (clock : Calendar) (o : Over) (l : Leaves) (c : Candidate) (p : ℕ) (x : Placed) → under ◌==◌ p (bound_to l.ends.now l.edge c) ≡ Some x → (sees clock o l c).named (Place p) ≡ Gives (states.meant (thing_of x))
-named clock o l c p x e = ap (λ u. thing_meant (option_or (option_map thing_of u) (thing_in o.plan.places o.frame.things p))) e
+pub named : (clock : Calendar) (o : Over) (l : Leaves) (accums : Accums) (c : Candidate) (p : ℕ) (x : Placed) → under ◌==◌ p (bound_to l.ends.now l.edge c) ≡ Some x → (sees_in clock o l accums c).named (Place p) ≡ Gives (states.meant (thing_of x))
+named clock o l accums c p x e = ap (λ u. thing_meant (option_or (option_map thing_of u) (thing_in o.plan.places o.frame.things p))) e
 
-module _ (clock : Calendar) (g : code.Graph) (plan : Plan) (tuples : List TupleType) (frame : Frame) (l : Leaves) (c : Candidate) (p : ℕ) where
+module _ (clock : Calendar) (g : code.Graph) (plan : Plan) (tuples : List TupleType) (frame : Frame) (l : Leaves) (accums : Accums) (c : Candidate) (p : ℕ) where
   abbrev pub o : Over
   o = record { schema = g.catalog.now; vertices = g.store.now.vertices; edges = g.store.now.edges; plan = plan; tuples = tuples; frame = frame }
 
-  pub vertex_read : (field : Field) (v : ℕ) (r : Option ℤ) → IsVertex l c p v → IsReadInt g (λ world. states.vertex_field world (field_of field) v) r → IfSome r (λ x. part_value (sees clock o l c) p (tree.Field (field_of field)) ≡ Gives (Int x))
+  pub vertex_read : (field : Field) (v : ℕ) (r : Option ℤ) → IsVertex l c p v → IsReadInt g (λ world. states.vertex_field world (field_of field) v) r → IfSome r (λ x. part_value (sees_in clock o l accums c) p (tree.Field (field_of field)) ≡ Gives (Int x))
   vertex_read field v None at h = tt
-  vertex_read field v (Some x) at h = ap (λ m. m >>= λ m. (sees clock o l c).field m (field_of field) >>= value_of_meant) (named clock o l c p (AVertex at.0 v) at.1) ∙ h.each plan.vertices plan.edges (accum_names plan) (tuples_are tuples) clock
+  vertex_read field v (Some x) at h = ap (λ m. m >>= λ m. (sees_in clock o l accums c).field m (field_of field) >>= value_of_meant) (named clock o l accums c p (AVertex at.0 v) at.1) ∙ h.each plan.vertices plan.edges (accum_names plan) (tuples_are tuples) clock
 
   pub edge_read : (field : Field) (row kind : ℕ) (r : Option ℤ) → IsEdge l p → c.edge ≡ Some row → c.kind ≡ Some kind → IsReadInt g (λ world. states.edge_field world (field_of field) row kind) r
-      → IfSome r (λ x. part_value (sees clock o l c) p (tree.Field (field_of field)) ≡ Gives (Int x))
+      → IfSome r (λ x. part_value (sees_in clock o l accums c) p (tree.Field (field_of field)) ≡ Gives (Int x))
   edge_read field row kind None at e k h = tt
-  edge_read field row kind (Some x) at e k h = ap (λ m. m >>= λ m. (sees clock o l c).field m (field_of field) >>= value_of_meant) (named clock o l c p (AnEdge row kind) (edge_there l.ends.now l.edge c p row kind at.0 at.1 e k)) ∙ h.each plan.vertices plan.edges (accum_names plan) (tuples_are tuples) clock
+  edge_read field row kind (Some x) at e k h = ap (λ m. m >>= λ m. (sees_in clock o l accums c).field m (field_of field) >>= value_of_meant) (named clock o l accums c p (AnEdge row kind) (edge_there l.ends.now l.edge c p row kind at.0 at.1 e k)) ∙ h.each plan.vertices plan.edges (accum_names plan) (tuples_are tuples) clock
 
--- ---- a field of a vertex that is no INT among its attributes
+-- ---- a field of a vertex that isn't an INT attribute
 
 pub field_seen : (g : code.Graph) (meaning : World Reference → Outcome) (s : Seen) (r : Option ℤ) → InWorld g meaning (Ok s) → IfSome r (λ x. value_of_meant (meant s) ≡ Gives (Int x)) → IsReadInt g meaning r
 field_seen g meaning s r h is = record { each = λ vertices edges names tuples clock. go (meaning (world_of names tuples (graph_is g vertices edges) clock)) r is (h.each vertices edges names tuples clock) }
@@ -152,8 +153,8 @@ pub ruleset field_laws = (field_seen, none_read)
 
 -- ---- a variable
 
-pub held_named : (clock : Calendar) (o : Over) (l : Leaves) (c : Candidate) (p : ℕ) (v : Value) → (h : IsHeld o l p v) → (sees clock o l c).named (Place p) ≡ Gives (Is (base_of h.base) (val v))
-held_named clock o l c p v h =
+pub held_named : (clock : Calendar) (o : Over) (l : Leaves) (accums : Accums) (c : Candidate) (p : ℕ) (v : Value) → (h : IsHeld o l p v) → (sees_in clock o l accums c).named (Place p) ≡ Gives (Is (base_of h.base) (val v))
+held_named clock o l accums c p v h =
     ap (λ u. thing_meant (option_or (option_map thing_of u) (thing_in o.plan.places o.frame.things p))) (none_there l.ends.now l.edge c p h.none.target h.none.edge h.none.source)
     ∙ ap₂ (λ x y. thing_meant (held_thing x y)) h.declared h.there
 
@@ -170,15 +171,15 @@ truth_variable o l p v (Some b) h e = record { value = v; variable = h; is = e }
 
 pub ruleset variable_laws = (int_variable, truth_variable)
 
-pub int_name : (clock : Calendar) (o : Over) (l : Leaves) (c : Candidate) (p : ℕ) (r : Option ℤ) → IfSome r (IsHeldInt o l p) → IfSome r (IsInt (sees clock o l c) (tree.Name (Place p)))
-int_name clock o l c p None h = tt
-int_name clock o l c p (Some x) h = ap (λ o. o >>= value_of_meant) (held_named clock o l c p h.value h.variable) ∙ ap Gives h.is
+pub int_name : (clock : Calendar) (o : Over) (l : Leaves) (accums : Accums) (c : Candidate) (p : ℕ) (r : Option ℤ) → IfSome r (IsHeldInt o l p) → IfSome r (IsInt (sees_in clock o l accums c) (tree.Name (Place p)))
+int_name clock o l accums c p None h = tt
+int_name clock o l accums c p (Some x) h = ap (λ o. o >>= value_of_meant) (held_named clock o l accums c p h.value h.variable) ∙ ap Gives h.is
 
-pub truth_name : (clock : Calendar) (o : Over) (l : Leaves) (c : Candidate) (p : ℕ) (r : Option Bool) → IfSome r (IsHeldTruth o l p) → IfSome r (IsTruth (sees clock o l c) (tree.Name (Place p)))
-truth_name clock o l c p None h = tt
-truth_name clock o l c p (Some b) h = ap (λ o. o >>= value_of_meant >>= as_truth) (held_named clock o l c p h.value h.variable) ∙ ap as_truth h.is
+pub truth_name : (clock : Calendar) (o : Over) (l : Leaves) (accums : Accums) (c : Candidate) (p : ℕ) (r : Option Bool) → IfSome r (IsHeldTruth o l p) → IfSome r (IsTruth (sees_in clock o l accums c) (tree.Name (Place p)))
+truth_name clock o l accums c p None h = tt
+truth_name clock o l accums c p (Some b) h = ap (λ o. o >>= value_of_meant >>= as_truth) (held_named clock o l accums c p h.value h.variable) ∙ ap as_truth h.is
 
--- ---- expressions as the code has them
+-- ---- views of the code's expressions
 
 pub moved : {A : Type 0} (P : Tree Reference → A → Type 0) (s t : Tree Reference) (r : Option A) → s ≡ t → IfSome r (P t) → IfSome r (P s)
 moved P s t r e h = subst (λ t. IfSome r (P t)) (sym e) h

@@ -1,4 +1,4 @@
--- PassLemmas: what comes of a candidate, and how batches gain one contribution after another.
+-- PassLemmas: the result of a candidate, and batches after one contribution more.
 use Rattle.std.proofs.Common.{◌≡◌, ℕ, ◌%◌, ◌==◌, Bool, true, false, List, [], ◌∷◌, ◌++◌, map, length, reverse, Some, refl, sym, ap, subst, ◌∙◌}
 use Rattle.std.specs.List.{All}
 use Rattle.std.specs.Option.{option_map}
@@ -43,7 +43,7 @@ module _ (look : Look Reference) (slots : List (states.Slot Reference)) (q : Blo
   fault_first : (w : Wrong) → passes look (option_map view q.filter) ≡ Faults w → match_of (view_block q) slots c look ≡ Faults w
   fault_first w e = ap (λ o. o >>= of_filter) e
 
--- nothing was contributed before
+-- no earlier contributions
 from_none : (o : Answer Wrong (List Contribution)) → after [] o ≡ o
 from_none (Gives xs) = refl
 from_none (Faults w) = refl
@@ -97,7 +97,7 @@ mapped_more f (y ∷ xs) x = ap (λ ys. f y ∷ ys) (mapped_more f xs x)
 reverse_last : {A : Type 0} (xs : List A) (x : A) → reverse (xs ++ x ∷ []) ≡ x ∷ reverse xs
 reverse_last xs x = reverse-append xs (x ∷ [])
 
--- what was put so far, and what is left, from the last on
+-- the inputs added so far, and the rest, last one first
 pub record PutTo (s : Slots) (old now : List (List (ℕ × Input))) (all left : List Feeding) : Type 0 where
   pub done : List Feeding
   pub whole : done ++ reverse left ≡ all

@@ -1,4 +1,4 @@
--- RowLemmas: INTs in a row, one more and many more.
+-- RowLemmas: rows of INTs, with one more and with several more.
 use Rattle.std.proofs.Common.{◌≡◌, ℕ, suc, ◌+◌, ◌<◌, ◌≤◌, Bool, true, List, [], ◌∷◌, ◌++◌, take, length, get_or, refl, sym, ap, subst, ◌∙◌, append-nil, append_assoc}
 use Rattle.std.specs.Prelude.{ℤ}
 use Rattle.std.specs.Int.{w64}
@@ -23,7 +23,7 @@ take_none : {A : Type 0} (xs : List A) → take 0 xs ≡ []
 take_none [] = refl
 take_none (x ∷ xs) = refl
 
--- ---- each to the one in its place
+-- ---- pairs of items
 
 pub pairs_long : {A B : Type 0} (R : A → B → Type 0) (xs : List A) (ys : List B) → AllPairs R xs ys → length xs ≡ length ys
 pairs_long R [] [] h = refl
@@ -43,7 +43,7 @@ pairs_each R P f [] (y ∷ ys) h = absurd h
 pairs_each R P f (x ∷ xs) [] h = absurd h
 pairs_each R P f (x ∷ xs) (y ∷ ys) h = All-cons P y ys (f x y h.0) (pairs_each R P f xs ys h.1)
 
--- ---- INT after INT
+-- ---- several INTs
 
 pub adds_none : {A : Type 0} (R : A → ℤ → Type 0) (xs : List A) (row : Ints) → AddsInts R (take 0 xs) row row
 adds_none R xs row = record { ints = []; added = sym (append-nil (ints_of row)); are = subst (λ l. AllPairs R l []) (sym (take_none xs)) tt }

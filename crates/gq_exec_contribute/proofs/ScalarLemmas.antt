@@ -1,8 +1,9 @@
--- ScalarLemmas: inputs that wait are fed, one after another.
+-- ScalarLemmas: inputs made of INTs are fed in order.
 use Rattle.std.proofs.Common.{◌≡◌, ℕ, ◌+◌, ◌<◌, ◌≤◌, List, [], ◌∷◌, ◌++◌, map, take, length, get_or, refl, sym, ap, ap₂, subst, ◌∙◌, arith, length-append}
 use Rattle.std.specs.List.{All}
 use Rattle.std.proofs.lemmas.List.{map-append, take_all, take_more}
 use Rattle.std.proofs.lemmas.List.Elements.{All-nil, All-cons, All-head, All-tail}
+use Rattle.gq_value.specs.AccumViews.{given}
 use Rattle.gq_value.specs.declared.kind.Input.{Input}
 use Rattle.gq_frame.specs.declared.slots.Slots.{Slots}
 use Rattle.gq_frame.specs.declared.accums.Accums.{Accums}
@@ -11,11 +12,12 @@ use Rattle.gq_rules_meaning.specs.Blocks.{Contribution, slots_after}
 use Rattle.gq_exec_feed.specs.Taking.{MayTake, as_given, targeted, AreBatched}
 use Rattle.gq_exec_feed.specs.Feeding.{AreFed, AreAfter, TakesBatch}
 use Rattle.gq_exec_feed.proofs.SlotLemmas.{slots_append}
-use Rattle.gq_exec_feed.proofs.FeedLemmas.{none_after}
+use Rattle.gq_exec_feed.specs.Steps.{TakesOne}
+use Rattle.gq_exec_feed.proofs.FeedLemmas.{chain_takes, none_after}
 use Rattle.gq_exec_contribute.specs.declared.scalars.ScalarInput.{ScalarInput}
-use Rattle.gq_exec_contribute.specs.Scalars.{as_input, as_inputs}
+use Rattle.gq_exec_contribute.specs.Scalars.{as_input, as_inputs, made_of}
 
--- ---- one batch after another
+-- ---- two batches
 
 pub joined : (f : ℕ) (old mid new : Accums) (xs ys : List Contribution) → AreAfter f old mid xs → AreAfter (f + length xs) mid new ys → AreAfter f old new (xs ++ ys)
 joined f old mid new xs ys a b = record {
@@ -24,7 +26,7 @@ joined f old mid new xs ys a b = record {
   fed = let l = length-append xs ys in let e : (f + length xs) + length ys ≡ f + length (xs ++ ys) = omega (arith, l) in subst (λ (n : ℕ). AreFed n new) e b.fed;
 }
 
--- the contributions that are in the first of two batches, and those in the second
+-- the contributions of the first of two batches, and those of the second
 record Parts (slots : Slots) (xs : List Contribution) (first second : List (ℕ × Input)) : Type 0 where
   front : List Contribution
   rest : List Contribution
@@ -47,7 +49,7 @@ all_rest : {A : Type 0} (P : A → Type 0) (xs ys : List A) → All P (xs ++ ys)
 all_rest P [] ys h = h
 all_rest P (x ∷ xs) ys h = all_rest P xs ys (All-tail P x (xs ++ ys) h)
 
--- one batch after another
+-- two batches, one after the other
 pub both_taken : (old mid new : Accums) (first second : List (ℕ × Input)) → TakesBatch old mid first → TakesBatch mid new second → TakesBatch old new (first ++ second)
 both_taken old mid new first second one two = record {
   each = λ f xs fed few may batched.
@@ -59,7 +61,7 @@ both_taken old mid new first second one two = record {
       subst (AreAfter f old new) (sym p.whole) (joined f old mid new p.front p.rest a b);
 }
 
--- ---- input after input
+-- ---- inputs in order
 
 none_taken : (a : Accums) → TakesBatch a a []
 none_taken a = record {
@@ -70,11 +72,15 @@ none_taken a = record {
     of_none f [] fed batched = none_after f a fed
     of_none f (x ∷ xs) fed batched = absurd (cc batched)
 
--- the first ones are fed
+-- feeding the input that a row stands for
+pub made_taken : (old new : Accums) (t : ℕ) (i : Input) (x : ScalarInput) → i ≡ made_of x → TakesOne old new t (given i) → TakesBatch old new (as_inputs ((t, x) ∷ []))
+made_taken old new t i x e h = subst (λ (j : Input). TakesBatch old new ((t, j) ∷ [])) e (chain_takes old new ((t, i) ∷ []) (new, h, refl))
+
+-- the first i inputs are fed
 pub record FedTo (old : Accums) (xs : List (ℕ × ScalarInput)) (i : ℕ) (now : Accums) : Type 0 where
   pub takes : TakesBatch old now (as_inputs (take i xs))
 
-take_none : {A : Type 0} (xs : List A) → take 0 xs ≡ []
+pub take_none : {A : Type 0} (xs : List A) → take 0 xs ≡ []
 take_none [] = refl
 take_none (x ∷ xs) = refl
 

@@ -25,8 +25,9 @@ use Rattle.gq_eval_builtins.specs.Steps.{true_meant}
 use Rattle.gq_eval_builtins.proofs.RunLemmas.{and_goes, or_goes}
 use Rattle.gq_eval_builtins.proofs.ListSteps.{all_goes_at, any_goes_at}
 use Rattle.gq_eval_context.specs.Viewed.{Over}
+use Rattle.gq_frame.specs.declared.accums.Accums.{Accums}
 use Rattle.gq_exec_contribute.specs.declared.leaves.Leaves.{Leaves}
-use Rattle.gq_exec_contribute.specs.Prepared.{IsInt, IsTruth, IsVertex, sees}
+use Rattle.gq_exec_contribute.specs.Prepared.{IsInt, IsTruth, IsVertex, sees_in}
 use Rattle.gq_exec_contribute.proofs.NameLemmas.{named}
 use Rattle.gq_exec_contribute.proofs.ReadLemmas.{global_truth}
 use Rattle.std.specs.Prelude.{Ok}
@@ -70,9 +71,9 @@ both_vertices look s t u v w (Some b) e f g = ap (λ o. (o >>= λ v. meaning loo
 
 pub ruleset compared_laws = (both_ints, both_vertices)
 
-pub vertex_value : (clock : Calendar) (o : Over) (l : Leaves) (c : Candidate) (p : ℕ) (r : Option ℕ) → IfSome r (IsVertex l c p) → IfSome r (λ v. value_of (sees clock o l c) (tree.Name (Place p)) ≡ Gives (Vertex v))
-vertex_value clock o l c p None h = tt
-vertex_value clock o l c p (Some v) h = ap (λ o. o >>= value_of_meant) (named clock o l c p (AVertex h.0 v) h.1)
+pub vertex_value : (clock : Calendar) (o : Over) (l : Leaves) (accums : Accums) (c : Candidate) (p : ℕ) (r : Option ℕ) → IfSome r (IsVertex l c p) → IfSome r (λ v. value_of (sees_in clock o l accums c) (tree.Name (Place p)) ≡ Gives (Vertex v))
+vertex_value clock o l accums c p None h = tt
+vertex_value clock o l accums c p (Some v) h = ap (λ o. o >>= value_of_meant) (named clock o l accums c p (AVertex h.0 v) h.1)
 
 pub ruleset vertex_laws = (vertex_value)
 
@@ -98,9 +99,9 @@ or_truth look t ts b (Some d) e h = ap (λ o. o >>= value_of_meant >>= as_truth)
 
 pub ruleset joined_laws = (not_truth, and_truth, or_truth)
 
--- ---- operand after operand
+-- ---- operands in order
 
--- what is read so far goes before what follows
+-- the truth so far, followed by the remaining operands
 pub record AllTo (look : Look Reference) (b : Bool) (es : List Expr) (i : ℕ) (d : Bool) : Type 0 where
   pub goes : meaning_all look (true_meant b) (views es) ≡ meaning_all look (true_meant d) (views (drop i es))
 

@@ -1,4 +1,4 @@
--- Aliases: what the aliases of a candidate stand for, the last one in view first.
+-- Aliases: the bindings of a candidate's aliases, innermost first.
 use Rattle.std.specs.Prelude.{ℕ, List, ◌++◌, Option, Some, None}
 use Rattle.std.specs.Option.{option_to_list}
 use Rattle.gq_graph.specs.declared.rows.Candidate.{Candidate}

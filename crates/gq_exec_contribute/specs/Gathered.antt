@@ -1,4 +1,4 @@
--- Gathered: what a match has contributed so far. The code puts it into batches at the end, so that a fault leaves nothing there.
+-- Gathered: the contributions of a match so far. The code moves them into batches at the end, so a fault adds nothing.
 use Rattle.std.specs.Global.{Vec}
 use Rattle.std.specs.Prelude.{List, map, ◌++◌}
 use Rattle.gq_value.specs.declared.value.Wrong.{Wrong}
@@ -7,7 +7,7 @@ use Rattle.gq_rules_meaning.specs.Answers.{Answer, Gives, ◌>>=◌}
 use Rattle.gq_rules_meaning.specs.Blocks.{Contribution}
 use Rattle.gq_exec_contribute.specs.declared.feeding.Feeding.{Feeding}
 
--- an input to the accumulator of a slot
+-- an input as a contribution
 abbrev pub contribution_of : Feeding → Contribution
 contribution_of f = record { slot = f.slot; vertex = f.vertex; input = given f.input }
 
@@ -17,6 +17,6 @@ shown fs = map contribution_of fs
 abbrev pub gathered_in : Vec Feeding → List Contribution
 gathered_in v = shown v.items
 
--- what was contributed before, and then this
+-- earlier contributions, followed by these
 abbrev pub after : List Contribution → Answer Wrong (List Contribution) → Answer Wrong (List Contribution)
 after xs o = o >>= λ ys. Gives (xs ++ ys)

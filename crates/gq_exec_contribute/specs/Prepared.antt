@@ -1,4 +1,4 @@
--- Prepared: what is read of a candidate in place of an evaluation: what it sees gives that.
+-- Prepared: results that are read for a candidate instead of evaluated: the evaluation gives the same.
 use Rattle.std.specs.Prelude.{◌≡◌, ◌==◌, ℕ, ℤ, ◌+◌, ◌<◌, Bool, true, false, List, [], ◌∷◌, ◌++◌, map, length, Option, Some, None, slice_get}
 use Rattle.std.specs.List.{All}
 use Rattle.std.specs.Int.{w64}
@@ -22,7 +22,7 @@ use Rattle.gq_graph.specs.declared.rows.Candidate.{Candidate}
 use Rattle.gq_frame.specs.declared.accums.Accums.{Accums}
 use Rattle.gq_frame.specs.declared.slots.Slots.{Slots}
 use Rattle.gq_frame.specs.Names.{AVertex}
-use Rattle.gq_frame.specs.Slots.{slots_are}
+use Rattle.gq_frame.specs.Slots.{AreSound, slots_are}
 use Rattle.gq_frame.specs.Targets.{targets_of, number_of}
 use Rattle.gq_rules_typing.specs.Kinds.{input_type, key_types, part_kinds}
 use Rattle.gq_rules_typing.specs.Selecting as plain
@@ -33,15 +33,14 @@ use Rattle.gq_rules_meaning.specs.Calendars.{Calendar}
 use Rattle.gq_rules_meaning.specs.Expressions.{Look, value_of, truth_of, meaning_part, meaning_factors, meaning_terms}
 use Rattle.gq_rules_meaning.specs.Meanings.{Meant, Is, value_of_meant}
 use Rattle.gq_rules_meaning.specs.States.{read_slot}
-use Rattle.gq_rules_meaning.specs.Tree.{Tree, Behind, Post, Name}
+use Rattle.gq_rules_meaning.specs.Tree.{Tree, Behind}
 use Rattle.gq_tree.specs.declared.expr.AddSign.{AddSign}
 use Rattle.gq_tree.specs.declared.expr.MulSign.{MulSign}
-use Rattle.gq_plan_ir.specs.declared.expr.Behind as code
 use Rattle.gq_plan_ir.specs.Reference.{Reference, Place, Slot}
 use Rattle.gq_plan_ir.specs.declared.block.Feed.{Feed}
 use Rattle.gq_plan_ir.specs.declared.expr.Expr.{Expr}
 use Rattle.gq_plan_ir.specs.BlockView.{view_feed}
-use Rattle.gq_plan_ir.specs.ExprView.{view, view_factors, view_parts, view_terms}
+use Rattle.gq_plan_ir.specs.ExprView.{view, view_factors, view_terms}
 use Rattle.gq_plan_ir.specs.Words.{under}
 use Rattle.gq_eval_operand.specs.Meant.{read_of}
 use Rattle.gq_eval_operand.specs.Sound.{IsSound}
@@ -58,13 +57,24 @@ use Rattle.gq_exec_contribute.specs.Aliases.{bound_to}
 use Rattle.gq_exec_contribute.specs.declared.rows.Ints.{Ints}
 use Rattle.gq_exec_contribute.specs.Scalars.{ints_of, made_of, as_inputs}
 
--- ---- what an expression of a block sees for a candidate
+-- ---- the context of an expression for a candidate
 
--- its own aliases, and the accumulators from before the block
+-- the candidate's aliases and these accumulators; names with `'` read those from before the block
+abbrev pub sees_in : Calendar → Over → Leaves → Accums → Candidate → Look Reference
+sees_in clock o l accums c = look_of clock (viewed o (bound_to l.ends.now l.edge c) accums o.frame.accums)
+
+-- in POST-ACCUM a vertex is bound alone, as the source
+abbrev pub only_source : ℕ → Candidate
+only_source v = record { source = v; edge = None; kind = None; target = None }
+
+abbrev pub sees_at : Calendar → Over → Leaves → Accums → ℕ → Look Reference
+sees_at clock o l accums v = sees_in clock o l accums (only_source v)
+
+-- WHERE and ACCUM read the accumulators from before the block
 abbrev pub sees : Calendar → Over → Leaves → Candidate → Look Reference
-sees clock o l c = look_of clock (viewed o (bound_to l.ends.now l.edge c) o.frame.accums o.frame.accums)
+sees clock o l c = sees_in clock o l o.frame.accums c
 
--- an expression is this INT, and this truth
+-- the value of an expression is this INT, or this truth
 abbrev pub IsInt : Look Reference → Tree Reference → ℤ → Type 0
 IsInt look t x = value_of look t ≡ Gives (Int x)
 
@@ -78,28 +88,28 @@ abbrev pub is_at : Option ℕ → ℕ → Bool
 is_at None place = false
 is_at (Some other) place = other == place
 
--- a name is the edge's
+-- a name is the alias of the edge
 abbrev pub IsEdge : Leaves → ℕ → Type 0
 IsEdge l p = (is_at l.ends.now.target.alias p ≡ false) × (is_at l.edge p ≡ true)
 
--- a name is no alias
+-- a name isn't an alias
 pub record NoAlias (l : Leaves) (p : ℕ) : Type 0 where
   pub target : is_at l.ends.now.target.alias p ≡ false
   pub edge : is_at l.edge p ≡ false
   pub source : is_at l.ends.now.source.alias p ≡ false
 
--- a name stands for this vertex
+-- a name is bound to this vertex
 abbrev pub IsVertex : Leaves → Candidate → ℕ → ℕ → Type 0
 IsVertex l c p v = (types : List ℕ) × (under ◌==◌ p (bound_to l.ends.now l.edge c) ≡ Some (AVertex types v))
 
--- a name is that of a variable with this value
+-- a name is a variable with this value
 pub record IsHeld (o : Over) (l : Leaves) (p : ℕ) (v : Value) : Type 0 where
   pub none : NoAlias l p
   pub base : BaseType
   pub declared : slice_get o.plan.places p ≡ Some (held.Variable base)
   pub there : slice_get o.frame.things p ≡ Some (Some (thing.Value v))
 
--- with this INT, and with this truth
+-- a name is a variable with this INT, or with this truth
 pub record IsHeldInt (o : Over) (l : Leaves) (p : ℕ) (x : ℤ) : Type 0 where
   pub value : Value
   pub variable : IsHeld o l p value
@@ -110,30 +120,26 @@ pub record IsHeldTruth (o : Over) (l : Leaves) (p : ℕ) (b : Bool) : Type 0 whe
   pub variable : IsHeld o l p value
   pub is : val value ≡ Truth b
 
--- what stands behind a name
+-- the value of a part after a name
 abbrev pub part_value : Look Reference → ℕ → Behind Reference → Answer Wrong Val
 part_value look p b = look.named (Place p) >>= λ m. meaning_part look m b >>= value_of_meant
-
--- what other parts stand for behind that one
-abbrev pub parts_value : Look Reference → ℕ → code.Behind → List code.Behind → Answer Wrong Val
-parts_value look p b others = value_of look (Post (Name (Place p)) (view_parts (b ∷ others)))
 
 -- ---- chains of operations
 
 abbrev pub int_meant : ℤ → Meant
 int_meant x = Is INT (Int x)
 
--- an INT and then these terms are this one
+-- the sum of an INT and these terms is z
 pub record AreTerms (look : Look Reference) (x : ℤ) (terms : List (AddSign × Expr)) (z : ℤ) : Type 0 where
   pub sum : (meaning_terms look (int_meant x) (view_terms terms) >>= value_of_meant) ≡ Gives (Int z)
 
--- an INT and then these factors
+-- the product of an INT and these factors is z
 pub record AreFactors (look : Look Reference) (x : ℤ) (factors : List (MulSign × Expr)) (z : ℤ) : Type 0 where
   pub product : (meaning_factors look (int_meant x) (view_factors factors) >>= value_of_meant) ≡ Gives (Int z)
 
 -- ---- accumulators
 
--- each INT, or each truth, is an input of such a kind
+-- a kind takes each INT, or each truth
 pub record TakesInts (k : Accum) : Type 0 where
   pub typed : input_type k ≡ Some INT
   pub suited : (x : ℤ) → FitsSigned w64 x → suits k (One (Int x)) ≡ true
@@ -142,18 +148,18 @@ pub record TakesTruths (k : Accum) : Type 0 where
   pub typed : input_type k ≡ Some BOOL
   pub suited : (b : Bool) → suits k (One (Truth b)) ≡ true
 
--- each tuple of so many INTs is one
+-- a kind takes each tuple of n INTs
 pub record TakesTuples (k : Accum) (n : ℕ) : Type 0 where
   pub number : ℕ
   pub fields : Bases
   pub typed : input_type k ≡ Some (TUPLE number fields)
   pub suited : (xs : List ℤ) → length xs ≡ n → All (FitsSigned w64) xs → suits k (One (Tuple (vals_of (map Int xs)))) ≡ true
 
--- the inputs of parts
+-- INTs as inputs of parts
 abbrev pub parts_given : List ℤ → Givens
 parts_given ys = givens (map (λ y. One (Int y)) ys)
 
--- so many INTs as keys, and an INT for each of so many parts
+-- a kind takes n INTs as keys with m INTs as inputs of parts
 pub record TakesKeyed (k : Accum) (n m : ℕ) : Type 0 where
   pub keys : All (λ b. b ≡ INT) (key_types k)
   pub key_count : length (key_types k) ≡ n
@@ -161,7 +167,7 @@ pub record TakesKeyed (k : Accum) (n m : ℕ) : Type 0 where
   pub part_count : length (part_kinds k) ≡ m
   pub suited : (xs ys : List ℤ) → length xs ≡ n → length ys ≡ m → All (FitsSigned w64) xs → All (FitsSigned w64) ys → suits k (Keyed (map Int xs) (parts_given ys)) ≡ true
 
--- what a shape of groups and of heaps is
+-- the kind of a group or heap of this shape
 abbrev pub group_of : GroupShape → Accum
 group_of s = GroupByAccum (map (λ k. (k.0, base_of k.1)) s.keys) (parts_of (map (λ p. (p.0, accum_of p.1)) s.parts))
 
@@ -176,7 +182,7 @@ Takes k (taken.Tuple n) = TakesTuples k n
 Takes k (taken.Keyed n m) = TakesKeyed k n m
 Takes k taken.Other = Unit {0}
 
--- where the contents of a slot stand
+-- the cells of a slot
 pub record AreCells (slots : Slots) (n : ℕ) (cells : Cells) : Type 0 where
   pub slot : code_slot.Slot
   pub declared : slice_get slots.declared n ≡ Some slot
@@ -184,11 +190,16 @@ pub record AreCells (slots : Slots) (n : ℕ) (cells : Cells) : Type 0 where
   pub targets : cells.targets ≡ targets_of slots.vertices slot
   pub takes : Takes (accum_of slot.kind) cells.takes
 
--- those of all slots
+-- the cells of all slots
 pub record AreAllCells (slots : Slots) (all : List Cells) : Type 0 where
   pub each : (n : ℕ) (cells : Cells) → slice_get all n ≡ Some cells → AreCells slots n cells
 
--- what is found once is that of a block
+-- leaves are those of these accumulators, which are sound
+pub record AreIn (accums : Accums) (l : Leaves) : Type 0 where
+  pub cells : AreAllCells accums.slots l.cells
+  pub sound : AreSound accums
+
+-- leaves are those of a block
 pub record AreFound (o : Over) (l : Leaves) : Type 0 where
   pub cells : AreAllCells o.frame.accums.slots l.cells
 
@@ -197,7 +208,7 @@ pub record IsTarget (cells : Cells) (vertex target : ℕ) : Type 0 where
   pub within : vertex < cells.targets
   pub number : target ≡ cells.first + vertex
 
--- a content stands at a target, and is sound
+-- the content of a slot at a vertex is c, and it is sound
 pub record StandsAt (a : Accums) (n vertex : ℕ) (c : Content) : Type 0 where
   pub slot : code_slot.Slot
   pub declared : slice_get a.slots.declared n ≡ Some slot
@@ -205,39 +216,47 @@ pub record StandsAt (a : Accums) (n vertex : ℕ) (c : Content) : Type 0 where
   pub stands : slice_get a.contents (number_of a.slots n vertex) ≡ Some c
   pub sound : IsSound (accum_of slot.kind) c
 
--- a content reads as this INT, and as this truth, whatever its kind
+-- a content reads as this INT, or as this truth, for any kind it is of
 pub record HoldsInt (c : Content) (x : ℤ) : Type 0 where
   pub each : (k : Accum) → IsOf k (out-Content c) → read_of k c ≡ Is INT (Int x)
 
 pub record HoldsTruth (c : Content) (b : Bool) : Type 0 where
   pub each : (k : Accum) → IsOf k (out-Content c) → read_of k c ≡ Is BOOL (Truth b)
 
--- an accumulator reads as this INT, and as this truth
-abbrev pub ReadsInt : Calendar → Over → ℕ → ℕ → ℤ → Type 0
-ReadsInt clock o n v x = read_slot (world_over clock o) (slots_are o.frame.accums) (Slot n) v ≡ Gives (Is INT (Int x))
+-- an accumulator reads as this INT, or as this truth
+abbrev pub ReadsInt : Calendar → Over → Accums → ℕ → ℕ → ℤ → Type 0
+ReadsInt clock o accums n v x = read_slot (world_over clock o) (slots_are accums) (Slot n) v ≡ Gives (Is INT (Int x))
 
-abbrev pub ReadsTruth : Calendar → Over → ℕ → ℕ → Bool → Type 0
-ReadsTruth clock o n v b = read_slot (world_over clock o) (slots_are o.frame.accums) (Slot n) v ≡ Gives (Is BOOL (Truth b))
+abbrev pub ReadsTruth : Calendar → Over → Accums → ℕ → ℕ → Bool → Type 0
+ReadsTruth clock o accums n v b = read_slot (world_over clock o) (slots_are accums) (Slot n) v ≡ Gives (Is BOOL (Truth b))
 
 -- ---- acts
 
--- these inputs stand for what acts contribute
+-- these inputs represent the contributions of statements
 pub record AreInputs (slots : Slots) (gives : Answer Wrong (List Contribution)) (more : List (ℕ × ScalarInput)) : Type 0 where
   pub contributed : List Contribution
   pub are : gives ≡ Gives contributed
   pub may : All (MayTake slots) contributed
   pub batched : AreBatched slots contributed (as_inputs more)
 
--- an input of a kind is this, and suits it
+-- the meaning of an input, for a kind, is x, which the kind takes
 pub record IsFedTo (look : Look Reference) (f : plain.Input Reference) (x : ScalarInput) (k : Accum) : Type 0 where
   pub input : input_of look k f ≡ Gives (given (made_of x))
   pub suited : suits k (given (made_of x)) ≡ true
 
--- of each kind that takes this
+-- for each kind that takes such inputs
 pub record IsFed (look : Look Reference) (f : plain.Input Reference) (takes : Taken) (x : ScalarInput) : Type 0 where
   pub each : (k : Accum) → Takes k takes → IsFedTo look f x k
 
--- this one stands for what a change contributes
+-- a change is a `+=` of this input to the accumulator of a slot
+pub record IsAdded (look : Look Reference) (slots : Slots) (n : ℕ) (change : plain.Change Reference) (x : ScalarInput) : Type 0 where
+  pub slot : code_slot.Slot
+  pub declared : slice_get slots.declared n ≡ Some slot
+  pub feed : plain.Input Reference
+  pub adds : change ≡ plain.Adds feed
+  pub input : input_of look (accum_of slot.kind) feed ≡ Gives (given (made_of x))
+
+-- this input represents the contribution of a `+=`
 pub record IsInput (slots : Slots) (gives : Answer Wrong (List Contribution)) (x : ℕ × ScalarInput) : Type 0 where
   pub contribution : Contribution
   pub is : gives ≡ Gives (contribution ∷ [])
@@ -246,24 +265,24 @@ pub record IsInput (slots : Slots) (gives : Answer Wrong (List Contribution)) (x
 
 -- ---- rows of INTs
 
--- an expression is this INT, within its width
+-- the value of an expression is this INT, which fits 64 bits
 pub record IsNumber (look : Look Reference) (t : Tree Reference) (x : ℤ) : Type 0 where
   pub is : IsInt look t x
   pub fits : FitsSigned w64 x
 
--- a feed is one value, and that is this INT
+-- a feed is one value, which is this INT
 pub record IsPart (look : Look Reference) (f : Feed) (x : ℤ) : Type 0 where
   pub tree : Tree Reference
   pub one : view_feed f ≡ Plain tree
   pub number : IsNumber look tree x
 
--- each stands so to the one in its place
+-- R relates the items of two lists of equal length, pairwise
 abbrev pub AllPairs : {A B : Type 0} → (A → B → Type 0) → List A → List B → Type 0
 AllPairs R [] [] = Unit {0}
 AllPairs R (x ∷ xs) (y ∷ ys) = R x y × AllPairs R xs ys
 AllPairs R _ _ = ⊥
 
--- an INT for each of these is put into a row
+-- an INT for each of these is appended to a row
 pub record AddsInts {A : Type 0} (R : A → ℤ → Type 0) (xs : List A) (old new : Ints) : Type 0 where
   pub ints : List ℤ
   pub added : ints_of new ≡ ints_of old ++ ints
@@ -277,7 +296,7 @@ AddsKeys look keys old new = AddsInts (λ e x. IsNumber look (view e) x) keys ol
 abbrev pub AddsParts : Look Reference → List Feed → Ints → Ints → Type 0
 AddsParts look feeds old new = AddsInts (IsPart look) feeds old new
 
--- one of them
+-- one INT is appended to a row
 pub record AddsOne (R : ℤ → Type 0) (old new : Ints) : Type 0 where
   pub x : ℤ
   pub is : R x
@@ -289,20 +308,20 @@ AddsKey look t old new = AddsOne (IsNumber look t) old new
 abbrev pub AddsPart : Look Reference → Feed → Ints → Ints → Type 0
 AddsPart look f old new = AddsOne (IsPart look f) old new
 
--- a tuple type has so many fields, and all of them are INTs
+-- a tuple type has `count` fields, all of type INT
 pub record HasInts (o : Over) (n count : ℕ) : Type 0 where
   pub type : TupleType
   pub there : slice_get o.tuples n ≡ Some type
   pub many : length type.types ≡ count
   pub ints : All (λ b. base_of b ≡ INT) type.types
 
--- an expression is a tuple of so many INTs, with these fields
+-- the value of an expression is a tuple of `count` INTs, with these fields
 pub record IsTuple (look : Look Reference) (t : Tree Reference) (count : ℕ) (row : Ints) : Type 0 where
   pub is : value_of look t ≡ Gives (Tuple (vals_of (map Int (ints_of row))))
   pub many : length (ints_of row) ≡ count
   pub fit : All (FitsSigned w64) (ints_of row)
 
--- all of them are added, or nothing
+-- all inputs are appended, or none
 abbrev pub Gathers : Slots → Answer Wrong (List Contribution) → List (ℕ × ScalarInput) → List (ℕ × ScalarInput) → Bool → Type 0
 Gathers slots gives old new true = (more : List (ℕ × ScalarInput)) × (new ≡ old ++ more) × AreInputs slots gives more
 Gathers slots gives old new false = new ≡ old

@@ -1,4 +1,4 @@
--- Scalars: inputs made of INTs or a truth that wait to be fed, as the inputs of a batch.
+-- Scalars: inputs made of INTs or a truth, as the inputs of a batch.
 use Rattle.std.specs.Prelude.{ℕ, ℤ, List, map, take, drop}
 use Rattle.gq_value.specs.declared.kind.Input.{Input}
 use Rattle.gq_value.specs.declared.kind.Input.TheVariants as input
@@ -23,7 +23,7 @@ made_of (scalar.Element x) = one_int x
 made_of (scalar.Tuple row) = input.One (value.Tuple (map value.Int (ints_of row)))
 made_of (scalar.Keyed n row) = input.Keyed (map value.Int (take n (ints_of row))) (map one_int (drop n (ints_of row)))
 
--- with the number of its target
+-- such an input with the number of its target
 abbrev pub as_input : ℕ × ScalarInput → ℕ × Input
 as_input x = (x.0, made_of x.1)
 

@@ -1,4 +1,4 @@
--- Taking: how one value is taken as an input: as a number of a type, by value, or as it is.
+-- Taking: how one value is taken as an input: converted to a number of a type, or as it is.
 use Rattle.std.specs.Prelude.{◌≡◌, Option, Some, None}
 use Rattle.gq_value.specs.declared.value.Wrong.{Wrong}
 use Rattle.gq_value.specs.Val.{Val}
@@ -13,11 +13,11 @@ abbrev pub taken : Taking → Val → Answer Wrong Val
 taken (taking.Number t) v = number_to t v
 taken taking.Itself v = Gives v
 
--- a value of a type is converted so
+-- this is how values are converted to a type
 pub record TakesBase (b : Base) (t : Taking) : Type 0 where
   pub each : (v : Val) → converted_to b v ≡ taken t v
 
--- an input is converted so, if one value is one
+-- this is how an input of one value is converted, if the kind takes one value
 abbrev pub TakesAs : Option Base → Option Taking → Type 0
 TakesAs None None = Unit {0}
 TakesAs (Some b) (Some t) = TakesBase b t

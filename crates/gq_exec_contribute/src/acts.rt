@@ -1,4 +1,4 @@
-// The acts of ACCUM.
+// Runs the statements of ACCUM.
 ghost use Rattle.std.specs.Prelude.{◌≡◌, ◌++◌, ◌∷◌, [], IfOk};
 ghost use Rattle.gq_rules_meaning.specs.Blocks.{contributions, of_act, contributed, vertex_named};
 ghost use Rattle.gq_plan_ir.specs.BlockView.{view_acts, view_act, view_change};
@@ -17,7 +17,7 @@ use gq_frame::Accums;
 use gq_plan_ir::{Act, Change};
 use std::alloc::Global;
 
-/// What acts contribute, behind what was contributed before.
+/// Evaluates the statements in order and appends their inputs to `before`.
 #[cycle(act)]
 #[tactic(auto, using(crate::proofs::ActLemmas::acts_laws))]
 pub(crate) fn run_acts<V: Sees>(
@@ -37,7 +37,7 @@ pub(crate) fn run_acts<V: Sees>(
     Ok(gathered)
 }
 
-/// What an act contributes, behind what was contributed before.
+/// Evaluates a statement and appends its inputs to `before`.
 #[cycle(act)]
 #[tactic(auto, using(gq_plan_ir::proofs::ViewLaws::step_laws, crate::proofs::ActLemmas::act_laws, crate::proofs::ActLemmas::choice_next))]
 fn run_act<V: Sees>(
@@ -70,7 +70,7 @@ fn run_act<V: Sees>(
     }
 }
 
-/// The vertex that the alias of a place stands for.
+/// The vertex that the alias at a place is bound to.
 #[tactic(auto, using(crate::proofs::ActLemmas::vertex_laws))]
 fn vertex_at<V: Sees>(place: u32, sight: &V) -> Result<u32, Halt>
     ensures { Tells itself (vertex_named (V.look sight.now) (Place place)) result }
@@ -79,7 +79,7 @@ fn vertex_at<V: Sees>(place: u32, sight: &V) -> Result<u32, Halt>
     vertex(&alias)
 }
 
-/// What a change of an accumulator at a vertex contributes, behind what was contributed before. `=` has no place in ACCUM.
+/// Evaluates the input of a `+=` to the accumulator of a slot at a vertex and appends it to `before`. ACCUM has no `=`.
 #[tactic(auto, using(crate::proofs::ActLemmas::change_laws))]
 fn run_change<V: Sees>(
     change: &Change,
@@ -109,7 +109,7 @@ fn run_change<V: Sees>(
     }
 }
 
-/// What was gathered, and one more.
+/// Appends one input.
 fn with_one(before: Vec<Feeding>, feeding: Feeding) -> Result<Vec<Feeding>, OutOfMemory>
     ensures { IfOk result (λ gathered. gathered.items ≡ before.items ++ feeding ∷ []) }
 {

@@ -1,4 +1,4 @@
-// The place of the edge's alias.
+// Finds the place of the edge's alias.
 ghost use Rattle.std.specs.Prelude.{◌≡◌, map};
 ghost use Rattle.std.specs.Option.{option_map};
 ghost use Rattle.gq_rules_typing.specs.Patterns.{edge_alias};

@@ -1,91 +1,97 @@
-// Arithmetic on INTs.
+// Reads sums and products of INTs.
 ghost use Rattle.std.specs.Prelude.{◌≡◌, IfSome};
 ghost use Rattle.gq_value.specs.Val.{Int};
 ghost use Rattle.gq_rules_calendar.specs.Gregorian.{gregorian};
 ghost use Rattle.gq_rules_meaning.specs.Answers.{Gives};
 ghost use Rattle.gq_rules_meaning.specs.Expressions.{product, summed};
 ghost use Rattle.gq_plan_ir.specs.ExprView.{view};
-ghost use Rattle.gq_exec_contribute.specs.Prepared.{AreFound, AreFactors, AreTerms, IsInt, int_meant, sees};
+ghost use Rattle.gq_exec_contribute.specs.Prepared.{AreFactors, AreIn, AreTerms, IsInt, int_meant, sees_in};
 
 use crate::asked::int_of_parts;
 use crate::ints::short_int;
 use crate::leaves::Leaves;
 use gq_eval_context::BlockContext;
+use gq_frame::Accums;
 use gq_graph::Candidate;
 use gq_plan_ir::Expr;
 use gq_tree::{AddSign, MulSign};
 
-/// The INT that an expression is, where no part of it has to be evaluated: a short form, or a sum or product of such. Takes no memory.
+/// Reads an INT: a short form, a method of an accumulator, or a sum or product of these. Allocates nothing.
+///
+/// Returns `None` if a part has to be evaluated, and on overflow or division by zero.
 #[cycle(read)]
 pub(crate) fn read_int(
     expr: &Expr,
     over: &BlockContext<'_>,
     leaves: &Leaves<'_>,
+    accums: &Accums,
     c: &Candidate,
 ) -> Option<i64>
-    requires { AreFound over.now leaves.now }
-    ensures { IfSome result (IsInt (sees gregorian over.now leaves.now c.now) (view expr.now)) }
+    requires { AreIn accums.now leaves.now }
+    ensures { IfSome result (IsInt (sees_in gregorian over.now leaves.now accums.now c.now) (view expr.now)) }
 {
     match expr {
         Expr::Sum(first, terms) => {
-            let x = read_int(first.get(), over, leaves, c)?;
-            sum_from(terms.as_slice(), over, leaves, c, x)
+            let x = read_int(first.get(), over, leaves, accums, c)?;
+            sum_from(terms.as_slice(), over, leaves, accums, c, x)
         }
         Expr::Mul(first, factors) => {
-            let x = read_int(first.get(), over, leaves, c)?;
-            product_from(factors.as_slice(), over, leaves, c, x)
+            let x = read_int(first.get(), over, leaves, accums, c)?;
+            product_from(factors.as_slice(), over, leaves, accums, c, x)
         }
-        Expr::Post(first, parts) => match short_int(expr, over, leaves, c) {
+        Expr::Post(first, parts) => match short_int(expr, over, leaves, accums, c) {
             Some(x) => Some(x),
-            None => int_of_parts(first.get(), parts.as_slice(), over, leaves, c),
+            None => int_of_parts(first.get(), parts.as_slice(), over, leaves, accums, c),
         },
-        _ => short_int(expr, over, leaves, c),
+        _ => short_int(expr, over, leaves, accums, c),
     }
 }
 
-/// A sum, from what stands before.
+/// Adds the terms to `first`, from left to right.
 #[cycle(read)]
 #[tactic(auto, using(crate::proofs::ArithmeticLemmas::chain_laws))]
 fn sum_from(
     terms: &[(AddSign, Expr)],
     over: &BlockContext<'_>,
     leaves: &Leaves<'_>,
+    accums: &Accums,
     c: &Candidate,
     first: i64,
 ) -> Option<i64>
-    requires { AreFound over.now leaves.now }
-    ensures { IfSome result (AreTerms (sees gregorian over.now leaves.now c.now) first terms.now) }
+    requires { AreIn accums.now leaves.now }
+    ensures { IfSome result (AreTerms (sees_in gregorian over.now leaves.now accums.now c.now) first terms.now) }
 {
     let mut x = first;
     for term in terms {
-        let y = read_int(&term.1, over, leaves, c)?;
+        let y = read_int(&term.1, over, leaves, accums, c)?;
         x = summed(term.0, x, y)?;
     }
     Some(x)
 }
 
-/// A product, from what stands before.
+/// Multiplies `first` by the factors, or divides it, from left to right.
 #[cycle(read)]
 #[tactic(auto, using(crate::proofs::ArithmeticLemmas::chain_laws))]
 fn product_from(
     factors: &[(MulSign, Expr)],
     over: &BlockContext<'_>,
     leaves: &Leaves<'_>,
+    accums: &Accums,
     c: &Candidate,
     first: i64,
 ) -> Option<i64>
-    requires { AreFound over.now leaves.now }
-    ensures { IfSome result (AreFactors (sees gregorian over.now leaves.now c.now) first factors.now) }
+    requires { AreIn accums.now leaves.now }
+    ensures { IfSome result (AreFactors (sees_in gregorian over.now leaves.now accums.now c.now) first factors.now) }
 {
     let mut x = first;
     for factor in factors {
-        let y = read_int(&factor.1, over, leaves, c)?;
+        let y = read_int(&factor.1, over, leaves, accums, c)?;
         x = multiplied(factor.0, x, y)?;
     }
     Some(x)
 }
 
-/// A sum or a difference within INT.
+/// The sum or difference, if it is in the range of INT.
 #[tactic(auto, using(crate::proofs::ArithmeticLemmas::sum_laws))]
 fn summed(sign: AddSign, x: i64, y: i64) -> Option<i64>
     ensures { IfSome result (λ z. summed sign (Int x) (Int y) ≡ Gives (int_meant z)) }
@@ -96,7 +102,7 @@ fn summed(sign: AddSign, x: i64, y: i64) -> Option<i64>
     }
 }
 
-/// A product or a quotient within INT. A remainder is the evaluation's.
+/// The product or quotient, if it is in the range of INT. Remainders are left to the evaluation.
 #[tactic(auto, using(crate::proofs::ArithmeticLemmas::product_laws))]
 fn multiplied(sign: MulSign, x: i64, y: i64) -> Option<i64>
     ensures { IfSome result (λ z. product sign (Int x) (Int y) ≡ Gives (int_meant z)) }

@@ -1,4 +1,4 @@
-// The aliases of a candidate.
+// Binds the aliases of a candidate.
 ghost use Rattle.std.specs.Prelude.{◌≡◌, ◌++◌, ◌<◌, ◌≤◌, ◌+◌, length, map, take};
 ghost use Rattle.std.specs.Option.{option_map, option_to_list};
 ghost use Rattle.gq_frame.specs.Names.{alias_of};
@@ -8,7 +8,7 @@ use gq_exec_source::{End, Ends};
 use gq_frame::{Alias, Bound};
 use gq_graph::Candidate;
 
-/// An alias of no candidate, for a row that isn't filled yet.
+/// A placeholder for the entries of an alias row that isn't filled yet.
 pub fn no_alias<'a>() -> Alias<'a> {
     Alias {
         place: 0,
@@ -16,7 +16,7 @@ pub fn no_alias<'a>() -> Alias<'a> {
     }
 }
 
-/// Puts the aliases of a candidate at the start of a row, the last one in view first, and tells how many there are.
+/// Writes the aliases of a candidate to the start of a row, innermost first, and returns their number.
 #[tactic(auto, using(crate::proofs::BoundLemmas::bind_laws))]
 pub fn bind<'a>(
     row: &mut [Alias<'a>; 3],
@@ -33,7 +33,7 @@ pub fn bind<'a>(
     put(row, count, ends.source.alias(candidate.source))
 }
 
-/// Puts an alias behind the first ones of a row, if there is one, and tells how many there are then.
+/// Writes an alias, if there is one, at index `count`, and returns the new count.
 #[tactic(auto, using(crate::proofs::BoundLemmas::put_laws))]
 fn put<'a>(row: &mut [Alias<'a>; 3], count: usize, alias: Option<Alias<'a>>) -> usize
     requires { count < 3 }

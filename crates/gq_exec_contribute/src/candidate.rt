@@ -1,4 +1,4 @@
-// What comes of a candidate.
+// Runs WHERE and ACCUM of one candidate.
 ghost use Rattle.std.specs.Prelude.{◌≡◌, [], IfOk};
 ghost use Rattle.std.specs.Option.{option_map};
 ghost use Rattle.gq_graph.specs.declared.rows.Candidate.{Candidate};
@@ -24,7 +24,7 @@ use gq_value::Wrong;
 use std::alloc::Global;
 use std::mem;
 
-/// What comes of a candidate.
+/// The result of a candidate.
 #[derive(Clone, Copy, Debug, PartialEq, Eq)]
 pub enum Outcome {
     Passed,
@@ -36,9 +36,9 @@ pub enum Outcome {
     Fault(Wrong),
 }
 
-/// Adds what a match contributes to batches; a candidate that WHERE filters, or that faults, adds nothing. The room serves one
-/// candidate after another. After `OutOfMemory` the batches are unspecified. What a block that isn't well typed is stuck at is
-/// `OutOfMemory` too.
+/// Adds the inputs of a match to batches; a candidate that WHERE filters, or that faults, adds nothing. `room` is
+/// reused from candidate to candidate. After `OutOfMemory` the batches are unspecified. A block that isn't well typed
+/// also ends with `OutOfMemory`.
 #[tactic(auto, using(crate::proofs::PassLemmas::comes_laws))]
 pub fn contribute<V: Sees>(
     alloc: Global,
@@ -72,7 +72,7 @@ pub fn contribute<V: Sees>(
     }
 }
 
-/// Whether a candidate passes WHERE.
+/// Evaluates WHERE.
 fn passes<V: Sees>(filter: &Option<Expr>, alloc: Global, sight: &V) -> Result<bool, Halt>
     ensures { Tells itself (passes (V.look sight.now) (option_map view filter.now)) result }
 {
@@ -82,7 +82,7 @@ fn passes<V: Sees>(filter: &Option<Expr>, alloc: Global, sight: &V) -> Result<bo
     }
 }
 
-/// The room, with nothing in it.
+/// Takes the vector out of the room, emptied.
 fn taken(alloc: Global, room: &mut Room) -> Vec<Feeding>
     ensures { result.items ≡ [] }
 {
@@ -91,7 +91,8 @@ fn taken(alloc: Global, room: &mut Room) -> Vec<Feeding>
     gathered
 }
 
-/// Puts all that was gathered into batches, in order, and gives its room back. What can't be taken is no input of a well typed block.
+/// Moves the gathered inputs into batches, in order, and returns the emptied vector. Inputs of a well typed block
+/// always have a target.
 #[tactic(auto, using(crate::proofs::PassLemmas::put_laws))]
 fn put(
     gathered: Vec<Feeding>,

@@ -1,4 +1,4 @@
-// Where the contents of accumulators stand.
+// Locates and reads the contents of accumulators.
 ghost use Rattle.std.specs.Prelude.{◌≡◌, IfOk, IfSome};
 ghost use Rattle.gq_frame.specs.Slots.{AreSound};
 ghost use Rattle.gq_exec_contribute.specs.Prepared.{AreAllCells, AreCells, HoldsInt, HoldsTruth, IsTarget, StandsAt};
@@ -11,7 +11,7 @@ use gq_frame::{Accums, Slots};
 use gq_nest::Content;
 use std::alloc::Global;
 
-/// What a kind takes as an input.
+/// The inputs that a kind of accumulator takes.
 #[derive(Clone, Copy, Debug, PartialEq, Eq)]
 pub enum Taken {
     Int,
@@ -20,17 +20,17 @@ pub enum Taken {
     /// An INT of a set, a bag or a list.
     Element,
 
-    /// A tuple of so many INTs.
+    /// A tuple of INTs, by their number.
     Tuple(usize),
 
-    /// So many INTs as keys, and an INT for each of so many parts.
+    /// INT keys and INT parts, by their numbers.
     Keyed(usize, usize),
 
-    /// Something else, of which nothing is said.
+    /// Inputs that are always evaluated.
     Other,
 }
 
-/// Where the contents of a slot stand: the number of its first target, and how many it has. And what it is fed.
+/// A slot's first target, the number of its targets, and the inputs that it takes.
 #[derive(Clone, Copy, Debug)]
 pub struct Cells {
     pub first: u64,
@@ -38,7 +38,7 @@ pub struct Cells {
     pub takes: Taken,
 }
 
-/// The cells of each slot.
+/// The cells of every slot, by slot number.
 #[tactic(auto, using(crate::proofs::CellLemmas::cells_laws))]
 pub(crate) fn cells_of(alloc: Global, slots: &Slots) -> Result<List<Cells>, OutOfMemory>
     ensures { IfOk result (AreAllCells slots.now) }
@@ -70,7 +70,7 @@ fn cells_at(slots: &Slots, number: usize) -> Option<Cells>
     }
 }
 
-/// What stands at the target of a slot and a vertex.
+/// The content at the target of a slot and a vertex.
 #[tactic(auto, using(crate::proofs::CellLemmas::target_laws))]
 pub(crate) fn content_in<'a>(
     accums: &'a Accums,
@@ -94,7 +94,7 @@ pub(crate) fn content_in<'a>(
     }
 }
 
-/// The number of the target of a vertex.
+/// The number of a vertex's target in these cells.
 pub(crate) fn target_in(cells: &Cells, vertex: u32) -> Option<u64>
     ensures { IfSome result (IsTarget cells.now vertex) }
 {
@@ -104,7 +104,7 @@ pub(crate) fn target_in(cells: &Cells, vertex: u32) -> Option<u64>
     cells.first.checked_add(u64::from(vertex))
 }
 
-/// The INT that a content is.
+/// The INT that a content reads as.
 #[tactic(auto, using(crate::proofs::CellLemmas::int_laws))]
 pub(crate) fn int_in(content: &Content) -> Option<i64>
     ensures { IfSome result (HoldsInt content.now) }
@@ -131,7 +131,7 @@ fn int_of(sum: i128) -> Option<i64>
     }
 }
 
-/// The truth that a content is.
+/// The truth that a content reads as.
 #[tactic(auto, using(crate::proofs::CellLemmas::truth_laws))]
 pub(crate) fn truth_in(content: &Content) -> Option<bool>
     ensures { IfSome result (HoldsTruth content.now) }

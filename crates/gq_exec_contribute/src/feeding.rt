@@ -1,8 +1,8 @@
-// What a match contributes.
+// Inputs that a match contributes.
 use gq_value::Input;
 use std::alloc::Global;
 
-/// An input to the accumulator of a slot, at a vertex; a global one is at 0.
+/// An input for the accumulator of a slot at a vertex, which is 0 for a global one.
 #[derive(Drop)]
 pub struct Feeding {
     pub slot: u32,
@@ -10,14 +10,14 @@ pub struct Feeding {
     pub input: Input,
 }
 
-/// Room for what one match contributes. Candidates use it one after another, so that only the first ones take memory for it.
+/// A buffer for the inputs of one match. It is reused from candidate to candidate, which saves allocations.
 #[derive(Drop)]
 pub struct Room {
     pub(crate) gathered: Vec<Feeding>,
 }
 
 impl Room {
-    /// No room yet. Takes no memory.
+    /// An empty buffer. Allocates nothing.
     pub fn new(alloc: Global) -> Room {
         Room {
             gathered: Vec::new(alloc),

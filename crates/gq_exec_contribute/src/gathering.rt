@@ -1,4 +1,4 @@
-// What acts feed.
+// Reads the inputs of ACCUM without an evaluation.
 ghost use Rattle.std.specs.Prelude.{◌≡◌, IfOk, IfSome};
 ghost use Rattle.gq_rules_calendar.specs.Gregorian.{gregorian};
 ghost use Rattle.gq_rules_typing.specs.Selecting.{Adds as AddsTo};
@@ -6,9 +6,9 @@ ghost use Rattle.gq_rules_meaning.specs.Blocks.{contributed, contributions, of_a
 ghost use Rattle.gq_frame.specs.Slots.{slots_are};
 ghost use Rattle.gq_plan_ir.specs.BlockView.{view_act, view_acts, view_change, view_feed};
 ghost use Rattle.gq_plan_ir.specs.Reference.{Slot};
-ghost use Rattle.gq_exec_contribute.specs.Prepared.{AreFound, Gathers, IsInput, sees};
+ghost use Rattle.gq_exec_contribute.specs.Prepared.{AreFound, Gathers, IsFed, IsInput, sees};
 
-use crate::cells::target_in;
+use crate::cells::{Taken, target_in};
 use crate::leaves::Leaves;
 use crate::names::vertex_at;
 use crate::reading::read;
@@ -19,7 +19,9 @@ use gq_graph::Candidate;
 use gq_plan_ir::{Act, Change, Feed};
 use std::alloc::Global;
 
-/// Adds what a candidate feeds by these acts, each input with the number of its target; or nothing, where one of them feeds something else.
+/// Appends the inputs that the statements feed for a candidate, each with the number of its target.
+///
+/// Returns false, and appends nothing, if one of the inputs can't be read.
 #[tactic(auto, using(crate::proofs::GatherLemmas::gather_laws))]
 pub fn gather(
     acts: &[Act],
@@ -42,7 +44,7 @@ pub fn gather(
     Ok(true)
 }
 
-/// Adds what an act feeds, or nothing.
+/// Appends the input of a statement, or returns false.
 #[tactic(auto, using(gq_plan_ir::proofs::ViewLaws::step_laws, crate::proofs::GatherLemmas::act_laws))]
 fn add_act(
     act: &Act,
@@ -65,7 +67,7 @@ fn add_act(
     }
 }
 
-/// Adds what a change feeds into the slot at a vertex, or nothing.
+/// Appends the input of a `+=` to the slot at a vertex, or returns false.
 #[tactic(auto, using(crate::proofs::GatherLemmas::change_laws))]
 fn add_change(
     change: &Change,
@@ -89,7 +91,7 @@ fn add_change(
     }
 }
 
-/// What a change feeds into the slot at a vertex, with the number of the target.
+/// Reads the input of a `+=` to the slot at a vertex, with the number of its target.
 fn input_of(
     change: &Change,
     alloc: Global,
@@ -108,7 +110,7 @@ fn input_of(
             None => None,
             Some(cells) => match target_in(cells, vertex) {
                 None => None,
-                Some(target) => match read(feed, alloc, over, leaves, c, cells.takes) {
+                Some(target) => match read_before(feed, alloc, over, leaves, c, cells.takes) {
                     None => None,
                     Some(x) => Some((target, x)),
                 },
@@ -117,8 +119,23 @@ fn input_of(
     }
 }
 
-/// What a change adds.
-fn added(change: &Change) -> Option<&Feed>
+/// Reads an input with the accumulators from before the block.
+fn read_before(
+    feed: &Feed,
+    alloc: Global,
+    over: &BlockContext<'_>,
+    leaves: &Leaves<'_>,
+    c: &Candidate,
+    takes: Taken,
+) -> Option<ScalarInput>
+    requires { AreFound over.now leaves.now }
+    ensures { IfSome result (IsFed (sees gregorian over.now leaves.now c.now) (view_feed feed.now) takes) }
+{
+    read(feed, alloc, over, leaves, &over.frame.accums, c, takes)
+}
+
+/// The input of a `+=`; `None` for `=`.
+pub(crate) fn added(change: &Change) -> Option<&Feed>
     ensures { IfSome result (λ feed. view_change change.entry.now ≡ AddsTo (view_feed feed.now)) }
 {
     match change {

@@ -1,4 +1,4 @@
-// Inputs.
+// Evaluates inputs.
 ghost use Rattle.std.specs.Prelude.{◌≡◌, map, Some, IfSome};
 ghost use Rattle.gq_value.specs.declared.kind.Number.TheVariants as number;
 ghost use Rattle.gq_value.specs.Accums.{One};
@@ -28,7 +28,7 @@ use gq_plan_ir::{Behind, Expr, Feed, Field};
 use gq_value::{Input, Inputs, Kind, Number, Row, Value};
 use std::alloc::Global;
 
-/// An input of an accumulator, converted to what its kind takes. Takes memory for texts, tuples and key rows.
+/// Evaluates an input and converts it to the type that the kind takes. Allocates for texts, tuples and key rows.
 #[cycle(feed)]
 #[tactic(auto, using(gq_plan_ir::proofs::ViewLaws::step_laws, crate::proofs::InputLemmas::feed_laws))]
 pub fn run_feed<V: Sees>(feed: &Feed, kind: &Kind, alloc: Global, sight: &V) -> Result<Input, Halt>
@@ -44,7 +44,7 @@ pub fn run_feed<V: Sees>(feed: &Feed, kind: &Kind, alloc: Global, sight: &V) -> 
     }
 }
 
-/// The keys of an input from left to right, each converted before the next is evaluated.
+/// Evaluates the keys from left to right, and converts each before the next is evaluated.
 #[tactic(auto, using(gq_eval_builtins::proofs::RunLemmas::row_laws, gq_eval_builtins::proofs::ListSteps::row_at))]
 fn run_keys<V: Sees>(keys: &[Expr], wants: Wants<'_>, alloc: Global, sight: &V) -> Result<Row, Halt>
     ensures { Tells (map val) (arguments (V.look sight.now) (map Some (wants_are wants.entry)) (views keys.now)) result }
@@ -63,7 +63,7 @@ fn run_keys<V: Sees>(keys: &[Expr], wants: Wants<'_>, alloc: Global, sight: &V) 
     Ok(row)
 }
 
-/// One value, converted.
+/// Evaluates and converts one value.
 fn run_one<V: Sees>(expr: &Expr, kind: &Kind, alloc: Global, sight: &V) -> Result<Input, Halt>
     ensures { Tells given (one_input (V.look sight.now) (accum_of kind.now) (view expr.now)) result }
 {
@@ -73,8 +73,8 @@ fn run_one<V: Sees>(expr: &Expr, kind: &Kind, alloc: Global, sight: &V) -> Resul
     }
 }
 
-/// The INT that an attribute of an alias is, where a kind takes INTs: by far the most common input, which so is read at once. Of all else
-/// it gives nothing.
+/// Reads an INT attribute of an alias, for a kind that takes INTs. This is by far the most common input. Returns `None`
+/// for all others.
 #[tactic(auto, using(crate::proofs::InputLemmas::int_given))]
 fn int_taken<V: Sees>(expr: &Expr, kind: &Kind, alloc: Global, sight: &V) -> Option<Input>
     ensures { IfSome result (λ input. one_input (V.look sight.now) (accum_of kind.now) (view expr.now) ≡ Gives (given input)) }
@@ -97,7 +97,7 @@ fn int_input(x: i64) -> Input
     Input::One(Value::Int(x))
 }
 
-/// The INT that an attribute of an alias is.
+/// Reads an INT attribute of an alias.
 #[tactic(auto, using(gq_plan_ir::proofs::ViewLaws::view_laws))]
 fn int_in<V: Sees>(expr: &Expr, alloc: Global, sight: &V) -> Option<i64>
     ensures { IfSome result (λ x. value_of (V.look sight.now) (view expr.now) ≡ Gives (Int x)) }
@@ -108,7 +108,7 @@ fn int_in<V: Sees>(expr: &Expr, alloc: Global, sight: &V) -> Option<i64>
     }
 }
 
-/// The INT that the one attribute behind a name is.
+/// Reads the INT of an expression `name.attribute`.
 #[tactic(auto, using(crate::proofs::InputLemmas::part_read))]
 fn int_behind<V: Sees>(first: &Expr, parts: &[Behind], alloc: Global, sight: &V) -> Option<i64>
     ensures { IfSome result (λ x. value_of (V.look sight.now) (Post (view first.now) (view_parts parts.now)) ≡ Gives (Int x)) }
@@ -122,7 +122,7 @@ fn int_behind<V: Sees>(first: &Expr, parts: &[Behind], alloc: Global, sight: &V)
     }
 }
 
-/// The INT that a part behind what a place stands for is, where the part is a field.
+/// Reads the INT of a part of the alias at a place, if the part is a field.
 #[tactic(auto, using(crate::proofs::InputLemmas::field_part))]
 fn int_part<V: Sees>(place: u32, part: &Behind, alloc: Global, sight: &V) -> Option<i64>
     ensures { IfSome result (λ x. part_value (V.look sight.now) (Place place) (view_behind part.now) ≡ Gives (Int x)) }
@@ -133,7 +133,7 @@ fn int_part<V: Sees>(place: u32, part: &Behind, alloc: Global, sight: &V) -> Opt
     }
 }
 
-/// The INT that an attribute of what a place stands for is.
+/// Reads an INT attribute of the alias at a place.
 #[tactic(auto, using(crate::proofs::InputLemmas::field_goes))]
 fn int_of<V: Sees>(place: u32, field: &Field, alloc: Global, sight: &V) -> Option<i64>
     ensures { IfSome result (λ x. field_value (V.look sight.now) (Place place) (field_of field.now) ≡ Gives (Int x)) }
@@ -159,7 +159,7 @@ pub(crate) fn int_seen(seen: &Seen<'_>) -> Option<i64>
     }
 }
 
-/// One value of any type, converted.
+/// Evaluates and converts one value of any type.
 #[tactic(auto, using(crate::proofs::InputLemmas::one_laws))]
 fn run_any<V: Sees>(expr: &Expr, kind: &Kind, alloc: Global, sight: &V) -> Result<Input, Halt>
     ensures { Tells given (one_input (V.look sight.now) (accum_of kind.now) (view expr.now)) result }
@@ -178,7 +178,7 @@ fn run_any<V: Sees>(expr: &Expr, kind: &Kind, alloc: Global, sight: &V) -> Resul
     }
 }
 
-/// An input for each part of a kind.
+/// Evaluates an input for each part of a map or a group.
 #[cycle(feed)]
 #[tactic(auto, using(crate::proofs::InputLemmas::parts_laws))]
 fn run_parts<V: Sees>(feeds: &[Feed], kind: &Kind, alloc: Global, sight: &V) -> Result<Inputs, Halt>

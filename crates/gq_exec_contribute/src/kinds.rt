@@ -1,4 +1,4 @@
-// What accumulators of a kind take.
+// Types of the inputs of a kind.
 ghost use Rattle.std.specs.Prelude.{◌≡◌, slice_get};
 ghost use Rattle.std.specs.Option.{option_copied, option_map};
 ghost use Rattle.gq_value.specs.AccumViews.{accum_of, base_of};
@@ -14,7 +14,7 @@ pub(crate) enum Taking {
     Itself,
 }
 
-/// How an accumulator of a kind takes one value, if it takes such inputs.
+/// How a kind takes one value; `None` if it takes keys with parts.
 #[tactic(auto, using(gq_value::proofs::AccumLemmas::accum_laws))]
 pub(crate) fn how_taken(kind: &Kind) -> Option<Taking>
     ensures { TakesAs (input_type (accum_of kind.now)) result }
@@ -41,7 +41,7 @@ fn base_taken(base: &BaseType) -> Taking
     }
 }
 
-/// The kind of the part at a place, if there is one: a map has one part, and a group has those that it declares.
+/// The kind of the part at a place: a map has one part, and a group has those that it declares.
 #[tactic(auto, using(gq_value::proofs::AccumLemmas::accum_laws, crate::proofs::InputLemmas::kind_laws))]
 pub(crate) fn part_at(kind: &Kind, place: usize) -> Option<&Kind>
     ensures { slice_get (part_kinds (accum_of kind.now)) place ≡ option_map accum_of (option_copied result) }

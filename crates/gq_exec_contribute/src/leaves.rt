@@ -1,4 +1,4 @@
-// What is found once.
+// Resolves names and accumulators once per block.
 ghost use Rattle.std.specs.Prelude.{◌≡◌, IfOk};
 ghost use Rattle.std.specs.Option.{option_map};
 ghost use Rattle.gq_rules_typing.specs.Patterns.{edge_alias};
@@ -14,7 +14,7 @@ use gq_frame::Slots;
 use gq_plan_ir::Walk;
 use std::alloc::Global;
 
-/// What names and accumulators of a block's expressions stand for.
+/// The resolved names and accumulators of a block's expressions.
 #[derive(Drop)]
 pub struct Leaves<'b> {
     pub ends: &'b Ends,
@@ -22,11 +22,11 @@ pub struct Leaves<'b> {
     /// The place of the edge's alias.
     pub edge: Option<u32>,
 
-    /// Where the contents of each slot stand.
+    /// The cells of each slot, by slot number.
     pub cells: List<Cells>,
 }
 
-/// What they stand for in a block with this walk and these ends, over accumulators of these slots.
+/// Resolves them for a block with this walk and these ends, over accumulators of these slots.
 pub fn leaves_of<'b>(
     alloc: Global,
     slots: &Slots,

@@ -6,15 +6,15 @@
 //! what the batches gain. `specs/Feeds.antt` and `specs/Taking.antt` say what an input means. The code begins
 //! in `src/candidate.rt`; `src/acts.rt` runs the statements of ACCUM and `src/inputs.rt` evaluates inputs.
 //!
-//! INTs, truths and vertices are read without values in memory, where the whole match is made of such. What the names
-//! and accumulators of a block's expressions stand for is found once, at its start: which end of a candidate an alias
-//! is, and where the contents of each accumulator stand. An expression is then read from the plan's own tree, its leaves
-//! straight from the candidate, the graph and the contents, its answers in registers; an INT without such a short form
-//! is a leaf that is evaluated. An answer is what the evaluation gives. Where there is none nothing is said, and the
-//! caller evaluates: so faults, overflows, and all that is no INT, truth or vertex, are the evaluation's alone. Inputs
-//! of maps, groups and heaps that are made of INTs wait as those INTs (`src/rows.rt`), and become rows of values only
-//! where they are fed. Read `specs/Prepared.antt` first; the code begins in `src/gathering.rt` (ACCUM) and
-//! `src/truths.rt` (WHERE), and `src/leaves.rt` has what is found once.
+//! Expressions that are INTs, truths or vertices are read without making values, if the whole match consists of them.
+//! The names and accumulators of a block's expressions are resolved once, at its start: which end of a candidate an
+//! alias is, and where the contents of each accumulator are. An expression is then read from the plan's own tree, its
+//! leaves directly from the candidate, the graph and the contents; results stay in registers. Other INTs are leaves
+//! that are evaluated. A result is what the evaluation gives. `None` says nothing: the caller evaluates then, so
+//! faults, overflows, and values that aren't INTs, truths or vertices are left to the evaluation. Inputs
+//! of maps, groups and heaps that are made of INTs are kept as INTs (`src/rows.rt`), and become rows of values only
+//! when they are fed. Read `specs/Prepared.antt` first; the code begins in `src/gathering.rt` (ACCUM), `src/truths.rt`
+//! (WHERE) and `src/vertex.rt` (POST-ACCUM), and `src/leaves.rt` resolves names and accumulators.
 #![tactic(auto)]
 
 mod acts;
@@ -37,6 +37,7 @@ mod rows;
 mod scalars;
 mod takes;
 mod truths;
+mod vertex;
 
 pub use bound::{bind, no_alias};
 pub use candidate::{Outcome, contribute};
@@ -48,3 +49,4 @@ pub use leaves::{Leaves, leaves_of};
 pub use rows::Ints;
 pub use scalars::{ScalarInput, feed_scalars, input_of};
 pub use truths::passes;
+pub use vertex::{added_at, truth_at};

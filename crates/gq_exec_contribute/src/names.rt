@@ -1,4 +1,4 @@
-// What names stand for.
+// Reads names and fields.
 ghost use Rattle.std.specs.Prelude.{◌≡◌, IfSome, true};
 ghost use Rattle.gq_value.specs.Val.{Int, Truth};
 ghost use Rattle.gq_value.specs.Views.{val};
@@ -9,13 +9,13 @@ ghost use Rattle.gq_rules_meaning.specs.States as states;
 ghost use Rattle.gq_plan_ir.specs.ExprView.{field_of};
 ghost use Rattle.gq_eval_attributes.specs.Reads.{IsReadInt};
 ghost use Rattle.gq_index.specs.Rows.{HaveAttributes};
-ghost use Rattle.gq_exec_contribute.specs.Prepared.{IsEdge, IsHeld, IsHeldInt, IsHeldTruth, IsVertex, NoAlias, is_at, part_value, sees};
+ghost use Rattle.gq_exec_contribute.specs.Prepared.{IsEdge, IsHeld, IsHeldInt, IsHeldTruth, IsVertex, NoAlias, is_at, part_value, sees_in};
 
 use crate::inputs::int_seen;
 use crate::leaves::Leaves;
 use gq_eval_attributes::{edge_int, vertex_field, vertex_int};
 use gq_eval_context::BlockContext;
-use gq_frame::Thing;
+use gq_frame::{Accums, Thing};
 use gq_graph::Candidate;
 use gq_index::Graph;
 use gq_plan_ir::{Field, PlaceType};
@@ -31,7 +31,7 @@ fn is_at(alias: Option<u32>, place: u32) -> bool
     }
 }
 
-/// The vertex that a name stands for. Where several aliases have one place, that of the target goes first, and then the edge's.
+/// The vertex that a name is bound to. Of aliases with the same place the target's comes first, then the edge's.
 #[tactic(auto, using(crate::proofs::NameLemmas::vertex_laws))]
 pub(crate) fn vertex_at(leaves: &Leaves<'_>, c: &Candidate, place: u32) -> Option<u32>
     ensures { IfSome result (IsVertex leaves.now c.now place) }
@@ -48,7 +48,7 @@ pub(crate) fn vertex_at(leaves: &Leaves<'_>, c: &Candidate, place: u32) -> Optio
     None
 }
 
-/// Whether a name is the edge's.
+/// Whether a name is the alias of the edge.
 fn is_edge(leaves: &Leaves<'_>, place: u32) -> bool
     ensures { result ≡ true → IsEdge leaves.now place }
 {
@@ -58,23 +58,24 @@ fn is_edge(leaves: &Leaves<'_>, place: u32) -> bool
     is_at(leaves.edge, place)
 }
 
-/// The INT that a field of what a name stands for is.
+/// Reads an INT field of the vertex or edge that a name is bound to.
 pub(crate) fn field_int(
     field: &Field,
     over: &BlockContext<'_>,
     leaves: &Leaves<'_>,
+    accums: &Accums,
     c: &Candidate,
     place: u32,
 ) -> Option<i64>
-    ensures { IfSome result (λ x. part_value (sees gregorian over.now leaves.now c.now) place (tree.Field (field_of field.now)) ≡ Gives (Int x)) }
+    ensures { IfSome result (λ x. part_value (sees_in gregorian over.now leaves.now accums.now c.now) place (tree.Field (field_of field.now)) ≡ Gives (Int x)) }
 {
     match vertex_at(leaves, c, place) {
         Some(vertex) => vertex_field_int(over.graph, field, vertex),
-        None => edge_field(field, over, leaves, c, place),
+        None => edge_field(field, over, leaves, accums, c, place),
     }
 }
 
-/// The INT that a field of a vertex is: an attribute, or else its id.
+/// Reads an INT field of a vertex: an attribute, or else its id.
 #[tactic(auto, using(crate::proofs::NameLemmas::field_laws))]
 fn vertex_field_int(graph: Graph<'_>, field: &Field, vertex: u32) -> Option<i64>
     requires { HaveAttributes graph.catalog.now graph.store.now.vertices }
@@ -89,15 +90,16 @@ fn vertex_field_int(graph: Graph<'_>, field: &Field, vertex: u32) -> Option<i64>
     }
 }
 
-/// The INT that a field of the candidate's edge is.
+/// Reads an INT field of the candidate's edge.
 fn edge_field(
     field: &Field,
     over: &BlockContext<'_>,
     leaves: &Leaves<'_>,
+    accums: &Accums,
     c: &Candidate,
     place: u32,
 ) -> Option<i64>
-    ensures { IfSome result (λ x. part_value (sees gregorian over.now leaves.now c.now) place (tree.Field (field_of field.now)) ≡ Gives (Int x)) }
+    ensures { IfSome result (λ x. part_value (sees_in gregorian over.now leaves.now accums.now c.now) place (tree.Field (field_of field.now)) ≡ Gives (Int x)) }
 {
     if !is_edge(leaves, place) {
         return None;
@@ -111,7 +113,7 @@ fn edge_field(
     }
 }
 
-/// Whether a name is no alias.
+/// Whether a name isn't an alias.
 fn is_no_alias(leaves: &Leaves<'_>, place: u32) -> bool
     ensures { result ≡ true → NoAlias leaves.now place }
 {
@@ -124,7 +126,7 @@ fn is_no_alias(leaves: &Leaves<'_>, place: u32) -> bool
     !is_at(leaves.ends.source.alias, place)
 }
 
-/// The value of the variable at a place that is no alias.
+/// The value of the variable at a place that isn't an alias.
 fn variable<'a>(over: &'a BlockContext<'_>, leaves: &Leaves<'_>, place: u32) -> Option<&'a Value>
     ensures { IfSome result (λ value. IsHeld over.entry.now leaves.now place value.now) }
 {
@@ -140,7 +142,7 @@ fn variable<'a>(over: &'a BlockContext<'_>, leaves: &Leaves<'_>, place: u32) -> 
     }
 }
 
-/// The INT that a variable is.
+/// Reads an INT variable.
 #[tactic(auto, using(crate::proofs::NameLemmas::variable_laws))]
 pub(crate) fn variable_int(over: &BlockContext<'_>, leaves: &Leaves<'_>, place: u32) -> Option<i64>
     ensures { IfSome result (IsHeldInt over.now leaves.now place) }
@@ -161,7 +163,7 @@ fn int_of_value(value: &Value) -> Option<i64>
     }
 }
 
-/// The truth that a variable is.
+/// Reads a BOOL variable.
 #[tactic(auto, using(crate::proofs::NameLemmas::variable_laws))]
 pub(crate) fn variable_truth(
     over: &BlockContext<'_>,

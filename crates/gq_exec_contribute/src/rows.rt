@@ -1,21 +1,21 @@
-// Few INTs in a row.
+// Short rows of INTs.
 ghost use Rattle.std.specs.Prelude.{◌≡◌, ◌++◌, ◌∷◌, [], true};
 ghost use Rattle.gq_exec_contribute.specs.Scalars.{ints_of};
 
-/// How many INTs a row has at most.
+/// The maximum number of INTs in a row.
 const MOST: usize = 6;
 
-/// Up to six INTs in order, without memory of their own.
+/// Up to six INTs in order, stored inline.
 #[derive(Clone, Copy, Debug)]
 pub struct Ints {
     pub count: usize,
 
-    /// Those from `count` on are of no meaning.
+    /// Entries from `count` on are unused.
     pub numbers: [i64; 6],
 }
 
 impl Ints {
-    /// No INTs yet.
+    /// An empty row.
     pub fn none() -> Ints
         ensures { ints_of result ≡ [] }
     {
@@ -25,7 +25,7 @@ impl Ints {
         }
     }
 
-    /// Puts one behind them, if there is room for it.
+    /// Appends an INT; returns false if the row is full.
     pub(crate) fn push(&mut self, x: i64) -> bool
         ensures { result ≡ true → ints_of self.new ≡ ints_of self.old ++ x ∷ [] }
     {
@@ -37,7 +37,7 @@ impl Ints {
         true
     }
 
-    /// All of them.
+    /// The INTs of the row.
     pub fn as_slice(&self) -> &[i64]
         ensures { result.now ≡ ints_of self.now }
     {

@@ -1,4 +1,4 @@
-// Inputs made of INTs or a truth, which wait to be fed.
+// Feeds inputs made of INTs or a truth.
 ghost use Rattle.std.specs.Prelude.{◌≡◌, [], ◌∷◌, IfOk, OnOk, map};
 ghost use Rattle.gq_exec_feed.specs.Feeding.{TakesBatch};
 ghost use Rattle.gq_value.specs.declared.value.Value.TheVariants as value;
@@ -6,12 +6,12 @@ ghost use Rattle.gq_exec_contribute.specs.Scalars.{as_inputs, made_of, one_int};
 
 use crate::rows::Ints;
 use gq_base::{List, OutOfMemory};
-use gq_exec_feed::{feed_all, feed_ints};
+use gq_exec_feed::{feed_all, feed_ints, feed_one};
 use gq_frame::Accums;
 use gq_value::{Input, Inputs, Row, Value};
 use std::alloc::Global;
 
-/// An input that is made of INTs, or is a truth. It has no memory of its own.
+/// An input made of INTs, or a truth. It is stored inline.
 #[derive(Clone, Copy, Debug)]
 pub enum ScalarInput {
     Int(i64),
@@ -23,11 +23,11 @@ pub enum ScalarInput {
     /// A tuple with these fields.
     Tuple(Ints),
 
-    /// So many keys, and then an INT for each part.
+    /// The number of keys, and a row of the keys followed by an INT for each part.
     Keyed(usize, Ints),
 }
 
-/// The input itself. Takes memory for tuples, keys and parts.
+/// Makes the input. Allocates for tuples, keys and parts.
 pub fn input_of(alloc: Global, x: &ScalarInput) -> Result<Input, OutOfMemory>
     ensures { IfOk result (λ input. input ≡ made_of x.now) }
 {
@@ -52,10 +52,19 @@ fn row_of(alloc: Global, ints: &[i64]) -> Result<Row, OutOfMemory>
     ensures { IfOk result (λ row. row ≡ map value.Int ints.now) }
 {
     let mut row = List::from_vec(Vec::with_capacity(alloc, ints.len())?);
+    refill_row(&mut row, ints)?;
+    Ok(row)
+}
+
+/// Replaces a row by INTs as values, reusing its memory.
+fn refill_row(row: &mut Row, ints: &[i64]) -> Result<(), OutOfMemory>
+    ensures { OnOk result (row.new ≡ map value.Int ints.now) }
+{
+    row.truncate(0);
     for x in ints {
         row.push(Value::Int(*x))?;
     }
-    Ok(row)
+    Ok(())
 }
 
 /// INTs as inputs.
@@ -63,16 +72,57 @@ fn parts_of(alloc: Global, ints: &[i64]) -> Result<Inputs, OutOfMemory>
     ensures { IfOk result (λ parts. parts ≡ map one_int ints.now) }
 {
     let mut parts = List::from_vec(Vec::with_capacity(alloc, ints.len())?);
-    for x in ints {
-        parts.push(Input::One(Value::Int(*x)))?;
-    }
+    refill_parts(&mut parts, ints)?;
     Ok(parts)
 }
 
-/// Feeds inputs, in order: each to the target with its number. Takes memory for what is no number or truth.
+/// Replaces inputs by INTs as inputs, reusing their memory.
+fn refill_parts(parts: &mut Inputs, ints: &[i64]) -> Result<(), OutOfMemory>
+    ensures { OnOk result (parts.new ≡ map one_int ints.now) }
+{
+    parts.truncate(0);
+    for x in ints {
+        parts.push(Input::One(Value::Int(*x)))?;
+    }
+    Ok(())
+}
+
+/// Replaces an input, reusing its memory if both have keys or both are tuples.
+fn refill(alloc: Global, x: &ScalarInput, spare: &mut Input) -> Result<(), OutOfMemory>
+    ensures { OnOk result (spare.new ≡ made_of x.now) }
+{
+    match x {
+        ScalarInput::Tuple(fields) => match spare {
+            Input::One(Value::Tuple(row)) => refill_row(row, fields.as_slice()),
+            _ => replace(alloc, x, spare),
+        },
+        ScalarInput::Keyed(count, ints) => match spare {
+            Input::Keyed(keys, parts) => {
+                let ints = ints.as_slice();
+                let count = (*count).min(ints.len());
+                refill_row(keys, &ints[..count])?;
+                refill_parts(parts, &ints[count..])
+            }
+            Input::One(_) => replace(alloc, x, spare),
+        },
+        ScalarInput::Int(_) | ScalarInput::Truth(_) | ScalarInput::Element(_) => {
+            replace(alloc, x, spare)
+        }
+    }
+}
+
+/// Replaces an input by a new one.
+fn replace(alloc: Global, x: &ScalarInput, spare: &mut Input) -> Result<(), OutOfMemory>
+    ensures { OnOk result (spare.new ≡ made_of x.now) }
+{
+    *spare = input_of(alloc, x)?;
+    Ok(())
+}
+
+/// Feeds inputs in order, each to the target with its number. Allocates for inputs other than numbers and truths.
 ///
-/// It answers OutOfMemory where there is no such target, or its kind takes no such input: then part of them may be fed.
-#[tactic(auto, using(crate::proofs::ScalarLemmas::feed_laws))]
+/// Also returns `OutOfMemory` if a target doesn't exist or its kind doesn't take the input. After an error some inputs
+/// may have been fed.
 pub fn feed_scalars(
     alloc: Global,
     accums: &mut Accums,
@@ -80,29 +130,60 @@ pub fn feed_scalars(
 ) -> Result<(), OutOfMemory>
     ensures { OnOk result (TakesBatch accums.old accums.new (as_inputs inputs.now)) }
 {
+    let mut keyed = Input::Keyed(List::new(alloc), List::new(alloc));
+    let mut tuple = Input::One(Value::Tuple(List::new(alloc)));
+    feed_over(alloc, accums, inputs, &mut keyed, &mut tuple)
+}
+
+/// Feeds inputs in order. Inputs with keys are made in `keyed`, and tuples in `tuple`, to reuse their memory.
+#[tactic(auto, using(crate::proofs::ScalarLemmas::feed_laws))]
+fn feed_over(
+    alloc: Global,
+    accums: &mut Accums,
+    inputs: &[(u64, ScalarInput)],
+    keyed: &mut Input,
+    tuple: &mut Input,
+) -> Result<(), OutOfMemory>
+    ensures { OnOk result (TakesBatch accums.old accums.new (as_inputs inputs.now)) }
+{
     for (target, x) in inputs {
-        feed_scalar(alloc, accums, *target, x)?;
+        feed_scalar(alloc, accums, *target, x, keyed, tuple)?;
     }
     Ok(())
 }
 
-/// Feeds the target with a number.
+/// Feeds an input to the target with this number.
 fn feed_scalar(
     alloc: Global,
     accums: &mut Accums,
     target: u64,
     x: &ScalarInput,
+    keyed: &mut Input,
+    tuple: &mut Input,
 ) -> Result<(), OutOfMemory>
     ensures { OnOk result (TakesBatch accums.old accums.new (as_inputs ((target, x.now) ∷ []))) }
 {
     match x {
-        ScalarInput::Int(x) => feed_ints(accums, &[(target, *x)]),
-        ScalarInput::Truth(_)
-        | ScalarInput::Element(_)
-        | ScalarInput::Tuple(_)
-        | ScalarInput::Keyed(_, _) => {
+        ScalarInput::Int(x) => feed_ints(alloc, accums, &[(target, *x)]),
+        ScalarInput::Truth(_) | ScalarInput::Element(_) => {
             let input = input_of(alloc, x)?;
             feed_all(alloc, accums, &[(target, input)])
         }
+        ScalarInput::Tuple(_) => feed_made(alloc, accums, target, x, tuple),
+        ScalarInput::Keyed(_, _) => feed_made(alloc, accums, target, x, keyed),
     }
+}
+
+/// Makes an input in `spare` and feeds it.
+fn feed_made(
+    alloc: Global,
+    accums: &mut Accums,
+    target: u64,
+    x: &ScalarInput,
+    spare: &mut Input,
+) -> Result<(), OutOfMemory>
+    ensures { OnOk result (TakesBatch accums.old accums.new (as_inputs ((target, x.now) ∷ []))) }
+{
+    refill(alloc, x, spare)?;
+    feed_one(alloc, accums, target, spare)
 }

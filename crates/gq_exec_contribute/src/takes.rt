@@ -1,4 +1,4 @@
-// What kinds take.
+// Classifies kinds by the inputs that they take.
 ghost use Rattle.std.specs.Prelude.{◌≡◌, true};
 ghost use Rattle.std.specs.List.{All};
 ghost use Rattle.gq_value.specs.Accums.{SumAccum, MinAccum, MaxAccum, SetAccum, BagAccum, ListAccum, MapAccum, INT};
@@ -8,7 +8,7 @@ ghost use Rattle.gq_exec_contribute.specs.Prepared.{Takes, TakesInts, group_of, 
 use crate::cells::Taken;
 use gq_value::{BaseType, GroupShape, HeapShape, Kind, Number, Txt};
 
-/// What a kind takes.
+/// The inputs that a kind takes.
 #[tactic(auto, using(gq_value::proofs::AccumLemmas::accum_laws))]
 pub(crate) fn taken_by(kind: &Kind) -> Taken
     ensures { Takes (accum_of kind.now) result }
@@ -21,7 +21,7 @@ pub(crate) fn taken_by(kind: &Kind) -> Taken
     }
 }
 
-/// What a kind without keys or tuples takes.
+/// The inputs that a kind without keys or tuples takes.
 #[tactic(auto, using(gq_value::proofs::AccumLemmas::accum_laws, crate::proofs::CellLemmas::kind_laws))]
 fn one_taken(kind: &Kind) -> Taken
     ensures { Takes (accum_of kind.now) result }
@@ -39,7 +39,7 @@ fn one_taken(kind: &Kind) -> Taken
     }
 }
 
-/// What a collection of such elements takes.
+/// The inputs that a set, bag or list of these elements takes.
 #[tactic(auto, using(crate::proofs::KindLemmas::element_laws))]
 fn element_taken(base: &BaseType) -> Taken
     ensures set { Takes (SetAccum (base_of base.now)) result }

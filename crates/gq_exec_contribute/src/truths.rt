@@ -1,16 +1,16 @@
-// Expressions that are truths.
+// Reads expressions that are truths.
 ghost use Rattle.std.specs.Prelude.{◌≡◌, IfSome};
 ghost use Rattle.std.specs.Option.{option_map};
-ghost use Rattle.gq_value.specs.Val.{Int, Truth, Vertex};
+ghost use Rattle.gq_value.specs.Val.{Int, Vertex};
 ghost use Rattle.gq_tree.specs.Tree as tree;
 ghost use Rattle.gq_rules_calendar.specs.Gregorian.{gregorian};
 ghost use Rattle.gq_rules_meaning.specs.Answers.{Gives};
 ghost use Rattle.gq_rules_meaning.specs.Blocks.{passes};
 ghost use Rattle.gq_rules_meaning.specs.Expressions.{compared, related, meaning_all, meaning_any, value_of};
 ghost use Rattle.gq_rules_meaning.specs.Meanings.{truly};
-ghost use Rattle.gq_plan_ir.specs.ExprView.{view, view_behind, view_parts, views};
+ghost use Rattle.gq_plan_ir.specs.ExprView.{view, views};
 ghost use Rattle.gq_eval_builtins.specs.Steps.{true_meant};
-ghost use Rattle.gq_exec_contribute.specs.Prepared.{AreFound, IsTruth, part_value, sees};
+ghost use Rattle.gq_exec_contribute.specs.Prepared.{AreFound, AreIn, IsTruth, sees, sees_in};
 
 use crate::asked::truth_of_parts;
 use crate::held::held_truth;
@@ -19,13 +19,14 @@ use crate::leaves::Leaves;
 use crate::names::{variable_truth, vertex_at};
 use gq_eval_context::BlockContext;
 use gq_eval_operand::nots;
+use gq_frame::Accums;
 use gq_graph::Candidate;
-use gq_plan_ir::{Behind, Expr};
+use gq_plan_ir::Expr;
 use gq_tree::CmpSign;
 use std::alloc::Global;
 use std::cmp::Ordering;
 
-/// Whether a candidate passes WHERE. Takes memory only meanwhile.
+/// Whether a candidate passes WHERE; `None` if that can't be read. Memory is freed before it returns.
 pub fn passes(
     filter: &Option<Expr>,
     alloc: Global,
@@ -38,11 +39,25 @@ pub fn passes(
 {
     match filter {
         None => Some(true),
-        Some(expr) => truth(expr, alloc, over, leaves, c),
+        Some(expr) => truth_before(expr, alloc, over, leaves, c),
     }
 }
 
-/// The truth that an expression is for a candidate. Takes memory only meanwhile.
+/// The truth value of an expression for a candidate, with the accumulators from before the block.
+fn truth_before(
+    expr: &Expr,
+    alloc: Global,
+    over: &BlockContext<'_>,
+    leaves: &Leaves<'_>,
+    c: &Candidate,
+) -> Option<bool>
+    requires { AreFound over.now leaves.now }
+    ensures { IfSome result (IsTruth (sees gregorian over.now leaves.now c.now) (view expr.now)) }
+{
+    truth(expr, alloc, over, leaves, &over.frame.accums, c)
+}
+
+/// The truth value of an expression for a candidate. Memory is freed before it returns.
 #[cycle(truth)]
 #[tactic(auto, using(gq_plan_ir::proofs::ViewLaws::view_laws, crate::proofs::TruthLemmas::truth_laws))]
 pub(crate) fn truth(
@@ -50,26 +65,38 @@ pub(crate) fn truth(
     alloc: Global,
     over: &BlockContext<'_>,
     leaves: &Leaves<'_>,
+    accums: &Accums,
     c: &Candidate,
 ) -> Option<bool>
-    requires { AreFound over.now leaves.now }
-    ensures { IfSome result (IsTruth (sees gregorian over.now leaves.now c.now) (view expr.now)) }
+    requires { AreIn accums.now leaves.now }
+    ensures { IfSome result (IsTruth (sees_in gregorian over.now leaves.now accums.now c.now) (view expr.now)) }
 {
     match expr {
-        Expr::Cmp(left, sign, right) => {
-            compared(left.get(), right.get(), *sign, alloc, over, leaves, c)
+        Expr::Cmp(left, sign, right) => compared(
+            left.get(),
+            right.get(),
+            *sign,
+            alloc,
+            over,
+            leaves,
+            accums,
+            c,
+        ),
+        Expr::Post(first, parts) => {
+            truth_of_parts(first.get(), parts.as_slice(), over, leaves, accums, c)
         }
-        Expr::Post(first, parts) => flag_behind(first.get(), parts.as_slice(), over, leaves, c),
         Expr::Truth(truth) => Some(*truth),
         Expr::Name(place) => variable_truth(over, leaves, *place),
-        Expr::Global(slot) => held_truth(over, leaves, *slot, 0),
-        Expr::Not(_, _) | Expr::And(_, _) | Expr::Or(_, _) => joined(expr, alloc, over, leaves, c),
+        Expr::Global(slot) => held_truth(over, leaves, accums, *slot, 0),
+        Expr::Not(_, _) | Expr::And(_, _) | Expr::Or(_, _) => joined(
+            expr, alloc, over, leaves, accums, c,
+        ),
         Expr::Number(_) | Expr::Text(_) | Expr::Call(_, _) => None,
         Expr::Neg(_, _) | Expr::Mul(_, _) | Expr::Sum(_, _) => None,
     }
 }
 
-/// What NOT, AND and OR give.
+/// Reads NOT, AND and OR.
 #[cycle(truth)]
 #[tactic(auto, using(gq_plan_ir::proofs::ViewLaws::view_laws, crate::proofs::TruthLemmas::joined_laws))]
 fn joined(
@@ -77,29 +104,30 @@ fn joined(
     alloc: Global,
     over: &BlockContext<'_>,
     leaves: &Leaves<'_>,
+    accums: &Accums,
     c: &Candidate,
 ) -> Option<bool>
-    requires { AreFound over.now leaves.now }
-    ensures { IfSome result (IsTruth (sees gregorian over.now leaves.now c.now) (view expr.now)) }
+    requires { AreIn accums.now leaves.now }
+    ensures { IfSome result (IsTruth (sees_in gregorian over.now leaves.now accums.now c.now) (view expr.now)) }
 {
     match expr {
         Expr::Not(count, operand) => {
-            let holds = truth(operand.get(), alloc, over, leaves, c)?;
+            let holds = truth(operand.get(), alloc, over, leaves, accums, c)?;
             Some(nots(*count, holds))
         }
         Expr::And(first, others) => {
-            let holds = truth(first.get(), alloc, over, leaves, c)?;
-            all(others.as_slice(), alloc, over, leaves, c, holds)
+            let holds = truth(first.get(), alloc, over, leaves, accums, c)?;
+            all(others.as_slice(), alloc, over, leaves, accums, c, holds)
         }
         Expr::Or(first, others) => {
-            let holds = truth(first.get(), alloc, over, leaves, c)?;
-            any(others.as_slice(), alloc, over, leaves, c, holds)
+            let holds = truth(first.get(), alloc, over, leaves, accums, c)?;
+            any(others.as_slice(), alloc, over, leaves, accums, c, holds)
         }
         _ => None,
     }
 }
 
-/// AND, from a truth; what stands behind a false operand isn't read.
+/// AND of `first` and the other operands; stops at the first false one.
 #[cycle(truth)]
 #[tactic(auto, using(crate::proofs::TruthLemmas::list_laws))]
 fn all(
@@ -107,23 +135,24 @@ fn all(
     alloc: Global,
     over: &BlockContext<'_>,
     leaves: &Leaves<'_>,
+    accums: &Accums,
     c: &Candidate,
     first: bool,
 ) -> Option<bool>
-    requires { AreFound over.now leaves.now }
-    ensures { IfSome result (λ b. meaning_all (sees gregorian over.now leaves.now c.now) (true_meant first) (views others.now) ≡ Gives (true_meant b)) }
+    requires { AreIn accums.now leaves.now }
+    ensures { IfSome result (λ b. meaning_all (sees_in gregorian over.now leaves.now accums.now c.now) (true_meant first) (views others.now) ≡ Gives (true_meant b)) }
 {
     let mut holds = first;
     for other in others {
         if !holds {
             return Some(false);
         }
-        holds = truth(other, alloc, over, leaves, c)?;
+        holds = truth(other, alloc, over, leaves, accums, c)?;
     }
     Some(holds)
 }
 
-/// OR, from a truth; what stands behind a true operand isn't read.
+/// OR of `first` and the other operands; stops at the first true one.
 #[cycle(truth)]
 #[tactic(auto, using(crate::proofs::TruthLemmas::list_laws))]
 fn any(
@@ -131,23 +160,24 @@ fn any(
     alloc: Global,
     over: &BlockContext<'_>,
     leaves: &Leaves<'_>,
+    accums: &Accums,
     c: &Candidate,
     first: bool,
 ) -> Option<bool>
-    requires { AreFound over.now leaves.now }
-    ensures { IfSome result (λ b. meaning_any (sees gregorian over.now leaves.now c.now) (true_meant first) (views others.now) ≡ Gives (true_meant b)) }
+    requires { AreIn accums.now leaves.now }
+    ensures { IfSome result (λ b. meaning_any (sees_in gregorian over.now leaves.now accums.now c.now) (true_meant first) (views others.now) ≡ Gives (true_meant b)) }
 {
     let mut holds = first;
     for other in others {
         if holds {
             return Some(true);
         }
-        holds = truth(other, alloc, over, leaves, c)?;
+        holds = truth(other, alloc, over, leaves, accums, c)?;
     }
     Some(holds)
 }
 
-/// How two INTs or two vertices compare.
+/// Compares two INTs or two vertices.
 #[tactic(auto, using(crate::proofs::TruthLemmas::compared_laws))]
 fn compared(
     left: &Expr,
@@ -156,21 +186,22 @@ fn compared(
     alloc: Global,
     over: &BlockContext<'_>,
     leaves: &Leaves<'_>,
+    accums: &Accums,
     c: &Candidate,
 ) -> Option<bool>
-    requires { AreFound over.now leaves.now }
-    ensures { IfSome result (IsTruth (sees gregorian over.now leaves.now c.now) (tree.Cmp (view left.now) sign (view right.now))) }
+    requires { AreIn accums.now leaves.now }
+    ensures { IfSome result (IsTruth (sees_in gregorian over.now leaves.now accums.now c.now) (tree.Cmp (view left.now) sign (view right.now))) }
 {
-    match int(left, alloc, over, leaves, c) {
-        Some(x) => match int(right, alloc, over, leaves, c) {
+    match int(left, alloc, over, leaves, accums, c) {
+        Some(x) => match int(right, alloc, over, leaves, accums, c) {
             Some(y) => Some(ints_related(sign, x, y)),
             None => None,
         },
-        None => same_vertex(left, right, sign, over, leaves, c),
+        None => same_vertex(left, right, sign, over, leaves, accums, c),
     }
 }
 
-/// Whether an order is that of a sign.
+/// Whether an ordering satisfies a comparison sign.
 fn related(sign: CmpSign, order: Ordering) -> bool
     ensures { result ≡ related sign order }
 {
@@ -184,7 +215,7 @@ fn related(sign: CmpSign, order: Ordering) -> bool
     }
 }
 
-/// How two INTs compare.
+/// Compares two INTs.
 #[tactic(auto, using(crate::proofs::TruthLemmas::int_laws))]
 fn ints_related(sign: CmpSign, x: i64, y: i64) -> bool
     ensures { compared sign (Int x) (Int y) ≡ truly result }
@@ -192,7 +223,7 @@ fn ints_related(sign: CmpSign, x: i64, y: i64) -> bool
     related(sign, x.cmp(&y))
 }
 
-/// Whether two names stand for one vertex, or for two.
+/// Compares the vertices that two names are bound to.
 #[tactic(auto, using(crate::proofs::TruthLemmas::compared_laws))]
 fn same_vertex(
     left: &Expr,
@@ -200,20 +231,21 @@ fn same_vertex(
     sign: CmpSign,
     over: &BlockContext<'_>,
     leaves: &Leaves<'_>,
+    accums: &Accums,
     c: &Candidate,
 ) -> Option<bool>
-    ensures { IfSome result (IsTruth (sees gregorian over.now leaves.now c.now) (tree.Cmp (view left.now) sign (view right.now))) }
+    ensures { IfSome result (IsTruth (sees_in gregorian over.now leaves.now accums.now c.now) (tree.Cmp (view left.now) sign (view right.now))) }
 {
-    match named_vertex(left, over, leaves, c) {
+    match named_vertex(left, over, leaves, accums, c) {
         None => None,
-        Some(v) => match named_vertex(right, over, leaves, c) {
+        Some(v) => match named_vertex(right, over, leaves, accums, c) {
             None => None,
             Some(w) => are_same(sign, v, w),
         },
     }
 }
 
-/// How two vertices compare.
+/// Compares two vertices; only `==` and `!=` are defined.
 #[tactic(auto, using(crate::proofs::TruthLemmas::same_laws))]
 fn are_same(sign: CmpSign, v: u32, w: u32) -> Option<bool>
     ensures { IfSome result (λ b. compared sign (Vertex v) (Vertex w) ≡ truly b) }
@@ -225,76 +257,19 @@ fn are_same(sign: CmpSign, v: u32, w: u32) -> Option<bool>
     }
 }
 
-/// The vertex that an expression is, where it is a name.
+/// The vertex that an expression is bound to, if it is a name.
 #[tactic(auto, using(gq_plan_ir::proofs::ViewLaws::view_laws, crate::proofs::TruthLemmas::vertex_laws))]
 fn named_vertex(
     expr: &Expr,
     over: &BlockContext<'_>,
     leaves: &Leaves<'_>,
+    accums: &Accums,
     c: &Candidate,
 ) -> Option<u32>
-    ensures { IfSome result (λ v. value_of (sees gregorian over.now leaves.now c.now) (view expr.now) ≡ Gives (Vertex v)) }
+    ensures { IfSome result (λ v. value_of (sees_in gregorian over.now leaves.now accums.now c.now) (view expr.now) ≡ Gives (Vertex v)) }
 {
     match expr {
         Expr::Name(place) => vertex_at(leaves, c, *place),
-        _ => None,
-    }
-}
-
-/// The truth that what stands behind a name or a global accumulator is.
-fn flag_behind(
-    first: &Expr,
-    parts: &[Behind],
-    over: &BlockContext<'_>,
-    leaves: &Leaves<'_>,
-    c: &Candidate,
-) -> Option<bool>
-    requires { AreFound over.now leaves.now }
-    ensures { IfSome result (IsTruth (sees gregorian over.now leaves.now c.now) (tree.Post (view first.now) (view_parts parts.now))) }
-{
-    match truth_of_parts(first, parts, over, leaves, c) {
-        Some(truth) => Some(truth),
-        None => flag_of(first, parts, over, leaves, c),
-    }
-}
-
-/// The truth that the one accumulator behind a name holds.
-#[tactic(auto, using(crate::proofs::ReadLemmas::post_laws))]
-fn flag_of(
-    first: &Expr,
-    parts: &[Behind],
-    over: &BlockContext<'_>,
-    leaves: &Leaves<'_>,
-    c: &Candidate,
-) -> Option<bool>
-    requires { AreFound over.now leaves.now }
-    ensures { IfSome result (IsTruth (sees gregorian over.now leaves.now c.now) (tree.Post (view first.now) (view_parts parts.now))) }
-{
-    match first {
-        Expr::Name(place) => match parts {
-            [part] => flag_part(part, over, leaves, c, *place),
-            [] | [_, _, ..] => None,
-        },
-        _ => None,
-    }
-}
-
-#[tactic(auto, using(crate::proofs::ReadLemmas::part_laws))]
-fn flag_part(
-    part: &Behind,
-    over: &BlockContext<'_>,
-    leaves: &Leaves<'_>,
-    c: &Candidate,
-    place: u32,
-) -> Option<bool>
-    requires { AreFound over.now leaves.now }
-    ensures { IfSome result (λ b. part_value (sees gregorian over.now leaves.now c.now) place (view_behind part.now) ≡ Gives (Truth b)) }
-{
-    match part {
-        Behind::Attached(slot) => match vertex_at(leaves, c, place) {
-            Some(vertex) => held_truth(over, leaves, *slot, vertex),
-            None => None,
-        },
         _ => None,
     }
 }

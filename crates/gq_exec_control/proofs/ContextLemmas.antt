@@ -1,4 +1,4 @@
--- ContextLemmas: from what the code looks at to the states of the definitions.
+-- ContextLemmas: from what the code reads to the states of the definitions.
 use Rattle.std.proofs.Common.{◌≡◌, List, map, reverse, Result, Ok, Err, refl, sym, ap, subst, ◌∙◌}
 use Rattle.std.specs.Prelude.{IsErrAnd}
 use Rattle.std.proofs.lemmas.Result.{err_from_is_err_and}
@@ -52,7 +52,7 @@ pub says_told : {A B : Type 0} (view : B → A) (o : Answer Wrong A) (told : Res
 says_told view o (Ok b) e = ap (blaming Evaluation) e
 says_told view o (Err h) e = ends_told o h e
 
--- what is told over the look is what is read of the state
+-- a result of the code's view is the result of reading the state
 pub reads_on : {A B : Type 0} (clock : Calendar) (b : Basis) (f : Frame) (view : B → A) (read : Look Reference → Answer Wrong A) (told : Result B Halt) (result : Result B RunFault)
     → Tells view (read (look_on clock b f)) told → result ≡ faults_of told → Reads b.plan.places view (λ s. blaming Evaluation (read (seen (world_on clock b) s))) f result
 reads_on clock b f view read told result t e = record {
@@ -71,11 +71,11 @@ becomes_returned places does old new e r h d =
     let p = err_from_is_err_and r h in
     subst (Becomes places does old new) (sym (p.1 ∙ ap Err p.2)) d
 
--- the change is the same
+-- equal changes have the same results
 pub becomes_same : (places : List PlaceType) (does other : Change) (old new : Live) (r : Result (Unit {0}) RunFault) → ((s : State Reference) → Lives places old s → does s ≡ other s) → Becomes places other old new r → Becomes places does old new r
 becomes_same places does other old new r same d = record { each = λ s l. leads_same (Lives places new) (does s) (other s) r (same s l) (d.each s l) }
 
--- a state is what the body of a statement changes
+-- a change of the state is a change of the run by a statement's body
 pub becomes_does : (places : List PlaceType) (does : Change) (body : Body Reference) (old new : Running) (r : Result (Unit {0}) RunFault)
     → ((q : runs.Running Reference) → body q ≡ (does q.state >>= λ s. Gives (with_state s q)))
     → new.turns ≡ old.turns → new.printed ≡ old.printed → (r ≡ Ok tt → AreSound new.live.frame.accums)

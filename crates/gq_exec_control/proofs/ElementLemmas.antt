@@ -22,7 +22,7 @@ use Rattle.gq_exec_control.specs.declared.running.Rounds.TheVariants as rounds
 use Rattle.gq_exec_control.proofs.Steps.{halts_bind}
 use Rattle.gq_exec_control.specs.Rounds.{all_elements, rounds_in}
 
--- ---- what an expression is
+-- ---- the value of an expression
 
 pub elements_stop : (o : Outcome) (h : Halt) → Halts o h → Halts (all_elements o) h
 elements_stop o h e = halts_bind o elements_of h e

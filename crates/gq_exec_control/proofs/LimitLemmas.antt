@@ -1,4 +1,4 @@
--- LimitLemmas: how often LIMIT lets a body run.
+-- LimitLemmas: how often a body may run under LIMIT.
 use Rattle.std.proofs.Common.{◌≡◌, ℕ, ℤ, Option, Some, Result, Ok, Err, sym, ap, subst, ◌∙◌}
 use Rattle.gq_tree.specs.Tree.{Tree}
 use Rattle.gq_value.specs.declared.value.Wrong.{Wrong}
@@ -24,7 +24,7 @@ module _ {N : Type 0} (look : Look N) (t : Tree N) where
 
 pub ruleset limit_laws = (limit_stops, limit_goes)
 
--- ---- as a limit that there is
+-- ---- the limit as an option
 
 abbrev pub some_of : Answer Wrong ℤ → Answer Wrong (Option ℕ)
 some_of o = o >>= λ n. Gives (Some (count_of n))

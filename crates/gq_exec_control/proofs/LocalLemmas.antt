@@ -1,4 +1,4 @@
--- LocalLemmas: declaration after declaration.
+-- LocalLemmas: declarations, one after the other.
 use Rattle.std.proofs.Common.{◌≡◌, ℕ, ◌+◌, ◌<◌, ◌≤◌, List, ◌∷◌, drop, length, get_or, true, Option, Some, Ok, Err, refl, sym, ap, ◌∙◌}
 use Rattle.std.specs.List.{list_any}
 use Rattle.std.specs.Prelude.{◌==◌, if◌then◌else◌, slice_get}
@@ -54,7 +54,7 @@ base_known clock b (declared.VertexOf t) k = ap (λ c. found (if c then Some t e
 -- ---- one variable
 
 module _ (places : List PlaceType) (world : World Reference) (place : ℕ) (base : Base) (local : Option (Tree Reference)) where
-  -- it comes into view with a value
+  -- the state after the variable is declared with a value
   abbrev with_value : State Reference → Val → State Reference
   with_value s v = with_new (Place place) (Variable base v) s
 
@@ -82,7 +82,7 @@ module _ (places : List PlaceType) (world : World Reference) (place : ℕ) (base
 
 -- ---- one after the other
 
--- so many are declared, and the rest still is to be
+-- a prefix of the variables is declared, and the rest remains to be declared
 pub record Declares (places : List PlaceType) (world : World Reference) (base : Base) (all rest : List (ℕ × Option Expr)) (old now : Live) : Type 0 where
   pub each : (s : State Reference) → Lives places old s → (t : State Reference) × (through (with_local world base) s (view_locals all) ≡ through (with_local world base) t (view_locals rest)) × Lives places now t
 

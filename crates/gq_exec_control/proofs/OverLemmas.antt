@@ -1,4 +1,4 @@
--- OverLemmas: what FOREACH goes over, of each state.
+-- OverLemmas: the values that FOREACH iterates over, for each state.
 use Rattle.std.proofs.Common.{◌≡◌, ℕ, List, Some, Result, Ok, Err, sym, ap, subst}
 use Rattle.std.specs.Prelude.{slice_get}
 use Rattle.gq_value.specs.declared.kind.BaseType.{BaseType}

@@ -1,4 +1,4 @@
--- RoundLemmas: the numbers of a range by their places.
+-- RoundLemmas: the numbers of a range, by index.
 use Rattle.std.proofs.Common.{◌≡◌, ℕ, zero, suc, ◌+◌, ◌<◌, ◌≤◌, Bool, true, false, List, [], ℤ, pos, ◌+ℤ◌, ◌-ℤ◌, ◌<ℤ◌, ◌≤ℤ◌, nat_abs, int_le, Some, None, refl, sym, ap, ◌∙◌, arith}
 use Rattle.std.specs.List.{slice_get}
 use Rattle.std.proofs.lemmas.Int.{ints}
@@ -27,7 +27,7 @@ from_past n zero r x h = refl
 from_past n (suc k) zero x h = absurd (omega (arith, h))
 from_past n (suc k) (suc r) x h = from_past n k r (x +ℤ pos 1) (omega (arith, h))
 
--- a number that isn't past the last
+-- a number that isn't past the last one
 below_span : (x y : ℤ) (r : ℕ) → (x +ℤ pos r) ≤ℤ y → r < suc (nat_abs (y -ℤ x))
 below_span x y r h = omega (arith, ints, h)
 

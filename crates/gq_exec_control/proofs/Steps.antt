@@ -1,4 +1,4 @@
--- Steps: answers one after another, and their faults said as those of a run.
+-- Steps: answers one after another, and their faults as faults of a run.
 use Rattle.std.proofs.Common.{◌≡◌, Result, Ok, Err, refl, ap, ◌∙◌}
 use Rattle.gq_value.specs.declared.value.Wrong.{Wrong}
 use Rattle.gq_rules_meaning.specs.Answers.{Answer, Gives, Faults, Stuck, ◌>>=◌, blaming}
@@ -30,7 +30,7 @@ joined (Gives a) f g = refl
 joined (Faults w) f g = refl
 joined Stuck f g = refl
 
--- ---- as those of a run
+-- ---- as faults of a run
 
 pub bound : {A B : Type 0} (o : Answer Wrong A) (g : A → Answer Wrong B) → blaming Evaluation (o >>= g) ≡ (blaming Evaluation o >>= λ a. blaming Evaluation (g a))
 bound (Gives a) g = refl

@@ -1,4 +1,4 @@
--- ValueLemmas: an expression's value, converted.
+-- ValueLemmas: the value of an expression, converted.
 use Rattle.std.proofs.Common.{◌≡◌, ap, sym, ◌∙◌}
 use Rattle.gq_tree.specs.Tree.{Tree}
 use Rattle.gq_value.specs.declared.value.Value.{Value}

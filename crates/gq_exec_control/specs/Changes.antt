@@ -1,4 +1,4 @@
--- Changes: when a change of what names and accumulators hold, or what is read of them, is the one that was meant.
+-- Changes: when the code changes names and accumulators, or reads them, as the definitions do.
 use Rattle.std.specs.Prelude.{List, Result}
 use Rattle.gq_rules_meaning.specs.Answers.{Answer}
 use Rattle.gq_rules_meaning.specs.States.{State}
@@ -12,14 +12,14 @@ use Rattle.gq_frame.specs.Lives.{Lives}
 use Rattle.gq_exec_control.specs.declared.running.RunFault.{RunFault}
 use Rattle.gq_exec_control.specs.Standing.{Leads, Says}
 
--- what the definitions make of a state
+-- a change of the state, in the definitions
 abbrev pub Change : Type 0
 Change = State Reference → Answer Fault (State Reference)
 
--- what is live goes from one state to another as the definitions do
+-- the live data changes from one state to another as the definitions do
 pub record Becomes (places : List PlaceType) (does : Change) (old new : Live) (result : Result (Unit {0}) RunFault) : Type 0 where
   pub each : (s : State Reference) → Lives places old s → Leads (Lives places new) (does s) result
 
--- what is read over a frame is what the definitions read of the state that it shows
+-- the result of reading a frame is what the definitions read of the state that it shows
 pub record Reads {A B : Type 0} (places : List PlaceType) (view : B → A) (read : State Reference → Answer Fault A) (f : Frame) (result : Result B RunFault) : Type 0 where
   pub each : (s : State Reference) → Shows places f s → Says view (read s) result

@@ -1,4 +1,4 @@
--- Contexts: what a run stands on, as a world of the definitions.
+-- Contexts: the read-only context of a run, as a world of the definitions.
 use Rattle.std.specs.Prelude.{◌≡◌, ◌≤◌, List, [], length}
 use Rattle.gq_graph.specs.Catalog.{Schema, most_types}
 use Rattle.gq_graph.specs.Edges.{EdgeTable}
@@ -27,22 +27,22 @@ pub record Basis : Type 0 where
   pub plan : Plan
   pub tuples : List TupleType
 
--- the index is that of the catalog and the store, and rows have their types' attributes and ends
+-- the index is that of the catalog and the store, and rows have the attributes and ends of their types
 pub record HoldTogether (index : List (List Traversal)) (b : Basis) : Type 0 where
   pub indexed : index ≡ adjacency (sight_of b.schema b.vertices b.edges)
   pub attributes : HaveAttributes b.schema b.vertices
   pub ends : HaveEnds b.vertices b.edges.rows
   pub few : length b.plan.edges ≤ most_types
 
--- with what names and accumulators hold
+-- together with the contents of names and accumulators
 abbrev pub over_of : Basis → Frame → Over
 over_of b f = record { schema = b.schema; vertices = b.vertices; edges = b.edges; plan = b.plan; tuples = b.tuples; frame = f }
 
--- all that stays the same while a query runs
+-- everything that stays the same while a query runs
 abbrev pub world_on : Calendar → Basis → World Reference
 world_on clock b = world_of (accum_names b.plan) (tuples_are b.tuples) (graph_for b.schema b.vertices b.edges b.plan) clock
 
--- ---- what an expression sees that stands in no block
+-- ---- what an expression outside of a block sees
 
 abbrev pub bare : Basis → Frame → Viewed
 bare b f = viewed (over_of b f) [] f.accums f.accums

@@ -1,4 +1,4 @@
--- Faults: faults of evaluations and of blocks as those of a run.
+-- Faults: faults of evaluations and of blocks as faults of a run.
 use Rattle.std.specs.Prelude.{Result, Ok, Err}
 use Rattle.gq_eval_operand.specs.declared.halt.Halt.{Halt}
 use Rattle.gq_eval_operand.specs.declared.halt.Halt.TheVariants as halt

@@ -13,7 +13,7 @@ use Rattle.gq_plan_ir.specs.declared.plan.Declared.TheVariants as declared
 use Rattle.gq_plan_ir.specs.Reference.{Reference}
 use Rattle.gq_exec_control.specs.Changes.{Change}
 
--- the variables of a declaration, with the type that it names
+-- declares the variables of a declaration, with the type that it names
 abbrev pub declared_all : World Reference → BaseTree Reference → List (Reference × Option (Tree Reference)) → Change
 declared_all world base xs s = blaming Evaluation (base_of_tree world base) >>= λ b. blaming Evaluation (through (with_local world b) s xs)
 
@@ -28,7 +28,7 @@ base_declared declared.Text = STRING
 base_declared declared.AnyVertex = VERTEX
 base_declared (declared.VertexOf t) = VERTEX_OF t
 
--- a vertex type is one of the graph
+-- a declared vertex type is one of the graph
 abbrev pub IsKnown : List ℕ → Declared → Type 0
 IsKnown own (declared.VertexOf t) = list_any (λ m. m == t) own ≡ true
 IsKnown own d = Unit {0}

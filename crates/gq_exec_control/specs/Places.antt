@@ -1,10 +1,10 @@
--- Places: what stands at a place, as the code has found it.
+-- Places: the content of a place, as the code has found it.
 use Rattle.std.specs.Prelude.{◌≡◌, Option, Some}
 use Rattle.gq_value.specs.Val.{Val}
 use Rattle.gq_value.specs.Accums.{Base}
 use Rattle.gq_rules_meaning.specs.States.{Thing, Variable}
 
--- a variable of a type is in view
+-- a variable of this type is in view
 pub record IsVariable (b : Base) (o : Option Thing) : Type 0 where
   pub value : Val
   pub is : o ≡ Some (Variable b value)

@@ -1,4 +1,4 @@
--- Rounds: how often a body runs, and with which values.
+-- Rounds: the number of iterations of a body, and its values.
 use Rattle.std.specs.Prelude.{ℕ, List, Result}
 use Rattle.gq_value.specs.declared.kind.Number.{Number}
 use Rattle.gq_value.specs.declared.value.Wrong.{Wrong}
@@ -30,10 +30,10 @@ all_elements o = o >>= elements_of
 abbrev pub both_ends : Answer Wrong Val → Answer Wrong Val → Answer Wrong (List (Base × Val))
 both_ends first last = first >>= λ v. last >>= between v
 
--- numbers of a type
+-- the numbers between two ends, with their type
 abbrev pub between_as : Number → Val → Val → Answer Wrong (List (Base × Val))
 between_as n v w = end_of n v >>= λ x. end_of n w >>= λ y. Gives (with_base (number_type n) (numbers_between n x y))
 
--- what FOREACH goes over, of each state that the frame shows
+-- the result is what FOREACH iterates over, for each state that the frame shows
 pub record GoesRound (places : List PlaceType) (world : World Reference) (place : ℕ) (over : Over Reference) (f : Frame) (result : Result Rounds RunFault) : Type 0 where
   pub each : (s : State Reference) → Shows places f s → GivesRounds places place (blaming Evaluation (gone_over (seen world s) over)) result

@@ -1,4 +1,4 @@
--- Standing: when a run of the code shows one of the definitions, and does what they say.
+-- Standing: when a run of the code shows a run of the definitions, and acts as they say.
 use Rattle.std.specs.Prelude.{◌≡◌, ℕ, ◌+◌, Bool, List, map, Some, Result, Ok, Err, slice_get}
 use Rattle.gq_json.specs.declared.out.Printed.{Printed}
 use Rattle.gq_tree.specs.Tree.{Tree}
@@ -27,14 +27,14 @@ use Rattle.gq_exec_control.specs.Values.{values_of}
 
 -- ---- runs
 
--- what is live shows the state, with as many turns, and the same is printed; no content is spoiled
+-- the live data shows the state, the iterations left and the output are the same, and no content is spoiled
 pub record Stands (places : List PlaceType) (r : Running) (q : runs.Running Reference) : Type 0 where
   pub lives : Lives places r.live q.state
   pub turns : r.turns ≡ q.turns
   pub printed : map (λ (p : Printed). p.members) r.printed ≡ map built_print q.printed
   pub sound : AreSound r.live.frame.accums
 
--- a run ends as the definitions do; OutOfMemory may come at any time
+-- a run ends as the definitions do; OutOfMemory may occur at any time
 abbrev pub Ends : {A : Type 0} → Answer Fault A → RunFault → Type 0
 Ends o (fault.Eval w) = o ≡ Faults (Evaluation w)
 Ends o (fault.SumRange n) = o ≡ Faults (SumOutOfRange n)
@@ -42,20 +42,20 @@ Ends o fault.LoopBound = o ≡ Faults LoopBound
 Ends o fault.PathBound = o ≡ Faults PathBound
 Ends o fault.OutOfMemory = Unit {0}
 
--- what is given has a property, or it ends as the definitions do
+-- the value has a property, or the fault is that of the definitions
 abbrev pub Leads : {A : Type 0} → (A → Type 0) → Answer Fault A → Result (Unit {0}) RunFault → Type 0
 Leads {A = A} P o (Ok u) = (a : A) × (o ≡ Gives a) × P a
 Leads P o (Err e) = Ends o e
 
--- a run goes from one to another as a body does
+-- the code changes the run as the body does in the definitions
 pub record Does (places : List PlaceType) (body : Body Reference) (old new : Running) (result : Result (Unit {0}) RunFault) : Type 0 where
   pub each : (q : runs.Running Reference) → Stands places old q → Leads (Stands places new) (body q) result
 
--- a run has come from one to another, and the rest of a body is still to do
+-- the run has changed, and the rest of the body remains to be done
 pub record Goes (places : List PlaceType) (whole rest : Body Reference) (old now : Running) : Type 0 where
   pub each : (q : runs.Running Reference) → Stands places old q → (p : runs.Running Reference) × (whole q ≡ rest p) × Stands places now p
 
--- a turn is taken, and nothing else changes; or there is none
+-- one iteration is taken off those left, and nothing else changes; or none is left
 pub record TakesTurn (old new : Running) : Type 0 where
   pub live : new.live ≡ old.live
   pub turns : new.turns + 1 ≡ old.turns
@@ -65,9 +65,9 @@ pub record HasNoTurn (old new : Running) : Type 0 where
   pub turns : old.turns ≡ 0
   pub same : new ≡ old
 
--- ---- what is read of a run
+-- ---- reading a run
 
--- the answer is the one that was meant
+-- the answer is that of the definitions
 abbrev pub Says : {A B : Type 0} → (B → A) → Answer Fault A → Result B RunFault → Type 0
 Says view o (Ok b) = o ≡ Gives (view b)
 Says view o (Err e) = Ends o e
@@ -78,9 +78,9 @@ pub record Tests (places : List PlaceType) (condition : runs.Running Reference �
 pub record Limits (places : List PlaceType) (world : World Reference) (t : Tree Reference) (r : Running) (result : Result ℕ RunFault) : Type 0 where
   pub each : (q : runs.Running Reference) → Stands places r q → Says Some (blaming Evaluation (limit_of world q.state (Some t))) result
 
--- ---- what FOREACH goes over
+-- ---- the iterations of FOREACH
 
--- values of the type of a place
+-- the values have the type of the place
 pub record IsGoneOver (places : List PlaceType) (place : ℕ) (o : Answer Fault (List (Base × Val))) (r : Rounds) : Type 0 where
   pub base : BaseType
   pub held : slice_get places place ≡ Some (held.Variable base)

@@ -19,7 +19,7 @@ use gq_frame::Frame;
 use gq_plan_ir::Expr;
 use std::alloc::Global;
 
-/// Whether a condition holds.
+/// Evaluates a condition.
 pub fn truth(
     alloc: Global,
     context: &RunContext<'_>,

@@ -18,7 +18,8 @@ use gq_plan_ir::Expr;
 use gq_value::{BaseType, Kind};
 use std::alloc::Global;
 
-/// The elements of the collection that an expression is, in order; copies, since the body may change it.
+/// Returns the elements of the collection that an expression evaluates to, in order; copies, since the body may change
+/// it.
 #[tactic(auto, using(crate::proofs::ElementLemmas::element_laws))]
 pub(crate) fn elements<V: Sees>(
     expr: &Expr,
@@ -72,7 +73,7 @@ fn holds_these(kind: &Kind, base: &BaseType) -> bool
     }
 }
 
-/// Whether both are one type.
+/// Whether both types are the same.
 #[tactic(auto, using(gq_eval_operand::proofs::ConvertLemmas::base_laws, crate::proofs::ElementLemmas::same_tuple))]
 fn same_base(a: &BaseType, b: &BaseType) -> bool
     ensures { result ≡ true → base_of a.now ≡ base_of b.now }
@@ -84,7 +85,7 @@ fn same_base(a: &BaseType, b: &BaseType) -> bool
     }
 }
 
-/// Whether a type is the tuple type of a number with these fields.
+/// Whether a type is the tuple type with this number and these fields.
 #[tactic(auto, using(gq_eval_operand::proofs::ConvertLemmas::base_laws, crate::proofs::ElementLemmas::tuple_laws))]
 fn is_tuple(number: u32, fields: &[BaseType], base: &BaseType) -> bool
     ensures { result ≡ true → base_of base.now ≡ TUPLE number (bases (map base_of fields.now)) }
@@ -97,7 +98,7 @@ fn is_tuple(number: u32, fields: &[BaseType], base: &BaseType) -> bool
     }
 }
 
-/// Whether both have the same types of fields.
+/// Whether both have fields of the same types.
 #[tactic(auto, using(crate::proofs::ElementLemmas::field_laws))]
 fn same_fields(a: &[BaseType], b: &[BaseType]) -> bool
     ensures { result ≡ true → map base_of a.now ≡ map base_of b.now }
@@ -111,7 +112,7 @@ fn same_fields(a: &[BaseType], b: &[BaseType]) -> bool
     }
 }
 
-/// Whether both are one type that is no tuple.
+/// Whether both types are the same and not a tuple type.
 #[tactic(auto, using(gq_eval_operand::proofs::ConvertLemmas::base_laws))]
 fn same_plain(a: &BaseType, b: &BaseType) -> bool
     ensures { result ≡ true → base_of a.now ≡ base_of b.now }

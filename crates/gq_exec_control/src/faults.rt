@@ -6,7 +6,8 @@ use crate::running::RunFault;
 use gq_eval_context::BlockFault;
 use gq_eval_operand::Halt;
 
-/// An answer with the fault of a run. Where an evaluation is stuck or outside, which no plan of a checked query is, it is `OutOfMemory`.
+/// Converts the fault of an evaluation to that of a run. An evaluation that is stuck or outside, which no plan of a
+/// checked query is, becomes `OutOfMemory`.
 pub fn or_fault<T>(told: Result<T, Halt>) -> Result<T, RunFault>
     ensures { result ≡ faults_of told }
 {
@@ -16,7 +17,7 @@ pub fn or_fault<T>(told: Result<T, Halt>) -> Result<T, RunFault>
     }
 }
 
-/// The fault of a run that an evaluation's end is.
+/// Returns the fault of a run for the end of an evaluation.
 pub fn run_fault(halt: Halt) -> RunFault
     ensures { result ≡ fault_of halt }
 {
@@ -26,7 +27,7 @@ pub fn run_fault(halt: Halt) -> RunFault
     }
 }
 
-/// The fault of a block as that of the run; the place within the block goes.
+/// Returns the fault of a run for that of a block; the place within the block is dropped.
 pub fn block_fault(fault: BlockFault) -> RunFault
     ensures { result ≡ fault_of_block fault }
 {

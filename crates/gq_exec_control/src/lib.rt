@@ -1,6 +1,6 @@
-//! What the statements of a run stand on: graph and plan, what is live, and why a run ends.
+//! The context of the statements of a run: graph and plan, the live data, and why a run ends.
 //!
-//! Conditions, LIMIT of WHILE, what FOREACH goes over, and the declaration of local variables are here too. The
+//! Conditions, LIMIT of WHILE, the iterations of FOREACH, and the declaration of local variables are here too. The
 //! loops over statements are in `gq_flow`.
 //!
 //! Read `specs/Standing.antt` first: when a run corresponds to one of the definitions. Then read

@@ -22,7 +22,7 @@ use gq_frame::Frame;
 use gq_plan_ir::Expr;
 use std::alloc::Global;
 
-/// How often LIMIT lets a body run; a negative number counts as 0.
+/// Returns how often a body may run under LIMIT; a negative number counts as 0.
 pub fn limit(
     alloc: Global,
     context: &RunContext<'_>,

@@ -21,9 +21,10 @@ use gq_plan_ir::{Declared, Expr};
 use gq_value::BaseType;
 use std::alloc::Global;
 
-/// New variables of a type, one after the other: each sees those before it. A variable without a value has the default of its type.
+/// Declares variables of a type, one after the other: each sees those before it. A variable without a value gets the
+/// default of its type.
 ///
-/// A place to which the plan doesn't give this type is `OutOfMemory`.
+/// Returns `OutOfMemory` for a place to which the plan gives another type.
 pub fn declare(
     context: &RunContext<'_>,
     alloc: Global,
@@ -44,7 +45,7 @@ pub fn declare(
     Ok(())
 }
 
-/// Whether a type is one of the language, or a vertex type of the graph.
+/// Whether a type is built in, or a vertex type of the graph.
 fn is_known(declared: Declared, own: &[u32]) -> bool
     ensures { result ≡ true → IsKnown own.now declared }
 {
@@ -55,7 +56,7 @@ fn is_known(declared: Declared, own: &[u32]) -> bool
     }
 }
 
-/// A new variable of a type.
+/// Declares one variable.
 fn declare_one(
     context: &RunContext<'_>,
     alloc: Global,
@@ -82,7 +83,7 @@ fn declare_one(
     }
 }
 
-/// The type of a place, where it is the declared one.
+/// Returns the type of a place, if it is the declared one.
 fn base_at<'a>(context: &'a RunContext<'_>, place: u32, declared: Declared) -> Option<&'a BaseType>
     ensures { IfSome result (λ base. (slice_get context.entry.now.plan.places place ≡ Some (held.Variable base.now)) × (base_of base.now ≡ base_declared declared)) }
 {

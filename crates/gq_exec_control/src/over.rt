@@ -1,4 +1,4 @@
-// What FOREACH goes over.
+// The values that FOREACH iterates over.
 ghost use Rattle.gq_value.specs.AccumViews.{base_of};
 ghost use Rattle.gq_rules_meaning.specs.Statements.{gone_over};
 ghost use Rattle.gq_rules_calendar.specs.Gregorian.{gregorian};
@@ -20,9 +20,10 @@ use gq_plan_ir::Over;
 use gq_value::BaseType;
 use std::alloc::Global;
 
-/// What FOREACH goes over, whose values have the type of a place: the elements of a collection, or a range with both ends.
+/// Returns what FOREACH iterates over, with values of the type of a place: the elements of a collection, or a range
+/// with both ends.
 ///
-/// A place of another type is `OutOfMemory`.
+/// Returns `OutOfMemory` for a place of another type.
 pub fn rounds(
     alloc: Global,
     context: &RunContext<'_>,

@@ -1,4 +1,4 @@
-// What the places of a plan hold.
+// The contents of a plan's places.
 ghost use Rattle.std.specs.Prelude.{◌≡◌, IfSome, Some, slice_get};
 ghost use Rattle.gq_value.specs.AccumViews.{base_of};
 ghost use Rattle.gq_plan_ir.specs.declared.plan.PlaceType.TheVariants as held;
@@ -9,7 +9,7 @@ use gq_frame::Thing;
 use gq_plan_ir::PlaceType;
 use gq_value::BaseType;
 
-/// The type of the variable that stands at a place, if one may.
+/// Returns the type of the variables at a place, if it is a place of variables.
 pub fn variable_at(places: &[PlaceType], place: u32) -> Option<&BaseType>
     ensures { IfSome result (λ base. slice_get places.entry.now place ≡ Some (held.Variable base.now)) }
 {
@@ -22,7 +22,7 @@ pub fn variable_at(places: &[PlaceType], place: u32) -> Option<&BaseType>
     }
 }
 
-/// The type of the variable at a place, if one is in view.
+/// Returns the type of the variable at a place, if one is in view.
 pub fn variable_in_view<'a>(
     places: &'a [PlaceType],
     things: &[Option<Thing>],

@@ -15,7 +15,7 @@ use gq_plan_ir::Expr;
 use gq_value::{BaseType, Number, Value};
 use std::alloc::Global;
 
-/// The numbers from one to another, both of which count. They are UINT where both ends are, else INT.
+/// Returns the numbers from one to another, including both. They are UINT if both ends are, else INT.
 #[tactic(auto, using(crate::proofs::RangeLemmas::range_laws))]
 pub(crate) fn range<V: Sees>(
     first: &Expr,
@@ -72,7 +72,7 @@ fn uints(base: &BaseType, first: &Operand<'_>, last: &Operand<'_>) -> Result<Rou
     }
 }
 
-/// An end, converted to INT.
+/// Evaluates an end, converted to INT.
 #[tactic(auto, using(gq_value::specs::ViewLaws::view_laws, crate::proofs::RangeLemmas::int_end_laws))]
 fn int_end(operand: &Operand<'_>) -> Result<i64, Halt>
     ensures { Tells itself (end_of number.Int (valued operand.now)) result }
@@ -84,7 +84,7 @@ fn int_end(operand: &Operand<'_>) -> Result<i64, Halt>
     }
 }
 
-/// An end, converted to UINT.
+/// Evaluates an end, converted to UINT.
 #[tactic(auto, using(gq_value::specs::ViewLaws::view_laws, crate::proofs::RangeLemmas::uint_end_laws))]
 fn uint_end(operand: &Operand<'_>) -> Result<u64, Halt>
     ensures { Tells pos (end_of number.UInt (valued operand.now)) result }

@@ -1,4 +1,4 @@
-// What a run stands on.
+// The read-only context of a run.
 ghost use Rattle.std.specs.Prelude.{◌≡◌};
 ghost use Rattle.gq_frame.specs.Slots.{AreSound};
 ghost use Rattle.gq_exec_control.specs.Contexts.{bare, over_of};
@@ -10,13 +10,14 @@ use gq_index::Graph;
 use gq_plan_ir::Plan;
 use std::marker::Model;
 
-/// What a run stands on: a graph, and a plan with its tuple types. Contracts see what it lends, without the index.
+/// Read-only context of a query run: a graph, and a plan with its tuple types. Contracts see what it borrows, without
+/// the index.
 #[derive(Drop)]
 pub struct RunContext<'a> {
     pub graph: Graph<'a>,
     pub plan: &'a Plan,
 
-    /// The plan's tuple types, by their numbers.
+    /// The plan's tuple types, by number.
     pub tuples: &'a [TupleType],
 }
 
@@ -41,7 +42,7 @@ impl<'a> Model for RunContext<'a> {
 }
 
 impl<'a> RunContext<'a> {
-    /// What a block runs over, with what names and accumulators hold by now.
+    /// Returns the context of a block, with the current contents of names and accumulators.
     pub fn block_context<'s>(&'s self, frame: &'s Frame) -> BlockContext<'s>
         requires { AreSound frame.now.accums }
         ensures { result ≡ over_of self.entry.now frame.entry.now }
@@ -54,7 +55,7 @@ impl<'a> RunContext<'a> {
         }
     }
 
-    /// What an expression sees that stands in no block.
+    /// Returns what an expression outside of a block sees.
     pub fn eval_context<'s>(&'s self, frame: &'s Frame) -> EvalContext<'s>
         requires { AreSound frame.now.accums }
         ensures { result ≡ bare self.entry.now frame.entry.now }

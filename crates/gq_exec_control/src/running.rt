@@ -12,7 +12,7 @@ use gq_json::Printed;
 use gq_value::{Row, Value, Wrong};
 use std::alloc::Global;
 
-/// What is live in a run, the turns left, and what was printed, an object for each PRINT.
+/// The live data of a run, the iterations left, and what was printed, an object for each PRINT.
 #[derive(Drop)]
 pub struct Running {
     pub live: Live,
@@ -26,10 +26,10 @@ pub enum RunFault {
     /// An expression's fault.
     Eval(Wrong),
 
-    /// A sum out of range, in the accumulator of a slot.
+    /// A sum in the accumulator of this slot is out of range.
     SumRange(u32),
 
-    /// A body that no turn is left for.
+    /// No iteration is left for a body.
     LoopBound,
 
     /// A path with too many bindings.
@@ -48,7 +48,7 @@ impl From<OutOfMemory> for RunFault {
     }
 }
 
-/// What FOREACH goes over: values, or numbers with both ends.
+/// What FOREACH iterates over: values, or numbers including both ends.
 #[derive(Drop)]
 pub enum Rounds {
     Elements(Row),
@@ -57,7 +57,7 @@ pub enum Rounds {
 }
 
 impl Rounds {
-    /// The value of a round, by its number from 0, if there is one.
+    /// Returns the value of an iteration, counted from 0, if there is one.
     pub fn at(&self, alloc: Global, round: u64) -> Result<Option<Value>, OutOfMemory>
         ensures { IfOk result (λ value. slice_get (values_of self.now) round ≡ option_map val value) }
     {
@@ -72,7 +72,7 @@ impl Rounds {
     }
 }
 
-/// A number from the first one on, up to the last.
+/// Returns a number counted from the first one, if it isn't past the last.
 fn int_at(first: i64, last: i64, round: u64) -> Option<Value>
     ensures { slice_get (numbers_between number.Int first last) round ≡ option_map val result }
 {

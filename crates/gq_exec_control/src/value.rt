@@ -1,4 +1,4 @@
-// The values that variables come with.
+// Initial values of variables.
 ghost use Rattle.std.specs.Option.{option_map};
 ghost use Rattle.gq_value.specs.AccumViews.{base_of};
 ghost use Rattle.gq_value.specs.Views.{val};
@@ -23,7 +23,7 @@ use gq_plan_ir::Expr;
 use gq_value::{BaseType, Txt, Value};
 use std::alloc::Global;
 
-/// The value of an expression, converted to a type, with memory of its own.
+/// Returns the value of an expression, converted to a type and copied.
 #[tactic(auto, using(crate::proofs::ValueLemmas::value_laws))]
 pub fn value_as<V: Sees>(
     expr: &Expr,
@@ -38,7 +38,7 @@ pub fn value_as<V: Sees>(
     Ok(own(alloc, value)?)
 }
 
-/// The value that a variable of a type is declared with, or else the default of the type.
+/// Returns the value that a variable of a type is declared with, or else the default of the type.
 pub(crate) fn first_value(
     local: &Option<Expr>,
     base: &BaseType,
@@ -80,7 +80,7 @@ fn value_seen<V: Sees>(
     }
 }
 
-/// The value of a variable that is declared with none: 0, false or no text.
+/// Returns the default of a variable without a value: 0, false or no text.
 #[tactic(auto, using(gq_eval_operand::proofs::ConvertLemmas::base_laws, gq_value::specs::ViewLaws::view_laws))]
 fn default_value(alloc: Global, base: &BaseType) -> Result<Value, Halt>
     ensures { Tells val (default_of (base_of base.now)) result }

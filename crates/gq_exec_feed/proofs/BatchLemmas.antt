@@ -1,32 +1,34 @@
--- BatchLemmas: a batch of INTs, from its first to its last.
-use Rattle.std.proofs.Common.{◌≡◌, ℕ, zero, suc, ◌+◌, ◌<◌, ◌≤◌, ℤ, List, [], ◌∷◌, length, get_or, slice_get, slice_set, Some, refl, sym, ap, ◌∙◌, subst, arith, FitsSigned, w64, to_z, of_z}
+-- BatchLemmas: a batch of INTs is fed in order.
+use Rattle.std.proofs.Common.{◌≡◌, ℕ, zero, suc, ◌+◌, ◌<◌, ◌≤◌, ℤ, List, [], ◌∷◌, length, get_or, refl, sym, ap, ◌∙◌, subst, arith, FitsSigned, w64, to_z, of_z}
 use Rattle.std.proofs.lemmas.Int.{to_z-of_z}
 use Rattle.gq_value.specs.declared.kind.Input.TheVariants as input
 use Rattle.gq_value.specs.declared.value.Value.TheVariants as value
 use Rattle.gq_value.specs.Val.{Int}
-use Rattle.gq_value.specs.Accums.{Given, One}
+use Rattle.gq_value.specs.Accums.{One}
 use Rattle.gq_value.specs.AccumViews.{given}
 use Rattle.gq_value.specs.ViewLaws.{val-Int}
 use Rattle.gq_value.proofs.AccumLemmas.{given-One}
-use Rattle.gq_nest.specs.declared.content.Content.{Content, out-Content}
-use Rattle.gq_nest.specs.Forms.{Feeds}
+use Rattle.gq_nest.specs.declared.content.Content.{Content}
 use Rattle.gq_nest.proofs.ShowSteps.{takes_input}
 use Rattle.gq_frame.specs.declared.accums.Accums.{Accums}
+use Rattle.gq_frame.specs.Pages.{ChangesAt, TakesInt}
 use Rattle.gq_exec_feed.specs.Feeding.{TakesBatch}
 use Rattle.gq_exec_feed.specs.Steps.{TakesOne}
 use Rattle.gq_exec_feed.proofs.FeedLemmas.{SoFar, so_far_first, so_far_more, so_far_all}
 use Rattle.gq_exec_feed.specs.Ints.{as_input, as_inputs}
 
--- the content at a target takes one more, and the others stay
-pub target_takes : (old : Accums) (target : ℕ) (was now : Content) (x : Given) → slice_get old.contents target ≡ Some was → Feeds (out-Content was) x (out-Content now)
-    → TakesOne old (record { slots = old.slots; contents = slice_set old.contents target now }) target x
-target_takes old target was now x stood feeds = record { was = was; now = now; stood = stood; takes = takes_input was now x feeds; slots = refl; contents = refl }
+-- the content at a target takes one more INT
+pub target_takes : (old : Accums) (cs : List Content) (target : ℕ) (x : ℤ) → ChangesAt (TakesInt x) target old.contents cs → TakesOne old (record { slots = old.slots; contents = cs }) target (One (Int x))
+target_takes old cs target x h = record {
+  takes = record { middle = h.middle; same = h.same; was = h.was; now = h.now; stood = h.stood; becomes = takes_input h.was h.now (One (Int x)) h.becomes; contents = h.contents };
+  slots = refl;
+}
 
 -- an INT as an input
 pub given_int : (x : ℤ) → given (input.One (value.Int x)) ≡ One (Int x)
 given_int x = given-One (value.Int x) ∙ ap One (val-Int x)
 
--- the input in a place is the INT in that place
+-- the input at an index is the INT at that index
 input_at : (xs : List (ℕ × ℤ)) (i : ℕ) (d : ℕ × ℤ) → i < length xs → as_input (get_or xs i d) ≡ get_or (as_inputs xs) i (as_input (get_or xs i d))
 input_at [] i d l = absurd (omega (arith, l))
 input_at (x ∷ xs) zero d l = refl
@@ -36,7 +38,7 @@ as_many : (xs : List (ℕ × ℤ)) → length (as_inputs xs) ≡ length xs
 as_many [] = refl
 as_many (x ∷ xs) = ap suc (as_many xs)
 
--- what was fed so far goes before whatever follows
+-- the inputs so far, followed by any others
 pub record FedSoFar (old : Accums) (xs : List (ℕ × ℤ)) (i : ℕ) (now : Accums) : Type 0 where
   pub chain : SoFar old (as_inputs xs) i now
 

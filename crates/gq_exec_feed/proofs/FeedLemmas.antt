@@ -1,5 +1,5 @@
--- FeedLemmas: accumulators after one more contribution, and after a batch.
-use Rattle.std.proofs.Common.{if◌then◌else◌, ◌≡◌, ◌≢◌, ℕ, zero, suc, ◌+◌, ◌^◌, ◌<◌, ◌≤◌, ◌==◌, ◌&&◌, Bool, true, false, List, [], ◌∷◌, take, drop, length, map, set, get_or, slice_get, Some, refl, sym, ap, ap₂, ◌∙◌, subst, arith, eq-eqb, ne_eqb}
+-- FeedLemmas: accumulators after a contribution, and after a batch.
+use Rattle.std.proofs.Common.{if◌then◌else◌, ◌≡◌, ◌≢◌, ℕ, zero, suc, ◌+◌, ◌^◌, ◌<◌, ◌≤◌, ◌==◌, ◌&&◌, Bool, true, false, List, [], ◌∷◌, take, drop, length, map, set, get_or, slice_get, slice_set, Some, refl, sym, ap, ap₂, ◌∙◌, subst, arith, eq-eqb, ne_eqb}
 use Rattle.std.specs.List.{All}
 use Rattle.std.proofs.lemmas.List.Elements.{All-head, All-tail}
 use Rattle.gq_value.specs.declared.kind.Input.{Input}
@@ -23,11 +23,12 @@ use Rattle.gq_frame.specs.Slots.{slots_from, slots_are}
 use Rattle.gq_exec_feed.specs.Taking.{MayTake, targeted, as_given, AreBatched}
 use Rattle.gq_exec_feed.specs.Feeding.{IsFed, AreFed, AreAfter, TakesBatch}
 use Rattle.gq_exec_feed.specs.Steps.{TakesOne}
+use Rattle.gq_exec_feed.proofs.CopyLemmas.{copied_fed}
 use Rattle.gq_exec_feed.proofs.FormLemmas.{forms_after}
 use Rattle.gq_exec_feed.proofs.PlaceLemmas.{same_some, none_apart, take_set_front, drop_set_front, take_set_behind, drop_set_behind, taken_get, get_dropped, get_some, drop_item, drop_all}
 use Rattle.gq_exec_feed.proofs.SlotLemmas.{Every, EachSlot, EachTarget, Proper, seen_in, with_contents, every_map, slots_of_targets, targets_of_slots, slots_map, contents_same, slots_same, slots_append}
 
--- ---- where a contribution goes
+-- ---- targets of contributions
 
 here : (c : Contribution) (n w : ℕ) → c.slot ≡ n → c.vertex ≡ w → inputs_to n w (c ∷ []) ≡ c.input ∷ []
 here c n w e d = ap₂ (λ a b. if a && b then c.input ∷ [] else []) (eq-eqb c.slot n e) (eq-eqb c.vertex w d)
@@ -47,10 +48,10 @@ every_set P [] i d h p = tt
 every_set P (x ∷ xs) zero d h p = (h, p.1)
 every_set P (x ∷ xs) (suc i) d h p = (p.0, every_set P xs i d h p.1)
 
--- ---- one more, to a content that becomes another
+-- ---- one content replaced
 
 module _ (vertices f : ℕ) (c : Contribution) (was now : Content) where
-  -- what is known of the content, by the kind of its slot
+  -- the content at the target, by the kind of its slot
   abbrev Becomes : Accum → Type 0
   Becomes k = (seen_in k now ≡ after k (seen_in k was) (c.input ∷ [])) × IsFed k (suc f) now
 
@@ -136,7 +137,7 @@ module _ (vertices f : ℕ) (c : Contribution) (was now : Content) where
 proper_of : (k : Accum) (f : ℕ) (c : Content) → IsFed k f c → Proper k c
 proper_of k f c h = h.shows.proper
 
--- a content that took an input
+-- a content after an input
 taken : (k : Accum) (f : ℕ) (was now : Content) (y : Given) → IsFed k f was → f < 2 ^ 62 → suits k y ≡ true → TakesInput was y now → (seen_in k now ≡ after k (seen_in k was) (y ∷ [])) × IsFed k (suc f) now
 taken k f was now y h few suited takes = (
   shows.holds,
@@ -153,34 +154,46 @@ taken k f was now y h few suited takes = (
     all : (suits k y && true) ≡ true
     all = ap (λ b. b && true) suited
 
-one_after : (f : ℕ) (old mid : Accums) (x : Contribution) (t : ℕ) (y : Given) → AreFed f old → f < 2 ^ 62 → MayTake old.slots x → t ≡ number_of old.slots x.slot x.vertex → y ≡ x.input → TakesOne old mid t y
-    → (mid.slots ≡ old.slots) × (slots_are mid ≡ slots_after (x ∷ []) 0 (slots_are old)) × AreFed (suc f) mid
-one_after f old mid x t y fed few may e d takes = (takes.slots, shown, fed_then)
+-- accumulators with other contents
+abbrev with_all : Accums → List Content → Accums
+with_all a cs = record { slots = a.slots; contents = cs }
+
+one_put : (f : ℕ) (old new : Accums) (x : Contribution) (t : ℕ) (was now : Content) → AreFed f old → f < 2 ^ 62 → MayTake old.slots x → t ≡ number_of old.slots x.slot x.vertex → slice_get old.contents t ≡ Some was → TakesInput was x.input now
+    → new.slots ≡ old.slots → new.contents ≡ slice_set old.contents t now → (slots_are new ≡ slots_after (x ∷ []) 0 (slots_are old)) × AreFed (suc f) new
+one_put f old new x t was now fed few may e there takes same_slots put = (shown, fed_then)
   where
     each : EachSlot (λ k c. IsFed k f c) old.slots.vertices old.slots.declared old.contents
     each = slots_of_targets (λ k c. IsFed k f c) old.slots.vertices old.slots.declared old.contents fed.each
 
-    stood : slice_get old.contents (number_of old.slots x.slot x.vertex) ≡ Some takes.was
-    stood = ap (slice_get old.contents) (sym e) ∙ takes.stood
+    stood : slice_get old.contents (number_of old.slots x.slot x.vertex) ≡ Some was
+    stood = ap (slice_get old.contents) (sym e) ∙ there
 
-    becomes : (seen_in (accum_of may.slot.kind) takes.now ≡ after (accum_of may.slot.kind) (seen_in (accum_of may.slot.kind) takes.was) (x.input ∷ [])) × IsFed (accum_of may.slot.kind) (suc f) takes.now
-    becomes = taken (accum_of may.slot.kind) f takes.was takes.now x.input (fed.each x.slot x.vertex may.slot takes.was may.declared may.within stood) few may.suited (subst (λ z. TakesInput takes.was z takes.now) d takes.takes)
+    becomes : (seen_in (accum_of may.slot.kind) now ≡ after (accum_of may.slot.kind) (seen_in (accum_of may.slot.kind) was) (x.input ∷ [])) × IsFed (accum_of may.slot.kind) (suc f) now
+    becomes = taken (accum_of may.slot.kind) f was now x.input (fed.each x.slot x.vertex may.slot was may.declared may.within stood) few may.suited takes
 
-    contents : mid.contents ≡ set old.contents (number_of old.slots x.slot x.vertex) takes.now
-    contents = takes.contents ∙ ap (λ (i : ℕ). set old.contents i takes.now) e
+    contents : new.contents ≡ set old.contents (number_of old.slots x.slot x.vertex) now
+    contents = put ∙ ap (λ (i : ℕ). set old.contents i now) e
 
-    shown : slots_are mid ≡ slots_after (x ∷ []) 0 (slots_are old)
-    shown = ap (λ (q : Slots). slots_from q.vertices 0 q.declared mid.contents) takes.slots ∙ ap (slots_from old.slots.vertices 0 old.slots.declared) contents
-        ∙ slots_one old.slots.vertices f x takes.was takes.now 0 x.slot old.slots.declared may.slot old.contents (omega arith) (may.declared, may.within, becomes) stood
+    shown : slots_are new ≡ slots_after (x ∷ []) 0 (slots_are old)
+    shown = ap (λ (q : Slots). slots_from q.vertices 0 q.declared new.contents) same_slots ∙ ap (slots_from old.slots.vertices 0 old.slots.declared) contents
+        ∙ slots_one old.slots.vertices f x was now 0 x.slot old.slots.declared may.slot old.contents (omega arith) (may.declared, may.within, becomes) stood
         (slots_map (λ k c. IsFed k f c) Proper (λ k c h. proper_of k f c h) old.slots.vertices old.slots.declared old.contents each)
 
-    fed_then : AreFed (suc f) mid
+    fed_then : AreFed (suc f) new
     fed_then = record {
-      each = subst (λ (q : Slots). EachTarget (λ k c. IsFed k (suc f) c) q.vertices q.declared mid.contents) (sym takes.slots)
+      each = subst (λ (q : Slots). EachTarget (λ k c. IsFed k (suc f) c) q.vertices q.declared new.contents) (sym same_slots)
           (subst (EachTarget (λ k c. IsFed k (suc f) c) old.slots.vertices old.slots.declared) (sym contents)
-          (targets_of_slots (λ k c. IsFed k (suc f) c) old.slots.vertices old.slots.declared (set old.contents (number_of old.slots x.slot x.vertex) takes.now)
-          (fed_one old.slots.vertices f x takes.was takes.now x.slot old.slots.declared may.slot old.contents (may.declared, may.within, becomes) each)));
+          (targets_of_slots (λ k c. IsFed k (suc f) c) old.slots.vertices old.slots.declared (set old.contents (number_of old.slots x.slot x.vertex) now)
+          (fed_one old.slots.vertices f x was now x.slot old.slots.declared may.slot old.contents (may.declared, may.within, becomes) each)));
     }
+
+one_after : (f : ℕ) (old mid : Accums) (x : Contribution) (t : ℕ) (y : Given) → AreFed f old → f < 2 ^ 62 → MayTake old.slots x → t ≡ number_of old.slots x.slot x.vertex → y ≡ x.input → TakesOne old mid t y
+    → (mid.slots ≡ old.slots) × (slots_are mid ≡ slots_after (x ∷ []) 0 (slots_are old)) × AreFed (suc f) mid
+one_after f old mid x t y fed few may e d takes =
+    let middle = with_all old takes.takes.middle in
+    let copy = copied_fed f old middle fed refl takes.takes.same in
+    let put = one_put f middle mid x t takes.takes.was takes.takes.now copy.1 few may e takes.takes.stood (subst (λ z. TakesInput takes.takes.was z takes.takes.now) d takes.takes.becomes) takes.slots takes.takes.contents in
+    (takes.slots, put.0 ∙ ap (slots_after (x ∷ []) 0) copy.0, put.1)
 
 -- ---- a batch, from its first input to its last
 
@@ -219,7 +232,7 @@ chain_takes old new bs h = record { each = chain_each old new bs h }
 
 -- ---- the loop
 
--- what was fed so far goes before whatever follows
+-- the inputs so far, followed by any others
 abbrev pub SoFar : Accums → List (ℕ × Input) → ℕ → Accums → Type 0
 SoFar old bs i now = (new : Accums) → Chain now (drop i bs) new → Chain old bs new
 

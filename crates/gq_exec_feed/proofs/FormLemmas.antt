@@ -19,7 +19,7 @@ both false b h = absurd (cc h)
 apart : {P : Type 0} → false ≡ true → P
 apart h = absurd (cc h)
 
--- ---- lists of which all are so
+-- ---- tests of all items
 
 module _ {A : Type 0} (p : A → Bool) where
   all_append : (xs ys : List A) → list_all p xs ≡ true → list_all p ys ≡ true → list_all p (xs ++ ys) ≡ true
@@ -88,7 +88,7 @@ heap_takes : (b : Base) (n : ℕ) (by : List (ℕ × Bool)) (x : Given) → suit
 heap_takes b n by (One v) h = h
 heap_takes b n by (Keyed row xs) h = apart h
 
--- ---- what inputs give below their keys
+-- ---- inputs at their keys
 
 map_suits : (b : Base) (k : Accum) (row : List Val) (ys : Givens) → suits (MapAccum b k) (Keyed row ys) ≡ true → suits k (first ys) ≡ true
 map_suits b k row no_given h = apart h

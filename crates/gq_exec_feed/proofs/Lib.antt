@@ -2,7 +2,7 @@ pub mod SuitLemmas
 pub mod FormLemmas
 pub mod PlaceLemmas
 pub mod SlotLemmas
+pub mod CopyLemmas
 pub mod FeedLemmas
 pub mod FitLemmas
-pub mod IntLemmas
 pub mod BatchLemmas

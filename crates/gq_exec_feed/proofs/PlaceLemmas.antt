@@ -1,4 +1,4 @@
--- PlaceLemmas: parts of a list, and one item put in another's place.
+-- PlaceLemmas: parts of a list, and lists with one item replaced.
 use Rattle.std.proofs.Common.{◌≡◌, ℕ, zero, suc, ◌+◌, ◌<◌, ◌≤◌, List, [], ◌∷◌, take, drop, length, set, get_or, slice_get, Some, None, refl, sym, ap, ◌∙◌, arith}
 
 pub same_some : {A : Type 0} {a b : A} → Some a ≡ Some b → a ≡ b
@@ -48,7 +48,7 @@ module _ {A : Type 0} where
   get_dropped [] (suc t) i = refl
   get_dropped (y ∷ xs) (suc t) i = get_dropped xs t i ∙ (let e : suc (t + i) ≡ suc t + i = omega arith in ap (slice_get (y ∷ xs)) e)
 
-  -- an item as the code has it
+  -- an item by its index
   pub get_some : (xs : List A) (i : ℕ) (x : A) → i < length xs → x ≡ get_or xs i x → slice_get xs i ≡ Some x
   get_some [] i x l h = absurd (omega (arith, l))
   get_some (y ∷ xs) zero x l h = ap Some (sym h)

@@ -1,4 +1,4 @@
--- SlotLemmas: all slots with their contents, one after another, and one more contribution.
+-- SlotLemmas: all slots with their contents, and one more contribution.
 use Rattle.std.proofs.Common.{if◌then◌else◌, ◌≡◌, ℕ, zero, suc, ◌+◌, ◌<◌, ◌≤◌, ◌==◌, ◌&&◌, Bool, true, false, List, [], ◌∷◌, ◌++◌, take, drop, map, slice_get, Some, refl, sym, ap, ap₂, ◌∙◌, subst, arith}
 use Rattle.gq_value.specs.declared.kind.Slot.{Slot}
 use Rattle.gq_value.specs.Accums.{Accum}
@@ -19,7 +19,7 @@ use Rattle.gq_plan_ir.specs.Reference.{Reference}
 use Rattle.gq_frame.specs.Slots.{slots_from}
 use Rattle.gq_exec_feed.proofs.PlaceLemmas.{same_some, none_apart, get_taken, taken_get, get_dropped}
 
--- ---- what all contents of the slots are, slot by slot
+-- ---- the contents of all slots, slot by slot
 
 abbrev pub Every : {A : Type 0} → (A → Type 0) → List A → Type 0
 Every P [] = Unit {0}
@@ -69,7 +69,7 @@ pub slots_map : (P Q : Accum → Content → Type 0) → ((k : Accum) (c : Conte
 slots_map P Q f vertices [] cs h = tt
 slots_map P Q f vertices (s ∷ ss) cs h = (every_map (P (accum_of s.kind)) (Q (accum_of s.kind)) (f (accum_of s.kind)) (take (targets_of vertices s) cs) h.0, slots_map P Q f vertices ss (drop (targets_of vertices s) cs) h.1)
 
--- ---- contents that nothing goes to
+-- ---- contents without an input
 
 abbrev pub Proper : Accum → Content → Type 0
 Proper k c = IsProper k (view k (out-Content c))
@@ -91,7 +91,7 @@ slots_same vertices n xs (s ∷ ss) cs none p = ap₂ ◌∷◌
     (ap (with_contents n s) (contents_same (accum_of s.kind) n xs 0 (take (targets_of vertices s) cs) (λ w l. none n w (omega arith)) p.0))
     (slots_same vertices (suc n) xs ss (drop (targets_of vertices s) cs) (λ m w l. none m w (omega (arith, l))) p.1)
 
--- ---- contributions, and then others
+-- ---- contributions followed by others
 
 inputs_append : (n v : ℕ) (xs ys : List Contribution) → inputs_to n v (xs ++ ys) ≡ inputs_to n v xs ++ inputs_to n v ys
 inputs_append n v [] ys = refl

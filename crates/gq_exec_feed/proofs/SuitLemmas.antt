@@ -80,12 +80,12 @@ one_none k (x ∷ y ∷ xs) h = sym (and_no (suits k (given x)))
 
 pub ruleset one_laws = (one_suit, and_true_is)
 
--- ---- two lists, item by item: a test that goes through both, and is false where one is longer
+-- ---- tests of two lists, item by item, which are false if one is longer
 
 module _ {X Y A B : Type 0} (f : X → A) (g : Y → B) (item : A → B → Bool) (whole : List A → List B → Bool)
     (none : whole [] [] ≡ true) (first : (y : B) (ys : List B) → whole [] (y ∷ ys) ≡ false) (second : (x : A) (xs : List A) → whole (x ∷ xs) [] ≡ false)
     (more : (x : A) (y : B) (xs : List A) (ys : List B) → whole (x ∷ xs) (y ∷ ys) ≡ (item x y && whole xs ys)) where
-  -- from a place on
+  -- from an index on
   abbrev Rest : List X → List Y → ℕ → Bool
   Rest xs ys i = whole (map f (drop i xs)) (map g (drop i ys))
 

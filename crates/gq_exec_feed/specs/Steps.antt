@@ -1,22 +1,18 @@
 -- Steps: one input at a time, and the contents of one slot.
-use Rattle.std.specs.Prelude.{◌≡◌, ℕ, Bool, true, false, List, map, slice_get, slice_set, Some}
+use Rattle.std.specs.Prelude.{◌≡◌, ℕ, Bool, true, false, List, map}
 use Rattle.std.specs.List.{All, list_all}
 use Rattle.gq_value.specs.Accums.{Accum, SumAccum, AvgAccum, MapAccum, GroupByAccum, Given}
 use Rattle.gq_accum_laws.specs.Fits.{fits}
 use Rattle.gq_nest.specs.declared.content.Content.{Content, out-Content}
 use Rattle.gq_nest.specs.Forms.{view}
-use Rattle.gq_nest.specs.Shows.{TakesInput}
 use Rattle.gq_frame.specs.declared.accums.Accums.{Accums}
+use Rattle.gq_frame.specs.Pages.{ChangesAt, Takes}
 use Rattle.gq_exec_feed.specs.Feeding.{IsFed}
 
--- the content at a target takes one more input, and the others stay
+-- the content at a target takes one more input, and the others show the same as before
 pub record TakesOne (old new : Accums) (target : ℕ) (x : Given) : Type 0 where
-  pub was : Content
-  pub now : Content
-  pub stood : slice_get old.contents target ≡ Some was
-  pub takes : TakesInput was x now
+  pub takes : ChangesAt (Takes x) target old.contents new.contents
   pub slots : new.slots ≡ old.slots
-  pub contents : new.contents ≡ slice_set old.contents target now
 
 -- a kind without a sum or an average at any level, whose contents always fit. A group isn't looked into
 abbrev pub has_no_sum : Accum → Bool
@@ -26,10 +22,10 @@ has_no_sum (MapAccum b k) = has_no_sum k
 has_no_sum (GroupByAccum keys ps) = false
 has_no_sum k = true
 
--- the answer is whether all of them fit, as contents of a kind
+-- the answer is whether all contents fit, as contents of a kind
 pub record AllFitAs (k : Accum) (cs : List Content) (answer : Bool) : Type 0 where
   pub each : (f : ℕ) → All (IsFed k f) cs → answer ≡ list_all (fits k) (map (λ c. view k (out-Content c)) cs)
 
--- the answer is whether all of them fit, where they are of one kind
+-- the answer is whether all contents fit, if they are of one kind
 pub record AllFit (cs : List Content) (answer : Bool) : Type 0 where
   pub each : (k : Accum) (f : ℕ) → All (IsFed k f) cs → answer ≡ list_all (fits k) (map (λ c. view k (out-Content c)) cs)

@@ -9,7 +9,7 @@ use Rattle.gq_frame.specs.declared.slots.Slots.{Slots}
 use Rattle.gq_frame.specs.Targets.{targets_of, number_of}
 use Rattle.gq_rules_meaning.specs.Blocks.{Contribution}
 
--- there is such a target, and its kind takes the input
+-- the target of a contribution exists, and its kind takes the input
 pub record MayTake (slots : Slots) (c : Contribution) : Type 0 where
   pub slot : Slot
   pub declared : slice_get slots.declared c.slot ≡ Some slot
@@ -24,6 +24,6 @@ targeted slots c = (number_of slots c.slot c.vertex, c.input)
 abbrev pub as_given : ℕ × Input → ℕ × Given
 as_given x = (x.0, given x.1)
 
--- these contributions, as a batch has them
+-- a batch represents these contributions, in order
 abbrev pub AreBatched : Slots → List Contribution → List (ℕ × Input) → Type 0
 AreBatched slots xs batch = map as_given batch ≡ map (targeted slots) xs

@@ -1,4 +1,4 @@
-// Batches.
+// Feeds batches.
 ghost use Rattle.std.specs.Prelude.{OnOk};
 ghost use Rattle.gq_value.specs.AccumViews.{given};
 ghost use Rattle.gq_exec_feed.specs.Feeding.{TakesBatch};
@@ -9,7 +9,7 @@ use gq_frame::Accums;
 use gq_value::Input;
 use std::alloc::Global;
 
-/// Feeds a batch, in order: each input to the target with its number. After `OutOfMemory` part of it may be fed.
+/// Feeds a batch in order, each input to the target with its number. After `OutOfMemory` some inputs may have been fed.
 #[tactic(auto, using(crate::proofs::FeedLemmas::so_far_laws))]
 pub fn feed_all(
     alloc: Global,
@@ -24,8 +24,8 @@ pub fn feed_all(
     Ok(())
 }
 
-/// Feeds the target with a number.
-fn feed_one(
+/// Feeds an input to the target with this number. Returns `OutOfMemory` too if there is no such target.
+pub fn feed_one(
     alloc: Global,
     accums: &mut Accums,
     target: u64,
@@ -36,6 +36,5 @@ fn feed_one(
     if target >= accums.contents.len() as u64 {
         return Err(OutOfMemory);
     }
-    accums.at_mut(target).feed(alloc, input)?;
-    Ok(())
+    accums.contents.feed(alloc, target as usize, input)
 }

@@ -1,26 +1,39 @@
-// Sums judged.
-ghost use Rattle.std.specs.Prelude.{◌≡◌, ℕ, IfSome};
+// Checks sums for overflow.
+ghost use Rattle.std.specs.Prelude.{◌≡◌, ℕ, ◌-◌, ◌≤◌, IfSome, drop, length, take};
 ghost use Rattle.gq_rules_meaning.specs.Blocks.{first_unfit};
 ghost use Rattle.gq_frame.specs.Slots.{slots_are};
 ghost use Rattle.gq_exec_feed.specs.Feeding.{AreFed};
 ghost use Rattle.gq_value.specs.AccumViews.{accum_of};
 ghost use Rattle.gq_exec_feed.specs.Steps.{AllFit, AllFitAs, has_no_sum};
 
-use gq_frame::Accums;
-use gq_nest::Content;
+use gq_frame::{Accums, Pages};
 use gq_value::Kind;
+use std::alloc::Global;
 
-/// The first accumulator with a content that doesn't fit, by its number. Takes no memory.
+/// The slot number of the first accumulator with a content out of range. Pages whose contents fit are sealed: later
+/// copies share them, and their contents aren't checked again until they change.
+#[tactic(auto, using(crate::proofs::FitLemmas::all_fit_none))]
+pub fn first_unfit(alloc: Global, accums: &mut Accums) -> Option<usize>
+    ensures same { accums.new ≡ accums.old }
+    ensures unfit { (f : ℕ) → AreFed f accums.old → result ≡ first_unfit 0 (slots_are accums.old) }
+{
+    accums.contents.seal(alloc);
+    if accums.contents.fit() {
+        return None;
+    }
+    unfit_in(accums)
+}
+
+/// The slot number of the first accumulator with a content out of range, checking all slots.
 #[tactic(auto, using(crate::proofs::FitLemmas::unfit_laws))]
-pub fn first_unfit(accums: &Accums) -> Option<usize>
+fn unfit_in(accums: &Accums) -> Option<usize>
     ensures { (f : ℕ) → AreFed f accums.now → result ≡ first_unfit 0 (slots_are accums.now) }
 {
-    let contents = accums.contents.as_slice();
     let mut start = 0;
     for (number, slot) in accums.slots.declared.as_slice().iter().enumerate() {
         let targets = accums.slots.targets(slot) as usize;
-        let end = (start + targets).min(contents.len());
-        if !slot_fits(&slot.kind, &contents[start..end]) {
+        let end = start + targets.min(accums.contents.len() - start);
+        if !slot_fits(&slot.kind, &accums.contents, start, end) {
             return Some(number);
         }
         start = end;
@@ -28,7 +41,7 @@ pub fn first_unfit(accums: &Accums) -> Option<usize>
     None
 }
 
-/// A number of a slot, in 32 bits.
+/// A slot number in 32 bits.
 pub fn slot_number(number: usize) -> Option<u32>
     ensures { IfSome result (λ slot. slot ≡ number) }
 {
@@ -38,18 +51,19 @@ pub fn slot_number(number: usize) -> Option<u32>
     Some(number as u32)
 }
 
-/// Whether all contents of a slot fit. Where its kind has no sum nothing is looked at.
+/// Whether all contents of a slot fit. If its kind has no sum, none is checked.
 #[tactic(auto, using(crate::proofs::FitLemmas::kind_laws))]
-fn slot_fits(kind: &Kind, contents: &[Content]) -> bool
-    ensures { AllFitAs (accum_of kind.now) contents.now result }
+fn slot_fits(kind: &Kind, contents: &Pages, start: usize, end: usize) -> bool
+    requires { end ≤ length contents.now }
+    ensures { AllFitAs (accum_of kind.now) (take (end - start) (drop start contents.now)) result }
 {
     if has_no_sum(kind) {
         return true;
     }
-    all_fit(contents)
+    all_fit(contents, start, end)
 }
 
-/// Whether contents of a kind fit whatever they hold: they have no sum and no average.
+/// Whether contents of a kind always fit, because they have no sum and no average.
 #[cycle(sums)]
 #[tactic(auto, using(gq_value::proofs::AccumLemmas::accum_laws))]
 fn has_no_sum(kind: &Kind) -> bool
@@ -64,13 +78,14 @@ fn has_no_sum(kind: &Kind) -> bool
     }
 }
 
-/// Whether all contents fit.
+/// Whether the contents in `start..end` fit.
 #[tactic(auto, using(crate::proofs::FitLemmas::fit_laws))]
-fn all_fit(contents: &[Content]) -> bool
-    ensures { AllFit contents.now result }
+fn all_fit(contents: &Pages, start: usize, end: usize) -> bool
+    requires { end ≤ length contents.now }
+    ensures { AllFit (take (end - start) (drop start contents.now)) result }
 {
-    for content in contents {
-        if !content.fits() {
+    for at in start..end {
+        if !contents.at(at).fits() {
             return false;
         }
     }

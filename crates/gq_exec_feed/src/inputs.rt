@@ -1,4 +1,4 @@
-// Which inputs a kind takes.
+// Checks inputs against kinds.
 ghost use Rattle.std.specs.Prelude.{◌≡◌, [], ◌∷◌, map};
 ghost use Rattle.gq_value.specs.AccumViews.{accum_of, base_of, given, givens, parts_of};
 ghost use Rattle.gq_value.specs.Accums.{Keyed};
@@ -8,7 +8,7 @@ ghost use Rattle.gq_value.specs.Views.{val};
 use crate::values::{are_of, is_number, is_of, is_truth, keys_are_of};
 use gq_value::{BaseType, Input, Kind, Number, Txt, Value};
 
-/// Whether a kind takes an input: one value of its type, or values of its key types with an input for each part.
+/// Whether a kind takes an input: one value of its type, or keys of its key types with an input for each part.
 #[cycle(inputs)]
 #[tactic(auto, using(crate::proofs::SuitLemmas::given_laws))]
 pub fn suits(input: &Input, kind: &Kind) -> bool
@@ -37,7 +37,7 @@ fn keyed_suits(parts: &[Input], keys: &[Value], kind: &Kind) -> bool
     }
 }
 
-/// Whether there is one key, of a type.
+/// Whether there is exactly one key, of this type.
 fn has_key(keys: &[Value], key: &BaseType) -> bool
     ensures { result ≡ row_is_of (base_of key.now ∷ []) (map val keys.now) }
 {
@@ -47,7 +47,7 @@ fn has_key(keys: &[Value], key: &BaseType) -> bool
     }
 }
 
-/// Whether there is one input, which a kind takes.
+/// Whether there is exactly one input, which the kind takes.
 #[cycle(inputs)]
 #[tactic(auto, using(crate::proofs::SuitLemmas::one_laws))]
 fn one_suits(inputs: &[Input], kind: &Kind) -> bool
@@ -59,7 +59,7 @@ fn one_suits(inputs: &[Input], kind: &Kind) -> bool
     }
 }
 
-/// Whether there is an input for each part of a group, which the part takes.
+/// Whether there is an input for each part of a group, which that part takes.
 #[cycle(inputs)]
 #[tactic(auto, using(crate::proofs::SuitLemmas::parts_laws))]
 fn parts_suit(inputs: &[Input], parts: &[(Txt, Kind)]) -> bool

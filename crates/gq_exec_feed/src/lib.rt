@@ -13,11 +13,10 @@ mod feed;
 mod fits;
 mod inputs;
 mod ints;
-mod scalars;
 mod targets;
 mod values;
 
-pub use feed::feed_all;
+pub use feed::{feed_all, feed_one};
 pub use fits::{first_unfit, slot_number};
 pub use inputs::{suits, takes};
 pub use ints::feed_ints;

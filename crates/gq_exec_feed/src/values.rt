@@ -1,4 +1,4 @@
-// Which values are of a type.
+// Checks values against types.
 ghost use Rattle.std.specs.Prelude.{◌≡◌, map};
 ghost use Rattle.gq_value.specs.Accums.{INT, UINT, BOOL, STRING, VERTEX, DATETIME};
 ghost use Rattle.gq_value.specs.AccumViews.{base_of, bases};
@@ -8,7 +8,7 @@ ghost use Rattle.gq_value.specs.Views.{val, vals};
 
 use gq_value::{BaseType, Number, Txt, Value};
 
-/// Whether a value is of a type. Whether a vertex is there isn't asked.
+/// Whether a value is of a type. Whether a vertex exists isn't checked.
 #[cycle(values)]
 #[tactic(auto, using(gq_eval_operand::proofs::ConvertLemmas::base_laws, gq_value::specs::ViewLaws::view_laws))]
 pub(crate) fn is_of(value: &Value, base: &BaseType) -> bool
@@ -83,7 +83,7 @@ fn is_int(value: &Value) -> bool
     }
 }
 
-/// An INT is within its type by its width.
+/// Always true: each `i64` is in the range of INT.
 #[tactic(auto, using(crate::proofs::SuitLemmas::number_laws))]
 fn int_fits(number: i64) -> bool
     ensures { result ≡ is_of INT (plain.Int number) }
@@ -103,7 +103,7 @@ fn is_uint(value: &Value) -> bool
     }
 }
 
-/// A UINT is within its type by its width.
+/// Always true: each `u64` is in the range of UINT.
 #[tactic(auto, using(crate::proofs::SuitLemmas::number_laws))]
 fn uint_fits(number: u64) -> bool
     ensures { result ≡ is_of UINT (plain.UInt number) }
@@ -148,7 +148,7 @@ fn is_vertex(value: &Value) -> bool
     }
 }
 
-/// Whether a value is the seconds of a DATETIME.
+/// Whether a value is a DATETIME, in seconds.
 #[tactic(auto, using(gq_value::specs::ViewLaws::view_laws))]
 fn is_time(value: &Value) -> bool
     ensures { result ≡ is_of DATETIME (val value.now) }
@@ -160,7 +160,7 @@ fn is_time(value: &Value) -> bool
     }
 }
 
-/// Whether the seconds are a DATETIME.
+/// Whether the seconds are in the range of DATETIME.
 fn in_calendar(seconds: i64) -> bool
     ensures { result ≡ in_calendar seconds }
 {

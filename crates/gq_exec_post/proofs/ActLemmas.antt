@@ -1,4 +1,4 @@
--- ActLemmas: acts at a vertex, one after the other, and IF.
+-- ActLemmas: statements at a vertex in order, and IF.
 use Rattle.std.proofs.Common.{◌≡◌, ℕ, ◌+◌, ◌<◌, ◌≤◌, Bool, true, false, List, [], ◌∷◌, map, drop, length, get_or, Option, Some, None, Result, Ok, Err, refl, sym, ap, subst, ◌∙◌}
 use Rattle.std.specs.Option.{option_map}
 use Rattle.std.proofs.lemmas.List.{drop_all}
@@ -40,9 +40,9 @@ keeps_itself a s = record { sound = s; slots = refl }
 pub keeps_on : (a b c : Accums) → KeepsTo a b → KeepsTo b c → KeepsTo a c
 keeps_on a b c h k = record { sound = k.sound; slots = k.slots ∙ h.slots }
 
--- ---- one act after another
+-- ---- statements in order
 
--- what is left so far, and what the acts that remain do
+-- the state so far, followed by the remaining statements
 pub record ActsTo (clock : Calendar) (o : Over) (aliases : List (ℕ × Placed)) (v : ℕ) (acts : List Act) (before : Writing) (i : ℕ) (now : Writing) : Type 0 where
   pub each : (p : Post Reference) → SeesSo clock o aliases v p → post_acts p (view_acts acts) (written before) ≡ post_acts p (view_acts (drop i acts)) (written now)
   pub keeps : KeepsTo before.accums now.accums
@@ -89,7 +89,7 @@ global_is clock o aliases v a slot c before r is d = record { each = λ p h. sub
 
 -- ---- IF
 
--- IF and each ELSE IF, and what stands behind ELSE
+-- IF and each ELSE IF, and the statements of ELSE
 abbrev pub view_choices : List (Expr × List Act) → Option (List Act) → Choices Reference
 view_choices branches others = choices_of (map (λ b. (view b.0, map view_act b.1)) branches) (option_map (map view_act) others)
 

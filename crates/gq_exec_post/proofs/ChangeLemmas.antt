@@ -1,6 +1,8 @@
 -- ChangeLemmas: accumulators with another content at a target, as the definitions have them.
-use Rattle.std.proofs.Common.{◌≡◌, ℕ, zero, suc, ◌+◌, ◌<◌, ◌&&◌, Bool, true, List, [], ◌∷◌, take, drop, map, set, slice_get, Some, refl, sym, ap, ap₂, ◌∙◌, subst, arith}
+use Rattle.std.proofs.Common.{◌≡◌, ℕ, zero, suc, ◌+◌, ◌<◌, ◌&&◌, Bool, true, List, [], ◌∷◌, take, drop, map, length, set, slice_get, slice_set, Some, refl, sym, ap, ap₂, ◌∙◌, subst, arith}
+use Rattle.gq_value.specs.declared.kind.Input.{Input}
 use Rattle.gq_value.specs.declared.kind.Slot.{Slot}
+use Rattle.gq_value.specs.declared.value.Value.{Value}
 use Rattle.gq_value.specs.Accums as kinds
 use Rattle.gq_value.specs.Accums.{Accum}
 use Rattle.gq_value.specs.AccumViews.{accum_of, given}
@@ -13,21 +15,24 @@ use Rattle.gq_accum_laws.specs.Targets.{target_number}
 use Rattle.gq_accum_laws.proofs.FedLaws.{fed_law}
 use Rattle.gq_nest.specs.declared.content.Content.{Content}
 use Rattle.gq_nest.specs.Shows.{Shows}
-use Rattle.gq_nest.specs.Tells.{is_settable}
+use Rattle.gq_nest.specs.Tells.{Tells, is_settable}
 use Rattle.gq_frame.specs.declared.slots.Slots.{Slots}
 use Rattle.gq_frame.specs.declared.accums.Accums.{Accums}
+use Rattle.gq_frame.specs.Pages.{AllowsAt, ChangesAt, SetsTo, Takes}
 use Rattle.gq_frame.specs.Targets.{attached_in, targets_of, number_of}
 use Rattle.gq_rules_meaning.specs.States as states
 use Rattle.gq_rules_meaning.specs.Writes.{Making, changed_at, fits_at, passes_at, slot_changed}
 use Rattle.gq_plan_ir.specs.Reference.{Reference}
 use Rattle.gq_eval_operand.specs.Sound.{HoldsForms, IsSound}
 use Rattle.gq_frame.specs.Slots.{AreSound, slot_seen, slots_from, slots_are}
+use Rattle.gq_exec_feed.proofs.CopyLemmas.{copied_sound}
 use Rattle.gq_exec_feed.proofs.FormLemmas.{forms_after}
 use Rattle.gq_exec_feed.proofs.PlaceLemmas.{same_some, none_apart, take_set_front, drop_set_front, take_set_behind, drop_set_behind, taken_get, get_dropped}
 use Rattle.gq_exec_feed.proofs.SlotLemmas.{Every, EachSlot, EachTarget, seen_in, with_contents, slots_of_targets, targets_of_slots}
 use Rattle.gq_exec_post.specs.declared.making.Made.{Made}
 use Rattle.gq_exec_post.specs.declared.making.Made.TheVariants as made
 use Rattle.gq_exec_post.specs.Changing.{Becomes, CanTake, Changed, ChangesOne, MayChange, MaySuit, fits_after}
+use Rattle.gq_exec_post.specs.Judging.{fits_where}
 use Rattle.gq_exec_post.specs.Making.{making_of}
 use Rattle.gq_exec_post.proofs.JudgingLaws.{still_fits}
 
@@ -107,7 +112,7 @@ module _ (vertices v : ℕ) (f : Making) (was now : Content) where
       at : target_number vertices (attached_in (r ∷ ss)) (suc j) v ≡ targets_of vertices r + rest
       at = omega arith
 
-  -- what holds of all contents, where it holds of the new one
+  -- what holds for all contents, if it holds for the new one
   each_changed : (P : Accum → Content → Type 0) (j : ℕ) (ss : List Slot) (s : Slot) (cs : List Content) → At ss j s → P (accum_of s.kind) now → EachSlot P vertices ss cs → EachSlot P vertices ss (set cs (target_number vertices (attached_in ss) j v) now)
   each_changed P j [] s cs a h p = tt
   each_changed P zero (r ∷ ss) s cs a h p = let t : v ≡ 0 + v = omega arith in subst (λ (i : ℕ). EachSlot P vertices (r ∷ ss) (set cs i now)) t (
@@ -136,7 +141,7 @@ module _ (vertices v : ℕ) (f : Making) (was now : Content) where
 
 -- ---- one content
 
--- what is put has values of its type
+-- a value that is set is of the content's type
 forms_put : (k : Accum) (v : Val) → is_settable k ≡ true → HoldsForms k (set_to k v)
 forms_put (kinds.SumAccum n) v e = tt
 forms_put (kinds.MinAccum n) v e = tt
@@ -172,7 +177,7 @@ now_sound k m was now sound suited becomes fit =
       fit = fit;
     }
 
--- where it fitted before, what is judged tells of the whole
+-- if the content fitted before, the check of the changed part decides for the whole
 judged_whole : (k : Accum) (h : Holds k) (m : Made) → IsProper k h → fits k h ≡ true → fits_after m k (making_of m k h) ≡ fits k (making_of m k h)
 judged_whole k h (made.Input x) proper fit = still_fits k h (given x) proper fit
 judged_whole k h (made.Value v) proper fit = refl
@@ -189,8 +194,18 @@ can_take old n v t (made.Value x) sound is may c g = record {
   takes = may.suited.1;
 }
 
-pub changed_is : (old new : Accums) (n v t : ℕ) (m : Made) (fit : Bool) → AreSound old → t ≡ number_of old.slots n v → MayChange old.slots n v m → ChangesOne m old new t fit → Changed m old new n v fit
-changed_is old new n v t m fit sound is may one = record {
+-- a content replaced by another
+record PutsOne (m : Made) (old new : Accums) (target : ℕ) (fit : Bool) : Type 0 where
+  pub was : Content
+  pub now : Content
+  pub stood : slice_get old.contents target ≡ Some was
+  pub becomes : Becomes m was now
+  pub judged : Tells now fit (fits_after m)
+  pub slots : new.slots ≡ old.slots
+  pub contents : new.contents ≡ slice_set old.contents target now
+
+put_is : (old new : Accums) (n v t : ℕ) (m : Made) (fit : Bool) → AreSound old → t ≡ number_of old.slots n v → MayChange old.slots n v m → PutsOne m old new t fit → Changed m old new n v fit
+put_is old new n v t m fit sound is may one = record {
   slot = there.0;
   stands = there.1;
   slots = one.slots;
@@ -233,4 +248,80 @@ changed_is old new n v t m fit sound is may one = record {
     there : (slot : states.Slot Reference) × (slice_get (slots_are old) n ≡ Some slot) × (fits_at v (slot_changed (making_of m) v slot) ≡ fits (accum_of may.slot.kind) (seen_in (accum_of may.slot.kind) one.now))
     there = slot_there old.slots.vertices v (making_of m) one.was one.now 0 n old.slots.declared may.slot old.contents at stood
 
+pub changed_is : (old new : Accums) (n v t : ℕ) (m : Made) (fit : Bool) → AreSound old → t ≡ number_of old.slots n v → MayChange old.slots n v m → ChangesOne m old new t fit → Changed m old new n v fit
+changed_is old new n v t m fit sound is may one =
+    let h = one.changes in
+    let middle : Accums = record { slots = old.slots; contents = h.middle } in
+    let copy = copied_sound old middle sound refl h.same in
+    let put = put_is middle new n v t m fit copy.1 is may (record { was = h.was; now = h.now; stood = h.stood; becomes = h.becomes; judged = one.judged; slots = one.slots; contents = h.contents }) in
+    record {
+      slot = put.slot;
+      stands = ap (λ l. slice_get l n) (sym copy.0) ∙ put.stands;
+      slots = put.slots;
+      changed = put.changed ∙ ap (changed_at (slot_changed (making_of m) v) n) copy.0;
+      judged = put.judged;
+      sound = put.sound;
+    }
+
+-- ---- changes by the code
+
+get_set : (cs : List Content) (i : ℕ) (c w : Content) → slice_get cs i ≡ Some c → slice_get (slice_set cs i w) i ≡ Some w
+get_set [] i c w g = none_apart c g
+get_set (d ∷ cs) zero c w g = refl
+get_set (d ∷ cs) (suc i) c w g = get_set cs i c w g
+
+below : (cs : List Content) (i : ℕ) (c : Content) → slice_get cs i ≡ Some c → i < length cs
+below [] i c g = none_apart c g
+below (d ∷ cs) zero c g = omega arith
+below (d ∷ cs) (suc i) c g = let l = below cs i c g in omega (arith, l)
+
+module _ {R : Content → Content → Type 0} {t : ℕ} {old new : List Content} (h : ChangesAt R t old new) where
+  now_there : slice_get new t ≡ Some h.now
+  now_there = ap (λ cs. slice_get cs t) h.contents ∙ get_set h.middle t h.was h.now h.stood
+
+  pub within_new : t < length new
+  within_new = below new t h.now now_there
+
+input_made : (m : Made) (x : Input) (t : ℕ) (old new : List Content) → m ≡ made.Input x → ChangesAt (Takes (given x)) t old new → ChangesAt (Becomes m) t old new
+input_made m x t old new e h = subst (λ (n : Made). ChangesAt (Becomes n) t old new) (sym e) (record {
+  middle = h.middle;
+  same = h.same;
+  was = h.was;
+  now = h.now;
+  stood = h.stood;
+  becomes = record { each = λ k d shows room suit. h.becomes.each k d shows room suit };
+  contents = h.contents;
+})
+
+value_made : (m : Made) (v : Value) (t : ℕ) (old new : List Content) → m ≡ made.Value v → ChangesAt (SetsTo (val v)) t old new → ChangesAt (Becomes m) t old new
+value_made m v t old new e h = subst (λ (n : Made). ChangesAt (Becomes n) t old new) (sym e) (record {
+  middle = h.middle;
+  same = h.same;
+  was = h.was;
+  now = h.now;
+  stood = h.stood;
+  becomes = record { each = λ k d shows room suit. h.becomes.each k d shows };
+  contents = h.contents;
+})
+
+one_made : (m : Made) (old : Accums) (cs : List Content) (t : ℕ) (fit : Bool) (c : Content) → ChangesAt (Becomes m) t old.contents cs → slice_get cs t ≡ Some c → Tells c fit (fits_after m) → ChangesOne m old (record { slots = old.slots; contents = cs }) t fit
+one_made m old cs t fit c h g judged = record {
+  changes = h;
+  judged = subst (λ x. Tells x fit (fits_after m)) (same_some (sym g ∙ now_there h)) judged;
+  slots = refl;
+}
+
+pub input_put : (m : Made) (x : Input) (old : Accums) (cs : List Content) (t : ℕ) (fit : Bool) (c : Content) → m ≡ made.Input x → ChangesAt (Takes (given x)) t old.contents cs → slice_get cs t ≡ Some c → Tells c fit (λ k h. fits_where k h (given x))
+    → ChangesOne m old (record { slots = old.slots; contents = cs }) t fit
+input_put m x old cs t fit c e h g judged = one_made m old cs t fit c (input_made m x t old.contents cs e h) g (subst (λ (n : Made). Tells c fit (fits_after n)) (sym e) judged)
+
+pub value_put : (m : Made) (v : Value) (old : Accums) (cs : List Content) (t : ℕ) (fit : Bool) (c : Content) → m ≡ made.Value v → ChangesAt (SetsTo (val v)) t old.contents cs → slice_get cs t ≡ Some c → Tells c fit fits
+    → ChangesOne m old (record { slots = old.slots; contents = cs }) t fit
+value_put m v old cs t fit c e h g judged = one_made m old cs t fit c (value_made m v t old.contents cs e h) g (subst (λ (n : Made). Tells c fit (fits_after n)) (sym e) judged)
+
+pub allows_put : (m : Made) (v : Value) (t : ℕ) (cs : List Content) → m ≡ made.Value v → ((c : Content) → slice_get cs t ≡ Some c → CanTake m c) → AllowsAt (val v) t cs
+allows_put m v t cs e h = λ c g. subst (λ (n : Made). CanTake n c) e (h c g)
+
 pub ruleset change_laws = (can_take, changed_is)
+
+pub ruleset put_laws = (input_put, value_put, allows_put, within_new)

@@ -1,4 +1,4 @@
--- FeedingLemmas: what waited is fed, and the accumulators are judged.
+-- FeedingLemmas: the waiting inputs are fed, and the accumulators are checked.
 use Rattle.std.proofs.Common.{◌≡◌, ℕ, ◌+◌, ◌^◌, ◌<◌, List, [], ◌∷◌, ◌++◌, map, length, reverse, Option, Some, None, Result, Ok, Err, refl, sym, ap, subst, ◌∙◌, arith}
 use Rattle.std.specs.List.{All}
 use Rattle.std.specs.Prelude.{IfOk}
@@ -24,7 +24,7 @@ use Rattle.gq_exec_post.specs.declared.writing.Waiting.{Waiting}
 use Rattle.gq_exec_post.specs.Feeding.{IsBatch, IsJudged, UnfitSo}
 use Rattle.gq_exec_post.specs.Writing.{KeepsTo, contribution_of, waiting_are}
 
--- ---- fed and judged
+-- ---- fed and checked
 
 abbrev given_so : List (states.Slot Reference) → Answer BlockFault (List (states.Slot Reference))
 given_so slots = Gives slots
@@ -71,7 +71,7 @@ pub ruleset judged_laws = (judged_fits, judged_unfit, judged_memory)
 reverse_last : {A : Type 0} (xs : List A) (x : A) → reverse (xs ++ x ∷ []) ≡ x ∷ reverse xs
 reverse_last xs x = reverse-append xs (x ∷ [])
 
--- what is in the batch so far, and what is left from behind
+-- the batch so far, and the remaining inputs, last one first
 pub record BatchTo (slots : Slots) (all left : List Waiting) (batch : List (ℕ × Input)) : Type 0 where
   pub done : List Waiting
   pub whole : done ++ reverse left ≡ all

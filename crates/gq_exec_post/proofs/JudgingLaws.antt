@@ -1,4 +1,4 @@
--- JudgingLaws: where a content fitted before an input, what the input reaches tells whether it fits after it.
+-- JudgingLaws: if a content fitted before an input, the changed entries decide whether it fits after it.
 use Rattle.std.proofs.Common.{if◌then◌else◌, ◌≡◌, pos, ◌||◌, ◌&&◌, Bool, true, false, List, [], ◌∷◌, ◌++◌, map, Ordering, Less, Equal, Greater, refl, sym, ap, ap₂, ◌∙◌}
 use Rattle.std.specs.List.{list_all}
 use Rattle.std.specs.Ordering.{is_eq}
@@ -21,7 +21,7 @@ use Rattle.gq_exec_post.specs.Judging.{fits_where, fit_where}
 apart : {P : Type 0} → false ≡ true → P
 apart h = absurd (cc h)
 
--- ---- rows of which all pass but one that may not
+-- ---- rows that all pass but one
 
 same_row : (q row : List Val) → is_eq (row_cmp q row) ≡ true → q ≡ row
 same_row q row h = by (row_cmp q row) refl h
@@ -36,7 +36,7 @@ module _ (test : List Val → Bool) (row : List Val) where
   all_pass each [] = refl
   all_pass each (q ∷ cs) = ap₂ ◌&&◌ (each q) (all_pass each cs)
 
-  -- a row that stands there passes where all do
+  -- a row passes if all do
   all_among : (cs : List (List Val)) → among row_cmp row cs ≡ true → list_all test cs ≡ true → test row ≡ true
   all_among [] g h = apart g
   all_among (q ∷ cs) g h = let p = both (test q) (list_all test cs) h in by (is_eq (row_cmp row q)) refl (λ r. all_among cs r p.1) p.0 g
@@ -68,7 +68,7 @@ is_among row cs = among_distinct row_cmp row_linear row (cs ++ row ∷ []) ∙ a
     or_true true = refl
     or_true false = refl
 
--- what an input gives under its own row, and under others
+-- the effect of an input at its own row, and at others
 own_here : (row : List Val) (xs : Givens) → own row (Keyed row xs ∷ []) ≡ xs ∷ []
 own_here row xs = ap (λ o. (if is_eq o then xs ∷ [] else []) ++ []) (itself row_cmp row_linear false row)
 
@@ -125,7 +125,7 @@ mutual
   fresh_each_where no_part xs = refl
   fresh_each_where (part_and name k ps) xs = ap₂ ◌&&◌ (fresh_where k (first xs)) (fresh_each_where ps (rest xs))
 
--- ---- under each row of what fits
+-- ---- each row of a content that fits
 
 module _ {A : Type 0} (test : A → Bool) (none : A) (c : List (List Val)) (at : List Val → A) where
   passes : test none ≡ true → list_all (λ q. test (at q)) c ≡ true → ((q : List Val) → among row_cmp q c ≡ false → at q ≡ none) → (q : List Val) → test (at q) ≡ true

@@ -1,4 +1,4 @@
--- JudgingSteps: what stands under the keys of an input tells whether a content fits, at each variant.
+-- JudgingSteps: the entries at the keys of an input decide whether a content fits, for each variant.
 use Rattle.std.proofs.Common.{◌≡◌, ℕ, zero, suc, ◌+◌, ◌<◌, ◌≤◌, pos, ◌&&◌, Bool, true, false, List, [], ◌∷◌, map, drop, length, get_or, Some, None, refl, sym, ap, ap₂, ◌∙◌, subst, arith}
 use Rattle.std.specs.Ordering.{is_eq, on}
 use Rattle.std.specs.Cmp.Lexicographic.{slice_cmp}
@@ -98,7 +98,7 @@ module _ (c : Content) (r : Bool) (x : Given) (t : Tells c r fits) where
 -- ---- a map
 
 module _ (c o : Content) (m : BTreeMap Value Content) (e : c ≡ made.Map o m) (x : Given) (row : List Val) (xs : Givens) (is : x ≡ Keyed row xs) where
-  -- what is so of all that it shows as a map
+  -- a property of everything that a content shows as a map
   tells_map : (r : Bool) → ((b : Base) (k : Accum) (h : Holds (MapAccum b k)) → Shows (MapAccum b k) c h → r ≡ fits_where k (h.1 row) (first xs)) → Tells c r (λ k h. fits_where k h x)
   tells_map r each = record { each = λ k h s. go k h s (subst (λ l. HasForm l k) (ap out-Content e ∙ opened-Map o m) s.of_kind.0) }
     where
@@ -131,7 +131,7 @@ module _ (c : Content) (os : List Content) (m : BTreeMap (Vec Value) (List Conte
       at keys (part_and name k ps) h s = sym (ap (λ (d : HoldsEach (part_and name k ps)). fit_where (part_and name k ps) d xs)
           (s.proper.1 (map val row) ((lacks_row c os m e row seen same 0 none).each keys (part_and name k ps) h s refl)) ∙ fresh_each_where (part_and name k ps) xs)
 
-  -- the parts at the row show what is held there
+  -- the parts at a row show what the group holds there
   module _ (cs : List Content) (found : Some cs ≡ lookup (λ (k : Vec Value). is_eq (slice_cmp (on val place) seen k.items)) m.entries) (keys : List (List ℕ × Base)) (ps : Parts) (h : Holds (GroupByAccum keys ps)) (s : Shows (GroupByAccum keys ps) c h) where
     there : under group_row (map val row) m.entries ≡ Some cs
     there = sym (found ∙ ap (λ t. lookup t m.entries) (group_test seen) ∙ ap (λ r. under group_row (map val r) m.entries) same)
@@ -150,7 +150,7 @@ module _ (c : Content) (os : List Content) (m : BTreeMap (Vec Value) (List Conte
   group_has cs found ys g ds ds_are r t = tells_group r (λ keys ps h s.
       t.each ps (h.1 (map val row)) (subst (λ l. ShowEach ps l (h.1 (map val row))) (sym ds_are) (shown cs found keys ps h s)) ∙ ap (fit_where ps (h.1 (map val row))) (sym g))
 
--- ---- parts, one after another
+-- ---- parts in order
 
 past_end : (xs : List Input) (i : ℕ) → length xs ≤ i → given_at xs i ≡ One (Int (pos 0))
 past_end xs i l = ap (λ ys. first (givens (map given ys))) (left_none xs i l)
@@ -158,7 +158,7 @@ past_end xs i l = ap (λ ys. first (givens (map given ys))) (left_none xs i l)
 pub no_input : (xs : List Input) (i : ℕ) (part : Content) (r : Bool) → IsItemAt xs i None → Tells part r fits → Tells part r (λ k h. fits_where k h (given_at xs i))
 no_input xs i part r at t = let l = at.3 in tells_one part r (given_at xs i) (Int (pos 0)) (past_end xs i l) t
 
--- midway: what was passed fits
+-- the parts so far fit
 pub record JudgedTo (xs : List Input) (cs : List Content) (i : ℕ) : Type 0 where
   pub each : (ps : Parts) (h : HoldsEach ps) → ShowEach ps cs h → (qs : Parts) × (g : HoldsEach qs) × ShowEach qs (drop i cs) g × (fit_where qs g (givens (map given (drop i xs))) ≡ fit_where ps h (givens (map given xs)))
 

@@ -8,6 +8,7 @@ pub mod Steps
 pub mod ActLemmas
 pub mod WriteLemmas
 pub mod WaitLemmas
+pub mod ReadLemmas
 pub mod VertexLemmas
 pub mod FeedingLemmas
 pub mod PhaseLemmas

@@ -1,4 +1,4 @@
--- MadeLemmas: what a change makes, in the cases of the code.
+-- MadeLemmas: evaluated changes, in the cases of the code.
 use Rattle.std.proofs.Common.{◌≡◌, Option, Some, None, refl, sym, ap, subst, ◌∙◌}
 use Rattle.gq_tree.specs.Tree.{Tree}
 use Rattle.gq_value.specs.declared.kind.Input.{Input}
@@ -31,7 +31,7 @@ stops o f halt.Outside e = tt
 stops o f halt.OutOfMemory e = tt
 
 module _ {N : Type 0} (look : Look N) (k : Accum) where
-  -- ---- one more input
+  -- ---- inputs
 
   pub feed_stops : (x : plain.Input N) (h : Halt) → Halts (input_of look k x) h → Halts (made_by look k (plain.Adds x)) h
   feed_stops x h e = stops (input_of look k x) (λ y. Gives (with_input y)) h e
@@ -39,7 +39,7 @@ module _ {N : Type 0} (look : Look N) (k : Accum) where
   pub feed_goes : (x : plain.Input N) (i : Input) → input_of look k x ≡ Gives (given i) → made_by look k (plain.Adds x) ≡ Gives (making_of (made.Input i))
   feed_goes x i e = ap (λ o. o >>= λ y. Gives (with_input y)) e
 
-  -- ---- a value that is put
+  -- ---- values that are set
 
   pub put_stuck : (t : Tree N) → PutsAs (set_type k) None → made_by look k (plain.Puts t) ≡ Stuck
   put_stuck t h = go (set_type k) h
@@ -48,7 +48,7 @@ module _ {N : Type 0} (look : Look N) (k : Accum) where
       go None p = refl
       go (Some b) p = absurd p
 
-  -- what is put, of a value
+  -- the value that is set
   abbrev put_of : Putting → Answer Wrong Val → Answer Wrong Making
   put_of p o = o >>= put_to p >>= λ v. Gives (with_value v)
 

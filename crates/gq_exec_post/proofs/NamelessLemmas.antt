@@ -1,4 +1,4 @@
--- NamelessLemmas: where no name is asked for, none is found.
+-- NamelessLemmas: without a name to search for none is found.
 use Rattle.std.proofs.Common.{◌≡◌, ℕ, Bool, false, ◌||◌, Option, None, refl, sym, ap, ◌∙◌}
 use Rattle.std.specs.Option.{option_map}
 use Rattle.gq_tree.specs.Tree.{Tree, Behind, Trees, Parts, Factors, Terms, Number, Text, Truth, Global, Name, Call, Post, Neg, Mul, Sum, Cmp, Not, And, Or, Field, Method, Attached, Before, no_tree, tree, no_part, part, no_factor, factor, no_term, term}
@@ -78,6 +78,6 @@ module _ {N : Type 0} (is : N → Bool) (h : (x : N) → is x ≡ false) where
     choices_none (otherwise acts) = acts_none acts
     choices_none (when t acts rest) = neither _ _ (tree_none t) (neither _ _ (acts_none acts) (choices_none rest))
 
--- an end with no alias is named by no act
+-- no statement names an end without an alias
 pub none_named : (alias : Option ℕ) (a : Act Reference) → alias ≡ None → false ≡ in_act (is_alias same (option_map Place alias)) a
 none_named alias a e = sym (ap (λ (o : Option ℕ). in_act (is_alias same (option_map Place o)) a) e ∙ act_none (is_alias same None) (λ x. refl) a)

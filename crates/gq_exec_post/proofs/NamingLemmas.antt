@@ -1,4 +1,4 @@
--- NamingLemmas: a list of which nothing names a place so far, item by item.
+-- NamingLemmas: searching a list for a name, item by item.
 use Rattle.std.proofs.Common.{◌≡◌, ℕ, ◌+◌, ◌<◌, ◌≤◌, Bool, true, false, ◌||◌, List, [], ◌∷◌, map, drop, length, get_or, Option, Some, None, refl, sym, ap, ap₂, ◌∙◌}
 use Rattle.std.specs.Option.{option_map}
 use Rattle.std.proofs.lemmas.List.{drop_more, drop_all}
@@ -21,18 +21,18 @@ use Rattle.gq_exec_post.specs.Naming.{is_place}
 
 -- ---- any list
 
--- what is asked of a list goes on from its first item to the rest
+-- a search of a list, from its first item to the rest
 abbrev Steps : {A : Type 0} → (List A → Bool) → (A → Bool) → Type 0
 Steps {A} f g = (x : A) (xs : List A) → f (x ∷ xs) ≡ (g x || f xs)
 
--- none of the first i items
+-- none of the first i items names the place
 abbrev pub LeftTo : {A : Type 0} → (List A → Bool) → List A → ℕ → Type 0
 LeftTo f xs i = f xs ≡ f (drop i xs)
 
 here : {A : Type 0} (f : List A → Bool) (g : A → Bool) → Steps f g → (xs : List A) (i : ℕ) (x : A) → LeftTo f xs i → i < length xs → x ≡ get_or xs i x → f xs ≡ (g x || f (drop (i + 1) xs))
 here f g s xs i x inv n is = inv ∙ ap f (drop_more xs i x n ∙ ap (λ y. y ∷ drop (i + 1) xs) (sym is)) ∙ s x (drop (i + 1) xs)
 
--- the code's answer on an item is b
+-- the result for an item is b
 found : {A : Type 0} (f : List A → Bool) (g : A → Bool) → Steps f g → (xs : List A) (i : ℕ) (x : A) (b : Bool) → LeftTo f xs i → i < length xs → x ≡ get_or xs i x → b ≡ g x → b ≡ true → true ≡ f xs
 found f g s xs i x b inv n is e t = sym (here f g s xs i x inv n is ∙ ap (λ b. b || f (drop (i + 1) xs)) (sym e ∙ t))
 
@@ -58,7 +58,7 @@ any_last p = last (λ ts. in_trees (is_place p) (views ts)) refl
 
 pub ruleset any_laws = (any_found, any_next, any_last)
 
--- ---- parts behind dots
+-- ---- parts after dots
 
 abbrev pub PartsTo : ℕ → List Behind → ℕ → Type 0
 PartsTo p = LeftTo (λ ts. in_parts (is_place p) (view_parts ts))
@@ -143,7 +143,7 @@ pub ruleset acts_laws = (acts_found, acts_next, acts_last)
 
 -- ---- IF
 
--- IF and each ELSE IF, and what stands behind ELSE
+-- IF and each ELSE IF, and the statements of ELSE
 abbrev pub in_branches : ℕ → Option (List Act) → List (Expr × List Act) → Bool
 in_branches p others bs = in_choices (is_place p) (choices_of (map (λ b. (view b.0, map view_act b.1)) bs) (option_map (map view_act) others))
 
@@ -175,7 +175,7 @@ or_true : (a : Bool) → (a || true) ≡ true
 or_true true = refl
 or_true false = refl
 
--- the code's answers on a condition and on its acts are q and r
+-- the results for a condition and for its statements are q and r
 both : (p : ℕ) (b : Expr × List Act) (q r : Bool) → q ≡ in_tree (is_place p) (view b.0) → r ≡ in_acts (is_place p) (view_acts b.1) → (q || r) ≡ in_branch p b
 both p b q r c a = ap₂ (λ x y. x || y) c a
 
@@ -187,7 +187,7 @@ module _ (p : ℕ) (a : Act) (bs items : List (Expr × List Act)) (others : Opti
   pub choice_found : (b : Expr × List Act) (q : Bool) → i < length items → b ≡ get_or items i b → q ≡ in_branch p b → q ≡ true → true ≡ in_act (is_place p) (view_act a)
   choice_found b q n at e t = found (in_branches p others) (in_branch p) (branch_steps p others) items i b q inv n at e t ∙ sym (if_is p a bs items others is lent)
 
-  -- a condition that names it, and acts that do where the condition doesn't
+  -- a condition that names the place, or statements that do
   pub choice_by_condition : (b : Expr × List Act) (q : Bool) → i < length items → b ≡ get_or items i b → q ≡ in_tree (is_place p) (view b.0) → q ≡ true → true ≡ in_act (is_place p) (view_act a)
   choice_by_condition b q n at e t = choice_found b true n at (ap (λ c. c || in_acts (is_place p) (view_acts b.1)) (sym t ∙ e)) refl
 

@@ -35,7 +35,7 @@ phases_begin f b a (y ∷ ys) = phases_step f b a y ys (phases_begin f (f y) y y
 
 -- ---- how many are for an end
 
--- none of the first i is for the other end
+-- none of the first i statements is for the other end
 abbrev pub RunTo : (Act Reference → Bool) → Bool → List code.Act → ℕ → Type 0
 RunTo f b acts i = run_length f b (map view_act acts) ≡ i + run_length f b (map view_act (drop i acts))
 
@@ -43,7 +43,7 @@ module _ (f : Act Reference → Bool) (b : Bool) (acts : List code.Act) (i : ℕ
   run_here : run_length f b (map view_act acts) ≡ i + (if same_end b (f (view_act a)) then suc (run_length f b (map view_act (drop (i + 1) acts))) else 0)
   run_here = inv ∙ ap (λ bs. i + run_length f b (map view_act bs)) (at_place acts i a n is)
 
-  -- s is the code's answer whether the act is for this end, by t, the end that the code has found it to be for
+  -- s is whether the statement is for this end, by the end t that the code has found for it
   pub run_stops : (t s : Bool) → t ≡ f (view_act a) → s ≡ same_end b t → s ≡ false → i ≡ run_length f b (map view_act acts)
   run_stops t s at is_so e = let h = run_here ∙ ap (λ s. i + (if s then suc (run_length f b (map view_act (drop (i + 1) acts))) else 0)) (ap (same_end b) (sym at) ∙ sym is_so ∙ e) in omega (arith, h)
 

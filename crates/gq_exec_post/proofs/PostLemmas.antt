@@ -40,7 +40,7 @@ module _ (clock : Calendar) (o : Over) (block : Block) (e : Ends) (s : State Ref
   are : AreEnds e (from (world_over clock o) s.names (view_block block))
   are = has.each (accum_names o.plan) (tuples_are o.tuples) o.vertices o.edges.rows clock s.names shows.names
 
-  -- ---- what a vertex sees
+  -- ---- the context of a vertex
 
   under_alias : (b : Bool) (v : ℕ) → aliases_named (one_alias (end_things (end_at e b) v)) ++ s.names ≡ with_vertex (from (world_over clock o) s.names (view_block block)) b v s.names
   under_alias true v = named_alias e.target v s.names e.target.alias refl ∙ ap₂ (λ x types. named_as x (Some (a_vertex types v)) s.names) are.target are.target_types

@@ -30,7 +30,7 @@ use Rattle.gq_exec_post.proofs.Steps.{goes_on}
 use Rattle.gq_exec_post.proofs.ActLemmas.{keeps_on}
 use Rattle.gq_exec_post.proofs.PhaseLemmas.{phases_begin}
 
--- ---- the vertices, and what waited
+-- ---- the vertices, and the waiting inputs
 
 module _ (clock : Calendar) (o : Over) (end : End) (acts : Acts Reference) (vs : List ℕ) (opened : Writing) (none : opened.waiting.items ≡ []) where
   begins : (q : ℕ → Post Reference) → slots_at q acts vs (slots_are opened.accums) ≡ (through (λ w v. post_acts (q v) acts w) (record { slots = slots_are opened.accums; to_globals = waiting_are opened.waiting.items }) vs >>= λ w. fed_together w.to_globals w.slots)
@@ -98,7 +98,7 @@ module _ (f : Act Reference → Bool) (a : act.Act) (others : List act.Act) (b :
       ∙ ap (λ n. (b, act_and (view_act a) (acts_of (take n (map view_act others)))) ∷ phases f (acts_of (drop n (map view_act others)))) (sym count)
       ∙ ap₂ (λ xs ys. (b, act_and (view_act a) (acts_of xs)) ∷ phases f (acts_of ys)) (take_map view_act n others) (drop_map view_act n others)
 
--- the code's acts up to the next phase, and those from it on, are front and back
+-- the code's slices up to the next phase and from it on are front and back
 module _ (clock : Calendar) (o : Over) (ends : Ends) (selects : Bool) (acts : List act.Act) (a : act.Act) (others : List act.Act) (b : Bool) (n m : ℕ) (all : acts ≡ a ∷ others) (is : b ≡ to_target ends selects (view_act a))
     (count : n ≡ run_length (to_target ends selects) b (map view_act others)) (next : m ≡ suc n) (after : After) (front : List act.Act) (cut : front ≡ take m acts) where
   first_then : (q : Bool → ℕ → Post Reference) → phases_of q (to_target ends selects) (view_acts acts) (after_is after)
@@ -119,7 +119,7 @@ module _ (clock : Calendar) (o : Over) (ends : Ends) (selects : Bool) (acts : Li
         (subst (λ acts. Answered after_is (phases_of q (to_target ends selects) (view_acts acts) (after_is mid)) r) left (rest.each q h)));
   }
 
--- the first act and those behind it, as a slice's pattern names them
+-- the first statement and the others, as a slice's pattern names them
 pub first_and_others : (acts : List act.Act) (a : act.Act) → 1 ≤ length acts → a ≡ get_or acts 0 a → acts ≡ a ∷ take (length acts - 1) (drop 1 acts)
 first_and_others acts a some is = drop_more acts 0 a some ∙ ap (λ b. b ∷ drop 1 acts) (sym is) ∙ ap (λ bs. a ∷ bs) (sym (take_rest acts 1))
 

@@ -1,4 +1,4 @@
--- VertexLemmas: the vertices of a phase, one after the other.
+-- VertexLemmas: the vertices of a phase in order.
 use Rattle.std.proofs.Common.{◌≡◌, ℕ, ◌+◌, ◌<◌, ◌≤◌, List, ◌∷◌, drop, length, get_or, Ok, Err, refl, sym, ap, subst, ◌∙◌}
 use Rattle.std.proofs.lemmas.List.{drop_more, drop_all}
 use Rattle.gq_rules_typing.specs.Selecting.{Acts}
@@ -18,11 +18,11 @@ use Rattle.gq_exec_post.specs.Writing.{KeepsTo, written}
 use Rattle.gq_eval_context.proofs.FaultLemmas.{ends_with}
 use Rattle.gq_exec_post.proofs.ActLemmas.{keeps_itself, keeps_on}
 
--- each vertex of the definitions sees what the code sees under the alias of this end
+-- each vertex of the definitions has the context of the code under the alias of this end
 abbrev pub AllSee : Calendar → Over → End → (ℕ → Post Reference) → Type 0
 AllSee clock o end q = (v : ℕ) → SeesSo clock o (one_alias (end_things end v)) v (q v)
 
--- what is left so far, and what the vertices that remain do
+-- the state so far, followed by the remaining vertices
 pub record VerticesTo (clock : Calendar) (o : Over) (end : End) (acts : Acts Reference) (vs : List ℕ) (before : Writing) (i : ℕ) (now : Writing) : Type 0 where
   pub each : (q : ℕ → Post Reference) → AllSee clock o end q → through (λ w v. post_acts (q v) acts w) (written before) vs ≡ through (λ w v. post_acts (q v) acts w) (written now) (drop i vs)
   pub keeps : KeepsTo before.accums now.accums

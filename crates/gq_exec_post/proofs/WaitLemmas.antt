@@ -66,7 +66,7 @@ module _ (look : Look Reference) (a : Accums) (n : ℕ) (x : plain.Input Referen
 
 pub ruleset input_laws = (input_gone, input_there)
 
--- ---- put last
+-- ---- appended
 
 abbrev after_input : ℕ → Written Reference → Answer Wrong (List Contribution) → Answer BlockFault (Written Reference)
 after_input v w o = blaming (AtPlace v) o >>= λ xs. Gives (record w { to_globals = w.to_globals ++ xs })

@@ -25,7 +25,7 @@ at_number slots None = None
 at_number slots (Some n) = slice_get slots n
 
 module _ (look : Look Reference) (a : Accums) (n v : ℕ) (change : plain.Change Reference) (s : Slot) (w : look.world.words.same ≡ same) (e : slice_get a.slots.declared n ≡ Some s) where
-  -- what comes of a slot of the definitions
+  -- the result for a slot of the definitions
   abbrev of_slot : ℕ → states.Slot Reference → Answer WriteFault (List (states.Slot Reference))
   of_slot m t = blaming Wrongly (made_by look t.kind change) >>= λ f. if_fit m (fits_at v (slot_changed f v t)) (changed_at (slot_changed f v) m (slots_are a))
 
@@ -34,11 +34,11 @@ module _ (look : Look Reference) (a : Accums) (n v : ℕ) (change : plain.Change
       ap (λ o. found o >>= λ m. found (slot_named look.world (slots_are a) (reference.Slot n)) >>= of_slot m) (number_there look.world a n w ∙ ap (option_map (λ s. n)) e)
       ∙ ap (λ o. found o >>= of_slot n) (named_some look.world a n s w e)
 
-  -- a fault of what is evaluated
+  -- a fault of the evaluation
   pub change_faults : (x : Wrong) → made_by look (accum_of s.kind) change ≡ Faults x → slots_changed look (slots_are a) (reference.Slot n) v change ≡ Faults (Wrongly x)
   change_faults x m = at_slot ∙ ap (λ o. blaming Wrongly o >>= λ f. if_fit n (fits_at v (slot_changed f v (slot_there a n s))) (changed_at (slot_changed f v) n (slots_are a))) m
 
-  -- what was made and put in, judged
+  -- an evaluated change that was applied and checked
   pub change_made : (m : Made) (new : Accums) (fit : Bool) → made_by look (accum_of s.kind) change ≡ Gives (making_of m) → Changed m a new n v fit
       → slots_changed look (slots_are a) (reference.Slot n) v change ≡ if_fit n fit (slots_are new)
   change_made m new fit g c =

@@ -44,7 +44,7 @@ pub ruleset made_laws = (made_gone, made_there)
 
 -- ---- a write
 
--- what the definitions do with the accumulators by then
+-- the effect of a write in the definitions on the current accumulators
 abbrev after_write : ℕ → Written Reference → Answer WriteFault (List (states.Slot Reference)) → Answer BlockFault (Written Reference)
 after_write v w o = blaming (at_vertex v) o >>= λ slots. Gives (record w { slots = slots })
 
@@ -66,7 +66,7 @@ module _ (clock : Calendar) (o : Over) (aliases : List (ℕ × Placed)) (n v : �
       ap (λ l. after_write p.vertex (written before) (slots_changed l (slots_are before.accums) (reference.Slot n) p.vertex c)) (sym (h.looks before.accums))
       ∙ ap (λ u. after_write u (written before) (slots_changed look (slots_are before.accums) (reference.Slot n) u c)) h.vertex
 
-  -- what comes of a slot that is there, and of one that isn't
+  -- the result for a slot that exists, and for one that doesn't
   faults : (x : Wrong) (d : Option Slot) → slice_get before.accums.slots.declared n ≡ d → ◌≡◌ {A = Answer Wrong Making} (found d >>= λ (s : Slot). made_by look (accum_of s.kind) c) (Faults x) → changed ≡ Faults (Wrongly x)
   faults x None e m = absurd (cc m)
   faults x (Some s) e m = change_faults look before.accums n v c s refl e x m

@@ -1,4 +1,4 @@
--- Making: what a change makes of a content, as the code has it.
+-- Making: the effect of an evaluated change on a content.
 use Rattle.std.specs.Prelude.{◌≡◌, Option, Some, None}
 use Rattle.gq_value.specs.declared.value.Wrong.{Wrong}
 use Rattle.gq_value.specs.Val.{Val}
@@ -18,13 +18,13 @@ abbrev pub making_of : Made → Making
 making_of (made.Input x) = with_input (given x)
 making_of (made.Value v) = with_value (val v)
 
--- ---- how a value is put
+-- ---- how a value is set
 
 abbrev pub put_to : Putting → Val → Answer Wrong Val
 put_to (putting.Number t) v = number_to t v
 put_to putting.Truth v = Gives v
 
--- a value of a type is converted so
+-- this is how values are converted to a type
 pub record PutsBase (b : Base) (p : Putting) : Type 0 where
   pub each : (v : Val) → converted_to b v ≡ put_to p v
 

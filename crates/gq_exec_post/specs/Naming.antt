@@ -1,4 +1,4 @@
--- Naming: what it is to name a place, in an act of a plan or within its expressions.
+-- Naming: when a statement or an expression of a plan names a place.
 use Rattle.std.specs.Prelude.{ℕ, Bool, Some}
 use Rattle.gq_rules_typing.specs.Patterns.{is_alias}
 use Rattle.gq_plan_ir.specs.Reference.{Reference, Place}

@@ -1,4 +1,4 @@
--- Phases: the statements of POST-ACCUM by the end that each is for, and what a phase does.
+-- Phases: the statements of POST-ACCUM by the end that each is for, and the effect of a phase.
 use Rattle.std.specs.Prelude.{◌≡◌, ℕ, suc, Bool, true, false, if◌then◌else◌, List, [], ◌∷◌, Result}
 use Rattle.std.specs.Option.{option_map}
 use Rattle.gq_rules_typing.specs.Mentions.{in_act}
@@ -26,26 +26,26 @@ use Rattle.gq_exec_post.specs.Writing.{KeepsTo}
 
 -- ---- which end
 
--- whether an act names the alias of an end
+-- whether a statement names the alias of an end
 abbrev pub at_end : End → Act Reference → Bool
 at_end e a = in_act (is_alias same (option_map Place e.alias)) a
 
--- whether an act is for the target; one that names no alias is for the selected one
+-- whether a statement is for the target; one that names no alias is for the selected end
 abbrev pub to_target : Ends → Bool → Act Reference → Bool
 to_target e selects a = if at_end e.target a then true else (if at_end e.source a then false else selects)
 
--- how many of these, from the first one on, are for an end
+-- the number of leading items that are for an end
 abbrev pub run_length : {A : Type 0} → (A → Bool) → Bool → List A → ℕ
 run_length f b [] = 0
 run_length f b (x ∷ xs) = if same_end b (f x) then suc (run_length f b xs) else 0
 
 -- ---- one phase, and all
 
--- the accumulators after a phase at these vertices, by what is seen at each
+-- the accumulators after a phase at these vertices, by the context of each
 abbrev pub slots_at : (ℕ → Post Reference) → Acts Reference → List ℕ → List (states.Slot Reference) → Answer blocks.BlockFault (List (states.Slot Reference))
 slots_at q acts vs slots = through (λ w v. post_acts (q v) acts w) (record { slots = slots; to_globals = [] }) vs >>= λ w. fed_together w.to_globals w.slots
 
--- what stands there after a phase for an end
+-- the result of a phase for an end
 abbrev pub phase_of : (ℕ → Post Reference) → Bool → Acts Reference → blocks.After Reference → Answer blocks.BlockFault (blocks.After Reference)
 phase_of q b acts a =
     through (λ w v. post_acts (q v) acts w) (record { slots = a.slots; to_globals = [] }) (matched a b) >>= λ w.
@@ -63,7 +63,7 @@ pub record RunsPhase (clock : Calendar) (o : Over) (ends : Ends) (b : Bool) (act
 pub record RunsPhases (clock : Calendar) (o : Over) (ends : Ends) (selects : Bool) (acts : Acts Reference) (after : After) (result : Result After BlockFault) : Type 0 where
   pub each : (q : Bool → ℕ → Post Reference) → ((b : Bool) (v : ℕ) → SeesSo clock o (one_alias (end_things (end_at ends b) v)) v (q b v)) → Answered after_is (phases_of q (to_target ends selects) acts (after_is after)) result
 
--- phases change contents alone
+-- phases change only contents
 pub record KeepsAll (old new : After) : Type 0 where
   pub accums : KeepsTo old.accums new.accums
   pub sources : new.sources ≡ old.sources

@@ -1,4 +1,4 @@
--- Sights: what the statements of a phase see, and what they do.
+-- Sights: the context of the statements of a phase, and their effects.
 use Rattle.std.specs.Prelude.{◌≡◌, ℕ, true, false, List, [], ◌∷◌, Option, Some, None, Result, Ok, Err, slice_get}
 use Rattle.gq_value.specs.declared.kind.Slot.{Slot}
 use Rattle.gq_value.specs.declared.value.Wrong.{Wrong}
@@ -26,12 +26,15 @@ use Rattle.gq_eval_context.specs.declared.after.BlockFault.TheVariants as fault
 use Rattle.gq_eval_context.specs.Answered.{Answered}
 use Rattle.gq_exec_source.specs.declared.ends.End.{End}
 use Rattle.gq_exec_source.specs.Ends.{end_things}
+use Rattle.gq_exec_contribute.specs.Aliases.{bound_to}
+use Rattle.gq_exec_contribute.specs.Prepared.{AreAllCells, only_source}
+use Rattle.gq_exec_contribute.specs.declared.leaves.Leaves.{Leaves}
 use Rattle.gq_exec_post.specs.declared.making.Made.{Made}
 use Rattle.gq_exec_post.specs.Changing.{Changed}
 use Rattle.gq_exec_post.specs.declared.writing.Writing.{Writing}
 use Rattle.gq_exec_post.specs.Writing.{written}
 
--- what is seen under these aliases, with the accumulators as they are by now; "before" is what they held before ACCUM
+-- the context under these aliases, with the current accumulators; "before" refers to those from before ACCUM
 abbrev pub look_now : Calendar → Over → List (ℕ × Placed) → Accums → Look Reference
 look_now clock o aliases now = look_of clock (viewed o aliases now o.frame.accums)
 
@@ -39,34 +42,45 @@ abbrev pub one_alias : Option (ℕ × Placed) → List (ℕ × Placed)
 one_alias None = []
 one_alias (Some a) = a ∷ []
 
--- a vertex of the definitions sees the same, whatever the accumulators are by now
+-- the leaves of a phase have the bindings and the slots of its statements at a vertex
+pub record ReadsAt (l : Leaves) (aliases : List (ℕ × Placed)) (v : ℕ) (accums : Accums) : Type 0 where
+  pub bound : aliases ≡ bound_to l.ends.now l.edge (only_source v)
+  pub cells : AreAllCells accums.slots l.cells
+
+-- the leaves of a phase have the bindings of an end alone, and the slots of the accumulators
+pub record ReadsEnd (l : Leaves) (end : End) (accums : Accums) : Type 0 where
+  pub source : l.ends.now.source ≡ end
+  pub edge : l.edge ≡ None
+  pub cells : AreAllCells accums.slots l.cells
+
+-- a vertex of the definitions has the same context, whatever the current accumulators are
 pub record SeesSo (clock : Calendar) (o : Over) (aliases : List (ℕ × Placed)) (v : ℕ) (p : Post Reference) : Type 0 where
   pub vertex : p.vertex ≡ v
   pub words : p.world.words.same ≡ same
   pub looks : (now : Accums) → look_now clock o aliases now ≡ sight p.world p.names (slots_are now) p.before
 
--- what a vertex does, from what was left before
+-- the effect of a vertex on the state of a phase
 abbrev pub Doing : Type 0
 Doing = Post Reference → Written Reference → Answer blocks.BlockFault (Written Reference)
 
 pub record DoesSo (clock : Calendar) (o : Over) (aliases : List (ℕ × Placed)) (v : ℕ) (does : Doing) (before : Writing) (result : Result Writing BlockFault) : Type 0 where
   pub each : (p : Post Reference) → SeesSo clock o aliases v p → Answered written (does p (written before)) result
 
--- the same of several vertices, one after the other, each under the alias of an end
+-- the effect of several vertices, one after the other, each under the alias of an end
 pub record GoesSo (clock : Calendar) (o : Over) (end : End) (acts : Acts Reference) (vertices : List ℕ) (before : Writing) (result : Result Writing BlockFault) : Type 0 where
   pub each : (q : ℕ → Post Reference) → ((v : ℕ) → SeesSo clock o (one_alias (end_things end v)) v (q v)) → Answered written (through (λ w v. post_acts (q v) acts w) (written before) vertices) result
 
 -- ---- one change
 
--- what a change makes of the accumulator in a slot
+-- the meaning of a change of the accumulator of a slot
 abbrev pub made_at : Look Reference → Slots → ℕ → Change Reference → Answer Wrong Making
 made_at look slots n change = found (slice_get slots.declared n) >>= λ (s : Slot). made_by look (accum_of s.kind) change
 
--- an input that waits for the global accumulator in a slot
+-- an input that waits for the global accumulator of a slot
 abbrev pub one_waiting : ℕ → Given → List Contribution
 one_waiting n x = record { slot = n; vertex = 0; input = x } ∷ []
 
--- a change was put in, or its content doesn't fit
+-- a change was applied, or the changed content doesn't fit
 abbrev pub PutSo : Made → ℕ → ℕ → Writing → Result Writing BlockFault → Type 0
 PutSo m n v before (Ok w) = Changed m before.accums w.accums n v true × (w.waiting.items ≡ before.waiting.items)
 PutSo m n v before (Err (fault.SumRange k)) = (k ≡ n) × ((new : Accums) × Changed m before.accums new n v false)

@@ -1,4 +1,4 @@
--- Writing: what the vertices of a phase of POST-ACCUM have left so far.
+-- Writing: the state of a phase of POST-ACCUM between two vertices.
 use Rattle.std.specs.Prelude.{◌≡◌, List, map}
 use Rattle.gq_value.specs.AccumViews.{given}
 use Rattle.gq_rules_meaning.specs.Blocks.{Contribution}
@@ -16,11 +16,11 @@ contribution_of x = record { slot = x.slot; vertex = 0; input = given x.input }
 abbrev pub waiting_are : List Waiting → List Contribution
 waiting_are = map contribution_of
 
--- as the definitions have it
+-- the state in the terms of the definitions
 abbrev pub written : Writing → Written Reference
 written w = record { slots = slots_are w.accums; to_globals = waiting_are w.waiting.items }
 
--- accumulators of the same slots, of which no content is spoiled
+-- sound accumulators of the same slots
 pub record KeepsTo (old new : Accums) : Type 0 where
   pub sound : AreSound new
   pub slots : new.slots ≡ old.slots

@@ -1,4 +1,4 @@
-// Acts, with their inputs.
+// Searches statements and their inputs for a name.
 ghost use Rattle.std.specs.Prelude.{◌≡◌, map};
 ghost use Rattle.gq_rules_typing.specs.Mentions.{in_input, in_inputs, in_change, in_act, in_acts};
 ghost use Rattle.gq_rules_typing.specs.SelectViews.{inputs_of};
@@ -8,7 +8,7 @@ ghost use Rattle.gq_exec_post.specs.Naming.{is_place};
 use crate::exprs::{any_names, expr_names};
 use gq_plan_ir::{Act, Change, Feed};
 
-/// Whether an act names a place: as the alias whose accumulator it changes, or within its expressions.
+/// Whether a statement names a place: as the alias whose accumulator it changes, or within its expressions.
 #[cycle(act)]
 #[tactic(auto, using(gq_plan_ir::proofs::ViewLaws::step_laws, crate::proofs::NamingLemmas::choice_next))]
 pub fn act_names(act: &Act, place: u32) -> bool
@@ -31,7 +31,7 @@ pub fn act_names(act: &Act, place: u32) -> bool
     }
 }
 
-/// Whether one of some acts names a place.
+/// Whether one of the statements names a place.
 #[cycle(act)]
 #[tactic(auto, using(crate::proofs::NamingLemmas::acts_laws))]
 fn acts_name(acts: &[Act], place: u32) -> bool
@@ -69,7 +69,7 @@ fn feed_names(feed: &Feed, place: u32) -> bool
     }
 }
 
-/// Whether one of some inputs names a place.
+/// Whether one of the inputs names a place.
 #[cycle(feed)]
 #[tactic(auto, using(crate::proofs::NamingLemmas::feeds_laws))]
 fn feeds_name(feeds: &[Feed], place: u32) -> bool

@@ -1,4 +1,4 @@
-// The statements of a phase at one vertex.
+// Runs the statements of a phase at one vertex.
 ghost use Rattle.std.specs.Prelude.{◌≡◌, ◌++◌, ◌∷◌, [], IfOk, map};
 ghost use Rattle.gq_value.specs.AccumViews.{given};
 ghost use Rattle.gq_rules_meaning.specs.Blocks.{contributed};
@@ -13,7 +13,7 @@ ghost use Rattle.gq_eval_operand.specs.Meant.{Tells, itself};
 ghost use Rattle.gq_frame.specs.Names.{alias_of};
 ghost use Rattle.gq_frame.specs.Slots.{AreSound, slots_are};
 ghost use Rattle.gq_exec_post.specs.Making.{making_of};
-ghost use Rattle.gq_exec_post.specs.Sights.{DoesSo, PutSo, look_now, made_at, one_waiting};
+ghost use Rattle.gq_exec_post.specs.Sights.{DoesSo, PutSo, ReadsAt, look_now, made_at, one_waiting};
 ghost use Rattle.gq_exec_post.specs.Writing.{KeepsTo};
 
 use crate::changed::{ChangeFault, change_at};
@@ -23,30 +23,32 @@ use gq_base::OutOfMemory;
 use gq_eval::run_truth;
 use gq_eval_context::{BlockContext, BlockFault, fault_at};
 use gq_eval_operand::Halt;
-use gq_exec_contribute::run_feed;
+use gq_exec_contribute::{Leaves, added_at, input_of, run_feed, truth_at};
 use gq_frame::{Accums, Alias};
 use gq_plan_ir::{Act, Change, Expr};
 use gq_value::Input;
 use std::alloc::Global;
 
-/// What acts do at a vertex, one after the other.
+/// Runs statements at a vertex, in order.
 #[cycle(act)]
-#[tactic(auto, using(crate::proofs::ActLemmas::acts_laws))]
+#[tactic(auto, using(crate::proofs::ActLemmas::acts_laws, crate::proofs::ReadLemmas::reads_kept))]
 pub(crate) fn run_acts(
     acts: &[Act],
     alloc: Global,
     over: &BlockContext<'_>,
     aliases: &[Alias<'_>],
+    leaves: &Leaves<'_>,
     vertex: u32,
     before: Writing,
 ) -> Result<Writing, BlockFault>
-    requires { AreSound before.accums }
+    requires sound { AreSound before.accums }
+    requires reads { ReadsAt leaves.now (map alias_of aliases.now) vertex before.accums }
     ensures told { DoesSo gregorian over.now (map alias_of aliases.now) vertex (λ p. post_acts p (view_acts acts.now)) before result }
     ensures sound { IfOk result (λ w. KeepsTo before.accums w.accums) }
 {
     let mut writing = before;
     for act in acts {
-        match run_act(act, alloc, over, aliases, vertex, writing) {
+        match run_act(act, alloc, over, aliases, leaves, vertex, writing) {
             Err(fault) => return Err(fault),
             Ok(next) => writing = next,
         }
@@ -54,7 +56,7 @@ pub(crate) fn run_acts(
     Ok(writing)
 }
 
-/// What an act does at a vertex.
+/// Runs a statement at a vertex.
 #[cycle(act)]
 #[tactic(auto, using(gq_plan_ir::proofs::ViewLaws::step_laws, crate::proofs::ActLemmas::act_laws))]
 fn run_act(
@@ -62,32 +64,47 @@ fn run_act(
     alloc: Global,
     over: &BlockContext<'_>,
     aliases: &[Alias<'_>],
+    leaves: &Leaves<'_>,
     vertex: u32,
     before: Writing,
 ) -> Result<Writing, BlockFault>
-    requires { AreSound before.accums }
+    requires sound { AreSound before.accums }
+    requires reads { ReadsAt leaves.now (map alias_of aliases.now) vertex before.accums }
     ensures told { DoesSo gregorian over.now (map alias_of aliases.now) vertex (λ p. post_act p (view_act act.now)) before result }
     ensures sound { IfOk result (λ w. KeepsTo before.accums w.accums) }
 {
     match act {
         Act::Attached(_, slot, change) => {
-            write(change, alloc, over, aliases, (*slot, vertex), before)
+            let to = (*slot, vertex);
+            write(change, alloc, over, aliases, leaves, to, before)
         }
-        Act::Global(slot, change) => wait(change, alloc, over, aliases, (*slot, vertex), before),
+        Act::Global(slot, change) => {
+            let to = (*slot, vertex);
+            wait(change, alloc, over, aliases, leaves, to, before)
+        }
         Act::If(branches, others) => {
             for branch in branches.as_slice() {
-                match holds(&branch.0, alloc, over, aliases, &before.accums) {
+                match holds(
+                    &branch.0,
+                    alloc,
+                    over,
+                    aliases,
+                    leaves,
+                    vertex,
+                    &before.accums,
+                ) {
                     Err(halt) => return Err(fault_at(vertex, halt)),
                     Ok(true) => {
                         let acts = branch.1.as_slice();
-                        return run_acts(acts, alloc, over, aliases, vertex, before);
+                        return run_acts(acts, alloc, over, aliases, leaves, vertex, before);
                     }
                     Ok(false) => {}
                 }
             }
             match others {
                 Some(others) => {
-                    run_acts(others.as_slice(), alloc, over, aliases, vertex, before)
+                    let acts = others.as_slice();
+                    run_acts(acts, alloc, over, aliases, leaves, vertex, before)
                 }
                 None => Ok(before),
             }
@@ -95,8 +112,29 @@ fn run_act(
     }
 }
 
-/// Whether a condition holds.
+/// Whether a condition holds: it is read if possible, else evaluated.
+#[tactic(auto, using(crate::proofs::ReadLemmas::holds_laws))]
 fn holds(
+    expr: &Expr,
+    alloc: Global,
+    over: &BlockContext<'_>,
+    aliases: &[Alias<'_>],
+    leaves: &Leaves<'_>,
+    vertex: u32,
+    accums: &Accums,
+) -> Result<bool, Halt>
+    requires sound { AreSound accums.now }
+    requires reads { ReadsAt leaves.now (map alias_of aliases.now) vertex accums.now }
+    ensures { Tells itself (truth_of (look_now gregorian over.now (map alias_of aliases.now) accums.now) (view expr.now)) result }
+{
+    match truth_at(expr, alloc, over, leaves, accums, vertex) {
+        Some(truth) => Ok(truth),
+        None => evaluated_truth(expr, alloc, over, aliases, accums),
+    }
+}
+
+/// Evaluates a condition.
+fn evaluated_truth(
     expr: &Expr,
     alloc: Global,
     over: &BlockContext<'_>,
@@ -110,31 +148,57 @@ fn holds(
     run_truth(expr, alloc, &sight)
 }
 
-// ---- a write
+// ---- writes
 
-/// Changes the attached accumulator in a slot at a vertex, at once.
+/// Changes the attached accumulator of a slot at a vertex immediately.
 #[tactic(auto, using(crate::proofs::WriteLemmas::write_laws))]
 fn write(
     change: &Change,
     alloc: Global,
     over: &BlockContext<'_>,
     aliases: &[Alias<'_>],
+    leaves: &Leaves<'_>,
     to: (u32, u32),
     before: Writing,
 ) -> Result<Writing, BlockFault>
-    requires { AreSound before.accums }
+    requires sound { AreSound before.accums }
+    requires reads { ReadsAt leaves.now (map alias_of aliases.now) to.1 before.accums }
     ensures told { DoesSo gregorian over.now (map alias_of aliases.now) to.1 (λ p. write p (Slot to.0) (view_change change.now)) before result }
     ensures sound { IfOk result (λ w. KeepsTo before.accums w.accums) }
 {
-    match made_at(change, alloc, over, aliases, &before.accums, to.0) {
+    match made_at(change, alloc, over, aliases, leaves, to, &before.accums) {
         Err(halt) => Err(fault_at(to.1, halt)),
         Ok(made) => put_in(alloc, to, &made, before),
     }
 }
 
-/// What a change makes of the accumulator in a slot.
-#[tactic(auto, using(crate::proofs::WriteLemmas::made_laws))]
+/// The change of the accumulator of a slot at a vertex: its input is read if possible, else it is evaluated.
+#[tactic(auto, using(crate::proofs::ReadLemmas::made_laws))]
 fn made_at(
+    change: &Change,
+    alloc: Global,
+    over: &BlockContext<'_>,
+    aliases: &[Alias<'_>],
+    leaves: &Leaves<'_>,
+    to: (u32, u32),
+    accums: &Accums,
+) -> Result<Made, Halt>
+    requires sound { AreSound accums.now }
+    requires reads { ReadsAt leaves.now (map alias_of aliases.now) to.1 accums.now }
+    ensures { Tells making_of (made_at (look_now gregorian over.now (map alias_of aliases.now) accums.now) accums.now.slots to.0 (view_change change.now)) result }
+{
+    match added_at(change, alloc, over, leaves, accums, to.1, to.0) {
+        Some(x) => {
+            let input = input_of(alloc, &x)?;
+            Ok(Made::Input(input))
+        }
+        None => evaluated_made(change, alloc, over, aliases, accums, to.0),
+    }
+}
+
+/// Evaluates the change of an accumulator of a slot.
+#[tactic(auto, using(crate::proofs::WriteLemmas::made_laws))]
+fn evaluated_made(
     change: &Change,
     alloc: Global,
     over: &BlockContext<'_>,
@@ -154,7 +218,7 @@ fn made_at(
     }
 }
 
-/// Puts what is made into the accumulator of a slot at a vertex.
+/// Applies a change to the accumulator of a slot at a vertex.
 fn put_in(
     alloc: Global,
     to: (u32, u32),
@@ -173,23 +237,25 @@ fn put_in(
     }
 }
 
-// ---- an input that waits
+// ---- waiting inputs
 
-/// Puts last what a change feeds the global accumulator in a slot.
+/// Queues the input of a `+=` to the global accumulator of a slot.
 #[tactic(auto, using(crate::proofs::WaitLemmas::wait_laws))]
 fn wait(
     change: &Change,
     alloc: Global,
     over: &BlockContext<'_>,
     aliases: &[Alias<'_>],
+    leaves: &Leaves<'_>,
     to: (u32, u32),
     before: Writing,
 ) -> Result<Writing, BlockFault>
-    requires { AreSound before.accums }
+    requires sound { AreSound before.accums }
+    requires reads { ReadsAt leaves.now (map alias_of aliases.now) to.1 before.accums }
     ensures told { DoesSo gregorian over.now (map alias_of aliases.now) to.1 (λ p. feed p (Slot to.0) (view_change change.now)) before result }
     ensures sound { IfOk result (λ w. KeepsTo before.accums w.accums) }
 {
-    match input_at(change, alloc, over, aliases, &before.accums, to.0) {
+    match input_at(change, alloc, over, aliases, leaves, to, &before.accums) {
         Err(halt) => Err(fault_at(to.1, halt)),
         Ok(input) => {
             let accums = before.accums;
@@ -202,9 +268,33 @@ fn wait(
     }
 }
 
-/// What a change feeds the global accumulator in a slot. `=` has no place there.
-#[tactic(auto, using(crate::proofs::WaitLemmas::input_laws))]
+/// The input of a `+=` to the global accumulator of a slot: it is read if possible, else evaluated.
+#[tactic(auto, using(crate::proofs::ReadLemmas::input_laws))]
 fn input_at(
+    change: &Change,
+    alloc: Global,
+    over: &BlockContext<'_>,
+    aliases: &[Alias<'_>],
+    leaves: &Leaves<'_>,
+    to: (u32, u32),
+    accums: &Accums,
+) -> Result<Input, Halt>
+    requires sound { AreSound accums.now }
+    requires reads { ReadsAt leaves.now (map alias_of aliases.now) to.1 accums.now }
+    ensures { Tells (λ input. one_waiting to.0 (given input)) (contributed (look_now gregorian over.now (map alias_of aliases.now) accums.now) (slots_are accums.now) (Slot to.0) 0 (view_change change.now)) result }
+{
+    match added_at(change, alloc, over, leaves, accums, to.1, to.0) {
+        Some(x) => {
+            let input = input_of(alloc, &x)?;
+            Ok(input)
+        }
+        None => evaluated_input(change, alloc, over, aliases, accums, to.0),
+    }
+}
+
+/// Evaluates the input of a `+=` to the global accumulator of a slot. `=` isn't allowed there.
+#[tactic(auto, using(crate::proofs::WaitLemmas::input_laws))]
+fn evaluated_input(
     change: &Change,
     alloc: Global,
     over: &BlockContext<'_>,
@@ -227,7 +317,7 @@ fn input_at(
     }
 }
 
-/// Inputs that wait, and one more.
+/// Appends one waiting input.
 fn with_one(before: Vec<Waiting>, one: Waiting) -> Result<Vec<Waiting>, OutOfMemory>
     ensures { IfOk result (λ waiting. waiting.items ≡ before.items ++ one ∷ []) }
 {

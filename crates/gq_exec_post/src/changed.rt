@@ -1,22 +1,21 @@
-// Changes put into accumulators.
+// Applies changes to accumulators.
 ghost use Rattle.std.specs.Prelude.{◌≡◌, IfOk, IfSome, OnOk, Some, slice_get, true, false};
 ghost use Rattle.gq_value.specs.AccumViews.{accum_of};
 ghost use Rattle.gq_nest.specs.declared.content.Content as content;
-ghost use Rattle.gq_nest.specs.Tells.{Tells, is_settable};
+ghost use Rattle.gq_nest.specs.Tells.{is_settable};
 ghost use Rattle.gq_frame.specs.Targets.{number_of};
 ghost use Rattle.gq_frame.specs.Slots.{AreSound};
-ghost use Rattle.gq_exec_post.specs.Changing.{Becomes, CanTake, Changed, ChangesOne, MayChange, MaySuit, fits_after};
+ghost use Rattle.gq_exec_post.specs.Changing.{CanTake, Changed, ChangesOne, MayChange, MaySuit};
 
 use crate::judging::still_fits;
 use crate::making::Made;
 use gq_base::OutOfMemory;
 use gq_exec_feed::{suits, takes};
 use gq_frame::{Accums, Slots};
-use gq_nest::Content;
 use gq_value::Kind;
 use std::alloc::Global;
 
-/// Why a change isn't made.
+/// Why a change failed.
 #[derive(Clone, Copy, Debug, PartialEq, Eq)]
 pub enum ChangeFault {
     /// A sum is out of range.
@@ -24,8 +23,9 @@ pub enum ChangeFault {
     OutOfMemory,
 }
 
-/// Changes the accumulator of a slot at a vertex, which is 0 for a global one, and judges what has changed in its content. After a fault that content is
-/// unspecified. There is no memory for a vertex that has no such accumulator, and for what its kind doesn't take.
+/// Changes the accumulator of a slot at a vertex, which is 0 for a global one, and checks the changed part of its
+/// content. After a fault that content is unspecified. Also returns `OutOfMemory` if the vertex has no such
+/// accumulator, or its kind doesn't take the change.
 #[tactic(auto, using(crate::proofs::ChangeLemmas::change_laws))]
 pub fn change_at(
     alloc: Global,
@@ -48,7 +48,7 @@ pub fn change_at(
     }
 }
 
-/// The number of the target, if there is one and its kind takes what is made.
+/// The number of the target, if it exists and its kind takes the change.
 fn place(slots: &Slots, slot: u32, vertex: u32, made: &Made) -> Option<u64>
     ensures { IfSome result (λ target. (target ≡ number_of slots.now slot vertex) × MayChange slots.now slot vertex made.now) }
 {
@@ -64,7 +64,7 @@ fn place(slots: &Slots, slot: u32, vertex: u32, made: &Made) -> Option<u64>
     }
 }
 
-/// Whether a kind takes what is made.
+/// Whether a kind takes the change.
 fn may_suit(kind: &Kind, made: &Made) -> bool
     ensures { result ≡ true → MaySuit (accum_of kind.now) made.now }
 {
@@ -74,7 +74,7 @@ fn may_suit(kind: &Kind, made: &Made) -> bool
     }
 }
 
-/// Whether `=` puts a value to a kind.
+/// Whether accumulators of a kind can be set by `=`.
 #[tactic(auto, using(gq_value::proofs::AccumLemmas::accum_laws))]
 fn is_settable(kind: &Kind) -> bool
     ensures { result ≡ is_settable (accum_of kind.now) }
@@ -88,7 +88,8 @@ fn is_settable(kind: &Kind) -> bool
     }
 }
 
-/// Makes the change at a target, and judges what has changed there.
+/// Applies the change to a target, and returns whether the changed part fits.
+#[tactic(auto, using(crate::proofs::ChangeLemmas::put_laws))]
 fn put_in(alloc: Global, accums: &mut Accums, target: u64, made: &Made) -> Result<bool, OutOfMemory>
     requires { (c : content.Content) → slice_get accums.old.contents target ≡ Some c → CanTake made.now c }
     ensures { IfOk result (ChangesOne made.now accums.old accums.new target) }
@@ -96,23 +97,14 @@ fn put_in(alloc: Global, accums: &mut Accums, target: u64, made: &Made) -> Resul
     if target >= accums.contents.len() as u64 {
         return Err(OutOfMemory);
     }
-    make(alloc, accums.at_mut(target), made)
-}
-
-/// Makes the change of a content that fits, and judges what has changed in it.
-fn make(alloc: Global, content: &mut Content, made: &Made) -> Result<bool, OutOfMemory>
-    requires { CanTake made.now content.old }
-    ensures becomes { OnOk result (Becomes made.now content.old content.new) }
-    ensures judged { IfOk result (λ fit. Tells content.new fit (fits_after made.now)) }
-{
     match made {
         Made::Input(input) => {
-            content.feed(alloc, input)?;
-            Ok(still_fits(input, content))
+            accums.contents.feed(alloc, target as usize, input)?;
+            Ok(still_fits(input, accums.at(target)))
         }
         Made::Value(value) => {
-            content.set(value);
-            Ok(content.fits())
+            accums.contents.set(alloc, target as usize, value)?;
+            Ok(accums.at(target).fits())
         }
     }
 }

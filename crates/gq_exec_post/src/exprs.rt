@@ -1,4 +1,4 @@
-// Expressions.
+// Searches expressions for a name.
 ghost use Rattle.std.specs.Prelude.{◌≡◌};
 ghost use Rattle.gq_rules_typing.specs.Mentions.{in_tree, in_trees, in_parts, in_part, in_factors, in_terms};
 ghost use Rattle.gq_plan_ir.specs.ExprView.{view, views, view_behind, view_parts, view_factors, view_terms};
@@ -36,7 +36,7 @@ pub fn expr_names(expr: &Expr, place: u32) -> bool
     }
 }
 
-/// Whether one of some expressions names a place.
+/// Whether one of the expressions names a place.
 #[cycle(expr)]
 #[tactic(auto, using(crate::proofs::NamingLemmas::any_laws))]
 pub(crate) fn any_names(exprs: &[Expr], place: u32) -> bool
@@ -50,7 +50,7 @@ pub(crate) fn any_names(exprs: &[Expr], place: u32) -> bool
     false
 }
 
-/// Whether one of the parts behind dots names a place.
+/// Whether one of the parts after dots names a place.
 #[cycle(expr)]
 #[tactic(auto, using(crate::proofs::NamingLemmas::parts_laws))]
 fn parts_name(parts: &[Behind], place: u32) -> bool
@@ -64,7 +64,7 @@ fn parts_name(parts: &[Behind], place: u32) -> bool
     false
 }
 
-/// Whether a part behind a dot names a place. What stands there itself is no name of an alias, but arguments may hold one.
+/// Whether a part after a dot names a place. The part itself isn't an alias, but arguments of a method may hold one.
 #[cycle(expr)]
 #[tactic(auto, using(gq_plan_ir::proofs::ViewLaws::view_laws, crate::proofs::NamingLemmas::degree_names))]
 fn part_names(part: &Behind, place: u32) -> bool
@@ -76,7 +76,7 @@ fn part_names(part: &Behind, place: u32) -> bool
     }
 }
 
-/// Whether one of the factors behind the first names a place.
+/// Whether one of the factors after the first names a place.
 #[cycle(expr)]
 #[tactic(auto, using(crate::proofs::NamingLemmas::factors_laws))]
 fn factors_name(factors: &[(MulSign, Expr)], place: u32) -> bool
@@ -90,7 +90,7 @@ fn factors_name(factors: &[(MulSign, Expr)], place: u32) -> bool
     false
 }
 
-/// Whether one of the terms behind the first names a place.
+/// Whether one of the terms after the first names a place.
 #[cycle(expr)]
 #[tactic(auto, using(crate::proofs::NamingLemmas::terms_laws))]
 fn terms_name(terms: &[(AddSign, Expr)], place: u32) -> bool

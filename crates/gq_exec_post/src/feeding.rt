@@ -1,4 +1,4 @@
-// The end of a phase.
+// Feeds the waiting inputs at the end of a phase.
 ghost use Rattle.std.specs.Prelude.{IfOk};
 ghost use Rattle.gq_rules_meaning.specs.Blocks.{fed_together};
 ghost use Rattle.gq_eval_operand.specs.Meant.{itself};
@@ -15,10 +15,10 @@ use gq_frame::{Accums, Slots};
 use gq_value::Input;
 use std::alloc::Global;
 
-/// How many inputs may wait.
+/// The number of waiting inputs must be below this.
 const MOST_WAITING: usize = 1 << 60;
 
-/// The accumulators once all that waits is fed, or the first one with a sum out of range.
+/// Feeds all waiting inputs. Fails with the first accumulator whose sum is out of range.
 pub(crate) fn fed(alloc: Global, writing: Writing) -> Result<Accums, BlockFault>
     requires { AreSound writing.accums }
     ensures told { Answered slots_are (fed_together (waiting_are writing.waiting.items) (slots_are writing.accums)) result }
@@ -29,17 +29,17 @@ pub(crate) fn fed(alloc: Global, writing: Writing) -> Result<Accums, BlockFault>
         Err(_) => Err(BlockFault::OutOfMemory),
         Ok(batch) => match feed_all(alloc, &mut accums, batch.as_slice()) {
             Err(_) => Err(BlockFault::OutOfMemory),
-            Ok(()) => judged(accums),
+            Ok(()) => judged(alloc, accums),
         },
     }
 }
 
-/// The accumulators, where all contents fit.
+/// The accumulators, if all contents fit.
 #[tactic(auto, using(crate::proofs::FeedingLemmas::judged_laws))]
-fn judged(accums: Accums) -> Result<Accums, BlockFault>
+fn judged(alloc: Global, mut accums: Accums) -> Result<Accums, BlockFault>
     ensures { IsJudged accums result }
 {
-    match first_unfit(&accums) {
+    match first_unfit(alloc, &mut accums) {
         None => Ok(accums),
         Some(number) => match slot_number(number) {
             Some(slot) => Err(BlockFault::SumRange { slot }),
@@ -48,8 +48,8 @@ fn judged(accums: Accums) -> Result<Accums, BlockFault>
     }
 }
 
-/// The inputs that wait, each with the number of its target. Where there is no such target, of which nothing is promised, it is `OutOfMemory`
-/// , and so are more than 2^60 inputs.
+/// The waiting inputs as a batch, each with the number of its target. Also returns `OutOfMemory` if a target doesn't
+/// exist, and from 2^60 inputs on.
 #[tactic(auto, using(crate::proofs::FeedingLemmas::batch_laws))]
 fn batch_of(
     alloc: Global,

@@ -1,4 +1,4 @@
-// What an input reaches, judged.
+// Checks the part of a content that an input changed.
 ghost use Rattle.std.specs.Prelude.{map};
 ghost use Rattle.gq_value.specs.AccumViews.{given};
 ghost use Rattle.gq_nest.specs.Tells.{Tells};
@@ -7,8 +7,8 @@ ghost use Rattle.gq_exec_post.specs.Judging.{EachTellsWhere, fits_where, given_a
 use gq_nest::Content;
 use gq_value::Input;
 
-/// Whether a content that fitted before it took an input fits now. Only what stands under the input's keys is judged, as nothing else
-/// has changed. Takes no memory.
+/// Whether a content that fitted before it took an input fits now. Only the entries at the input's keys are checked, as
+/// nothing else has changed. Allocates nothing.
 #[cycle(judging)]
 pub(crate) fn still_fits(input: &Input, content: &Content) -> bool
     ensures { Tells content.now result (λ k h. fits_where k h (given input.now)) }
@@ -31,7 +31,7 @@ pub(crate) fn still_fits(input: &Input, content: &Content) -> bool
     }
 }
 
-/// Whether each part fits, judged by the input in its place.
+/// Whether each part fits after the input at its index.
 #[cycle(judging)]
 fn parts_fit(inputs: &[Input], parts: &[Content]) -> bool
     ensures { EachTellsWhere (map given inputs.now) parts.now result }
@@ -44,7 +44,7 @@ fn parts_fit(inputs: &[Input], parts: &[Content]) -> bool
     true
 }
 
-/// Whether a part fits, judged by the input in a place; all of it where no input is there.
+/// Whether a part fits after the input at an index; without such an input all of it is checked.
 #[cycle(judging)]
 fn part_fits(inputs: &[Input], place: usize, part: &Content) -> bool
     ensures { Tells part.now result (λ k h. fits_where k h (given_at inputs.now place)) }

@@ -1,4 +1,4 @@
-// Changes evaluated.
+// Evaluates changes.
 ghost use Rattle.gq_value.specs.AccumViews.{accum_of};
 ghost use Rattle.gq_rules_typing.specs.Kinds.{set_type};
 ghost use Rattle.gq_rules_meaning.specs.Writes.{made_by};
@@ -16,21 +16,21 @@ use gq_plan_ir::{Change, Expr};
 use gq_value::{Input, Kind, Number, Value};
 use std::alloc::Global;
 
-/// What a change makes of a content: it takes one more input, or is put to a value.
+/// An evaluated change of a content: an input to feed, or a value to set.
 #[derive(Drop)]
 pub enum Made {
     Input(Input),
     Value(Value),
 }
 
-/// How a value is put: as a number of a type, or a truth as it is.
+/// How a value is converted before it is set: to a number of a type, or not at all.
 #[derive(Clone, Copy)]
 pub(crate) enum Putting {
     Number(Number),
     Truth,
 }
 
-/// What a change makes of an accumulator of a kind, converted to what the kind takes.
+/// Evaluates a change of an accumulator of a kind, and converts it to the type that the kind takes.
 #[tactic(auto, using(crate::proofs::MadeLemmas::feed_laws))]
 pub fn made_by<V: Sees>(
     change: &Change,
@@ -49,7 +49,7 @@ pub fn made_by<V: Sees>(
     }
 }
 
-/// A value that is put.
+/// Evaluates the value of a `=`.
 #[tactic(auto, using(crate::proofs::MadeLemmas::put_laws))]
 fn put<V: Sees>(expr: &Expr, kind: &Kind, alloc: Global, sight: &V) -> Result<Made, Halt>
     ensures { Tells making_of (made_by (V.look sight.now) (accum_of kind.now) (plain.Puts (view expr.now))) result }
@@ -68,7 +68,7 @@ fn put<V: Sees>(expr: &Expr, kind: &Kind, alloc: Global, sight: &V) -> Result<Ma
     }
 }
 
-/// How an accumulator of a kind is put to a value, if it can be.
+/// How values set by `=` are converted for a kind; `None` if the kind can't be set.
 #[tactic(auto, using(gq_value::proofs::AccumLemmas::accum_laws))]
 fn put_as(kind: &Kind) -> Option<Putting>
     ensures { PutsAs (set_type (accum_of kind.now)) result }

@@ -1,4 +1,4 @@
-// Which end a statement is for.
+// Splits statements into phases by their ends.
 ghost use Rattle.std.specs.Prelude.{◌≡◌, ◌≤◌, length, map};
 ghost use Rattle.gq_plan_ir.specs.BlockView.{view_act};
 ghost use Rattle.gq_rules_meaning.specs.Posts.{same_end};
@@ -8,7 +8,7 @@ use crate::act_mentions::act_names;
 use gq_exec_source::{End, Ends};
 use gq_plan_ir::Act;
 
-/// Whether an act is for the target: it names the target's alias, or it names none and the target's is selected.
+/// Whether a statement is for the target: it names the target's alias, or it names none and the target's is selected.
 pub(crate) fn for_target(act: &Act, ends: &Ends, selects: bool) -> bool
     ensures { result ≡ to_target ends.now selects (view_act act.now) }
 {
@@ -21,7 +21,7 @@ pub(crate) fn for_target(act: &Act, ends: &Ends, selects: bool) -> bool
     }
 }
 
-/// Whether an act names the alias of an end.
+/// Whether a statement names the alias of an end.
 fn names_end(act: &Act, end: &End) -> bool
     ensures { result ≡ at_end end.now (view_act act.now) }
 {
@@ -31,7 +31,7 @@ fn names_end(act: &Act, end: &End) -> bool
     }
 }
 
-/// How many of these acts, from the first one on, are for an end.
+/// The number of leading statements that are for an end.
 #[tactic(auto, using(crate::proofs::PhaseLemmas::run_laws))]
 pub(crate) fn run_of(acts: &[Act], ends: &Ends, selects: bool, target: bool) -> usize
     ensures told { result ≡ run_length (to_target ends.now selects) target (map view_act acts.now) }
@@ -45,7 +45,7 @@ pub(crate) fn run_of(acts: &[Act], ends: &Ends, selects: bool, target: bool) -> 
     acts.len()
 }
 
-/// Whether two ends are the same one.
+/// Whether two ends are the same.
 fn is_same(first: bool, second: bool) -> bool
     ensures { result ≡ same_end first second }
 {

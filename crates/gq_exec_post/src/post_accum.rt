@@ -1,4 +1,4 @@
-// All phases.
+// Runs POST-ACCUM.
 ghost use Rattle.std.specs.Prelude.{◌≡◌, IfOk, cond};
 ghost use Rattle.gq_rules_meaning.specs.Posts.{posted};
 ghost use Rattle.gq_rules_meaning.specs.States.{State};
@@ -11,21 +11,24 @@ ghost use Rattle.gq_eval_context.specs.Looks.{world_over};
 ghost use Rattle.gq_eval_context.specs.Answered.{Answered, after_is};
 ghost use Rattle.gq_exec_source.specs.Ends.{HasEnds, end_at};
 ghost use Rattle.gq_exec_post.specs.Phases.{KeepsAll, RunsAt, RunsPhase, RunsPhases};
+ghost use Rattle.gq_exec_post.specs.Sights.{ReadsEnd};
 ghost use Rattle.gq_exec_post.specs.Writing.{KeepsTo};
 
 use crate::feeding::fed;
 use crate::phases::{for_target, run_of};
 use crate::vertices::run_vertices;
 use crate::writing::Writing;
+use gq_base::{List, OutOfMemory};
 use gq_eval_context::{After, BlockContext, BlockFault};
+use gq_exec_contribute::{Leaves, leaves_of};
 use gq_exec_source::{End, Ends, selects_target};
 use gq_frame::Accums;
-use gq_plan_ir::{Act, Block};
+use gq_plan_ir::{Act, Block, Walk};
 use std::alloc::Global;
 
-/// POST-ACCUM: what a block with these ends leaves, once its phases have run.
+/// Runs POST-ACCUM: all phases of a block with these ends.
 ///
-/// An expression that isn't well typed, of which nothing is promised, ends with `OutOfMemory`.
+/// Also returns `OutOfMemory` for an expression that isn't well typed.
 pub fn post(
     alloc: Global,
     block: &Block,
@@ -42,7 +45,7 @@ pub fn post(
     run_phases(block.post.as_slice(), alloc, over, ends, selects, after)
 }
 
-/// The phases of some acts, one after the other.
+/// Runs the phases of statements in order.
 #[tactic(auto, using(crate::proofs::RunLemmas::phases_laws))]
 fn run_phases(
     acts: &[Act],
@@ -70,7 +73,7 @@ fn run_phases(
     }
 }
 
-/// One phase, for one end.
+/// Runs one phase, for one end.
 #[tactic(auto, using(crate::proofs::RunLemmas::phase_laws))]
 fn run_phase(
     acts: &[Act],
@@ -100,22 +103,22 @@ fn run_phase(
     }
 }
 
-/// The target's end, or the source's.
+/// The target's end or the source's.
 fn end_at(ends: &Ends, target: bool) -> &End
     ensures { result.now ≡ end_at ends.entry.now target }
 {
     if target { &ends.target } else { &ends.source }
 }
 
-/// The matched vertices of the target's end, or of the source's.
+/// The matched vertices of the target's end or of the source's.
 fn matched<'a>(sources: &'a [u32], targets: &'a [u32], target: bool) -> &'a [u32]
     ensures { result.now ≡ cond target targets.entry.now sources.entry.now }
 {
     if target { targets } else { sources }
 }
 
-/// One phase at the vertices of an end: vertex after vertex by number, then what waited is fed.
-#[tactic(auto, using(crate::proofs::RunLemmas::at_laws))]
+/// Resolves the names and accumulators of a phase at the vertices of an end, and runs it.
+#[tactic(auto, using(crate::proofs::ReadLemmas::phase_laws))]
 fn phase_at(
     acts: &[Act],
     alloc: Global,
@@ -128,12 +131,54 @@ fn phase_at(
     ensures told { RunsAt gregorian over.now end.now (view_acts acts.now) vertices.now accums result }
     ensures keeps { IfOk result (KeepsTo accums) }
 {
+    match alone(alloc, end) {
+        Err(_) => Err(BlockFault::OutOfMemory),
+        Ok(ends) => match leaves_of(alloc, &accums.slots, &Walk::Nowhere, &ends) {
+            Err(_) => Err(BlockFault::OutOfMemory),
+            Ok(leaves) => vertices_at(acts, alloc, over, end, &leaves, vertices, accums),
+        },
+    }
+}
+
+/// Runs one phase at the vertices of an end, in order of their numbers, then feeds the waiting inputs.
+#[tactic(auto, using(crate::proofs::RunLemmas::at_laws))]
+fn vertices_at(
+    acts: &[Act],
+    alloc: Global,
+    over: &BlockContext<'_>,
+    end: &End,
+    leaves: &Leaves<'_>,
+    vertices: &[u32],
+    accums: Accums,
+) -> Result<Accums, BlockFault>
+    requires sound { AreSound accums }
+    requires reads { ReadsEnd leaves.now end.now accums }
+    ensures told { RunsAt gregorian over.now end.now (view_acts acts.now) vertices.now accums result }
+    ensures keeps { IfOk result (KeepsTo accums) }
+{
     let opened = Writing {
         accums,
         waiting: Vec::new(alloc),
     };
-    match run_vertices(acts, alloc, over, end, vertices, opened) {
+    match run_vertices(acts, alloc, over, end, leaves, vertices, opened) {
         Err(fault) => Err(fault),
         Ok(writing) => fed(alloc, writing),
     }
+}
+
+/// A copy of an end as the source, and a target without an alias.
+fn alone(alloc: Global, end: &End) -> Result<Ends, OutOfMemory>
+    ensures { IfOk result (λ ends. ends.source ≡ end.now) }
+{
+    let types = List::from_slice(alloc, end.types.as_slice())?;
+    Ok(Ends {
+        source: End {
+            alias: end.alias,
+            types,
+        },
+        target: End {
+            alias: None,
+            types: List::new(alloc),
+        },
+    })
 }

@@ -1,4 +1,4 @@
--- BindingLemmas: what all vertices of a set lead to are the bindings.
+-- BindingLemmas: the walks from all vertices of a set are the bindings.
 use Rattle.std.proofs.Common.{ℕ, ◌+◌, ◌-◌, ◌<◌, ◌≤◌, ◌≡◌, cond, List, [], ◌∷◌, ◌++◌, length, get_or, take, drop, map, None, refl, ap, sym, ◌∙◌, subst, arith}
 use Rattle.std.specs.List.{filter, flat_map}
 use Rattle.std.proofs.lemmas.List.{length-map, drop_more, take_rest}
@@ -63,7 +63,7 @@ hops_next sight steps step hop hops held all some first same is more are =
     subst P (sym (split_first steps step some first))
     (subst Q (sym (is ∙ ap (λ l. hop ∷ l) (sym same))) (more (map step_of rest) (subst R (sym same) are)))
 
--- where what follows along one walk more is too much, all is
+-- if the continuations of one more walk are too many, all are
 pub many_on : (hops : List (List (List Traversal))) (hop : List (List Traversal)) (walk : Traversal) (ways : List Traversal) (i : ℕ) (d : Traversal) (before now : List Candidate)
     → 1 ≤ length hops → hop ≡ get_or hops 0 hop → ways ≡ walks_at hop walk.target → i < length ways
     → now ≡ before ++ map of_walk (flat_map (λ next. walks_on (take (length hops - 1) (drop 1 hops)) (on_along walk next)) (take i ways))

@@ -31,7 +31,7 @@ use Rattle.gq_exec_source.proofs.WayLemmas.{row_from}
 
 -- ---- along one row
 
--- where a row leads, by what of the type tells it: in a way, and in the index
+-- the vertex that a row leads to, from the data of its type: in a way, and in the index
 abbrev far : Way → ℕ → Option ℕ → EdgeRow → ℕ → Option ℕ
 far w e forward row v = cond (row.kind == unwrap_or forward e) (led_to w (cond (is_some forward) (row.to, row.from) (row.from, row.to)) v) None
 
@@ -71,7 +71,7 @@ reverse_far e reverse None directed row v h = absurd (cc h)
 reverse_far e reverse (Some base) directed row v h =
     ap (λ n. cond (row.kind == n) (cond (row.to == v) (Some row.from) None) None) (sym (the_same base e h))
 
--- the index leads along each row where a type leads in a way
+-- the index follows each row that a type follows in a way
 record IsEntry (types : List EdgeType) (w : Way) (e under : ℕ) (type : EdgeType) : Type 0 where
   there : under < length types
   same : (row : EdgeRow) (v : ℕ) → far_end w (e, type) row v ≡ index.far_end (under, type_at types under) row v
@@ -161,7 +161,7 @@ one_way (x ∷ y ∷ ways) w one is = absurd (omega (arith, one))
 pub entries_first : (step : PathStep) (types : List EdgeType) (entries : List Entry) → entries ≡ [] → AreFound types entries (λ edges. first_walks step types edges 0)
 entries_first step types entries none = subst (λ (l : List Entry). AreFound types l (λ edges. first_walks step types edges 0)) (sym none) (record { there = All-nil (λ (entry : Entry). entry.under < length types); same = λ edges v. refl })
 
--- a type that the step goes along in one way
+-- a type that the step walks in one way
 pub entry_more : (step : PathStep) (types : List EdgeType) (entries new : List Entry) (ways : List Way) (w : Way) (e under : ℕ) (type : EdgeType)
     → e < length types → type ≡ type_at types e → ways ≡ ways_of step e → length ways ≡ 1 → w ≡ get_or ways 0 w → entry_in types e type w ≡ Some under
     → new ≡ entries ++ record { kind = e; under = under } ∷ []
@@ -186,7 +186,7 @@ entry_more step types entries new ways w e under type low at went one is got mor
     leads : IsEntry types w e under type
     leads = entry_is types w e under type low at got
 
--- a type that it doesn't go along
+-- a type that it doesn't walk
 pub entry_none : (step : PathStep) (types : List EdgeType) (entries : List Entry) (ways : List Way) (e : ℕ) → ways ≡ ways_of step e → length ways ≡ 0
     → AreFound types entries (λ edges. first_walks step types edges e) → AreFound types entries (λ edges. first_walks step types edges (e + 1))
 unfolding type_walks

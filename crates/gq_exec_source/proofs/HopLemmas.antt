@@ -1,4 +1,4 @@
--- HopLemmas: hops lead to what the steps lead to, though rows that lead nowhere are left out.
+-- HopLemmas: hops give the same bindings as the steps, though rows that lead nowhere are left out.
 use Rattle.std.proofs.Common.{inl, inr, ℕ, suc, ◌<◌, ◌≡◌, Bool, true, false, cond, not, List, [], ◌∷◌, ◌==◌, ◌&&◌, length, map, refl, ap, sym, ◌∙◌, arith}
 use Rattle.std.specs.Prelude.{nat_lt}
 use Rattle.std.specs.List.{filter, flat_map}
@@ -37,7 +37,7 @@ tests_same false target on true h = absurd (cc (h refl))
 starts_low : (a v n : ℕ) → v < n → (a == v) ≡ true → nat_lt a n ≡ true
 starts_low a v n low same = grind (arith, nat_tests)
 
--- the listed walks from a vertex: those that lead to a target, and of these those that go on
+-- the listed walks from a vertex: those that lead to a target, and of these those that continue
 kept_taken : (kinds targets : List ℕ) (hops : List (List (List Traversal))) (v : ℕ) → v < length kinds → (walks : List Traversal)
     → taken_from v (filter (is_kept kinds targets hops) walks)
     ≡ filter (λ (x : Traversal). goes_on hops x.target) (filter (λ (x : Traversal). is_target kinds targets x.target) (taken_from v walks))
@@ -57,7 +57,7 @@ none_there : (walks : List Traversal) → not (length walks == 0) ≡ false → 
 none_there [] is = refl
 none_there (x ∷ walks) is = absurd (true≢false (sym (some_there (length walks)) ∙ is))
 
--- from where the next hop doesn't go on, nothing follows
+-- if the next hop doesn't continue from a walk's end, nothing follows
 dead_end : (walk : Traversal) (hops : List (List (List Traversal))) → goes_on hops walk.target ≡ false → walks_on hops walk ≡ []
 dead_end walk [] is = absurd (cc is)
 dead_end walk (hop ∷ hops) is = ap (flat_map (λ next. walks_on hops (on_along walk next))) (none_there (walks_at hop walk.target) is)
@@ -96,7 +96,7 @@ hops_more sight step steps hop hops is are = λ walk low.
     ∙ sym (flat_map-map (steps_from sight steps) (λ x. of_walk (on_along walk x)) (filter fits here))
     ∙ ap (flat_map (steps_from sight steps)) (went_step sight step walk)
 
--- the same, where all is as the code has it: the types and ends of rows, without their attributes
+-- the same on the code's data: the types and ends of rows, without their attributes
 pub hop_before_is : (sight : Sight) (step : PathStep) (steps : List PathStep) (hop : List (List Traversal)) (hops : List (List (List Traversal)))
     (n : ℕ) (targets : List ℕ) (types : List EdgeType) (ends : List EdgeRow)
     → n ≡ length sight.kinds → targets ≡ step.targets → types ≡ sight.types → AreEnds ends sight.edges

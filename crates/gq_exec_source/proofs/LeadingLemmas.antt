@@ -1,4 +1,4 @@
--- LeadingLemmas: where no row leads from a vertex to one from which something may go on, nothing goes on from it.
+-- LeadingLemmas: if no row leads from a vertex to one from which a path may continue, no path continues from it.
 use Rattle.std.specs.Prelude.{min, replicate}
 use Rattle.std.proofs.Common.{ℕ, zero, suc, ◌+◌, ◌*◌, ◌/◌, ◌<◌, ◌≤◌, ◌≡◌, Bool, true, false, cond, not, List, [], ◌∷◌, ◌==◌, ◌&&◌, ◌||◌, nat_lt, length, map, get_or, take, Some, None, refl, ap, ap₂, sym, subst, ◌∙◌, arith}
 use Rattle.std.specs.List.{All, filter, flat_map, list_any, slice_get}
@@ -252,7 +252,7 @@ module _ (step : PathStep) (types : List EdgeType) (d : Directions) (are : AreDi
       (λ w has. row_none e r (edge_at rows r) w low has (each_none rows r none at)) (ways_of step e) (filter_passes (has_way step e) (way.Forward ∷ way.Backward ∷ way.Both ∷ [])))
       (below (length rows)) (all_below (length rows))) (below (length types)) (all_below (length types))
 
--- ---- where all walks that start from a vertex lead nowhere, nothing goes on from it
+-- ---- if all walks that start from a vertex lead nowhere, no path continues from it
 
 pub ready_dead : (sight : Sight) (steps : List IndexedStep) → AreReady sight steps → (walk : Traversal) → walk.target < length sight.kinds → is_dead steps walk.target ≡ true
     → steps_from sight (map plain steps) (of_walk walk) ≡ []
@@ -269,7 +269,7 @@ module _ (sight : Sight) (step : PathStep) (rest : List IndexedStep) (ready : Ar
   abbrev on : Traversal → Bool
   on x = leads_on sight.kinds step.targets rest x.target
 
-  -- what leads on leads to all
+  -- the walks that lead on give all bindings
   pub led_all : flat_map (λ x. steps_from sight (map plain rest) (of_walk (on_along walk x))) (filter (λ (x : Traversal). leads_on sight.kinds step.targets rest x.target) (taken_from walk.target (step_walks step sight.types sight.edges)))
       ≡ steps_from sight (step ∷ map plain rest) (of_walk walk)
   led_all =
@@ -301,7 +301,8 @@ module _ (sight : Sight) (step : PathStep) (rest : List IndexedStep) (ready : Ar
   nothing_on : All (LeadsNowhere (leads_on sight.kinds step.targets rest) walk.target) (step_walks step sight.types sight.edges) → steps_from sight (step ∷ map plain rest) (of_walk walk) ≡ []
   nothing_on all = sym led_all ∙ ap (flat_map ahead) (none_on (step_walks step sight.types sight.edges) all)
 
--- where all vertices are marked from which a row leads to a target from which something may go on, nothing goes on from others
+-- if all vertices are marked from which a row leads to a target from which a path may continue, none continues from
+-- others
 pub none_other : (sight : Sight) (step : PathStep) (d : Directions) (ends : List EdgeRow) (targets none words : List ℕ) (n : ℕ) → n ≡ length sight.kinds
     → AreEnds ends sight.edges → AreDirections step sight.types d → none ≡ replicate (n / 64 + 1) 0
     → ((v : ℕ) → v < length none * 64 → is_marked words v ≡ (is_marked none v || list_any (λ row. leads_from d targets row v) ends))
@@ -320,6 +321,6 @@ pub left_out : (sight : Sight) (steps : List PathStep) (known : Leading)
     → ((walk : Traversal) → walk.target < length sight.kinds → is_marked known.from walk.target ≡ false → steps_from sight steps (of_walk walk) ≡ []) → AreDead sight (Some known) steps
 left_out sight steps known none = λ walk low dead. none walk low (not_true (is_marked known.from walk.target) dead)
 
--- what leads on is there
+-- a vertex that leads on exists
 pub leading_low : (kinds targets : List ℕ) (rest : List IndexedStep) (v : ℕ) → leads_on kinds targets rest v ≡ true → v < length kinds
 leading_low kinds targets rest v is = target_low kinds targets v (and_last (not (is_dead rest v)) (is_target kinds targets v) is)

@@ -1,5 +1,5 @@
--- ListLemmas: what several items give, one behind the other: with one item more, with those left out that give nothing, and
--- how many there are.
+-- ListLemmas: the concatenated results of several items: with one more item, without those that give nothing, and
+-- their number.
 use Rattle.std.proofs.Common.{ℕ, zero, suc, ◌+◌, ◌<◌, ◌≤◌, ◌≡◌, Bool, true, false, cond, List, [], ◌∷◌, ◌++◌, ◌&&◌, length, get_or, take, map, refl, ap, sym, ◌∙◌, arith, append-nil, length-append}
 use Rattle.std.specs.List.{filter, flat_map}
 use Rattle.std.proofs.lemmas.List.{append_assoc, take_more, map-append, length-map}
@@ -38,7 +38,7 @@ filter_twice {X} p q (x ∷ xs) =
       | false ↦ filter_twice p q xs
     ]
 
--- what passes of the items so far, and of one more
+-- the results that pass for the items so far, and for one more
 pub passed_more : {X Y : Type 0} (p : Y → Bool) (f : X → List Y) (xs : List X) (i : ℕ) (d : X) (before now later : List Y) → i < length xs
     → now ≡ before ++ filter p (flat_map f (take i xs)) → later ≡ now ++ filter p (f (get_or xs i d))
     → later ≡ before ++ filter p (flat_map f (take (i + 1) xs))
@@ -47,7 +47,7 @@ passed_more p f xs i d before now later h was is =
     ∙ append_assoc before (filter p (flat_map f (take i xs))) (filter p (f (get_or xs i d)))
     ∙ ap (λ l. before ++ l) (sym (ap (filter p) (flat_map_more f xs i d h) ∙ filter-append p (flat_map f (take i xs)) (f (get_or xs i d))))
 
--- what is listed of the items so far, and of one more
+-- the results listed for the items so far, and for one more
 pub listed_more : {X Y Z : Type 0} (g : Y → Z) (f : X → List Y) (xs : List X) (i : ℕ) (d : X) (before now later : List Z) → i < length xs
     → now ≡ before ++ map g (flat_map f (take i xs)) → later ≡ now ++ map g (f (get_or xs i d))
     → later ≡ before ++ map g (flat_map f (take (i + 1) xs))
@@ -62,7 +62,7 @@ first_shorter f (suc j) [] = omega arith
 first_shorter f (suc j) (x ∷ xs) =
     omega (arith, length-append (f x) (flat_map f (take j xs)), length-append (f x) (flat_map f xs), first_shorter f j xs)
 
--- where one item more is too many, all are
+-- if one more item gives too many, all do
 pub too_many : {X Y Z : Type 0} (g : Y → Z) (f : X → List Y) (xs : List X) (i : ℕ) (d : X) (before now : List Z) (most : ℕ) → i < length xs
     → now ≡ before ++ map g (flat_map f (take i xs)) → most < length now + length (f (get_or xs i d))
     → most < length before + length (flat_map f xs)

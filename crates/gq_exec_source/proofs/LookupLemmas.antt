@@ -1,4 +1,4 @@
--- LookupLemmas: what the index has from a vertex is what one step leads to, and step after step it is all bindings.
+-- LookupLemmas: the index entries from a vertex are the walks of one step, and step by step they are all bindings.
 use Rattle.std.proofs.Common.{ℕ, zero, suc, ◌+◌, ◌-◌, ◌<◌, ◌≤◌, ◌≡◌, Bool, true, false, cond, List, [], ◌∷◌, ◌++◌, ◌==◌, length, get_or, take, drop, map, refl, ap, ap₂, sym, ◌∙◌, subst, arith, leb, ltb, leb-true, ltb-false, eq-eqb, append-nil, append_assoc, length-append}
 use Rattle.std.specs.List.{filter, flat_map, All, AllByRecursion}
 use Rattle.std.specs.List.Sorted.{IsPartitionPoint}
@@ -72,7 +72,7 @@ higher_differs a k h = grind (arith, nat_tests)
 no_neighbor : Neighbor
 no_neighbor = record { kind = 0; row = 0; target = 0 }
 
--- between both points stand the ways of the type
+-- the ways of the type are between both points
 pub part_is : (types : List EdgeType) (edges : List EdgeRow) (v k first count : ℕ) (ways rest part : List Neighbor) → map (walked v) ways ≡ walks_from types edges v → k < length types
     → first ≤ length ways → IsPartitionPoint (λ (way : Neighbor). ltb way.kind k ≡ true) (λ (way : Neighbor). ltb way.kind k ≡ false) ways first → rest ≡ drop first ways
     → count ≤ length rest → IsPartitionPoint (λ (way : Neighbor). leb way.kind k ≡ true) (λ (way : Neighbor). leb way.kind k ≡ false) rest count → part ≡ take count rest
@@ -160,7 +160,7 @@ module _ (kinds targets : List ℕ) (rest : List IndexedStep) where
       by true later = ap (λ l. on way ∷ l) later
       by false later = later
 
-  -- what the entries so far lead to
+  -- the walks of the entries so far
   abbrev pub gone : List EdgeType → List EdgeRow → Traversal → List Entry → List Traversal
   gone types edges walk entries = flat_map (λ entry. map (on_along walk) (filter (λ (x : Traversal). leads_on kinds targets rest x.target) (found types edges walk.target entry))) entries
 
@@ -193,7 +193,7 @@ module _ (kinds targets : List ℕ) (rest : List IndexedStep) where
       by true h later = All-cons (λ (w : Traversal). w.target < length kinds) (on_along walk x) (map (on_along walk) others) (leading_low kinds targets rest x.target h) later
       by false h later = later
 
--- one step leads to all that it and those behind it lead to, and to vertices that are there
+-- one step leads to all that it and the steps after it lead to, and to existing vertices
 pub taken_is : (sight : Sight) (step : PathStep) (rest : List IndexedStep) (walk : Traversal) (entries : List Entry) (i : ℕ) (walks : List Traversal) → length entries ≤ i → AreReady sight rest
     → AreFound sight.types entries (step_walks step sight.types) → walks ≡ gone sight.kinds step.targets rest sight.types sight.edges walk (take i entries)
     → flat_map (λ x. steps_from sight (map plain rest) (of_walk x)) walks ≡ steps_from sight (step ∷ map plain rest) (of_walk walk)
@@ -278,7 +278,7 @@ pub ready_next : (sight : Sight) (first : IndexedStep) (rest held all : List Ind
 ready_next sight first rest held all same is ready are =
     subst (AreReady sight) (sym is) (subst (λ (l : List IndexedStep). IsReady sight first l) same ready, are)
 
--- ---- where a set begins
+-- ---- the start of a set
 
 pub begun_within : (sight : Sight) (vertices : List VertexRow) (set : List ℕ) (walks : List Traversal) → length sight.kinds ≡ length vertices → walks ≡ map start_at (by_number sight set)
     → All (λ (w : Traversal). w.target < length vertices) walks

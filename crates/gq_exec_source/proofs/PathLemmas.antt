@@ -1,4 +1,4 @@
--- PathLemmas: the steps of a path as they are walked, and its bindings as the candidates of a block.
+-- PathLemmas: the steps of a path as walked, and its bindings as the candidates of a block.
 use Rattle.std.proofs.Common.{◌≡◌, ℕ, ◌+◌, ◌<◌, ◌≤◌, ◌==◌, Bool, true, false, List, [], ◌∷◌, ◌++◌, map, length, get_or, take, drop, Option, Some, None, refl, ap, ap₂, sym, ◌∙◌, subst, arith}
 use Rattle.std.specs.Prelude.{nat_le, Result, Ok, Err, IfOk}
 use Rattle.std.specs.List.{All, filter_map, cons_option, list_any}
@@ -65,7 +65,7 @@ module _ (schema : Schema) (p : Plan) where
   ways_same [] = refl
   ways_same (w ∷ ws) = ap₂ (λ (o : Option (Way × ℕ)) (l : List (Way × ℕ)). cons_option o l) (way_same w) (ways_same ws)
 
-  -- a step of its ways and of where it leads
+  -- a step, from its ways and the types that it leads to
   pub step_is : (step : PathStep) (own : List ℕ) (ways edges listed : List (Way × ℕ)) (targets : List ℕ) → own ≡ p.edges → ways ≡ step.ways
       → edges ≡ filter_map (own_way_of own) ways → listed ≡ edges → targets ≡ (path_step (setting_for schema p) (view_path_step step)).targets
       → step_of (record { edges = listed; targets = targets }) ≡ path_step (setting_for schema p) (view_path_step step)

@@ -94,7 +94,7 @@ pub first_all : (step : PathStep) (types : List EdgeType) (rows : List EdgeRow) 
 unfolding step_walks
 first_all step types rows n is = ap (first_walks step types rows) is
 
--- along a type that a step goes along in no way there is no walk
+-- a type that a step walks in no way has no walks
 pub no_walks : (ways : List Way) (t : EdgeType) (e : ℕ) (rows : List EdgeRow) (numbers : List ℕ) → length ways ≡ 0
     → flat_map (λ r. walks_along ways t e r (edge_at rows r)) numbers ≡ []
 no_walks [] t e rows [] none = refl
@@ -133,7 +133,7 @@ kinds_alike count ends rows are =
     kind : EdgeRow → ℕ
     kind row = min row.kind count
 
--- the order of rows by type is one of rows without attributes, and the other way round
+-- the order of rows by type is one of rows without attributes, and vice versa
 pub placed_rows : (count types : ℕ) (ends rows : List EdgeRow) (starts order : List ℕ) → AreEnds ends rows → IsPlaced (edge_kinds count ends) types starts order → IsPlaced (edge_kinds count rows) types starts order
 placed_rows count types ends rows starts order are placed = subst (λ (keys : List ℕ). IsPlaced keys types starts order) (kinds_alike count ends rows are) placed
 

@@ -92,7 +92,7 @@ sifted_same p old words done x h e v = h v ∙ by (x == v) refl ∙ ap (λ b. (b
     by true q = none (among done v) (is_marked old v) (gone q)
     by false q = ap (λ b. (b && p v) || is_marked old v) (sym (or_false (among done v)))
 
--- what passes two tests
+-- the elements that pass two tests
 filter_twice : (p q : ℕ → Bool) (xs : List ℕ) → filter (λ v. q v && p v) xs ≡ filter p (filter q xs)
 filter_twice p q [] = refl
 filter_twice p q (x ∷ xs) = by (q x) (p x) refl (filter_twice p q xs)

@@ -1,4 +1,4 @@
--- SortLemmas: edge types by number, where they lead, and which types are the graph's.
+-- SortLemmas: edge types by number, the vertex types that they lead to, and which types are the graph's.
 use Rattle.std.proofs.Common.{if◌then◌else◌, ℕ, zero, suc, ◌+◌, ◌<◌, ◌≤◌, ◌≡◌, ◌==◌, Bool, true, false, List, [], ◌∷◌, ◌++◌, length, get_or, map, drop, Option, Some, None, refl, ap, sym, ◌∙◌, arith}
 use Rattle.std.specs.List.{filter_map, flat_map, cons_option, list_any}
 use Rattle.std.specs.Option.{option_to_list}

@@ -139,7 +139,7 @@ length_kinds (r ∷ rows) = ap suc (length_kinds rows)
 within_rows : (o : Over) (set : List ℕ) (pattern : Option Pattern) → All (IsWithin (length o.vertices)) (candidates (sight_of o.schema o.vertices o.edges) set pattern)
 within_rows o set pattern = subst (λ (n : ℕ). All (IsWithin n) (candidates (sight_of o.schema o.vertices o.edges) set pattern)) (length_kinds o.vertices) (all_within (sight_of o.schema o.vertices o.edges) set pattern)
 
--- ---- as the code goes
+-- ---- as the code computes it
 
 pub from_nowhere : (o : Over) (block : Block) (set : List ℕ) (cs : List Candidate) → block.walk ≡ walk.Nowhere → cs ≡ candidates (sight_of o.schema o.vertices o.edges) set None → AreFrom o block set cs
 from_nowhere o block set cs e is = record {
@@ -163,7 +163,7 @@ from_hop o block ends set hop cs has e is = record {
     same clock s shows = ap₂ (λ es ts. record { edges = es; targets = ts }) (sym (types_are clock o hop.edges))
         ((has.each (accum_names o.plan) (tuples_are o.tuples) o.vertices o.edges.rows clock s.names shows.names).target_types ∙ ap (λ w. Rattle.gq_rules_typing.specs.Patterns.end_types (setting (world_over clock o)) (view_walk w)) e)
 
--- where no set is in view, nothing is listed
+-- if no set is in view, nothing is listed
 pub no_set_listed : (t : Option Thing) → is_set t ≡ false → [] ≡ listed_at t
 no_set_listed None h = refl
 no_set_listed (Some (SetOf ts vs)) h = absurd (cc h)

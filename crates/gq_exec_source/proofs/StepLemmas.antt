@@ -1,4 +1,4 @@
--- StepLemmas: the last step of a path, and where hops and steps lead.
+-- StepLemmas: the last step of a path, and the types that hops and steps lead to.
 use Rattle.std.proofs.Common.{◌≡◌, ℕ, suc, ◌-◌, List, [], ◌∷◌, map, length, Option, Some, None, Result, refl, ap, ap₂, sym, subst, ◌∙◌, arith}
 use Rattle.std.specs.Prelude.{IfOk}
 use Rattle.std.specs.List.{filter_map, flat_map}
@@ -58,7 +58,7 @@ module _ (schema : Schema) (p : Plan) where
   these_vertices own ts items r o b h =
       subst (λ (ns : List ℕ). IfOk r (λ l. l ≡ by_number ns)) (b ∙ ap (λ own. filter_map (own_of own) ts) o ∙ vertices_named schema p ts) h
 
-  -- ---- where a step leads
+  -- ---- the types that a step leads to
 
   pub step_open : {E : Type 0} (step : PathStep) (ways : List (Way × ℕ)) (far own : List ℕ) (r : Result (List ℕ) E) → step.targets ≡ types.Every → ways ≡ step.ways
       → far ≡ flat_map (ends_of (sorts_for schema p)) (filter_map (way_of (setting_for schema p)) (map (λ w. (w.0, reference.EdgeType w.1)) ways)) → own ≡ p.vertices → IfOk r (λ l. l ≡ or_all own far)
@@ -74,7 +74,7 @@ module _ (schema : Schema) (p : Plan) where
       ap (λ (ns : List ℕ). by_number (filter_map (setting_for schema p).words.vertex_type (map reference.VertexType ns))) s
       ∙ ap (λ (t : Types). (path_step (setting_for schema p) (view_path_step (record step { targets = t }))).targets) (sym e)) h
 
-  -- ---- where a hop leads
+  -- ---- the types that a hop leads to
 
   pub hop_open : {E : Type 0} (hop : Hop) (edges slice far own : List ℕ) (r : Result (List ℕ) E) → hop.targets ≡ types.Every → edges ≡ edge_types (setting_for schema p) (view_types reference.EdgeType hop.edges) → slice ≡ edges
       → far ≡ flat_map (ends_of (sorts_of schema None)) (own_ways (sorts_of schema None) slice) → own ≡ p.vertices → IfOk r (λ l. l ≡ or_all own far)

@@ -1,4 +1,5 @@
--- WayLemmas: the walks of a step that start from one vertex, and lead to a target, are what the definition has one step lead to.
+-- WayLemmas: the walks of a step that start from one vertex and lead to a target are those of one step of the
+-- definition.
 use Rattle.std.proofs.Common.{ℕ, ◌≡◌, Bool, true, false, cond, List, [], ◌∷◌, ◌==◌, length, map, Option, Some, None, refl, ap, sym, ◌∙◌, arith}
 use Rattle.std.specs.List.{filter, flat_map}
 use Rattle.std.specs.Option.{option_to_list}
@@ -45,7 +46,7 @@ row_from t e r v row w =
       | true ↦ in_from w e r v (ends_under t row)
     ]
 
--- what a walk goes on to along some walks
+-- the continuations of a walk along some walks
 abbrev pub went : Sight → PathStep → Traversal → List Traversal → List Candidate
 went sight step walk walks =
     map (λ x. of_walk (on_along walk x)) (filter (λ (x : Traversal). is_target sight.kinds step.targets x.target) (taken_from walk.target walks))

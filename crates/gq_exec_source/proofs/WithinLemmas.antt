@@ -1,4 +1,5 @@
--- WithinLemmas: what holds of each vertex that is there, and goes on along a row to a vertex that is there, holds of all bindings.
+-- WithinLemmas: a property of each existing vertex that is preserved along rows to existing vertices holds of all
+-- bindings.
 use Rattle.std.proofs.Common.{ℕ, ◌<◌, ◌≡◌, true, false, cond, List, [], ◌∷◌, length, Option, Some, None, refl, sym, ap, ◌∙◌, subst}
 use Rattle.std.specs.List.{flat_map, All}
 use Rattle.std.proofs.lemmas.List.Elements.{All-nil, All-cons}

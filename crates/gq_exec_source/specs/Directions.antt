@@ -12,13 +12,13 @@ use Rattle.gq_rules_typing.specs.Patterns as patterns
 use Rattle.gq_exec_source.specs.declared.directions.Directions.{Directions}
 use Rattle.gq_exec_source.specs.Marks.{is_marked}
 
--- whether a way goes in a direction, where forward along the type is that direction, or else the other
+-- whether a way has a direction, if forward along the type is that direction, or else the other
 abbrev pub goes_so : Way → Bool → Bool
 goes_so way.Forward forward = forward
 goes_so way.Backward forward = not forward
 goes_so way.Both forward = true
 
--- whether a type and a way have the rows of type k walked from FROM to TO, or back; all types that aren't there are one
+-- whether a type and a way have the rows of type k walked from FROM to TO, or back; all missing types count as one
 abbrev pub walks_kind : List EdgeType → Bool → ℕ → Way × ℕ → Bool
 walks_kind types back k pair = of_type (slice_get types pair.1)
   where

@@ -30,14 +30,14 @@ abbrev pub end_at : Ends → Bool → End
 end_at e true = e.target
 end_at e false = e.source
 
--- these are the ends that the definitions speak of
+-- these are the ends in the definitions
 pub record AreEnds (e : Ends) (f : From Reference) : Type 0 where
   pub source : option_map Place e.source.alias ≡ f.source
   pub source_types : e.source.types ≡ f.source_types
   pub target : option_map Place e.target.alias ≡ f.target
   pub target_types : e.target.types ≡ f.target_types
 
--- whatever rows the graph has, and whatever names show what stands at the places
+-- for all rows of the graph, and all names that show the contents of the places
 pub record HasEnds (schema : Schema) (p : Plan) (things : List (Option Thing)) (block : Block) (e : Ends) : Type 0 where
   pub each : (accums : List Bytes) (tuples : List (Reference × Fields)) (vertices : List VertexRow) (edges : List EdgeRow) (clock : Calendar) (names : List (Reference × states.Thing))
       → ((x : Reference) → under same x names ≡ thing_for p.places things x)

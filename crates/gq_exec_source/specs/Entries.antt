@@ -1,5 +1,5 @@
--- Entries: the walks of a step as the index has them: under the type itself where the step goes along it as the index does, or
--- under the type that goes the other way. Where a step goes along a type otherwise, the index hasn't its walks.
+-- Entries: the walks of a step in the index: under the type itself if the step walks it as the index does, or
+-- under the type of the opposite direction. If a step walks a type otherwise, the index doesn't have its walks.
 use Rattle.std.specs.Prelude.{◌≡◌, ℕ, ◌==◌, ◌<◌, Bool, false, ◌&&◌, ◌||◌, not, if◌then◌else◌, List, map, length, Option, Some, None, slice_get}
 use Rattle.std.specs.List.{All, flat_map}
 use Rattle.std.specs.Option.{is_some}
@@ -12,7 +12,7 @@ use Rattle.gq_rules_typing.specs.Way.TheVariants as way
 use Rattle.gq_exec_source.specs.declared.entries.Entry.{Entry}
 use Rattle.gq_exec_source.specs.Hops.{taken_from}
 
--- whether each row of a type is walked from one end alone
+-- whether each row of a type is walked from only one end
 abbrev pub is_one_way : EdgeType → Bool
 is_one_way type = type.directed || is_some type.forward
 
@@ -22,7 +22,7 @@ is_own_way type way.Forward = is_one_way type
 is_own_way type way.Backward = false
 is_own_way type way.Both = not (is_one_way type)
 
--- whether a type has a reverse type, as far as its walks tell
+-- whether a type is directed and isn't a reverse type
 abbrev pub goes_forward : Option EdgeType → Bool
 goes_forward (Some type) = type.directed && not (is_some type.forward)
 goes_forward None = false
@@ -39,7 +39,7 @@ reverses e None = false
 abbrev pub only_if : Bool → ℕ → Option ℕ
 only_if b n = if b then Some n else None
 
--- the type that goes the other way: the forward type of a reverse type, and the reverse type of any other
+-- the type of the opposite direction: the forward type of a reverse type, and the reverse type of any other
 abbrev pub other_among : List EdgeType → ℕ → Option ℕ → Option ℕ → Option ℕ
 other_among types e (Some base) reverse = only_if (goes_forward (slice_get types base)) base
 other_among types e None (Some reverse) = only_if (reverses e (slice_get types reverse)) reverse
@@ -57,7 +57,7 @@ entry_in types e type w = only_if (is_own_way type w) e
 abbrev pub found : List EdgeType → List EdgeRow → ℕ → Entry → List Traversal
 found types edges v entry = map {B = Traversal} (λ (walk : Traversal). record walk { kind = entry.kind }) (walks_under types edges v entry.under)
 
--- what the index has under these types are these walks, from each vertex and whatever rows there are
+-- the index entries under these types are these walks, from each vertex and for all rows
 pub record AreFound (types : List EdgeType) (entries : List Entry) (walks : List EdgeRow → List Traversal) : Type 0 where
   pub there : All (λ (entry : Entry). entry.under < length types) entries
   pub same : (edges : List EdgeRow) (v : ℕ) → flat_map (found types edges v) entries ≡ taken_from v (walks edges)

@@ -1,6 +1,6 @@
--- Hops: the walks of a step as lists by the vertex that they start from, and what a walk goes on to, hop after hop.
--- Only those that lead on are listed: to a vertex of a target type, from which the next hop goes on. Those that are left out
--- lead to no binding.
+-- Hops: the walks of a step as lists by their start vertex, and the continuations of a walk, hop by hop.
+-- Only walks that lead on are listed: to a vertex of a target type, from which the next hop continues. Those that are
+-- left out lead to no binding.
 use Rattle.std.specs.Prelude.{◌≡◌, ℕ, ◌==◌, ◌<◌, nat_lt, Bool, true, ◌&&◌, not, List, [], ◌∷◌, filter, length, map, slice_index_or}
 use Rattle.std.specs.List.{flat_map}
 use Rattle.gq_graph.specs.Candidates.{Sight, is_target}
@@ -15,7 +15,7 @@ use Rattle.gq_exec_source.specs.declared.hop.Beyond.{Beyond}
 abbrev pub walks_at : List (List Traversal) → ℕ → List Traversal
 walks_at hop v = slice_index_or hop v []
 
--- whether a path goes on from a vertex: it ends there, or the next hop has walks from it
+-- whether a path continues from a vertex: it ends there, or the next hop has walks from it
 abbrev pub goes_on : List (List (List Traversal)) → ℕ → Bool
 goes_on [] v = true
 goes_on (hop ∷ hops) v = not (length (walks_at hop v) == 0)
@@ -35,20 +35,20 @@ taken_from v walks = filter (λ (walk : Traversal). walk.source == v) walks
 abbrev pub IsHop : ℕ → List (List Traversal) → List Traversal → Type 0
 IsHop n hop walks = (v : ℕ) → v < n → walks_at hop v ≡ taken_from v walks
 
--- what has come along one walk, and goes on along the next; the source stays
+-- a walk, continued along the next one; the source stays
 abbrev pub on_along : Traversal → Traversal → Traversal
 on_along walk next = record { source = walk.source; kind = next.kind; row = next.row; target = next.target }
 
--- what a walk leads to, hop after hop
+-- the continuations of a walk, hop by hop
 abbrev pub walks_on : List (List (List Traversal)) → Traversal → List Traversal
 walks_on [] walk = walk ∷ []
 walks_on (hop ∷ hops) walk = flat_map (λ next. walks_on hops (on_along walk next)) (walks_at hop walk.target)
 
--- the hops of steps: from each vertex they lead to what the steps lead to
+-- the hops of steps: from each vertex they give the same bindings as the steps
 abbrev pub AreHops : Sight → List PathStep → List (List (List Traversal)) → Type 0
 AreHops sight steps hops = (walk : Traversal) → walk.target < length sight.kinds → map of_walk (walks_on hops walk) ≡ steps_from sight steps (of_walk walk)
 
--- what has come nowhere yet
+-- a walk without any step yet
 abbrev pub start_at : ℕ → Traversal
 start_at v = record { source = v; kind = 0; row = 0; target = v }
 

@@ -1,4 +1,4 @@
--- Seen: which types a plan sees of a catalog, and what stands behind FROM.
+-- Seen: which types a plan sees of a catalog, and the pattern after FROM.
 use Rattle.std.specs.Prelude.{ℕ, List, [], Option, Some}
 use Rattle.std.specs.Option.{option_map, option_to_list}
 use Rattle.gq_tree.specs.declared.select.Way.{Way}

@@ -1,5 +1,5 @@
 -- Ways: the walks of a step along all rows, by edge type, by row and by way, each from the vertex that it starts from.
--- The definition of bindings asks from one vertex where each row leads; here each row says from where it is walked.
+-- The definition of bindings looks from one vertex along each row; here each row gives its start vertices.
 use Rattle.std.specs.Prelude.{ℕ, ◌==◌, if◌then◌else◌, List, [], ◌∷◌, length}
 use Rattle.std.specs.List.{flat_map}
 use Rattle.gq_graph.specs.declared.types.EdgeType.{EdgeType}
@@ -34,14 +34,14 @@ walks_in way.Both e r ends =
 abbrev pub row_walks : EdgeType → ℕ → ℕ → EdgeRow → Way → List Traversal
 row_walks type e r row w = if row.kind == base_of type e then walks_in w e r (ends_under type row) else []
 
--- the walks along a row under a type, way after way
+-- the walks along a row under a type, way by way
 abbrev pub walks_along : List Way → EdgeType → ℕ → ℕ → EdgeRow → List Traversal
 walks_along ways type e r row = flat_map (row_walks type e r row) ways
 
--- the walks of a step under a type, row after row
+-- the walks of a step under a type, row by row
 unfoldable pub type_walks : List Way → EdgeType → ℕ → List EdgeRow → List Traversal
 type_walks ways type e rows = flat_map (λ r. walks_along ways type e r (edge_at rows r)) (below (length rows))
 
--- all walks of a step, type after type
+-- all walks of a step, type by type
 unfoldable pub step_walks : patterns.PathStep → List EdgeType → List EdgeRow → List Traversal
 step_walks step types rows = flat_map (λ e. type_walks (ways_of step e) (type_at types e) e rows) (below (length types))

@@ -24,9 +24,9 @@ use gq_index::{Candidates, VertexList};
 use gq_plan_ir::{Block, Hop, PathStep, SelectSource, Walk};
 use std::alloc::Global;
 
-/// The candidates of a block whose ends these are: along a path its bindings. A set is walked from where it lies; from a
+/// The candidates of a block with these ends: along a path its bindings. A set is walked in place; from a
 /// type all of its vertices are listed. Only a path has too many: more than 4,194,304 bindings, which are counted before
-/// anything is known of a condition on them.
+/// conditions on them are evaluated.
 pub fn candidates_of(
     alloc: Global,
     block: &Block,

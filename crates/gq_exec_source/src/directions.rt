@@ -13,8 +13,8 @@ use gq_graph::EdgeType;
 use gq_tree::Way;
 use std::alloc::Global;
 
-/// The edge types whose rows a step walks from FROM to TO, and those whose rows it walks back, as bits. All types that aren't
-/// there share the bit behind the last.
+/// The edge types whose rows a step walks from FROM to TO, and those whose rows it walks back, as bits. All types that
+/// don't exist share the bit after the last.
 #[derive(Drop)]
 pub(crate) struct Directions {
     types: u32,
@@ -22,7 +22,7 @@ pub(crate) struct Directions {
     back: List<u64>,
 }
 
-/// Whether a way goes in a direction, where forward along the type is that direction, or else the other.
+/// Whether a way has a direction, if forward along the type is that direction, or else the other.
 fn goes_so(way: Way, forward: bool) -> bool
     ensures { result ≡ goes_so way forward }
 {
@@ -33,7 +33,7 @@ fn goes_so(way: Way, forward: bool) -> bool
     }
 }
 
-/// Marks a number if it is wanted; one that has no bit isn't marked.
+/// Marks a number if `wanted`; one that has no bit isn't marked.
 fn mark_if(words: &mut List<u64>, number: u32, wanted: bool)
     ensures len { length words.new ≡ length words.old }
     ensures marks { (v : ℕ) → v < length words.old * 64 → spec.is_marked words.new v ≡ (spec.is_marked words.old v || (wanted && (v == number))) }

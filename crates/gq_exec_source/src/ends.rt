@@ -24,7 +24,7 @@ pub struct End {
     pub types: List<u32>,
 }
 
-/// The end that candidates begin at, and the one that they lead to.
+/// The end at which candidates begin, and the one to which they lead.
 #[derive(Drop)]
 pub struct Ends {
     pub source: End,

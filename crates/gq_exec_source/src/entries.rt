@@ -14,7 +14,7 @@ use gq_index::{Index, Neighbor};
 use gq_tree::Way;
 use std::alloc::Global;
 
-/// A type that a step goes along, and the type under which the index has these walks.
+/// A type that a step walks, and the type under which the index has these walks.
 #[derive(Clone, Copy)]
 pub(crate) struct Entry {
     pub(crate) kind: u32,
@@ -33,7 +33,7 @@ fn is_own_way(edge_type: &EdgeType, way: Way) -> bool
     }
 }
 
-/// Whether a type goes forward along rows of its own.
+/// Whether a type is directed and isn't a reverse type.
 fn goes_forward(types: &[EdgeType], kind: u32) -> bool
     ensures { result ≡ spec.goes_forward (slice_get types.now kind) }
 {
@@ -56,14 +56,14 @@ fn reverses(types: &[EdgeType], kind: u32, forward: u32) -> bool
     }
 }
 
-/// The number, if it is wanted.
+/// The number, if `wanted`.
 fn only_if(wanted: bool, number: u32) -> Option<u32>
     ensures { result ≡ spec.only_if wanted number }
 {
     if wanted { Some(number) } else { None }
 }
 
-/// The type that goes the other way.
+/// The type of the opposite direction.
 fn other_way(types: &[EdgeType], kind: u32, edge_type: &EdgeType) -> Option<u32>
     ensures { result ≡ spec.other_way types.now kind edge_type.now }
 {
@@ -87,7 +87,7 @@ fn entry_in(types: &[EdgeType], kind: u32, edge_type: &EdgeType, way: Way) -> Op
     }
 }
 
-/// Where the index has the walks of a step, by type; None where it hasn't all of them.
+/// The types under which the index has the walks of a step; None if it doesn't have all of them.
 pub(crate) fn entries_of(
     alloc: Global,
     step: &PathStep,

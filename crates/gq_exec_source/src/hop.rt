@@ -38,7 +38,8 @@ impl Model for Hop {
     ghost invariant = { λ h. IsCut h.starts.items (length h.walks.items) };
 }
 
-/// Where a step may lead: to vertices of the target types from which the next hop goes on, the first of these; any where there is none.
+/// The vertices that a step may lead to: those of the target types from which the first of these hops continues; any if
+/// there is none.
 #[derive(Clone, Copy)]
 pub(crate) struct Beyond<'a> {
     pub(crate) vertices: &'a Vertices,
@@ -46,7 +47,7 @@ pub(crate) struct Beyond<'a> {
     pub(crate) hops: &'a [Hop],
 }
 
-/// Whether a vertex is there and has one of the types.
+/// Whether a vertex exists and has one of the types.
 pub(crate) fn reaches(vertices: &Vertices, targets: &[u32], vertex: u32) -> bool
     ensures { result ≡ is_target (vertex_kinds vertices.now) targets.now vertex }
 {
@@ -56,7 +57,7 @@ pub(crate) fn reaches(vertices: &Vertices, targets: &[u32], vertex: u32) -> bool
     targets.contains(&vertices.kind(vertex))
 }
 
-/// Whether a path goes on from a vertex.
+/// Whether a path continues from a vertex.
 fn leads_on(hops: &[Hop], vertex: u32) -> bool
     ensures { result ≡ goes_on hops.now vertex }
 {
@@ -76,7 +77,7 @@ fn keeps(beyond: &Beyond<'_>, walk: Traversal) -> bool
     reaches(beyond.vertices, beyond.targets, walk.target) && leads_on(beyond.hops, walk.target)
 }
 
-/// Puts a walk last if it leads on.
+/// Appends a walk if it leads on.
 pub(crate) fn add(
     beyond: &Beyond<'_>,
     walk: Traversal,
@@ -91,7 +92,7 @@ pub(crate) fn add(
     Ok(())
 }
 
-/// Where each walk starts.
+/// The start of each walk.
 fn sources_of(alloc: Global, walks: &[Traversal]) -> Result<Vec<u32>, OutOfMemory>
     ensures { IfOk result (λ s. s.items ≡ map (λ w. w.source) walks.now) }
 {
@@ -118,7 +119,7 @@ impl Hop {
         part(&self.starts, &self.walks, vertex as usize)
     }
 
-    /// Walks by the vertex that they start from. More than 4,294,967,295 walks are `OutOfMemory` too.
+    /// Sorts walks by their start vertex. More than 4,294,967,295 walks are `OutOfMemory` too.
     fn of(alloc: Global, walks: &[Traversal], vertices: u32) -> Result<Hop, OutOfMemory>
         requires { All (λ w. w.source < vertices) walks.now }
         ensures { IfOk result (λ h. IsHop vertices h walks.now) }
@@ -132,7 +133,7 @@ impl Hop {
         Ok(Hop { starts, walks })
     }
 
-    /// The walks of a step that lead on, where the order has the numbers of the rows by their types.
+    /// The walks of a step that lead on, given the order of the rows' numbers by their types.
     pub(crate) fn build(
         alloc: Global,
         step: &PathStep,

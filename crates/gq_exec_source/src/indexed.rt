@@ -1,4 +1,4 @@
-// Steps with what the index has of them, and what leads nowhere along them.
+// Steps with their index entries, and the vertices that lead nowhere along them.
 ghost use Rattle.std.specs.Prelude.{◌≡◌, ◌<◌, List, [], ◌∷◌, false, length, map, Some, IfOk, IfSome};
 ghost use Rattle.gq_index.specs.declared.walks.Traversal.{Traversal};
 ghost use Rattle.gq_index.specs.Segments.{of_walk};
@@ -19,15 +19,15 @@ use gq_base::{List, OutOfMemory};
 use gq_index::Graph;
 use std::alloc::Global;
 
-/// The vertices from which something may go on along a step and those behind it, and the targets of the step from which
-/// something may go on along those behind it, as bits.
+/// The vertices from which a path may continue along a step and those after it, and the targets of the step from which
+/// it may continue along those after it, as bits.
 #[derive(Drop)]
 pub(crate) struct Leading {
     from: List<u64>,
     to: List<u64>,
 }
 
-/// A step, where the index has its walks, by type, and what leads on, where that is known.
+/// A step with the types under which the index has its walks, and the vertices that lead on, if these are known.
 #[derive(Drop)]
 pub(crate) struct IndexedStep<'a> {
     pub(crate) step: &'a PathStep,
@@ -35,7 +35,7 @@ pub(crate) struct IndexedStep<'a> {
     pub(crate) leading: Option<Leading>,
 }
 
-/// Whether it is known that nothing goes on from a vertex, by what is known of the step.
+/// Whether it is known that no path continues from a vertex, by the marks of the step.
 pub(crate) fn is_left_out(leading: &Option<Leading>, vertex: u32) -> bool
     ensures { result ≡ spec.is_left_out leading.now vertex }
 {
@@ -45,7 +45,7 @@ pub(crate) fn is_left_out(leading: &Option<Leading>, vertex: u32) -> bool
     }
 }
 
-/// Whether it is known that nothing goes on from a vertex.
+/// Whether it is known that no path continues from a vertex.
 fn is_dead(steps: &[IndexedStep<'_>], vertex: u32) -> bool
     ensures { result ≡ spec.is_dead steps.now vertex }
 {
@@ -55,14 +55,14 @@ fn is_dead(steps: &[IndexedStep<'_>], vertex: u32) -> bool
     }
 }
 
-/// Whether a vertex is one of the targets from which something may go on.
+/// Whether a vertex is one of the targets from which a path may continue.
 fn is_leading(graph: &Graph<'_>, targets: &[u32], rest: &[IndexedStep<'_>], vertex: u32) -> bool
     ensures { result ≡ spec.leads_on (vertex_kinds graph.now.store.now.vertices) targets.now rest.now vertex }
 {
     !is_dead(rest, vertex) && reaches(&graph.store.vertices, targets, vertex)
 }
 
-/// Whether a vertex is a target of a step from which something may go on: by its mark, where there are marks.
+/// Whether a vertex is a target of a step from which a path may continue: by its mark, if there are marks.
 pub(crate) fn leads_on(
     graph: &Graph<'_>,
     step: &IndexedStep<'_>,
@@ -78,7 +78,7 @@ pub(crate) fn leads_on(
     }
 }
 
-/// The targets from which something may go on.
+/// The targets from which a path may continue.
 fn targets_of(
     alloc: Global,
     graph: &Graph<'_>,
@@ -113,7 +113,7 @@ fn sources_of(
     Ok(words)
 }
 
-/// What leads on along a step and those behind it.
+/// The vertices that lead on along a step and those after it.
 fn find_leading(
     alloc: Global,
     graph: &Graph<'_>,
@@ -129,7 +129,7 @@ fn find_leading(
     Ok(Leading { from, to })
 }
 
-/// What leads on along a step and those behind it, where it is asked for.
+/// The vertices that lead on along a step and those after it, if asked for.
 fn leading_if(
     alloc: Global,
     graph: &Graph<'_>,
@@ -147,7 +147,7 @@ fn leading_if(
     Ok(Some(find_leading(alloc, graph, step, rest)?))
 }
 
-/// A step before others; None where the index hasn't all of its walks.
+/// A step before others; None if the index doesn't have all of its walks.
 fn indexed_step<'a>(
     alloc: Global,
     graph: &Graph<'_>,
@@ -172,7 +172,7 @@ fn indexed_step<'a>(
     }
 }
 
-/// Steps as the index has them, made from the last one to the first; None where it hasn't all walks.
+/// Steps with their index entries, made from the last one to the first; None if the index doesn't have all walks.
 pub(crate) fn indexed_steps<'a>(
     steps: &'a [PathStep],
     alloc: Global,

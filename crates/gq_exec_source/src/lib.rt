@@ -10,16 +10,16 @@
 //!
 //! Along a path the candidates are its bindings. Mostly the kept index has the walks of all steps: then they are looked
 //! up from vertex to vertex. A search that looks at many walks begins again once all vertices are marked from which
-//! something goes on, by one pass over the rows for each step, so the time goes with what is found. A step that goes
-//! along a type otherwise, as both ways along a directed type, has a list of walks for each vertex, a hop. Hops are made
+//! a path continues, by one pass over the rows for each step, so the time depends on what is found. A step that walks a
+//! type otherwise, such as both ways along a directed type, has a list of walks for each vertex, a hop. Hops are made
 //! from the last step to the first, and a row that leads nowhere is left out.
 //!
 //! Read `Paths.antt` of `gq_rules_meaning` first, then `specs/Entries.antt` (under which types the index has the walks
-//! of a step), `specs/Directions.antt` (which rows a step walks, and from which end) and `specs/Indexed.antt` (what
-//! leads on), `specs/Ways.antt` (the walks of a step along all rows) and `specs/Hops.antt` (what is listed, and what it
-//! leads to). `src/lookups.rt` goes along the index, `src/entries.rt` finds the types, `src/directions.rt` goes over the
-//! rows and `src/indexed.rt` finds what leads on; `src/walks.rt` finds the walks of a step, `src/hop.rt` sorts them by
-//! vertex, and `src/paths.rt` goes from hop to hop.
+//! of a step), `specs/Directions.antt` (which rows a step walks, and from which end) and `specs/Indexed.antt` (the
+//! vertices that lead on), `specs/Ways.antt` (the walks of a step along all rows) and `specs/Hops.antt` (the listed
+//! walks, and their ends). `src/lookups.rt` walks the index, `src/entries.rt` finds the types, `src/directions.rt`
+//! scans the rows and `src/indexed.rt` finds the vertices that lead on; `src/walks.rt` finds the walks of a step,
+//! `src/hop.rt` sorts them by vertex, and `src/paths.rt` walks from hop to hop.
 #![tactic(auto)]
 
 mod candidates;

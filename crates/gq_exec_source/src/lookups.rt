@@ -1,4 +1,4 @@
-// The bindings of a path along the index: from each vertex of a set to what its walks reach, step after step.
+// The bindings of a path by the index: from each vertex of a set along its walks, step by step.
 ghost use Rattle.std.specs.Prelude.{◌≡◌, ◌+◌, ◌<◌, ◌≤◌, ◌++◌, ◌∷◌, [], All, length, map, Err, IfOk, IfSome, OnOk};
 ghost use Rattle.std.specs.List.{flat_map};
 ghost use Rattle.gq_graph.specs.Candidates.{by_number};
@@ -20,17 +20,17 @@ use gq_base::OutOfMemory;
 use gq_index::{Candidates, Graph, Listing, Neighbor, Traversal, in_number_order};
 use std::alloc::Global;
 
-/// Why not all is listed.
+/// Why not all bindings are listed.
 enum Halt {
     TooMany,
     OutOfMemory,
 
-    /// More walks were looked at than may be.
+    /// More walks were looked at than allowed.
     Costly,
 }
 
-/// Goes on from where a walk has come, along those of these ways that lead to a target from which something may go on, and
-/// puts the walks last.
+/// Continues a walk along those of these ways that lead to a target from which a path may continue, and appends
+/// the results.
 #[tactic(auto, using(crate::proofs::LookupLemmas::went_laws))]
 fn add_ways(
     graph: &Graph<'_>,
@@ -57,8 +57,8 @@ fn add_ways(
     Ok(())
 }
 
-/// What a step before others leads to from where a walk has come, without what is known to lead nowhere: it leads to all
-/// that the step and the others do. It takes from what is left of the walks that may be looked at.
+/// The continuations of a walk along a step before others, without those known to lead nowhere: they give all bindings
+/// of the step and the others. The walks looked at are deducted from the budget that is left.
 fn taken(
     alloc: Global,
     graph: &Graph<'_>,
@@ -84,7 +84,7 @@ fn taken(
     Ok(walks)
 }
 
-/// The same, and nothing where it is known that nothing goes on from where the walk has come.
+/// The same, and nothing if it is known that no path continues from the end of the walk.
 fn next_walks(
     alloc: Global,
     graph: &Graph<'_>,
@@ -124,7 +124,7 @@ fn list_each(walks: &[Traversal], listing: &mut Listing) -> Result<(), Halt>
     Ok(())
 }
 
-/// Lists all that these walks lead to, step after step.
+/// Lists the ends of these walks, step by step.
 fn list_all(
     steps: &[IndexedStep<'_>],
     alloc: Global,
@@ -162,7 +162,7 @@ fn list_all(
     }
 }
 
-/// The walks that these vertices begin with.
+/// The initial walks of these vertices.
 fn begun(alloc: Global, sources: &[u32]) -> Result<Vec<Traversal>, OutOfMemory>
     ensures { IfOk result (λ walks. walks.items ≡ map start_at sources.now) }
 {
@@ -179,7 +179,7 @@ fn begun(alloc: Global, sources: &[u32]) -> Result<Vec<Traversal>, OutOfMemory>
     )
 }
 
-/// Steps with where the index has their walks, and the walks that a set begins with; None where the index hasn't all walks.
+/// Steps with their index entries, and the walks that a set begins with; None if the index doesn't have all walks.
 fn ready<'a>(
     alloc: Global,
     graph: &Graph<'_>,
@@ -201,7 +201,7 @@ fn ready<'a>(
     }
 }
 
-/// What these walks lead to, unless more walks are looked at than may be.
+/// The bindings that begin with these walks, unless more walks are looked at than allowed.
 fn listed(
     alloc: Global,
     graph: &Graph<'_>,
@@ -226,9 +226,9 @@ fn listed(
     }
 }
 
-/// The bindings of a set and of one step or more, where the index has the walks of each step and no more of them are looked
-/// at than may be; None otherwise. What leads on is marked before, if asked for, at the cost of a pass over the rows for
-/// each step.
+/// The bindings of a set and of one step or more, if the index has the walks of each step and no more of them are
+/// looked at than allowed; None otherwise. Vertices that lead on are marked before, if asked for, by a pass over the
+/// rows for each step.
 pub(crate) fn looked_up(
     alloc: Global,
     graph: &Graph<'_>,

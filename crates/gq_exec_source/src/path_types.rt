@@ -4,8 +4,8 @@ use gq_graph::Numbers;
 use gq_tree::Way;
 use thiserror::Error;
 
-/// One step of a path: the edge types that it goes along, each with a way, and the vertex types that it may reach. What stands
-/// twice counts once.
+/// One step of a path: the edge types that it walks, each with a way, and the vertex types that it may reach.
+/// Duplicates count once.
 #[derive(Debug, Drop)]
 pub struct PathStep {
     pub edges: List<(Way, u32)>,

@@ -21,14 +21,14 @@ use gq_index::{Candidates, Graph, Listing, Traversal, VertexList, in_number_orde
 use std::alloc::Global;
 use std::marker::Model;
 
-/// How many bindings a path has at most.
+/// The largest number of bindings of a path.
 pub const MOST_PATHS: usize = 4194304;
 
-/// How many edges the store has for each walk that a search looks at before it is given up: so giving up costs little beside
-/// what comes then, which goes through all rows for each step.
+/// How many edges the store has for each walk that a search looks at before it is given up: so giving up costs little
+/// compared with what follows, which scans all rows for each step.
 const ROWS_PER_LOOKUP: u32 = 8;
 
-/// What has come nowhere yet.
+/// A walk without any step yet.
 fn start_at(source: u32) -> Traversal
     ensures { result ≡ meant.start_at source }
 {
@@ -40,7 +40,7 @@ fn start_at(source: u32) -> Traversal
     }
 }
 
-/// What has come along one walk, and goes on along the next.
+/// A walk, continued along the next one.
 fn on_along(walk: Traversal, next: Traversal) -> Traversal
     ensures { result ≡ meant.on_along walk next }
 {
@@ -68,7 +68,7 @@ pub(crate) fn list_last(walk: Traversal, listing: &mut Listing) -> Result<(), Pa
     }
 }
 
-/// Lists all that a walk leads to, hop after hop.
+/// Lists the bindings that begin with a walk, hop by hop.
 fn list_on(hops: &[Hop], walk: Traversal, listing: &mut Listing) -> Result<(), PathsFault>
     requires { length listing.old ≤ 4194304 }
     ensures ok { OnOk result (listing.new ≡ listing.old ++ map of_walk (walks_on hops.now walk)) }
@@ -89,7 +89,7 @@ fn list_on(hops: &[Hop], walk: Traversal, listing: &mut Listing) -> Result<(), P
     }
 }
 
-/// Lists all that these vertices lead to.
+/// Lists the bindings that begin at these vertices.
 fn list_from(hops: &[Hop], sources: &[u32], listing: &mut Listing) -> Result<(), PathsFault>
     requires { length listing.old ≤ 4194304 }
     ensures ok { OnOk result (listing.new ≡ listing.old ++ map of_walk (walks_from hops.now sources.now)) }
@@ -105,7 +105,7 @@ fn list_from(hops: &[Hop], sources: &[u32], listing: &mut Listing) -> Result<(),
     Ok(())
 }
 
-/// The hop of a step that stands before those of these hops.
+/// The hop of the step before these hops.
 fn hop_before(
     alloc: Global,
     graph: &Graph<'_>,
@@ -191,8 +191,8 @@ fn listed(
     }
 }
 
-/// The bindings of a set and of one step or more along the index, if it has all walks. Where many walks are looked at, what
-/// leads on is marked before.
+/// The bindings of a set and of one step or more by the index, if it has all walks. If many walks are looked at, the
+/// vertices that lead on are marked before.
 fn searched(
     alloc: Global,
     graph: &Graph<'_>,
@@ -216,7 +216,7 @@ fn searched(
     looked_up(alloc, graph, set, steps, true, u64::MAX)
 }
 
-/// The bindings of a set and of one step or more: along the index, or else along the hops of all rows.
+/// The bindings of a set and of one step or more: by the index, or else along the hops of all rows.
 fn along(
     alloc: Global,
     graph: &Graph<'_>,
@@ -255,9 +255,9 @@ fn alone(alloc: Global, graph: &Graph<'_>, set: &VertexList) -> Result<Candidate
 }
 
 /// The bindings of a path, in order of source and, step after step, of edge type and edge. Contracts see them as a list. A binding is a
-/// candidate: its source, its last edge with the type, and where that leads. There are `MOST_PATHS` at most.
+/// candidate: its source, its last edge with the type, and the end of that. There are at most `MOST_PATHS`.
 ///
-/// They take 12 bytes for each segment, which is one source with one edge type behind another, and 8 for each binding.
+/// They take 12 bytes for each segment, which is one source with one edge type after another, and 8 for each binding.
 #[derive(Drop)]
 pub struct Paths {
     found: Candidates,
@@ -275,10 +275,10 @@ impl Model for Paths {
 }
 
 impl Paths {
-    /// The bindings of a set and a pattern. Where each step goes along a type as the index does, or against it where it has a
-    /// reverse type, the time goes with the walks that are looked at, which are at most those from vertices that lead on, and
-    /// a pass over the vertices and over the rows for each step. Else it is that of a pass over the rows of each step's
-    /// types, and of as many steps for each binding as the pattern has.
+    /// The bindings of a set and a pattern. If each step walks a type as the index does, or against it if it has a
+    /// reverse type, the time depends on the walks that are looked at, which are at most those from vertices that lead
+    /// on, and a pass over the vertices and over the rows for each step. Else it is that of a pass over the rows of
+    /// each step's types, and of as many steps for each binding as the pattern has.
     pub fn of(
         alloc: Global,
         graph: &Graph<'_>,
@@ -289,7 +289,7 @@ impl Paths {
         ensures listed { IfOk result (λ p. p ≡ bindings (sight_of graph.now.catalog.now graph.now.store.now.vertices graph.now.store.now.edges) set.now (map step_of pattern.now)) }
         ensures few { IfOk result (λ p. length p ≤ 4194304) }
 
-        // It comes before anything is known of a condition on the bindings.
+        // The bindings are counted before conditions on them are evaluated.
         ensures many { result ≡ Err fault.TooMany → 4194304 < length (bindings (sight_of graph.now.catalog.now graph.now.store.now.vertices graph.now.store.now.edges) set.now (map step_of pattern.now)) }
     {
         let steps = pattern.as_slice();
@@ -312,7 +312,7 @@ impl Paths {
         self.found.count()
     }
 
-    /// The binding at a place. It takes no memory, and as many steps as the number of segments has binary digits.
+    /// The binding at a place. Takes no memory, and time logarithmic in the number of segments.
     pub fn at(&self, place: u64) -> Candidate
         requires within { place < length self.now }
         ensures { slice_get self.now place ≡ Some result }
@@ -328,7 +328,7 @@ impl Paths {
         self.found
     }
 
-    /// The bindings as candidates, which workers go through.
+    /// The bindings as candidates, which workers process.
     pub fn candidates(&self) -> &Candidates
         ensures { result.now ≡ self.now }
     {

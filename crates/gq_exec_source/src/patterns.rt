@@ -1,4 +1,4 @@
-// Which types a walk goes along, and where it leads.
+// The edge types that a walk takes, and the vertex types that it leads to.
 ghost use Rattle.std.specs.Prelude.{◌≡◌, ◌++◌, map, IfOk, OnOk};
 ghost use Rattle.std.specs.List.{filter_map, flat_map};
 ghost use Rattle.std.specs.Option.{option_to_list};
@@ -18,7 +18,7 @@ use gq_schema::Catalog;
 use gq_tree::Way;
 use std::alloc::Global;
 
-// ---- the types that are named
+// ---- named types
 
 /// Those types that are among the graph's.
 #[tactic(auto, using(crate::proofs::SortLemmas::own_laws))]
@@ -69,7 +69,7 @@ fn edge_types(
 
 // ---- far ends
 
-/// Puts last where an edge type leads, where it is the graph's.
+/// Appends the types that an edge type leads to, if it is the graph's.
 #[tactic(auto, using(crate::proofs::SortLemmas::named_way_laws))]
 fn push_named(
     catalog: &Catalog,
@@ -87,7 +87,7 @@ fn push_named(
     }
 }
 
-/// Where a step's edge types lead, each in its way.
+/// The types that a step's edge types lead to, each in its way.
 fn step_far(
     alloc: Global,
     catalog: &Catalog,
@@ -103,7 +103,7 @@ fn step_far(
     Ok(far)
 }
 
-/// Where a hop leads.
+/// The types that a hop leads to.
 #[tactic(auto, using(crate::proofs::StepLemmas::far_laws))]
 fn hop_ends(
     alloc: Global,
@@ -123,7 +123,7 @@ fn hop_ends(
     }
 }
 
-/// Where a step leads.
+/// The types that a step leads to.
 #[tactic(auto, using(crate::proofs::StepLemmas::far_laws))]
 fn step_ends(
     alloc: Global,
@@ -142,7 +142,7 @@ fn step_ends(
     }
 }
 
-/// Those of a step's ways whose types are among the graph's.
+/// The ways of a step whose types are among the graph's.
 #[tactic(auto, using(crate::proofs::PathLemmas::way_laws))]
 fn ways_named(
     alloc: Global,
@@ -160,7 +160,7 @@ fn ways_named(
     Ok(named)
 }
 
-/// A step as it is walked: by the numbers of types.
+/// A step as walked: by the numbers of types.
 fn walked_step(
     alloc: Global,
     catalog: &Catalog,
@@ -177,7 +177,7 @@ fn walked_step(
     })
 }
 
-/// The steps of a path as they are walked.
+/// The steps of a path as walked.
 #[tactic(auto, using(crate::proofs::PathLemmas::steps_more))]
 pub(crate) fn path_steps(
     alloc: Global,
@@ -194,7 +194,7 @@ pub(crate) fn path_steps(
     Ok(walked)
 }
 
-/// Where a path leads: the end of its last step.
+/// The types that a path leads to: the end of its last step.
 fn path_ends(
     alloc: Global,
     catalog: &Catalog,

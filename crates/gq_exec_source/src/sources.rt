@@ -11,7 +11,7 @@ use gq_graph::Numbers;
 use gq_plan_ir::{PlaceType, Plan, SelectSource};
 use std::alloc::Global;
 
-/// The types of the set that a SELECT begins from, or its vertex type. A place that has no set gives none.
+/// The types of the set from which a SELECT begins, or its vertex type. A place without a set gives none.
 #[tactic(auto, using(crate::proofs::StepLemmas::source_laws))]
 pub(crate) fn types_from(
     alloc: Global,
@@ -47,7 +47,7 @@ fn one_type(alloc: Global, own: &[u32], t: u32) -> Result<Numbers, OutOfMemory>
     }
 }
 
-/// The types of the set that stands at a place, if one does.
+/// The types of the set at a place, if there is one.
 fn set_types(alloc: Global, held: &PlaceType, thing: &Option<Thing>) -> Result<Numbers, OutOfMemory>
     ensures { IfOk result (λ l. l ≡ set_types (held_thing (Some held.now) (Some thing.now))) }
 {

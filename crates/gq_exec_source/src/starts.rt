@@ -8,7 +8,7 @@ use gq_index::VertexList;
 use gq_vertex::Vertices;
 use std::alloc::Global;
 
-/// All vertices of a type, by number, where the type is one of these.
+/// All vertices of a type, by number, if the type is one of these.
 #[tactic(auto, using(crate::proofs::StartLemmas::type_laws))]
 pub(crate) fn vertices_of(
     alloc: Global,

@@ -8,7 +8,7 @@ use gq_graph::Numbers;
 use gq_plan_ir::Types;
 use std::alloc::Global;
 
-/// The edge types that a hop names, of those of the graph; or all of these.
+/// The edge types that a hop names, if they are of the graph; or all of these.
 pub(crate) fn edge_types(alloc: Global, own: &[u32], types: &Types) -> Result<Numbers, OutOfMemory>
     ensures { IfOk result (λ ts. ts ≡ types_in own.now types.now) }
 {
@@ -18,7 +18,7 @@ pub(crate) fn edge_types(alloc: Global, own: &[u32], types: &Types) -> Result<Nu
     }
 }
 
-/// Those of some types that are the graph's.
+/// Those of the types that are the graph's.
 #[tactic(auto, using(crate::proofs::StartLemmas::kept_laws))]
 fn named_of(alloc: Global, own: &[u32], kinds: &[u32]) -> Result<Numbers, OutOfMemory>
     ensures { IfOk result (λ ts. ts ≡ filter (among own.now) kinds.now) }

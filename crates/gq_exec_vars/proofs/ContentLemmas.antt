@@ -1,4 +1,4 @@
--- ContentLemmas: contents as they open: none is spoiled, values have their types, and sums are in range.
+-- ContentLemmas: initial contents: none is spoiled, values have their types, and sums are in range.
 use Rattle.std.proofs.Common.{◌≡◌, ℕ, ◌+◌, ◌^◌, ◌<◌, true, false, List, [], ◌∷◌, ◌++◌, length, Option, Some, None, refl, sym, ap, ◌∙◌, subst, arith}
 use Rattle.std.proofs.lemmas.Bool.Decides.{nat_tests}
 use Rattle.std.proofs.lemmas.List.{append_assoc, append-nil}
@@ -61,7 +61,7 @@ fits_fresh (kinds.MapAccum b k) = refl
 fits_fresh (kinds.GroupByAccum keys ps) = refl
 fits_fresh (kinds.HeapAccum b n by) = refl
 
--- ---- one that is put to a value
+-- ---- one that is set to a value
 
 apart : {P : Type 0} → false ≡ true → P
 apart h = absurd (cc h)

@@ -59,14 +59,14 @@ pub ruleset declared_laws = (is_int, is_uint, is_bool, is_text, is_vertex, is_ve
 abbrev pub field_view : Declared × Bytes → BaseTree Reference × Bytes
 field_view f = (view_declared f.0, f.1)
 
--- fields that are written, behind others
+-- written fields, after others
 abbrev before : Fields → Judged Fields → Judged Fields
 before done j = j >>= λ rest. Ok (done ++ rest)
 
 abbrev pub paired : List Bytes → List BaseType → Fields
 paired names types = map (λ f. (f.0, base_of f.1)) (zip names types)
 
--- the names and types so far, and what is left
+-- the names and types so far, and the remaining ones
 pub record Written (own : List ℕ) (fields : List (Declared × Bytes)) (i : ℕ) (names : List Bytes) (types : List BaseType) : Type 0 where
   pub same : length names ≡ length types
   pub each : (world : World Reference) → KnowsTypes own world
@@ -115,7 +115,7 @@ module _ (own : List ℕ) (fields : List (Declared × Bytes)) where
         (sym (ap₂ paired ne te ∙ paired_more names types f.1 b w.same)) (sym ne);
   }
 
-  -- the same by what the code lends and copies
+  -- the same for the names that the code borrows and copies
   pub written_next : (i : ℕ) (f : Declared × Bytes) (b : BaseType) (names lent names' : List Bytes) (types types' : List BaseType) (said copy : Bytes) → i < length fields → f ≡ get_or fields i f
       → IsDeclared own f.0 b → lent ≡ names → said ≡ f.1 → copy ≡ f.1 → own_name 16 lent said ≡ Ok (lent ++ said ∷ []) → names' ≡ names ++ copy ∷ [] → types' ≡ types ++ b ∷ []
       → Written own fields i names types → Written own fields (i + 1) names' types'

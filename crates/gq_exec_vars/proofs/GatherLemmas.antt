@@ -110,7 +110,7 @@ regrouped sets t (Gives bs) = ap Gives (sym (append_assoc sets (t ∷ []) bs))
 regrouped sets t (Faults w) = refl
 regrouped sets t Stuck = refl
 
--- what is left, at its first seed
+-- the remaining seeds, from the first one on
 abbrev pub then_more : Answer Wrong TypedSet → Answer Wrong (List TypedSet) → Answer Wrong (List TypedSet)
 then_more o next = o >>= λ b. next >>= λ bs. Gives (b ∷ bs)
 
@@ -141,7 +141,7 @@ so_far_all whole rest start now types vertices f r no_type no_vertex t v =
 
 -- ---- the same, over a list of seeds
 
--- what seeds hold, each by itself
+-- the sets of seeds, each by itself
 abbrev pub seeds_of : World Reference → State Reference → List Seed → Answer Wrong (List TypedSet)
 seeds_of world s seeds = each (seed_of world s) (map view_seed seeds)
 
@@ -163,7 +163,7 @@ pub seeds_stop : (world : World Reference) (s : State Reference) (seeds : List S
 seeds_stop world s seeds i d start now h l f g =
     so_far_stops (seeds_of world s seeds) (seeds_of world s (drop i seeds)) (seeds_of world s (drop (i + 1) seeds)) (seed_of world s (view_seed (get_or seeds i d))) start now h f (seed_next world s seeds i d l) g
 
--- a slice of the bits reads as they do
+-- a slice of the bits reads as the bits do
 abbrev pub Listed : List ℕ → List ℕ → List ℕ → Type 0
 Listed words slice list = (slice ≡ words) × ((xs : List ℕ) → Marks slice xs → list ≡ by_number xs)
 

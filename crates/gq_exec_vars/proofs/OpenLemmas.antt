@@ -54,7 +54,7 @@ halts_same o p h e g = subst (λ q. Halts q h) (sym e) g
 leads_same : {A : Type 0} (P : A → Type 0) (o p : Answer Wrong A) (r : Result (Unit {0}) Halt) → o ≡ p → Leads P p r → Leads P o r
 leads_same P o p r e l = subst (λ q. Leads P q r) (sym e) l
 
--- what a `?` returns
+-- the value that a `?` returns
 pub leads_returned : {A : Type 0} (P : A → Type 0) (o : Answer Wrong A) (h : Halt) (r : Result (Unit {0}) Halt) → IsErrAnd r (λ y. y ≡ h) → Halts o h → Leads P o r
 leads_returned P o h r e g = let p = err_from_is_err_and r e in subst (Leads P o) (sym (p.1 ∙ ap Err p.2)) g
 
@@ -78,7 +78,7 @@ module _ {A S : Type 0} (P : S → A → Type 0) where
   pub goes_all : (whole rest : A → Answer Wrong A) (old now : S) → ((a : A) → rest a ≡ Gives a) → Goes P whole rest old now → (a : A) → P old a → Leads (P now) (whole a) (Ok tt)
   goes_all whole rest old now is goes a p = let g = goes.each a p in (g.0, g.1 ∙ is g.0, g.2)
 
--- a list gone through, as the code has it
+-- a loop over a list, as the code has it
 module _ {A X Y : Type 0} (f : A → Y → Answer Wrong A) (v : X → Y) where
   pub through_more : (xs : List X) (i : ℕ) (x : X) → i < length xs → x ≡ get_or xs i x → (a : A) → through f a (map v (drop i xs)) ≡ (f a (v x) >>= λ b. through f b (map v (drop (i + 1) xs)))
   through_more xs i x n is a = ap (λ ys. through f a (map v ys)) (drop_more xs i x n ∙ ap (λ y. y ∷ drop (i + 1) xs) (sym is))
@@ -142,7 +142,7 @@ pub accum_halts : (world : World Reference) (k : Accum) (tree : code_accum.Accum
     → TellsFirst (seen world s) k (places world tree.attached) (option_map view tree.opening) (Err h) → Halts (opened world k s (view_accum tree)) h
 accum_halts world k tree s h e = stops (each (λ (x : ℕ). opening (seen world s) k (option_map view tree.opening)) (places world tree.attached)) (λ cs. Gives (record s { slots = s.slots ++ record { name = reference.Slot tree.slot; attached = tree.attached; kind = k; contents = cs } ∷ [] })) h e.tells
 
--- the same by what the code has done
+-- the same for the results of the code
 module _ (clock : Calendar) (g : code.Graph) (plan : Plan) (tuples : List TupleType) (k : Accum) (tree : code_accum.Accum) where
   abbrev world_at : World Reference
   world_at = world_with clock g plan tuples

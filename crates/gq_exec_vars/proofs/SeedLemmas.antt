@@ -1,4 +1,4 @@
--- SeedLemmas: what the seeds of a written set hold.
+-- SeedLemmas: the vertices of the seeds of a written set.
 use Rattle.std.proofs.Common.{◌≡◌, ℕ, true, List, [], ◌∷◌, filter, length, Option, Some, None, Result, Ok, Err, IfOk, refl, sym, ap, ap₂, subst, ◌∙◌}
 use Rattle.std.specs.Prelude.{if◌then◌else◌}
 use Rattle.std.specs.List.{range_with_len}
@@ -118,7 +118,7 @@ content_seeded at n k c old new (Err halt.OutOfMemory) is sound put world s seen
 content_seeded at n k c old new (Err halt.Stuck) is sound put world s seen = absurd put
 content_seeded at n k c old new (Err (halt.Wrong w)) is sound put world s seen = absurd put
 
--- what was read is a whole collection
+-- the value read is a whole collection
 abbrev pub IsWhole : Accum → Content → Seen → Type 0
 IsWhole k c (seen_is.Whole kind content) = (k ≡ accum_of kind.now) × (c ≡ content.now)
 IsWhole k c b = ⊥

@@ -87,7 +87,7 @@ step_halts world s b op t halt.Stuck e = ap (λ o. o >>= λ c. Gives (joined op 
 step_halts world s b op t halt.Outside e = tt
 step_halts world s b op t halt.OutOfMemory e = tt
 
--- what is left, from a set on
+-- the remaining operators, from a set on
 abbrev pub onward : World Reference → State Reference → TypedSet → List (SetOp × plain.SetTerm Reference) → Answer Wrong TypedSet
 onward world s b rest = through (λ b next. step_of world s b next.0 next.1) b rest
 
@@ -100,7 +100,7 @@ chain_halts world s first halt.Stuck rest e = ap (λ o. chain_of world s o rest)
 chain_halts world s first halt.Outside rest e = tt
 chain_halts world s first halt.OutOfMemory rest e = tt
 
--- the operator at a place, and those behind it
+-- the operator at a place, and those after it
 others_next : (others : List (SetOp × SetTerm)) (i : ℕ) (x : SetOp × SetTerm) → i < length others → x ≡ get_or others i x → others_of (drop i others) ≡ (x.0, view_term x.1) ∷ others_of (drop (i + 1) others)
 others_next others i x l e = ap others_of (drop_more others i x l ∙ ap (λ y. y ∷ drop (i + 1) others) (sym e))
 
@@ -120,7 +120,7 @@ pub chain_ends : (world : World Reference) (s : State Reference) (whole : Answer
     → whole ≡ onward world s b (others_of (drop i others)) → c ≡ b → whole ≡ Gives c
 chain_ends world s whole b c others i l w e = w ∙ ap (λ xs. onward world s b (others_of xs)) (drop_all i others l) ∙ ap Gives (sym e)
 
--- what a `?` returns of the same fault
+-- a `?` returns the same fault
 pub halts_on : {A B : Type 0} (view : B → A) (o : Answer Wrong A) (h : Halt) (r : Result B Halt) → IsErrAnd r (λ y. y ≡ h) → Halts o h → Tells view o r
 halts_on view o h r e p =
     let q = err_from_is_err_and r e in

@@ -1,4 +1,4 @@
--- SlotLemmas: one slot more, behind all others.
+-- SlotLemmas: one more slot, after all others.
 use Rattle.std.proofs.Common.{◌≡◌, ℕ, zero, suc, ◌+◌, ◌≤◌, Bool, List, [], ◌∷◌, ◌++◌, take, drop, map, length, if◌then◌else◌, refl, sym, ap, ap₂, ◌∙◌, subst, arith}
 use Rattle.gq_value.specs.declared.kind.Kind.{Kind}
 use Rattle.gq_value.specs.declared.kind.Slot.{Slot}
@@ -75,7 +75,7 @@ module _ (vertices : ℕ) (s : Slot) (more : List Content) (many : length more �
   count_more [] = omega arith
   count_more (r ∷ ss) = let e = count_more ss in omega (arith, e)
 
--- ---- what contents show
+-- ---- the contents as shown
 
 -- each target shows the same
 shown_same : (k : Accum) (h : Holds k) (targets : List ℕ) (cs : List Content) → length targets ≡ length cs → Every (λ c. Shows k c h) cs → map (seen_in k) cs ≡ map (λ v. h) targets

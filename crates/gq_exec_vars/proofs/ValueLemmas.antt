@@ -1,4 +1,4 @@
--- ValueLemmas: what an opening gives, evaluated once for all targets.
+-- ValueLemmas: the value of an opening, evaluated once for all targets.
 use Rattle.std.proofs.Common.{◌≡◌, ◌≢◌, ℕ, suc, Bool, true, false, List, [], ◌∷◌, map, length, reverse, if◌then◌else◌, Option, Some, None, Ok, Err, refl, sym, ap, ◌∙◌, subst, arith}
 use Rattle.std.specs.Option.{option_map}
 use Rattle.std.proofs.lemmas.List.FromFn.{length-range_with_len}
@@ -36,7 +36,7 @@ use Rattle.gq_eval_operand.specs.declared.halt.Halt.TheVariants as halt
 use Rattle.gq_eval_operand.specs.Meant.{Halts}
 use Rattle.gq_exec_vars.specs.Begun.{TellsFirst, over_of, value_opened, world_with}
 
--- an evaluation that ends stops all that comes behind it
+-- an evaluation that ends stops everything after it
 pub stops : {A B : Type 0} (o : Answer Wrong A) (f : A → Answer Wrong B) (h : Halt) → Halts o h → Halts (o >>= f) h
 stops o f (halt.Wrong w) e = ap (λ p. p >>= f) e
 stops o f halt.Stuck e = ap (λ p. p >>= f) e
@@ -44,7 +44,7 @@ stops o f halt.Outside e = tt
 stops o f halt.OutOfMemory e = tt
 
 module _ {N : Type 0} (look : Look N) (k : Accum) (t : Tree N) where
-  -- what is opened with, of a value
+  -- the initial content for a value
   abbrev put_of : Option Base → Answer Wrong Val → Answer Wrong Val
   put_of o v = found o >>= λ b. v >>= converted_to b
 
@@ -113,9 +113,9 @@ module _ {N : Type 0} (look : Look N) (k : Accum) (xs : List ℕ) where
     tells = each_stops (opening look k (Some t)) xs h n (subst (λ o. Halts o h) (sym (opening_is look k t)) (stops (value_opened look k t) (λ w. Gives (set_to k w)) h s));
   })
 
--- ---- over what stands there so far
+-- ---- in the state so far
 
--- what an opening sees is what the state shows
+-- an opening sees what the state shows
 pub seen_so : (clock : Calendar) (g : code.Graph) (plan : Plan) (tuples : List TupleType) (live : Live) (over : Over) (s : State Reference) → over ≡ over_of g plan tuples live.frame → Lives plan.places live s
     → look_of clock (viewed over [] over.frame.accums over.frame.accums) ≡ seen (world_with clock g plan tuples) s
 seen_so clock g plan tuples live over s is lives =
@@ -138,7 +138,7 @@ module _ (clock : Calendar) (g : code.Graph) (plan : Plan) (tuples : List TupleT
       first_stops (seen world s) k (places world attached) (option_map view o) (view t) h (ap (option_map view) is) (λ z. some (many ∙ sym (many_places clock g plan tuples attached) ∙ z))
       (subst (λ l. Halts (value_opened l k (view t)) h) (seen_so clock g plan tuples live over s made lives) e)
 
--- where there is no target
+-- if there is no target
 pub told_nowhere : (clock : Calendar) (g : code.Graph) (plan : Plan) (tuples : List TupleType) (live : Live) (k : Accum) (attached : Bool) (o : Option (Tree Reference)) (n : ℕ) → n ≡ (if attached then length g.store.now.vertices else 1) → n ≡ 0
     → (s : State Reference) → Lives plan.places live s → TellsFirst (seen (world_with clock g plan tuples) s) k (places (world_with clock g plan tuples) attached) o (Ok None)
 told_nowhere clock g plan tuples live k attached o n many none s lives = first_nowhere (seen (world_with clock g plan tuples) s) k (places (world_with clock g plan tuples) attached) o (many_places clock g plan tuples attached ∙ sym many ∙ none)

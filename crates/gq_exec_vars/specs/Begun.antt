@@ -1,4 +1,4 @@
--- Begun: when what the code opens is what a run of the definitions begins with.
+-- Begun: when the state that the code opens is the initial state of a run in the definitions.
 use Rattle.std.specs.Prelude.{◌≡◌, ◌==◌, ◌≤◌, ℕ, Bool, true, if◌then◌else◌, List, [], ◌∷◌, ◌++◌, map, length, Option, Some, None, Result, Ok, Err, slice_get}
 use Rattle.std.specs.List.{list_any}
 use Rattle.gq_index.specs.declared.store.Graph as code
@@ -56,17 +56,17 @@ use Rattle.gq_frame.specs.declared.live.Live.{Live}
 use Rattle.gq_frame.specs.Lives.{Lives}
 use Rattle.gq_exec_vars.specs.declared.opening.Opened.{Opened}
 
--- ---- what is begun
+-- ---- the initial state
 
 -- all that a run of a plan sees over a graph, with these tuple types
 abbrev pub world_with : Calendar → code.Graph → Plan → List TupleType → World Reference
 world_with clock g plan tuples = world_of (accum_names plan) (tuples_are tuples) (graph_for g.catalog.now g.store.now.vertices g.store.now.edges plan) clock
 
--- what an opening is evaluated over
+-- the context in which an opening is evaluated
 abbrev pub over_of : code.Graph → Plan → List TupleType → Frame → Over
 over_of g plan tuples frame = record { schema = g.catalog.now; vertices = g.store.now.vertices; edges = g.store.now.edges; plan = plan; tuples = tuples; frame = frame }
 
--- what a run begins with, of the definitions
+-- the initial state of a run, in the definitions
 abbrev pub begins : Calendar → code.Graph → Plan → List Val → Answer Wrong (Defining Reference)
 begins clock g plan arguments = start (world_with clock g plan []) (λ w k. Gives k) (view_plan plan) arguments
 
@@ -75,18 +75,18 @@ pub record Stands (places : List PlaceType) (opened : Opened) (d : Defining Refe
   pub tuples : d.tuples ≡ tuples_are opened.tuples
   pub lives : Lives places opened.live d.state
 
--- what is given is opened, or it ends as the definitions do
+-- the result is opened, or it ends as the definitions do
 abbrev pub Begins : List PlaceType → Answer Wrong (Defining Reference) → Result Opened Halt → Type 0
 Begins places o (Ok opened) = (d : Defining Reference) × (o ≡ Gives d) × Stands places opened d
 Begins places o (Err h) = Halts o h
 
--- a content for each target, in a store of so many vertices, and none is spoiled
+-- a content for each target, in a store of `count` vertices, and none is spoiled
 pub record AreReady (count : ℕ) (a : Accums) : Type 0 where
   pub vertices : a.slots.vertices ≡ count
   pub contents : length a.contents ≡ target_count a.slots.vertices (attached_in a.slots.declared)
   pub sound : AreSound a
 
--- ---- what is asked of a graph
+-- ---- the conditions on a graph
 
 -- the index is that of catalog and store, rows have their types' attributes and ends, and the plan knows few edge types
 pub record MayOpen (g : code.Graph) (plan : Plan) : Type 0 where
@@ -97,12 +97,12 @@ pub record MayOpen (g : code.Graph) (plan : Plan) : Type 0 where
 
 -- ---- step by step
 
--- what is given stands, or it ends as the definitions do
+-- the result satisfies P, or it ends as the definitions do
 abbrev pub Leads : {A : Type 0} → (A → Type 0) → Answer Wrong A → Result (Unit {0}) Halt → Type 0
 Leads {A = A} P o (Ok u) = (a : A) × (o ≡ Gives a) × P a
 Leads P o (Err h) = Halts o h
 
--- what stood has come to what stands, and the rest is still to do
+-- the old state became the new one, and the rest is still to do
 pub record Goes {A S : Type 0} (P : S → A → Type 0) (whole rest : A → Answer Wrong A) (old now : S) : Type 0 where
   pub each : (a : A) → P old a → (b : A) × (whole a ≡ rest b) × P now b
 
@@ -112,16 +112,16 @@ pub record Goes {A S : Type 0} (P : S → A → Type 0) (whole rest : A → Answ
 pub record KnowsTypes (own : List ℕ) (world : World Reference) : Type 0 where
   pub each : (t : ℕ) → list_any (λ m. m == t) own ≡ true → world.words.vertex_type (VertexType t) ≡ Some t
 
--- a declared type is this one, as it is written and as a run has it
+-- a declared type is this one, both as written and in a run
 pub record IsDeclared (own : List ℕ) (declared : Declared) (base : BaseType) : Type 0 where
   pub runs : (world : World Reference) → KnowsTypes own world → base_of_tree world (view_declared declared) ≡ Gives (base_of base)
   pub written : (world : World Reference) → KnowsTypes own world → base_written (scope_of (setting world)) (view_declared declared) ≡ Ok (base_of base)
 
--- the fields are these, of so many at most, each with a name of its own
+-- the fields are these, up to the limit, each with a name of its own
 pub record HasFields (own : List ℕ) (fields : List (Declared × Bytes)) (t : TupleType) : Type 0 where
   pub each : (world : World Reference) → KnowsTypes own world → fields_of world (map (λ f. (view_declared f.0, f.1)) fields) ≡ Gives (fields_in t)
 
--- one tuple type more, whose number is that of the next one
+-- one more tuple type, which gets the next number
 pub record AddsTuple (own : List ℕ) (fields : List (Declared × Bytes)) (number : ℕ) (old new : List TupleType) : Type 0 where
   pub tuple : TupleType
   pub fields_are : HasFields own fields tuple
@@ -138,12 +138,12 @@ no_accums count = record { slots = record { declared = []; vertices = count }; c
 pub record HasNothing (things : List (Option frame.Thing)) : Type 0 where
   pub each : (n : ℕ) (thing : frame.Thing) → slice_get things n ≡ Some (Some thing) → ⊥
 
--- names and values are those of the parameters, and there is no accumulator
+-- names and values are those of the parameters, and there are no accumulators
 pub record IsBound (plan : Plan) (arguments : List Value) (live : Live) : Type 0 where
   pub each : (world : World Reference) → KnowsTypes plan.vertices world
       → (names : List (Reference × Thing)) × (bound world (map view_parameter plan.parameters) (map val arguments) ≡ Gives names) × Lives plan.places live (record { names = names; slots = [] })
 
--- one parameter more comes into view
+-- one more parameter comes into view
 pub record Binds (plan : Plan) (parameter : Parameter) (argument : Value) (old new : Live) : Type 0 where
   pub base : BaseType
   pub declared : IsDeclared plan.vertices parameter.base base
@@ -151,16 +151,16 @@ pub record Binds (plan : Plan) (parameter : Parameter) (argument : Value) (old n
 
 -- ---- accumulators
 
--- what an accumulator of a kind opens with: the kind's own, or one that is put to a value
+-- the initial content of an accumulator of a kind: the kind's own, or one that is set to a value
 abbrev pub opens_with : (k : Accum) → Option Value → Holds k
 opens_with k None = fresh k
 opens_with k (Some v) = set_to k (val v)
 
--- the value of an opening, converted to what the kind is put to
+-- the value of an opening, converted to the type that the kind is set to
 abbrev pub value_opened : {N : Type 0} → Look N → Accum → Tree N → Answer Wrong Val
 value_opened look k tree = found (set_type k) >>= λ b. value_as look b tree
 
--- the answer is what each of some targets opens with
+-- the answer is the initial value of each of some targets
 pub record TellsFirst {N : Type 0} (look : Look N) (k : Accum) (targets : List ℕ) (tree : Option (Tree N)) (result : Result (Option Value) Halt) : Type 0 where
   pub tells : Tells (λ (v : Option Value). map (λ (x : ℕ). opens_with k v) targets) (each (λ (x : ℕ). opening look k tree) targets) result
 
@@ -169,14 +169,14 @@ abbrev pub CanOpen : Accum → Option Value → Type 0
 CanOpen k None = Unit {0}
 CanOpen k (Some v) = (is_settable k ≡ true) × (takes k (val v) ≡ true)
 
--- so many contents more, each of which shows this
+-- `count` more contents, each of which shows this
 pub record AddsContents (k : Accum) (h : Holds k) (count : ℕ) (old new : List Content) : Type 0 where
   pub more : List Content
   pub added : new ≡ old ++ more
   pub many : length more ≡ count
   pub shows : Every (λ c. Shows k c h) more
 
--- one accumulator more, with a content for each target
+-- one more accumulator, with a content for each target
 pub record AddsSlot (k : Accum) (attached : Bool) (h : Holds k) (old new : Accums) : Type 0 where
   pub each : (targets : List ℕ) → length targets ≡ (if attached then old.slots.vertices else 1)
       → slots_are new ≡ slots_are old ++ record { name = reference.Slot (length old.slots.declared); attached = attached; kind = k; contents = map (λ v. h) targets } ∷ []

@@ -1,4 +1,4 @@
--- Lookups: what set expressions look at, as a world and a state of the definitions.
+-- Lookups: the context of set expressions, as a world and a state of the definitions.
 use Rattle.std.specs.Prelude.{◌≡◌, ℕ, List, [], ◌∷◌, Some}
 use Rattle.gq_graph.specs.declared.rows.VertexRow.{VertexRow}
 use Rattle.gq_value.specs.Accums.{Base, VERTEX_OF}
@@ -18,7 +18,7 @@ pub record IsOver (vertices : List VertexRow) (own : List ℕ) (world : World Re
   pub types : world.graph.sorts.own_vertices ≡ own
   pub kinds : world.graph.sight.kinds ≡ vertex_kinds vertices
 
--- the world and the state that are looked at
+-- the world and the state of the look-up
 pub record IsSeen (at : Lookup) (world : World Reference) (s : State Reference) : Type 0 where
   pub over : IsOver at.vertices.now at.own.now world
   pub shows : Shows at.places.now at.frame.now s

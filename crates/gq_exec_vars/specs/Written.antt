@@ -1,4 +1,4 @@
--- Written: what the code has of sets: a set with its types, and bits that gain numbers.
+-- Written: the representation of sets in the code: a set with its types, and bits that gain numbers.
 use Rattle.std.specs.Prelude.{◌≡◌, ℕ, ◌||◌, Bool, true, false, List, [], map, filter, length, Option, Result, Ok, Err}
 use Rattle.std.specs.List.{range_with_len}
 use Rattle.gq_graph.specs.declared.rows.VertexRow.{VertexRow}
@@ -55,7 +55,7 @@ pub record GainsSet (set : sets.TypedSet) (old new : SetBitmap) : Type 0 where
   pub types : Gains set.0 old.types new.types
   pub vertices : Gains set.1 old.vertices new.vertices
 
--- what a seed holds is marked, or it ends as the seed does
+-- the vertices of a seed are marked, or it ends as the seed does
 abbrev pub Seeded : Answer Wrong sets.TypedSet → SetBitmap → SetBitmap → Result (Unit {0}) Halt → Type 0
 Seeded o old new (Ok u) = (set : sets.TypedSet) × (o ≡ Gives set) × GainsSet set old new
 Seeded o old new (Err h) = Halts o h
@@ -65,7 +65,7 @@ pub record ReadsWhole (a : Accums) (n : ℕ) (k : Accum) (c : Content) : Type 0 
   pub each : (world : World Reference) → world.words.same ≡ same → read_slot world (slots_are a) (Slot n) 0 ≡ Gives (IsContent k (view k (out-Content c)))
   pub sound : IsSound k c
 
--- what a content that reads as a set holds is marked
+-- the vertices of a content that reads as a set are marked
 abbrev pub PutContent : Accum → Content → List ℕ → SetBitmap → SetBitmap → Result (Unit {0}) Halt → Type 0
 PutContent k c own old new (Ok u) = IsSound k c → (b : Base) × (vs : List ℕ) × (k ≡ SetAccum b) × (vs ≡ sets.vertices_in (elements_of k (view k (out-Content c)))) × GainsSet (base_types own b, vs) old new
 PutContent k c own old new (Err halt.Outside) = Unit {0}
@@ -77,7 +77,7 @@ PutContent k c own old new (Err h) = ⊥
 abbrev pub others_of : List (SetOp × SetTerm) → List (SetOp × plain.SetTerm Reference)
 others_of others = map (λ s. (s.0, view_term s.1)) others
 
--- whether it is `{}` alone
+-- whether it is just `{}`
 abbrev pub is_bare : plain.SetTerm Reference → List (SetOp × plain.SetTerm Reference) → Bool
 is_bare (plain.Seeds []) [] = true
 is_bare t rest = false

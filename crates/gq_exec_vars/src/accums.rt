@@ -15,7 +15,7 @@ use crate::values::first_value;
 use gq_base::{List, OutOfMemory};
 use gq_eval_attributes::TupleType;
 use gq_eval_operand::Halt;
-use gq_frame::{Accums, Live, targets};
+use gq_frame::{Accums, Live, Pages, targets};
 use gq_index::Graph;
 use gq_nest::Content;
 use gq_plan_ir::{Accum, Plan};
@@ -85,7 +85,7 @@ fn is_next(accums: &Accums, slot: u32) -> bool
     accums.slots.declared.len() == slot as usize
 }
 
-/// One slot more, with a content at each of its targets.
+/// Adds a slot and initializes its accumulators. What they open with fits, so blocks share it until they change it.
 fn add_slot(
     alloc: Global,
     kind: &Kind,
@@ -99,29 +99,30 @@ fn add_slot(
 {
     let count = targets(attached, accums.slots.vertices);
     fill(alloc, kind, first, count, &mut accums.contents)?;
+    accums.contents.seal(alloc);
     let kind = kind.duplicate(alloc)?;
     accums.slots.declared.push(Slot { kind, attached })?;
     Ok(())
 }
 
-/// So many contents more, each of which opens so.
+/// Appends `count` contents, each with the value that the accumulator opens with.
 fn fill(
     alloc: Global,
     kind: &Kind,
     first: &Option<Value>,
     count: u32,
-    contents: &mut List<Content>,
+    contents: &mut Pages,
 ) -> Result<(), OutOfMemory>
     requires { CanOpen (accum_of kind.now) first.now }
     ensures { OnOk result (AddsContents (accum_of kind.now) (opens_with (accum_of kind.now) first.now) count contents.old contents.new) }
 {
     for _target in 0..count {
-        contents.push(content(alloc, kind, first)?)?;
+        contents.push(alloc, content(alloc, kind, first)?)?;
     }
     Ok(())
 }
 
-/// A content that opens so.
+/// A content initialized like this.
 #[tactic(auto, using(crate::proofs::ContentLemmas::content_laws))]
 fn content(alloc: Global, kind: &Kind, first: &Option<Value>) -> Result<Content, OutOfMemory>
     requires { CanOpen (accum_of kind.now) first.now }

@@ -18,8 +18,8 @@ use gq_base::OutOfMemory;
 use gq_frame::{Live, Thing};
 use gq_plan_ir::{PlaceType, SetTypes};
 
-/// Gives a set variable a set. Its types are fixed where it comes into view: those that it is declared with, or else those of the set.
-/// A place that the plan doesn't give these types is `OutOfMemory`.
+/// Assigns a set to a set variable. Its types are fixed when it comes into view: those that it is declared with, or
+/// else those of the set. A place to which the plan doesn't give these types is `OutOfMemory`.
 pub fn assign_set(
     live: &mut Live,
     own: &[u32],

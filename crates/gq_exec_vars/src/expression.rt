@@ -22,8 +22,8 @@ use gq_plan_ir::{SetTerm, Sets};
 use gq_tree::SetOp;
 use std::alloc::Global;
 
-/// What a set expression holds, from left to right, with its types; `{}` alone has all types of the graph. An operator gives order of
-/// number, and a set variable alone keeps its order.
+/// The vertices of a set expression, from left to right, with its types; `{}` alone has all types of the graph.
+/// Operators order by number, and a set variable alone keeps its order.
 #[tactic(auto, using(crate::proofs::SetLemmas::bare_made))]
 pub fn sets(alloc: Global, sets: &Sets, at: &Lookup<'_>) -> Result<TypedSet, Halt>
     requires { AreSound at.now.frame.now.accums }
@@ -38,7 +38,7 @@ pub fn sets(alloc: Global, sets: &Sets, at: &Lookup<'_>) -> Result<TypedSet, Hal
     chain(alloc, &sets.first, sets.others.as_slice(), at)
 }
 
-/// Whether it is `{}` alone.
+/// Whether it is just `{}`.
 #[tactic(auto, using(crate::proofs::SetLemmas::bare_tests))]
 fn is_bare(sets: &Sets) -> bool
     ensures { result ≡ is_bare (view_term sets.now.first) (others_of sets.now.others) }
@@ -49,7 +49,7 @@ fn is_bare(sets: &Sets) -> bool
     }
 }
 
-/// A set, and what operators make of it from left to right.
+/// Applies operators to a set, from left to right.
 #[tactic(auto, using(crate::proofs::SetLemmas::chain_laws))]
 fn chain(
     alloc: Global,
@@ -83,7 +83,7 @@ fn step(
     Ok(join(alloc, op, &left, &other, at.vertices.len())?)
 }
 
-/// A set variable's set, lent, or a written set.
+/// A set variable's set, borrowed, or a written set.
 fn operand<'a>(alloc: Global, term: &SetTerm, at: &Lookup<'a>) -> Result<SetOperand<'a>, Halt>
     requires { AreSound at.now.frame.now.accums }
     ensures { (world : World Reference) (s : State Reference) → IsSeen at.now world s → Tells set_is (term_of world s (view_term term.now)) result }
@@ -94,7 +94,7 @@ fn operand<'a>(alloc: Global, term: &SetTerm, at: &Lookup<'a>) -> Result<SetOper
     }
 }
 
-/// The set of a variable, lent. A name that is no set is outside.
+/// The set of a variable, borrowed. A name that isn't a set is `Outside`.
 #[tactic(auto, using(crate::proofs::SetLemmas::set_seen))]
 fn lent<'a>(place: u32, at: &Lookup<'a>) -> Result<SetOperand<'a>, Halt>
     ensures { (world : World Reference) (s : State Reference) → IsSeen at.now world s → Tells set_is (set_named world s (Place place)) result }

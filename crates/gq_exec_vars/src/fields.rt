@@ -11,10 +11,10 @@ use gq_plan_ir::Declared;
 use gq_value::{BaseType, Txt};
 use std::alloc::Global;
 
-/// How many fields a tuple type may have.
+/// The largest number of fields of a tuple type.
 const MOST_FIELDS: usize = 16;
 
-/// A tuple type of these fields; there is no memory for one that isn't well formed.
+/// A tuple type of these fields; one that isn't well formed is `OutOfMemory`.
 #[tactic(auto, using(crate::proofs::FieldLemmas::field_laws))]
 pub(crate) fn tuple_type(
     alloc: Global,
@@ -40,7 +40,7 @@ pub(crate) fn tuple_type(
     Ok(TupleType { names, types })
 }
 
-/// The type that is declared, where it is one of the graph.
+/// The declared type, if it is one of the graph.
 #[tactic(auto, using(crate::proofs::FieldLemmas::declared_laws))]
 pub(crate) fn declared_base(declared: Declared, own: &[u32]) -> Option<BaseType>
     ensures { IfSome result (IsDeclared own.now declared) }
@@ -61,7 +61,7 @@ pub(crate) fn declared_base(declared: Declared, own: &[u32]) -> Option<BaseType>
     }
 }
 
-/// Whether a type is the one that is declared.
+/// Whether a type is the declared one.
 #[tactic(auto, using(crate::proofs::FieldLemmas::declared_laws))]
 pub(crate) fn is_declared(declared: Declared, base: &BaseType, own: &[u32]) -> bool
     ensures { result ≡ true → IsDeclared own.now declared base.now }
@@ -107,7 +107,7 @@ fn is_vertex_of(base: &BaseType, kind: u32) -> bool
     }
 }
 
-/// Whether a field may have a name behind these.
+/// Whether a field may have a name after these.
 #[tactic(auto, using(crate::proofs::FieldLemmas::free_name))]
 fn is_free(names: &[Txt], name: &str) -> bool
     ensures { result ≡ true → kinds.own_name 16 names.now name.now ≡ Ok (names.now ++ name.now ∷ []) }
@@ -121,7 +121,7 @@ fn is_free(names: &[Txt], name: &str) -> bool
     true
 }
 
-/// Whether one of these names is this one.
+/// Whether a name is among these.
 fn stands_in(names: &[Txt], name: &str) -> bool
     ensures { result ≡ kinds.stands_in names.now name.now }
 {

@@ -11,8 +11,8 @@ use gq_exec_source::{difference, intersection, union};
 use gq_tree::SetOp;
 use std::alloc::Global;
 
-/// What an operator makes of two sets. A union has the types of both sides, the others have those of the left side. A vertex that isn't
-/// below `vertices` is `OutOfMemory`.
+/// Applies an operator to two sets. A union has the types of both sides, the others have those of the left side. A
+/// vertex that isn't below `vertices` is `OutOfMemory`.
 pub fn join(
     alloc: Global,
     op: SetOp,

@@ -1,4 +1,4 @@
-// What set expressions look at.
+// The context of set expressions.
 ghost use Rattle.std.specs.Prelude.{◌≡◌, Some, IfSome, slice_get};
 ghost use Rattle.gq_value.specs.AccumViews.{base_of};
 ghost use Rattle.gq_value.specs.Val.{Vertex};
@@ -12,7 +12,7 @@ use gq_plan_ir::PlaceType;
 use gq_value::{BaseType, Value};
 use gq_vertex::Vertices;
 
-/// What set expressions look at.
+/// The read-only context of set expressions.
 #[derive(Clone, Copy)]
 pub struct Lookup<'a> {
     pub vertices: &'a Vertices,
@@ -20,7 +20,7 @@ pub struct Lookup<'a> {
     /// The vertex types of the graph, by their numbers.
     pub own: &'a [u32],
 
-    /// What stands at each place of the frame.
+    /// The type of each place of the frame.
     pub places: &'a [PlaceType],
     pub frame: &'a Frame,
 }
@@ -38,7 +38,7 @@ pub fn types_at<'a>(places: &'a [PlaceType], place: u32) -> Option<&'a [u32]>
     }
 }
 
-/// The vertex of the variable at a place, behind its type, if one is in view.
+/// The type and the vertex of the variable at a place, if one is in view.
 #[tactic(auto, using(crate::proofs::SeedLemmas::vertex_held))]
 pub fn vertex_at<'a>(
     places: &'a [PlaceType],
@@ -56,7 +56,7 @@ pub fn vertex_at<'a>(
     }
 }
 
-/// The value of the variable at a place, behind its type, if one is in view.
+/// The type and the value of the variable at a place, if one is in view.
 fn variable_at<'a>(
     places: &'a [PlaceType],
     things: &'a [Option<Thing>],

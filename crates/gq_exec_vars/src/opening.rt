@@ -1,4 +1,4 @@
-// The whole of it, definition by definition.
+// Opening a query, definition by definition.
 ghost use Rattle.std.specs.Prelude.{◌≡◌, ◌≤◌, [], IfOk, OnOk, length, map};
 ghost use Rattle.gq_graph.specs.Catalog.{most_types};
 ghost use Rattle.gq_value.specs.Views.{val};
@@ -24,7 +24,7 @@ use gq_plan_ir::{Declared, Definition, Plan};
 use gq_value::{Row, Txt};
 use std::alloc::Global;
 
-/// What a query's run begins with: names and accumulators, and the query's tuple types by their numbers.
+/// The initial state of a query's run: names and accumulators, and the query's tuple types by their numbers.
 #[derive(Drop)]
 pub struct Opened {
     pub live: Live,
@@ -33,7 +33,7 @@ pub struct Opened {
 
 /// Opens a query: its parameters with their arguments, then its tuple types and accumulators in order.
 ///
-/// There is no memory for a plan that isn't well typed, nor for arguments that aren't those of its parameters.
+/// The query is already checked: a plan that isn't well typed, or arguments of wrong types, end with `OutOfMemory`.
 #[tactic(auto, using(crate::proofs::OpenLemmas::may_open, crate::proofs::OpenLemmas::ready_none))]
 pub fn open(alloc: Global, graph: Graph<'_>, plan: &Plan, arguments: &Row) -> Result<Opened, Halt>
     requires indexed { graph.index.now ≡ adjacency (sight_of graph.catalog.now graph.store.now.vertices graph.store.now.edges) }
@@ -106,7 +106,7 @@ fn define(
     }
 }
 
-/// A tuple type more, whose number is that of the next one.
+/// Adds a tuple type, which gets the next number.
 fn add_tuple(
     alloc: Global,
     plan: &Plan,

@@ -4,7 +4,7 @@ ghost use Rattle.gq_exec_vars.specs.Begun.{Binds, HasNothing, IsBound, no_accums
 
 use crate::fields::is_declared;
 use gq_base::{List, OutOfMemory};
-use gq_frame::{Accums, Frame, Live, Slots, Thing};
+use gq_frame::{Accums, Frame, Live, Pages, Slots, Thing};
 use gq_index::Graph;
 use gq_plan_ir::{Parameter, PlaceType, Plan};
 use gq_value::{Row, Value};
@@ -67,7 +67,7 @@ fn bind(
     }
 }
 
-/// No name is in view, and there is no accumulator.
+/// No name is in view, and there are no accumulators.
 #[tactic(auto, using(crate::proofs::NameLemmas::nothing_none, crate::proofs::NameLemmas::nothing_more))]
 fn nothing(alloc: Global, graph: Graph<'_>, plan: &Plan) -> Result<Live, OutOfMemory>
     ensures undo { IfOk result (λ live. live.undo.items ≡ []) }
@@ -84,7 +84,7 @@ fn nothing(alloc: Global, graph: Graph<'_>, plan: &Plan) -> Result<Live, OutOfMe
     };
     let accums = Accums {
         slots,
-        contents: List::new(alloc),
+        contents: Pages::new(alloc),
     };
     Ok(Live {
         frame: Frame { things, accums },

@@ -1,4 +1,4 @@
-// What written sets hold.
+// The vertices of written sets.
 ghost use Rattle.std.specs.Prelude.{◌≡◌, OnOk, IfSome, map};
 ghost use Rattle.gq_value.specs.AccumViews.{base_of, accum_of};
 ghost use Rattle.gq_rules_typing.specs.Statements as plain;
@@ -23,7 +23,7 @@ use gq_plan_ir::Seed;
 use gq_value::{BaseType, Kind};
 use std::alloc::Global;
 
-/// The set of what is written between braces: each vertex once, by number.
+/// The set written between braces: each vertex once, by number.
 pub fn gathered(alloc: Global, seeds: &[Seed], at: &Lookup<'_>) -> Result<TypedSet, Halt>
     requires { AreSound at.now.frame.now.accums }
     ensures { (world : World Reference) (s : State Reference) → IsSeen at.now world s → Tells typed (term_of world s (plain.Seeds (map view_seed seeds.now))) result }
@@ -37,7 +37,7 @@ pub fn gathered(alloc: Global, seeds: &[Seed], at: &Lookup<'_>) -> Result<TypedS
     Ok(TypedSet { types, vertices })
 }
 
-/// Marks what a seed holds. A type of another graph, or a name that is no vertex, is outside.
+/// Marks the vertices of a seed. A type of another graph, or a name that isn't a vertex, is `Outside`.
 fn gather(alloc: Global, seed: Seed, at: &Lookup<'_>, bits: &mut SetBitmap) -> Result<(), Halt>
     requires { AreSound at.now.frame.now.accums }
     ensures { (world : World Reference) (s : State Reference) → IsSeen at.now world s → Seeded (seed_of world s (view_seed seed)) bits.old bits.new result }
@@ -113,7 +113,7 @@ fn gather_content(
     }
 }
 
-/// What a global accumulator holds, behind its kind, if it is a collection.
+/// The kind and the content of a global accumulator, if it is a collection.
 #[tactic(auto, using(crate::proofs::SeedLemmas::reads_whole))]
 fn global_content(accums: &Accums, slot: u32) -> Option<(&Kind, &Content)>
     requires { AreSound accums.now }

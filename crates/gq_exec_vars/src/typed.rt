@@ -16,7 +16,7 @@ pub struct TypedSet {
     pub vertices: VertexList,
 }
 
-/// What a set operator takes: types and vertices that a variable lends, or a set that was made.
+/// An operand of a set operator: types and vertices borrowed from a variable, or a set that was made.
 #[derive(Drop)]
 pub enum SetOperand<'a> {
     Lent(&'a [u32], &'a VertexList),
@@ -44,7 +44,7 @@ impl<'a> SetOperand<'a> {
         }
     }
 
-    /// The set, with memory of its own. A vertex that isn't below `vertices` is `OutOfMemory` too.
+    /// The set, owned. A vertex that isn't below `vertices` is `OutOfMemory` too.
     pub fn own(self, alloc: Global, vertices: u32) -> Result<TypedSet, OutOfMemory>
         ensures { IfOk result (λ set. typed set ≡ set_is self.entry) }
     {
@@ -58,7 +58,7 @@ impl<'a> SetOperand<'a> {
     }
 }
 
-/// The same vertices in the same order, with memory of their own.
+/// A copy of the list.
 #[tactic(auto, using(crate::proofs::BitLemmas::copy_laws))]
 fn duplicate(alloc: Global, list: &[u32], vertices: u32) -> Result<VertexList, OutOfMemory>
     ensures { IfOk result (λ copy. copy ≡ list.now) }
@@ -71,7 +71,7 @@ fn duplicate(alloc: Global, list: &[u32], vertices: u32) -> Result<VertexList, O
     Ok(copy)
 }
 
-/// Puts a vertex last that isn't marked, and marks it. One that is marked, or has no bit, is `OutOfMemory`.
+/// Appends a vertex that isn't marked, and marks it. One that is marked, or has no bit, is `OutOfMemory`.
 #[tactic(auto, using(crate::proofs::BitLemmas::not_there, crate::proofs::BitLemmas::marks_pushed))]
 fn push_new(words: &mut List<u64>, copy: &mut VertexList, vertex: u32) -> Result<(), OutOfMemory>
     requires { Marks words.old copy.old }

@@ -1,4 +1,4 @@
-// What an accumulator opens with.
+// The initial values of accumulators.
 ghost use Rattle.std.specs.Prelude.{◌≡◌, true, IfOk, Some, is_some, map};
 ghost use Rattle.std.specs.Option.{option_map};
 ghost use Rattle.gq_value.specs.AccumViews.{accum_of, base_of};
@@ -31,7 +31,7 @@ use gq_plan_ir::{Expr, Plan};
 use gq_value::{BaseType, Kind, Number, Value};
 use std::alloc::Global;
 
-/// The value that an accumulator opens with, at all of its targets; None where it opens as its kind does, and where it has no target.
+/// The initial value of an accumulator, at all of its targets; None if it opens as its kind does, or has no target.
 ///
 /// An opening sees the same at each target, so it is evaluated once.
 #[tactic(auto, using(crate::proofs::ValueLemmas::told_nowhere))]
@@ -66,7 +66,7 @@ pub(crate) fn first_value(
     }
 }
 
-/// What an opening is evaluated over.
+/// The context in which an opening is evaluated.
 fn block_context<'a>(
     graph: Graph<'a>,
     plan: &'a Plan,
@@ -85,7 +85,7 @@ fn block_context<'a>(
     }
 }
 
-/// The value of an opening, over what stands there so far.
+/// The value of an opening, in the state so far.
 fn value_over(
     expr: &Expr,
     alloc: Global,
@@ -101,7 +101,7 @@ fn value_over(
     value_seen(expr, alloc, kind, &sight)
 }
 
-/// The value of an opening, converted to what the kind is put to.
+/// The value of an opening, converted to the type that the kind is set to.
 #[tactic(auto, using(crate::proofs::ValueLemmas::open_laws))]
 fn value_seen<V: Sees>(expr: &Expr, alloc: Global, kind: &Kind, sight: &V) -> Result<Value, Halt>
     ensures told { Tells val (value_opened (V.look sight.now) (accum_of kind.now) (view expr.now)) result }
@@ -117,7 +117,7 @@ fn value_seen<V: Sees>(expr: &Expr, alloc: Global, kind: &Kind, sight: &V) -> Re
     }
 }
 
-/// The value, where a kind takes it.
+/// The value, if a kind takes it.
 fn suited(value: Value, kind: &Kind) -> Result<Value, OutOfMemory>
     ensures same { IfOk result (λ v. v ≡ value) }
     ensures suits { IfOk result (λ v. takes (accum_of kind.now) (val v) ≡ true) }
@@ -129,7 +129,7 @@ fn suited(value: Value, kind: &Kind) -> Result<Value, OutOfMemory>
     }
 }
 
-/// The type that accumulators of a kind are put to, if they can be.
+/// The type that accumulators of a kind are set to, if they can be.
 #[tactic(auto, using(gq_value::proofs::AccumLemmas::accum_laws, gq_eval_operand::proofs::ConvertLemmas::base_laws))]
 fn set_base(kind: &Kind) -> Option<BaseType>
     ensures base { option_map base_of result ≡ kinds.set_type (accum_of kind.now) }

@@ -1,4 +1,4 @@
--- ChainLemmas: a chain of one is what it consists of, and a longer one a tree of its own.
+-- ChainLemmas: a chain of one item is that item, and a longer one is a tree.
 use Rattle.std.proofs.Common.{◌≡◌, ℕ, zero, suc, List, [], ◌∷◌, length, refl, arith}
 use Rattle.gq_tree.specs.declared.expr.Node.{Node}
 use Rattle.gq_tree.specs.declared.expr.Node.TheVariants as node
@@ -7,7 +7,7 @@ use Rattle.gq_tree.specs.declared.expr.AddSign.{AddSign}
 use Rattle.gq_tree.specs.declared.expr.MulSign.{MulSign}
 use Rattle.gq_grammar.specs.Shapes.{post_at, neg_at, mul_at, sum_at, not_at, and_at, or_at}
 
--- a tree that is made of a first part and of others, where there are others
+-- a tree that is built from a first part and others, if there are others
 module _ {A : Type 0} (at : Node → List A → Node) (tree : Node → List A → Node)
     (one : (first : Node) → first ≡ at first [])
     (more : (first : Node) (item : A) (items : List A) → tree first (item ∷ items) ≡ at first (item ∷ items)) where

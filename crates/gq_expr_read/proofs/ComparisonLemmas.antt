@@ -1,4 +1,4 @@
--- ComparisonLemmas: the first of the seven signs of comparison that stands at a place.
+-- ComparisonLemmas: the first of the seven comparison signs that is at a place.
 use Rattle.std.proofs.Common.{◌≡◌, ℕ, Option}
 use Rattle.std.specs.Option.{option_or}
 use Rattle.gq_tree.specs.declared.expr.CmpSign.{CmpSign}

@@ -1,4 +1,5 @@
--- Growth: the grammar without its count of levels. An expression derives exactly where its production does over expressions that derive.
+-- Growth: the grammar without its bound on levels. An expression derives exactly if its production does over
+-- expressions that derive.
 use Rattle.std.proofs.Common.{ℕ, zero, suc}
 use Rattle.gq_tree.specs.declared.expr.Node.{Node}
 use Rattle.gq_grammar.specs.Shapes.{named, part_of, post_of, neg_of, mul_of, sum_of, cmp_of, not_of, and_of, or_of}
@@ -53,7 +54,7 @@ module _ {E : ℕ → Language Node} {W : Language Node} (e : Grows E W) where
   unfolding g.Expr
   expr_grows = made_grows or_of (then_grows and_grows (many_grows (after_grows (word "OR") and_grows)))
 
--- ---- the knot
+-- ---- the recursion
 
 nested_up : (k : ℕ) (t : Node) (x : Lexemes) → Nested k t x → Nested (suc k) t x
 unfolding Nested

@@ -1,4 +1,4 @@
--- LevelLemmas: one level of nesting more.
+-- LevelLemmas: one more level of nesting.
 use Rattle.std.proofs.Common.{◌≡◌, ℕ, suc, ◌-◌, ◌<◌, Option, Some, None, Result, Ok, Err, IfOk, ap, subst, arith}
 use Rattle.gq_tree.specs.declared.expr.Node.{Node}
 use Rattle.gq_grammar.specs.Lexemes.{Lexemes}

@@ -23,7 +23,7 @@ use Rattle.gq_grammar.proofs.SignLemmas.{one_reads, stands_reads, after_reads, e
 use Rattle.gq_grammar.proofs.WholeLemmas as whole
 use Rattle.gq_expr_read.specs.Descent as d
 
--- ---- with what a production begins, and with what it may go on
+-- ---- with which lexemes a production begins and may continue
 
 abbrev prim_firsts : List Terminal
 prim_firsts = Number ∷ Text ∷ word "TRUE" ∷ word "FALSE" ∷ Global ∷ Name ∷ sign "(" ∷ []
@@ -65,7 +65,7 @@ no_tokens : (x y : Lexemes) → length (x ++ y) ≤ zero → Starts firsts x →
 no_tokens [] y le s = s
 no_tokens (t ∷ x) y le s = omega (arith, le)
 
--- ---- operators, which hold no expression
+-- ---- operators, which contain no expression
 
 module _ (n : ℕ) where
   mul_sign_reads : Reads n g.MulOp g.MulOp d.mul_sign mul_signs []
@@ -166,7 +166,8 @@ module _ (n m : ℕ) (nm : n ≤ suc m) (E E' : Language Node) (e : Parser Node)
   unfolding g.Expr d.disjunction
   or_reads = widen firsts goes refl refl (made_reads or_of (tail_reads and_reads (many_takes (after_reads (word "OR") and_reads) refl) refl))
 
--- ---- the knot: what is read is spelled, by a reader that may use up to n levels; what is spelled in k levels is read, in no more than n tokens
+-- ---- the recursion: what is read is spelled, by a reader that may use up to n levels; what is spelled in k levels is
+-- read, in at most n tokens
 
 nested_begins : (k : ℕ) (r : Reads zero (Nested k) (Nested zero) (d.expr zero) firsts goes) (t : Node) (x : Lexemes) → Nested (suc k) t x → Starts firsts x
 unfolding Nested
@@ -193,7 +194,7 @@ nested_reads (suc n) (suc k) =
     let w = or_reads (suc n) n (omega arith) (Nested k) (Nested n) (d.expr n) (nested_reads n k) in
     record { sound = w.sound; opens = w.opens; begins = w.begins; whole = w.whole }
 
--- expressions, of any nesting
+-- expressions of any nesting
 pub expr_reads : (n : ℕ) → Reads n Derives Derives (d.expr n) firsts goes
 unfolding Derives
 expr_reads n = record {

@@ -1,5 +1,5 @@
--- Descent: what each function of the reader computes, a definition for each production. The inner contracts cite it, and that of
--- `expr`, which readers of statements call; what `read_expr` promises is said by the grammar alone.
+-- Descent: what each function of the reader computes, a definition for each production. Internal contracts cite it, and
+-- so does that of `expr`, which readers of statements call; what `read_expr` guarantees is stated by the grammar alone.
 use Rattle.std.specs.Prelude.{ℕ, zero, suc, List, Option, None, true, false}
 use Rattle.gq_tree.specs.declared.expr.Node.{Node}
 use Rattle.gq_tree.specs.declared.expr.Node.TheVariants as node
@@ -74,7 +74,7 @@ conjunction e = made and_of (both (negation e) (many (after (word "AND") (negati
 unfoldable pub disjunction : Parser Node → Parser Node
 disjunction e = made or_of (both (conjunction e) (many (after (word "OR") (conjunction e))))
 
--- an expression, with at most so many levels of nesting
+-- an expression, with a bounded number of levels of nesting
 unfoldable pub expr : ℕ → Parser Node
 expr zero l = None
 expr (suc n) l = disjunction (expr n) l

@@ -1,4 +1,4 @@
--- Nests: a function value that reads what is nested, as the functions of the reader require of theirs.
+-- Nests: a function value that reads nested expressions, as the functions of the reader require of their parameter.
 use Rattle.std.specs.Prelude.{ℕ, ◌≤◌, length, Option, Result, IfOk}
 use Rattle.std.specs.Borrow.{Bor}
 use Rattle.std.specs.declared.alloc.Global.{Global}
@@ -8,7 +8,7 @@ use Rattle.gq_grammar.specs.Lexemes.{Lexemes}
 use Rattle.gq_grammar.specs.Parsers.{Found}
 use Rattle.gq_expr_read.specs.Descent.{expr}
 
--- it reads expressions of so many levels, from any place
+-- it reads expressions of at most `levels` levels, from any place
 pub record Nests (all : Lexemes) (levels : ℕ) (pre : Global → Bor Lexemes → ℕ → ℕ → Type 0)
     (post : Global → Bor Lexemes → ℕ → ℕ → Result (Option (Node × ℕ)) OutOfMemory → Type 0) : Type 0 where
   pub callable : (alloc : Global) (source : Bor Lexemes) (at : ℕ) → at ≤ length source.now → pre alloc source levels at

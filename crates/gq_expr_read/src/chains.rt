@@ -1,4 +1,4 @@
-// The tree that each production makes of its parts. A chain of one is what it consists of.
+// The tree that each production builds from its parts. A chain of one item is that item.
 ghost use Rattle.std.specs.Prelude.{◌≡◌, IfOk};
 ghost use Rattle.gq_grammar.specs.Shapes as shapes;
 

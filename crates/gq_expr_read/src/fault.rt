@@ -7,7 +7,7 @@ use thiserror::Error;
 /// Why nothing was read.
 #[derive(Clone, Copy, Debug, PartialEq, Eq, Error)]
 pub enum ReadFault {
-    /// From the place on, the tokens up to no place are an expression.
+    /// No prefix of the tokens from the place on is an expression.
     #[error("no expression")]
     NoDerivation,
 

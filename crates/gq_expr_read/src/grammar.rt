@@ -1,4 +1,4 @@
-// The reader: what each production's function is a method of, and what they share.
+// The reader: a method for each production, and what they share.
 ghost use Rattle.std.specs.Prelude.{◌≤◌, length, IfOk, Some};
 ghost use Rattle.gq_grammar.specs.Parsers.{Found, many, one, after, enclosed, separated};
 ghost use Rattle.gq_grammar.specs.Lexemes as lexemes;
@@ -16,13 +16,13 @@ use std::alloc::Global;
 pub struct Grammar<'s, 'a, F> {
     pub alloc: Global,
     pub source: &'s Source<'a>,
-    // How deep expressions may still nest.
+    // How many levels expressions may still nest.
     pub levels: usize,
     pub expr: F,
 }
 
 impl<'s, 'a, F: Fn(Global, &Source<'_>, usize, usize) -> Read<Node>> Grammar<'s, 'a, F> {
-    // A nested expression.
+    // Reads a nested expression.
     pub fn expr(&self, at: usize) -> Read<Node>
         requires nests { Nests self.now.source.now self.now.levels (F.pre self.now.expr) (F.post self.now.expr) }
         requires at { at ≤ length self.now.source.now }
@@ -79,7 +79,7 @@ impl<'s, 'a, F: Fn(Global, &Source<'_>, usize, usize) -> Read<Node>> Grammar<'s,
         }
     }
 
-    // Arguments in parentheses.
+    // Reads arguments in parentheses.
     #[tactic(auto, unfolding(gq_grammar::specs::Parsers::enclosed))]
     fn call(&self, at: usize) -> Read<List<Node>>
         requires nests { Nests self.now.source.now self.now.levels (F.pre self.now.expr) (F.post self.now.expr) }
@@ -98,7 +98,7 @@ impl<'s, 'a, F: Fn(Global, &Source<'_>, usize, usize) -> Read<Node>> Grammar<'s,
         }
     }
 
-    // A name, and the arguments where there are parentheses behind it.
+    // Reads a name, and its arguments if parentheses follow it.
     #[tactic(auto, unfolding(crate::specs::Descent::name_and_arguments))]
     pub fn named(&self, at: usize) -> Read<(Txt, Option<List<Node>>)>
         requires nests { Nests self.now.source.now self.now.levels (F.pre self.now.expr) (F.post self.now.expr) }

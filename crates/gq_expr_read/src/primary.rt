@@ -1,4 +1,4 @@
-// What stands between operators: literals, names, calls, and the parts behind dots.
+// Operands: literals, names, calls, and the parts after dots.
 ghost use Rattle.std.specs.Prelude.{◌≤◌, length, IfOk, Some, replicate};
 ghost use Rattle.gq_grammar.specs.Parsers.{Found, many, one};
 ghost use Rattle.gq_grammar.specs.Lexemes as lexemes;
@@ -53,7 +53,7 @@ impl<'s, 'a, F: Fn(Global, &Source<'_>, usize, usize) -> Read<Node>> Grammar<'s,
         }
     }
 
-    // An accumulator of a vertex, and a `'` where there is one.
+    // Reads an accumulator of a vertex, and a `'` if there is one.
     #[tactic(auto, unfolding(crate::specs::Descent::attached))]
     fn attached(&self, at: usize) -> Read<Part>
         requires { at ≤ length self.now.source.now }

@@ -1,4 +1,4 @@
-// The reader from outside.
+// The public functions of the reader.
 ghost use Rattle.std.specs.Prelude.{◌≡◌, ◌≤◌, length, All, IfOk, Err};
 ghost use Rattle.gq_token.specs.Cut.{IsSpelledIn};
 ghost use Rattle.gq_grammar.specs.Lexemes.{lexemes_of};
@@ -15,12 +15,12 @@ use gq_token::Token;
 use gq_tree::Node;
 use std::alloc::Global;
 
-/// What is read, with the place after it, or None where there is nothing of its kind.
+/// What is read, with the place after it, or None if there is nothing of its kind.
 pub type Read<T> = Result<Option<(T, usize)>, OutOfMemory>;
 
-/// The longest expression from `at` on, and the place after it, where it nests in no more than `levels` levels.
+/// Returns the longest expression from `at` on, and the place after it, if it nests at most `levels` levels.
 ///
-/// For readers of statements, over the source that they have. Each level takes a token and some frames of the stack.
+/// For readers of statements, with the source that they have. Each level takes a token and uses some stack frames.
 pub fn expr(alloc: Global, source: &Source<'_>, levels: usize, at: usize) -> Read<Node>
     requires { at ≤ length source.now }
     ensures { IfOk result (Found (spec.expr levels) source.now at) }
@@ -37,9 +37,10 @@ pub fn expr(alloc: Global, source: &Source<'_>, levels: usize, at: usize) -> Rea
     .disjunction(at)
 }
 
-/// The tree of the longest prefix from `at` on that is an expression, and the place after it.
+/// Reads the longest prefix from `at` on that is an expression, and returns its tree and the place after it.
 ///
-/// The tokens are those of the script `bytes`. Call `too_deep` before: each level of parentheses takes some frames of the stack.
+/// The tokens are those of the script `bytes`. Call `too_deep` before: each level of parentheses uses some stack
+/// frames.
 /// Time is linear in the tokens that are read.
 pub fn read_expr(
     alloc: Global,

@@ -63,7 +63,7 @@ use Rattle.gq_exec_control.proofs.ContextLemmas.{says_told, shows_of}
 use Rattle.gq_exec_control.proofs.Steps.{bound}
 use Rattle.gq_flow.specs.Assigning.{Fixed, IsNoName, Kept}
 
--- ---- what set expressions look at
+-- ---- what set expressions read
 
 pub is_over : (clock : Calendar) (b : Basis) → IsOver b.vertices b.plan.vertices (world_on clock b)
 is_over clock b = record { like = refl; vertex_type = λ t. refl; types = refl; kinds = refl }
@@ -75,7 +75,7 @@ is_seen clock b f at vertices own places frame s shows = record {
   shows = subst (λ ps. Shows ps at.frame.now s) (sym places) (subst (λ g. Shows b.plan.places g s) (sym frame) shows);
 }
 
--- what a set expression holds, read of each state
+-- the vertices of a set expression, read of each state
 pub held_on : (clock : Calendar) (b : Basis) (f : Frame) (at : Lookup) (first : plain.SetTerm Reference) (rest : List (SetOp × plain.SetTerm Reference)) (told : Result TypedSet Halt) (r : Result TypedSet RunFault)
     → at.vertices.now ≡ b.vertices → at.own.now ≡ b.plan.vertices → at.places.now ≡ b.plan.places → at.frame.now ≡ f
     → ((world : World Reference) (s : State Reference) → IsSeen at world s → Tells typed (sets_of world s first rest) told) → r ≡ faults_of told
@@ -99,9 +99,9 @@ fixed_by clock b place types set own places old new (Err e) o p h = tt
 
 pub ruleset fixed_laws = (fixed_by)
 
--- a set that is read, and given to a variable
+-- a set that is read and assigned to a variable
 module _ (clock : Calendar) (b : Basis) (place : ℕ) (types : Option (SetTypes Reference)) (read : State Reference → Answer Wrong sets.TypedSet) where
-  -- what the definitions do
+  -- the definitions of the assignment
   abbrev giving : Change
   giving s = blaming Evaluation (read s) >>= λ set. Gives (set_assigned (world_on clock b) (Place place) types set s)
 
@@ -119,7 +119,7 @@ module _ (clock : Calendar) (b : Basis) (place : ℕ) (types : Option (SetTypes 
 
 -- ---- an expression
 
--- as it is where a name alone stands
+-- the assignment of a name alone
 abbrev by_name : World Reference → State Reference → Reference → Option (SetTypes Reference) → Reference → Option Thing → Answer Wrong (State Reference)
 by_name world s x types y o =
     elim (is_set o) [
@@ -127,7 +127,7 @@ by_name world s x types y o =
       | false ↦ value_assigned world s x (Name y)
     ]
 
--- the same by whether it is a set
+-- the same, by whether it is a set
 abbrev named_so : World Reference → State Reference → Reference → Option (SetTypes Reference) → Reference → Bool → Answer Wrong (State Reference)
 named_so world s x types y c = elim c [ true ↦ set_named world s y >>= λ set. Gives (set_assigned world x types set s) | false ↦ value_assigned world s x (Name y) ]
 
@@ -148,20 +148,20 @@ no_name_is world s x types (And t ts) h = refl
 no_name_is world s x types (Or t ts) h = refl
 
 module _ (clock : Calendar) (b : Basis) (place : ℕ) (types : Option (SetTypes Reference)) (t : Tree Reference) (old new : Live) where
-  -- what the definitions do
+  -- the definitions of the assignment
   abbrev valuing : Change
   valuing s = blaming Evaluation (value_assigned (world_on clock b) s (Place place) t)
 
   abbrev expressing : Change
   expressing s = blaming Evaluation (expression_assigned (world_on clock b) s (Place place) types t)
 
-  -- no name
+  -- the expression isn't a name
   pub no_name : (r : Result (Unit {0}) RunFault) → IsNoName t → Becomes b.plan.places valuing old new r → Becomes b.plan.places expressing old new r
   no_name r h d = record {
     each = λ s l. leads_same (Lives b.plan.places new) (expressing s) (valuing s) r (ap (blaming Evaluation) (no_name_is (world_on clock b) s (Place place) types t h)) (d.each s l);
   }
 
-  -- a name that is no set
+  -- a name that isn't a set
   pub no_set : (y : ℕ) (r : Result (Unit {0}) RunFault) → t ≡ Name (Place y) → is_set (thing_in b.plan.places old.frame.things y) ≡ false → Becomes b.plan.places valuing old new r → Becomes b.plan.places expressing old new r
   no_set y r e h d = record {
     each = λ s l.
@@ -174,7 +174,7 @@ module _ (clock : Calendar) (b : Basis) (place : ℕ) (types : Option (SetTypes 
         (d.each s l);
   }
 
-  -- a set's name
+  -- the name of a set
   pub set_named_there : (y : ℕ) (set : TypedSet) → t ≡ Name (Place y) → thing_in b.plan.places old.frame.things y ≡ Some (SetOf set.types set.vertices) → Fixed clock b place types (typed set) old new (Ok tt) → Becomes b.plan.places expressing old new (Ok tt)
   set_named_there y set e h f = record {
     each = λ s l.
@@ -188,7 +188,7 @@ module _ (clock : Calendar) (b : Basis) (place : ℕ) (types : Option (SetTypes 
 
 -- ---- a value
 
--- as it is of what the name stands for
+-- the assignment, by the thing that the name refers to
 abbrev valued_by : World Reference → State Reference → Reference → Tree Reference → Option Thing → Answer Wrong (State Reference)
 valued_by world s x t o = found o >>= of_thing
   where
@@ -230,7 +230,7 @@ module _ (clock : Calendar) (b : Basis) (place : ℕ) (t : Tree Reference) (base
 
 -- ---- SELECT
 
--- the vertices are given, with the accumulators
+-- the vertices are assigned, and the accumulators kept
 abbrev given_to : World Reference → Reference → Option (SetTypes Reference) → State Reference → Chosen → State Reference
 given_to world x types s c = set_assigned world x types c.0 (record s { slots = c.1 })
 
@@ -240,7 +240,7 @@ given_joined world x types s found (Gives r) = refl
 given_joined world x types s found (Faults e) = refl
 given_joined world x types s found Stuck = refl
 
--- the definition of the assignment, by whether the bindings are as few as they may be
+-- the definition of the assignment, by whether the path has at most as many bindings as allowed
 abbrev bounded : World Reference → State Reference → Reference → Option (SetTypes Reference) → Select Reference → Bool → Answer Fault (State Reference)
 bounded world s x types q few =
     elim few [
@@ -254,7 +254,7 @@ bounded_joined world s x types q false = refl
 bounded_joined world s x types q true = given_joined world x types s (types_at (from world s.names q) (selects_target world q)) (select world s q)
 
 module _ (clock : Calendar) (b : Basis) (place : ℕ) (types : Option (SetTypes Reference)) (q : Block) where
-  -- what the definitions do
+  -- the definitions of the assignment
   abbrev selecting : Change
   selecting s = select_assigned (world_on clock b) s (Place place) types (view_block q)
 
@@ -282,7 +282,7 @@ module _ (clock : Calendar) (b : Basis) (place : ℕ) (types : Option (SetTypes 
     );
   }
 
--- accumulators that are put in
+-- the accumulators are replaced
 accums_live : (places : List PlaceType) (old new : Live) (s : State Reference) → new.frame.things ≡ old.frame.things → new.undo ≡ old.undo → Lives places old s → Lives places new (record s { slots = slots_are new.frame.accums })
 accums_live places old new s things undo l = record {
   names = subst (λ ts. Unwinds places ts (reverse new.undo.items) s.names) (sym things) (subst (λ us. Unwinds places old.frame.things (reverse us.items) s.names) (sym undo) l.names);
@@ -307,7 +307,7 @@ sound_given r new e h = subst AreSound (sym e) h
 pub no_memory : (places : List PlaceType) (does : Change) (old new : Live) → Becomes places does old new (Err fault.OutOfMemory)
 no_memory places does old new = record { each = λ s l. tt }
 
--- ---- what the code finds in the lists that it lends
+-- ---- what the code finds in the lists that it borrows
 
 pub there_is : (b : Basis) (f : Frame) (place : ℕ) (base : Base) (places : List PlaceType) (things : List (Option code.Thing)) → places ≡ b.plan.places → things ≡ f.things → IsVariable base (thing_in places things place) → IsVariable base (thing_in b.plan.places f.things place)
 there_is b f place base places things p t h = subst (λ ps. IsVariable base (thing_in ps f.things place)) p (subst (λ ts. IsVariable base (thing_in places ts place)) t h)

@@ -1,4 +1,4 @@
--- ChangeLemmas: a change of a global accumulator, of each state that is shown.
+-- ChangeLemmas: a change of a global accumulator, for each state that is shown.
 use Rattle.std.proofs.Common.{◌≡◌, ℕ, true, false, List, reverse, Some, Result, Ok, Err, refl, sym, ap, ap₂, subst, ◌∙◌}
 use Rattle.std.specs.Prelude.{slice_get}
 use Rattle.gq_value.specs.declared.kind.Slot as code
@@ -48,7 +48,7 @@ pub ruleset makes_laws = (makes_told)
 -- ---- the change
 
 module _ (clock : Calendar) (b : Basis) (n : ℕ) (change : plain.Change Reference) (old : Live) where
-  -- the accumulators with the change
+  -- the accumulators after the change
   abbrev slots_then : Answer WriteFault (List (states.Slot Reference))
   slots_then = slots_changed (look_on clock b old.frame) (slots_are old.frame.accums) (Slot n) 0 change
 

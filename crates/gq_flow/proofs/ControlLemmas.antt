@@ -80,7 +80,7 @@ goes_all places whole rest old now g is = record {
       (h.0, h.1 ∙ is h.0, h.2);
 }
 
--- the rest is one more body
+-- the rest is one body followed by others
 pub goes_on : (places : List PlaceType) (whole rest a : Body Reference) (old mid new : Running) (result : Result (Unit {0}) RunFault) → Goes places whole rest old mid → ((p : runs.Running Reference) → Stands places mid p → rest p ≡ a p) → Does places a mid new result → Does places whole old new result
 goes_on places whole rest a old mid new result g is d = record {
   each = λ q s.
@@ -127,7 +127,7 @@ steps_done places world steps i old now l g =
 
 -- ---- bodies whose names end
 
--- the names of a body leave again
+-- the names of a body go out of scope again
 pub record Leaves (places : List PlaceType) (mark : ℕ) (old mid new : Running) : Type 0 where
   pub marked : (s : State Reference) → Lives places old.live s → mark ≡ length s.names
   pub left : (s : State Reference) → Lives places mid.live s → Lives places new.live (without (length s.names - mark) s)
@@ -153,7 +153,7 @@ body_done places body mark old mid new d v = record {
 pub body_stops : (places : List PlaceType) (body : Body Reference) (old mid new : Running) (e : RunFault) → Does places body old mid (Err e) → Does places (inner body) old new (Err e)
 body_stops places body old mid new e d = record { each = λ q s. ends_bind (body q) (λ t. Gives (with_state (without_new q.state t.state) t)) e (d.each q s) }
 
--- no statement, and no name
+-- without a statement no name is added
 nothing_left : (s : State Reference) → without_new s s ≡ s
 nothing_left s = ap (λ n. record s { names = drop n s.names }) (let e : length s.names - length s.names ≡ 0 = omega arith in e)
 
@@ -188,7 +188,7 @@ turn_taken places body old mid new result t d = record {
       leads_same (Stands places new) (enter body q) (inner body (record q { turns = mid.turns })) result (enter_some body q mid.turns n) (d.each (record q { turns = mid.turns }) (turn_stands places old mid q t s));
 }
 
--- ---- a variable of a body's own
+-- ---- a body with its own variable
 
 pub named_done : (places : List PlaceType) (place : ℕ) (base : BaseType) (value : Value) (body : Body Reference) (old mid new : Running) (result : Result (Unit {0}) RunFault)
     → slice_get places place ≡ Some (held.Variable base)

@@ -1,4 +1,4 @@
--- LoopLemmas: branches, rounds and values.
+-- LoopLemmas: branches, iterations and values.
 use Rattle.std.proofs.Common.{◌≡◌, ℕ, zero, suc, ◌+◌, ◌-◌, ◌<◌, ◌≤◌, Bool, true, false, List, [], ◌∷◌, drop, length, get_or, Option, Some, None, Result, Ok, Err, refl, sym, ap, subst, ◌∙◌, arith}
 use Rattle.std.specs.List.{slice_get}
 use Rattle.std.specs.Option.{option_map}
@@ -71,7 +71,7 @@ branch_halts places world whole bs others i b old mid new e l is g t =
     (λ p s. subst (λ xs. Ends (branches_from world xs others p) e) (sym (branch_at world bs others i b l is))
     (ends_bind (condition_of world (view b.0) p) (elim [ true ↦ inner (run_all world (view_steps b.1)) p | false ↦ branches_from world (drop (i + 1) bs) others p ]) e (t.each p s)))
 
--- no condition holds: what stands behind ELSE is done
+-- no condition holds: the statements after ELSE run
 pub else_done : (places : List PlaceType) (world : World Reference) (whole : Body Reference) (bs : List (Expr × List Step)) (steps : List Step) (i : ℕ) (old mid new : Running) (result : Result (Unit {0}) RunFault)
     → length bs ≤ i → Goes places whole (branches_from world (drop i bs) (Some steps)) old mid → Does places (inner (run_all world (view_steps steps))) mid new result
     → Does places whole old new result
@@ -85,7 +85,7 @@ else_none places world whole bs i old mid l g =
 
 -- ---- WHILE
 
--- a run has come from old to now, and so many rounds may still come
+-- a run has come from old to now, and at most `left` iterations may follow
 pub record Rounding (places : List PlaceType) (whole : Body Reference) (left : Option ℕ) (condition : runs.Running Reference → Answer Fault Bool) (body : Body Reference) (old now : Running) : Type 0 where
   pub each : (q : runs.Running Reference) → Stands places old q → (m : ℕ) × (p : runs.Running Reference) × (p.turns ≤ m) × (whole q ≡ rounds (suc m) left condition body p) × Stands places now p
 
@@ -162,7 +162,7 @@ round_done places whole left less condition body old now new g n t d fewer is = 
       );
 }
 
--- the limit is read once, before the first round
+-- the limit is read once, before the first iteration
 pub while_limited : (places : List PlaceType) (world : World Reference) (t limit : Tree Reference) (body : Body Reference) (most : ℕ) (old new : Running) (result : Result (Unit {0}) RunFault)
     → Limits places world limit old (Ok most) → Does places (goes_round (Some most) (condition_of world t) body) old new result → Does places (while_of world t (Some limit) body) old new result
 while_limited places world t limit body most old new result l d = record {

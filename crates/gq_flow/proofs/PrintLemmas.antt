@@ -1,4 +1,4 @@
--- PrintLemmas: an object more is printed.
+-- PrintLemmas: one more object is printed.
 use Rattle.std.proofs.Common.{◌≡◌, List, [], ◌∷◌, ◌++◌, map, Result, Ok, Err, sym, ap, ap₂, subst, ◌∙◌}
 use Rattle.std.proofs.lemmas.List.{map-append}
 use Rattle.gq_json.specs.declared.out.Printed.{Printed}
@@ -33,7 +33,7 @@ use Rattle.gq_exec_control.specs.Contexts.{Basis, over_of, world_on}
 use Rattle.gq_exec_control.proofs.ContextLemmas.{ends_told, shows_of}
 use Rattle.gq_flow.specs.Steps.{PrintsOn, PrintsOne, PrintsSo, members_of}
 
--- what one PRINT prints over a frame
+-- the object that one PRINT prints over a frame
 pub prints_over : (clock : Calendar) (b : Basis) (f : Frame) (items : List (plain.Printed Reference)) (told : Result Printed Halt) (o : Over) → o ≡ over_of b f
     → ((s : State Reference) → Shows o.plan.places o.frame s → Prints (members_of (world_over clock o) s items) told) → PrintsOn b.plan.places (world_on clock b) items f told
 prints_over clock b f items told o e h = subst (λ (x : Over). PrintsOn x.plan.places (world_over clock x) items x.frame told) e (record { each = h })

@@ -1,4 +1,4 @@
--- QueryLemmas: a plan from its opening to what it prints.
+-- QueryLemmas: the run of a plan, from its initial values to its output.
 use Rattle.std.proofs.Common.{◌≡◌, ℕ, List, [], map, Result, Ok, Err, refl, sym, ap, subst, ◌∙◌}
 use Rattle.gq_index.specs.declared.store.Graph as code
 use Rattle.gq_json.specs.declared.out.Printed.{Printed}
@@ -29,7 +29,7 @@ use Rattle.gq_exec_control.specs.Faults.{fault_of}
 use Rattle.gq_exec_control.proofs.ContextLemmas.{ends_told}
 use Rattle.gq_flow.specs.Plans.{Objects, Prints, RunsFrom, plan_world, printed_from}
 
--- ---- the opening
+-- ---- the initial values
 
 pub query_stops : (clock : Calendar) (g : code.Graph) (plan : Plan) (arguments : List Val) (turns : ℕ) (h : Halt) (e : RunFault) → e ≡ fault_of h → Begins plan.places (begins clock g plan arguments) (Err h)
     → Prints (run_plan (plan_world clock g plan) (view_plan plan) arguments turns) (Err e)
@@ -49,11 +49,11 @@ query_runs clock g plan arguments turns opened r b d =
 
 -- ---- the statements
 
--- what the run stands on
+-- the read-only context of the run
 abbrev pub basis_of : code.Graph → Plan → List TupleType → Basis
 basis_of g plan tuples = record { schema = g.catalog.now; vertices = g.store.now.vertices; edges = g.store.now.edges; plan = plan; tuples = tuples }
 
--- the run begins
+-- the start of the run
 abbrev pub begun : Live → ℕ → List Printed → Running
 begun live turns first = record { live = live; turns = turns; printed = first }
 

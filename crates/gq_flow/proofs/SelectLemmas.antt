@@ -63,7 +63,7 @@ selected_of b vs = record { slots = b.slots; vertices = vs }
 abbrev given_as : List ℕ → tails.Selected Reference → Answer blocks.BlockFault Chosen
 given_as types r = Gives ((types, r.vertices), r.slots)
 
--- the types of the end that is selected
+-- the types of the selected end
 abbrev types_there : World Reference → State Reference → Select Reference → List ℕ
 types_there world s q = types_at (from world s.names q) (selects_target world q)
 
@@ -113,7 +113,7 @@ module _ (clock : Calendar) (o : Over) (block : Block) where
   pub too_many : AreTooMany o block → Selects clock o block (Err run.PathBound)
   too_many many = record { each = λ s shows. ap (chosen_if (world_over clock o) s (view_block block)) (many.each clock s shows) }
 
-  -- candidates that are listed are as few as they may be
+  -- candidates that were listed are at most as many as allowed
   few_enough : (cs : List Candidate) → AreCandidates o block cs → (s : State Reference) → Shows o.plan.places o.frame s
       → selected_by (world_over clock o) s (view_block block) ≡ blaming of_block (chosen_by (world_over clock o) s (view_block block))
   few_enough cs are s shows =
@@ -133,7 +133,7 @@ module _ (clock : Calendar) (o : Over) (block : Block) where
 
 -- ---- POST-ACCUM and the tail
 
--- as the code promises each of them
+-- the answers, as the code promises each of them
 abbrev pub Told : {A B : Type 0} → Over → (B → A) → (State Reference → Answer blocks.BlockFault A) → Result B BlockFault → Type 0
 Told o view does r = (s : State Reference) → Shows o.plan.places o.frame s → Answered view (does s) r
 

@@ -1,4 +1,4 @@
--- Assigning: what an assignment leaves, step by step.
+-- Assigning: the effect of an assignment, step by step.
 use Rattle.std.specs.Prelude.{◌≡◌, ℕ, false, Option, Some, None, Result, OnOk}
 use Rattle.gq_tree.specs.Tree.{Tree, Name}
 use Rattle.gq_rules_typing.specs.Statements.{SetTypes}
@@ -20,16 +20,16 @@ abbrev pub IsNoName : Tree Reference → Type 0
 IsNoName (Name x) = ⊥
 IsNoName t = Unit {0}
 
--- the set that is in view, or none is
+-- the set that is in view, or None if there is none
 abbrev pub IsCopied : Option Thing → Option TypedSet → Type 0
 IsCopied o None = is_set o ≡ false
 IsCopied o (Some set) = o ≡ Some (SetOf set.types set.vertices)
 
--- a set variable is given a set
+-- a set is assigned to a set variable
 abbrev pub Fixed : Calendar → Basis → ℕ → Option (SetTypes Reference) → sets.TypedSet → Live → Live → Result (Unit {0}) OutOfMemory → Type 0
 Fixed clock b place types set old new result = OnOk result ((s : State Reference) → Lives b.plan.places old s → Lives b.plan.places new (set_assigned (world_on clock b) (Place place) types set s))
 
--- the same with the accumulators of a SELECT
+-- the same, with the accumulators of a SELECT
 abbrev pub Kept : Calendar → Basis → ℕ → Option (SetTypes Reference) → Selected → Live → Live → Result (Unit {0}) OutOfMemory → Type 0
 Kept clock b place types r old new result =
     OnOk result ((s : State Reference) → Lives b.plan.places old s → Lives b.plan.places new (set_assigned (world_on clock b) (Place place) types (r.types, r.vertices) (record s { slots = slots_are r.accums })))

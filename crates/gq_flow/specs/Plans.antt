@@ -1,4 +1,4 @@
--- Plans: when the run of a plan prints what was meant.
+-- Plans: when the run of a plan prints what the definitions say.
 use Rattle.std.specs.Prelude.{◌≡◌, ℕ, List, [], map, Result, Ok, Err}
 use Rattle.gq_json.specs.declared.out.Printed.{Printed}
 use Rattle.gq_index.specs.declared.store.Graph as code
@@ -25,18 +25,18 @@ use Rattle.gq_exec_vars.specs.Begun.{Stands}
 abbrev pub Objects : Type 0
 Objects = List (List (Bytes × Out))
 
--- the world that a plan of a graph begins in: no tuple type is declared yet
+-- the world in which a plan of a graph begins: no tuple type is declared yet
 abbrev pub plan_world : Calendar → code.Graph → Plan → World Reference
 plan_world clock g plan = world_of (accum_names plan) [] (graph_is g plan.vertices plan.edges) clock
 
--- the answer is what is printed, or the fault that ends the run; OutOfMemory may come at any time
+-- the answer is what is printed, or the fault that ends the run; OutOfMemory may occur at any time
 abbrev pub Prints : Answer Fault Objects → Result (List Printed) RunFault → Type 0
 Prints o (Ok printed) = (objects : Objects) × (o ≡ Gives objects) × (map (λ (p : Printed). p.members) printed ≡ map built_print objects)
 Prints o (Err e) = Ends o e
 
--- ---- from what a plan opens with
+-- ---- from the initial values of a plan
 
--- its statements, over the tuple types and the state that stand there
+-- its statements, over the tuple types and the state given
 abbrev pub printed_from : Calendar → code.Graph → Plan → ℕ → Defining Reference → Answer Fault Objects
 printed_from clock g plan turns d = run_all (with_tuples d.tuples (plan_world clock g plan)) (view_steps plan.steps) (record { state = d.state; turns = turns; printed = [] }) >>= λ r. Gives r.printed
 

@@ -1,4 +1,4 @@
--- Selecting: when a whole SELECT gives what was meant.
+-- Selecting: when a whole SELECT returns what the definitions say.
 use Rattle.std.specs.Prelude.{◌≡◌, ℕ, Bool, true, false, List, Result}
 use Rattle.gq_rules_typing.specs.Selecting.{Select}
 use Rattle.gq_rules_meaning.specs.Answers.{Answer, Gives, Faults, ◌>>=◌, blaming}
@@ -33,33 +33,33 @@ Chosen = TypedSet × List (states.Slot Reference)
 abbrev pub chosen : Selected → Chosen
 chosen r = ((r.types, r.vertices), slots_are r.accums)
 
--- what the definitions select among the candidates
+-- the selection of the definitions among the candidates
 abbrev pub chosen_by : World Reference → State Reference → Select Reference → Answer blocks.BlockFault Chosen
 chosen_by world s q = select world s q >>= λ r. Gives ((types_at (from world s.names q) (selects_target world q), r.vertices), r.slots)
 
--- what the definitions select, where candidates are counted first: true where a path has as few as it may
+-- the selection of the definitions, with the candidates counted first: true if a path has at most as many as allowed
 abbrev pub chosen_if : World Reference → State Reference → Select Reference → Bool → Answer Fault Chosen
 chosen_if world s q few = elim few [ false ↦ Faults PathBound | true ↦ blaming of_block (chosen_by world s q) ]
 
 abbrev pub selected_by : World Reference → State Reference → Select Reference → Answer Fault Chosen
 selected_by world s q = chosen_if world s q (within_bound q.walk (candidates_of world (from world s.names q).start q.walk))
 
--- the same from what a block leaves on
+-- the same, starting from the result of the block
 abbrev pub chosen_after : World Reference → State Reference → Select Reference → blocks.After Reference → Answer blocks.BlockFault Chosen
 chosen_after world s q a = posted world s q a >>= λ b. tail world s q b >>= λ vs. Gives ((types_at (from world s.names q) (selects_target world q), vs), b.slots)
 
--- whatever state the frame shows, the answer is the one that was meant
+-- whatever state the frame shows, the answer is that of the definitions
 pub record Selects (clock : Calendar) (o : Over) (block : Block) (result : Result Selected RunFault) : Type 0 where
   pub each : (s : State Reference) → Shows o.plan.places o.frame s → Says chosen (selected_by (world_over clock o) s (view_block block)) result
 
--- among the candidates
+-- the same, among the candidates
 pub record Chooses (clock : Calendar) (o : Over) (block : Block) (result : Result Selected BlockFault) : Type 0 where
   pub each : (s : State Reference) → Shows o.plan.places o.frame s → Answered chosen (chosen_by (world_over clock o) s (view_block block)) result
 
--- POST-ACCUM and the tail
+-- the same for POST-ACCUM and the tail
 pub record Posts (clock : Calendar) (o : Over) (block : Block) (after : After) (result : Result Selected BlockFault) : Type 0 where
   pub each : (s : State Reference) → Shows o.plan.places o.frame s → Answered chosen (chosen_after (world_over clock o) s (view_block block) (after_is after)) result
 
--- the types are those of the end that the selected alias is at
+-- the types are those of the end with the selected alias
 pub record HasTypes (clock : Calendar) (o : Over) (block : Block) (types : List ℕ) : Type 0 where
   pub each : (s : State Reference) → Shows o.plan.places o.frame s → types ≡ types_at (from (world_over clock o) s.names (view_block block)) (selects_target (world_over clock o) (view_block block))

@@ -1,4 +1,4 @@
--- Steps: what single statements make and print.
+-- Steps: the effects and output of single statements.
 use Rattle.std.specs.Prelude.{◌≡◌, ℕ, List, slice_get, Some, Result, Ok, Err}
 use Rattle.gq_json.specs.declared.out.Printed as json
 use Rattle.gq_value.specs.declared.kind.Slot as code
@@ -31,11 +31,11 @@ use Rattle.gq_exec_control.specs.Changes.{Change}
 
 -- ---- changes of global accumulators
 
--- what a change of the one in a slot does
+-- the effect of a change of the accumulator in a slot
 abbrev pub global_so : World Reference → ℕ → plain.Change Reference → Change
 global_so world n change s = blaming of_write (slots_changed (seen world s) s.slots (Slot n) 0 change) >>= λ slots. Gives (record s { slots = slots })
 
--- what a change makes of the accumulator in a slot, or its fault
+-- the result of a change of the accumulator in a slot, or its fault
 abbrev pub Makes : Look Reference → Accums → ℕ → plain.Change Reference → Result Made Halt → Type 0
 Makes look a n change (Ok m) = (s : code.Slot) × (slice_get a.slots.declared n ≡ Some s) × (made_by look (accum_of s.kind) change ≡ Gives (making_of m))
 Makes look a n change (Err (halt.Wrong w)) = (s : code.Slot) × (slice_get a.slots.declared n ≡ Some s) × (made_by look (accum_of s.kind) change ≡ Faults w)
@@ -47,7 +47,7 @@ Makes look a n change (Err h) = Unit {0}
 abbrev pub members_of : World Reference → State Reference → List (statements.Printed Reference) → Answer Wrong (List (Bytes × Out))
 members_of world s items = each (printed world s) items
 
--- what one PRINT prints of each state that the frame shows
+-- the object that one PRINT prints, for each state that the frame shows
 pub record PrintsOn (places : List PlaceType) (world : World Reference) (items : List (statements.Printed Reference)) (f : Frame) (result : Result json.Printed Halt) : Type 0 where
   pub each : (s : State Reference) → Shows places f s → Prints (members_of world s items) result
 

@@ -19,7 +19,7 @@ use gq_plan_ir::Change;
 use gq_value::Kind;
 use std::alloc::Global;
 
-/// Changes the global accumulator in a slot at once. A sum out of range is judged at once too.
+/// Changes the global accumulator in a slot immediately, and checks its sum immediately.
 pub(crate) fn change(
     alloc: Global,
     context: &RunContext<'_>,
@@ -41,7 +41,7 @@ pub(crate) fn change(
     }
 }
 
-/// What a change makes of the accumulator in a slot.
+/// Returns the result of a change of the accumulator in a slot.
 fn made_over(
     alloc: Global,
     context: &RunContext<'_>,

@@ -1,4 +1,4 @@
-// SELECT assigned.
+// Assignments of a SELECT.
 ghost use Rattle.std.specs.Prelude.{◌≡◌, IfOk, OnOk};
 ghost use Rattle.std.specs.Option.{option_map};
 ghost use Rattle.gq_rules_meaning.specs.Statements.{assigned};
@@ -22,7 +22,7 @@ use gq_plan_ir::{Block, SetTypes};
 use std::alloc::Global;
 use std::thread::Threads;
 
-/// Assigns what a SELECT selects, and keeps its accumulators.
+/// Assigns the vertices of a SELECT, and keeps its accumulators.
 pub(crate) fn assign_select<R: Threads + Sync>(
     workers: &Workers<'_, R>,
     alloc: Global,
@@ -60,7 +60,7 @@ fn select_over<R: Threads + Sync>(
     select(workers, alloc, block, &over)
 }
 
-/// Keeps the accumulators of a SELECT, and gives its vertices to the set variable at a place.
+/// Keeps the accumulators of a SELECT, and assigns its vertices to the set variable at a place.
 fn keep(
     context: &RunContext<'_>,
     place: u32,

@@ -1,4 +1,4 @@
-// Expressions assigned.
+// Assignments of expressions.
 ghost use Rattle.std.specs.Prelude.{◌≡◌, IfOk, MatchOption};
 ghost use Rattle.std.specs.Option.{option_map};
 ghost use Rattle.gq_rules_meaning.specs.Statements.{assigned};
@@ -23,7 +23,7 @@ use gq_frame::{Frame, Live, set_at};
 use gq_plan_ir::{Expr, SetTypes};
 use std::alloc::Global;
 
-/// Assigns what an expression is. The name of a set variable alone is its set.
+/// Assigns the value of an expression. The name of a set variable alone is its set.
 pub(crate) fn assign_value(
     alloc: Global,
     context: &RunContext<'_>,
@@ -49,7 +49,7 @@ pub(crate) fn assign_value(
     }
 }
 
-/// The place of the name that an expression is, if it is one.
+/// Returns the place of a name, if the expression is one.
 #[tactic(auto, using(gq_plan_ir::proofs::ViewLaws::view_laws))]
 fn name_of(expr: &Expr) -> Option<u32>
     ensures { MatchOption result (IsNoName (view expr.now)) (λ name. view expr.now ≡ Name (Place name)) }
@@ -63,7 +63,7 @@ fn name_of(expr: &Expr) -> Option<u32>
     }
 }
 
-/// A copy of the set at a place, if one is in view.
+/// Returns a copy of the set at a place, if one is in view.
 fn set_copied(
     alloc: Global,
     context: &RunContext<'_>,

@@ -17,7 +17,7 @@ use gq_output::print;
 use gq_plan_ir::PrintItem;
 use std::alloc::Global;
 
-/// Prints an object more.
+/// Prints one more object.
 pub(crate) fn print_more(
     alloc: Global,
     context: &RunContext<'_>,
@@ -38,7 +38,7 @@ pub(crate) fn print_more(
     }
 }
 
-/// What one PRINT prints.
+/// Returns the object that one PRINT prints.
 fn printed(
     alloc: Global,
     context: &RunContext<'_>,

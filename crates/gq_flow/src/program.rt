@@ -1,4 +1,4 @@
-// What single statements do.
+// The effects of single statements.
 ghost use Rattle.std.specs.Prelude.{◌≡◌, OnOk};
 ghost use Rattle.gq_rules_meaning.specs.Runs.{run, condition_of};
 ghost use Rattle.gq_rules_calendar.specs.Gregorian.{gregorian};
@@ -26,7 +26,7 @@ pub struct Program<'a, R> {
 }
 
 impl<'a, R: Threads + Sync> Program<'a, R> {
-    /// A declaration, an assignment, a change of a global accumulator, or PRINT.
+    /// Runs a declaration, an assignment, a change of a global accumulator, or PRINT.
     pub(crate) fn act(&self, step: &Step, r: &mut Running) -> Result<(), RunFault>
         requires sound { AreSound r.old.live.frame.accums }
         ensures does { Does self.now.context.plan.places (run (world_on gregorian self.now.context) (view_step step.now)) r.old r.new result }
@@ -59,7 +59,7 @@ impl<'a, R: Threads + Sync> Program<'a, R> {
         }
     }
 
-    /// Whether a condition holds.
+    /// Evaluates a condition.
     pub(crate) fn truth(&self, condition: &Expr, r: &Running) -> Result<bool, RunFault>
         requires sound { AreSound r.now.live.frame.accums }
         ensures { Tests self.now.context.plan.places (condition_of (world_on gregorian self.now.context) (view condition.now)) r.now result }
@@ -67,7 +67,7 @@ impl<'a, R: Threads + Sync> Program<'a, R> {
         truth(self.alloc, &self.context, condition, &r.live.frame)
     }
 
-    /// How often LIMIT lets a body run; a negative number counts as 0.
+    /// Returns how often a body may run under LIMIT; a negative number counts as 0.
     pub(crate) fn limit(&self, most: &Expr, r: &Running) -> Result<u64, RunFault>
         requires sound { AreSound r.now.live.frame.accums }
         ensures { Limits self.now.context.plan.places (world_on gregorian self.now.context) (view most.now) r.now result }
@@ -75,7 +75,7 @@ impl<'a, R: Threads + Sync> Program<'a, R> {
         limit(self.alloc, &self.context, most, &r.live.frame)
     }
 
-    /// What FOREACH goes over, whose values have the type of a place.
+    /// Returns what FOREACH iterates over, with values of the type of a place.
     pub(crate) fn rounds(&self, place: u32, over: &Over, r: &Running) -> Result<Rounds, RunFault>
         requires sound { AreSound r.now.live.frame.accums }
         ensures { GoesOver self.now.context.plan.places (world_on gregorian self.now.context) place (view_over over.now) r.now result }

@@ -24,9 +24,10 @@ use gq_value::Row;
 use std::alloc::Global;
 use std::thread::Threads;
 
-/// Runs a plan over its arguments, with so many turns: what each PRINT prints, in order. Each entry of a loop's body takes a turn.
+/// Runs a plan over its arguments, with a limit on turns, and returns the object of each PRINT, in order. Each
+/// iteration of a loop takes a turn.
 ///
-/// What is stuck in a plan that isn't that of a checked query is `OutOfMemory`.
+/// A plan that isn't that of a checked query may get stuck, which is `OutOfMemory`.
 pub fn run_query<'x, R: Threads + Sync>(
     workers: &'x Workers<'x, R>,
     alloc: Global,
@@ -46,7 +47,7 @@ pub fn run_query<'x, R: Threads + Sync>(
     }
 }
 
-/// Runs the statements of a plan from what it opens with.
+/// Runs the statements of a plan from its initial values.
 fn run_opened<'x, R: Threads + Sync>(
     workers: &'x Workers<'x, R>,
     alloc: Global,

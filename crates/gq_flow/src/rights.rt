@@ -19,10 +19,10 @@ use gq_plan_ir::{Right, SetTypes};
 use std::alloc::Global;
 use std::thread::Threads;
 
-/// Assigns what stands on the right side to the variable at a place.
+/// Assigns the right side of an assignment to the variable at a place.
 ///
-/// A SELECT gives its accumulators too, and its vertices to a set variable, whose types are fixed where it comes into view. What doesn't fit the
-/// place is `OutOfMemory`.
+/// A SELECT also gives its accumulators, and its vertices to a set variable, whose types are fixed when it comes into
+/// view. Returns `OutOfMemory` for a place that doesn't fit.
 pub fn assign<R: Threads + Sync>(
     workers: &Workers<'_, R>,
     alloc: Global,

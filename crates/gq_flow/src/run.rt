@@ -1,4 +1,4 @@
-// Statements, one after the other.
+// Statements, in order.
 ghost use Rattle.std.specs.Prelude.{◌≡◌, ◌≤◌, ◌<◌, true, false, OnOk, Some, slice_get};
 ghost use Rattle.std.specs.Option.{option_map};
 ghost use Rattle.gq_value.specs.declared.kind.BaseType.{BaseType};
@@ -23,7 +23,7 @@ use gq_plan_ir::{Expr, Over, Step};
 use gq_value::Value;
 use std::thread::Threads;
 
-/// Statements, one after the other, up to the first fault.
+/// Runs statements in order, up to the first fault.
 #[cycle(steps)]
 #[tactic(auto, using(crate::proofs::ControlLemmas::sound_laws))]
 pub fn run_steps<R: Threads + Sync>(
@@ -42,7 +42,7 @@ pub fn run_steps<R: Threads + Sync>(
     Ok(())
 }
 
-/// One statement.
+/// Runs one statement.
 #[cycle(steps)]
 #[tactic(auto, using(crate::proofs::ControlLemmas::sound_laws))]
 fn run_step<R: Threads + Sync>(
@@ -80,7 +80,7 @@ fn run_step<R: Threads + Sync>(
 
 // ---- bodies
 
-/// A body, whose names end with it.
+/// Runs a body, whose names end with it.
 #[cycle(steps)]
 #[tactic(auto, using(crate::proofs::ControlLemmas::sound_laws))]
 fn run_body<R: Threads + Sync>(
@@ -99,7 +99,7 @@ fn run_body<R: Threads + Sync>(
     Ok(())
 }
 
-/// One entry of a loop's body, which takes a turn.
+/// Runs one iteration of a loop's body, which takes a turn.
 #[cycle(steps)]
 #[tactic(auto, using(crate::proofs::ControlLemmas::sound_laws))]
 fn run_turn<R: Threads + Sync>(
@@ -119,7 +119,7 @@ fn run_turn<R: Threads + Sync>(
     run_body(body, program, r)
 }
 
-/// Takes a turn, if one is left. A turn is one entry of a loop's body, and all loops of a run share the turns.
+/// Takes a turn, if one is left. A turn is one iteration of a loop's body, and all loops of a run share the turns.
 fn take_turn(r: &mut Running) -> bool
     ensures taken { result ≡ true → TakesTurn r.old r.new }
     ensures none { result ≡ false → HasNoTurn r.old r.new }
@@ -131,7 +131,8 @@ fn take_turn(r: &mut Running) -> bool
     true
 }
 
-/// WHILE: at each round first the limit, then the condition, then the body. The limit is read once.
+/// Runs WHILE: in each iteration first the limit is checked, then the condition, then the body runs. The limit is
+/// evaluated once.
 #[cycle(steps)]
 #[tactic(auto, using(crate::proofs::ControlLemmas::sound_laws))]
 fn run_while<R: Threads + Sync>(
@@ -155,7 +156,7 @@ fn run_while<R: Threads + Sync>(
     }
 }
 
-/// Rounds of WHILE, so many at most.
+/// Runs the iterations of WHILE, up to a limit.
 #[cycle(steps)]
 #[tactic(auto, using(crate::proofs::ControlLemmas::sound_laws))]
 fn run_rounds<R: Threads + Sync>(
@@ -200,7 +201,7 @@ fn one_less(limit: Option<u64>) -> Option<u64>
 
 // ---- FOREACH
 
-/// FOREACH: what it goes over is fixed before the first round.
+/// Runs FOREACH: what it iterates over is fixed before the first iteration.
 #[cycle(steps)]
 #[tactic(auto, using(crate::proofs::ControlLemmas::sound_laws))]
 fn run_foreach<R: Threads + Sync>(
@@ -219,14 +220,14 @@ fn run_foreach<R: Threads + Sync>(
     run_values(body, place, &values, program, r)
 }
 
-/// How many turns are left.
+/// Returns the number of turns left.
 fn turns_left(r: &Running) -> u64
     ensures { result ≡ r.now.turns }
 {
     r.turns
 }
 
-/// A round for each value.
+/// Runs an iteration for each value.
 #[cycle(steps)]
 #[tactic(auto, using(crate::proofs::ControlLemmas::sound_laws))]
 fn run_values<R: Threads + Sync>(
@@ -242,7 +243,7 @@ fn run_values<R: Threads + Sync>(
     ensures sound { OnOk result (AreSound r.new.live.frame.accums) }
     ensures turns { r.new.turns ≤ r.old.turns }
 {
-    // Each round takes a turn, so there are no more rounds than turns, and their number fits 64 bits.
+    // Each iteration takes a turn, so there are no more iterations than turns, and their number fits in 64 bits.
     let _most = turns_left(r);
     let mut at = 0u64;
     'value: loop {
@@ -254,7 +255,7 @@ fn run_values<R: Threads + Sync>(
     }
 }
 
-/// A round for a value, which takes a turn.
+/// Runs an iteration for a value, which takes a turn.
 #[cycle(steps)]
 #[tactic(auto, using(crate::proofs::ControlLemmas::sound_laws))]
 fn run_value<R: Threads + Sync>(
@@ -277,7 +278,7 @@ fn run_value<R: Threads + Sync>(
     run_named(body, place, value, program, r)
 }
 
-/// A body with a variable of its own.
+/// Runs a body with its own variable.
 #[cycle(steps)]
 #[tactic(auto, using(crate::proofs::ControlLemmas::sound_laws))]
 fn run_named<R: Threads + Sync>(

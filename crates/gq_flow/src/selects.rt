@@ -21,7 +21,7 @@ use gq_workers::run_block;
 use std::alloc::Global;
 use std::thread::Threads;
 
-/// How blocks are worked on: the runtime that has the threads, how the work is cut, and the gate that workers pass.
+/// How blocks are executed: the runtime with the threads, the division of the work, and the gate that workers pass.
 #[derive(Drop)]
 pub struct Workers<'a, R> {
     pub rt: &'a R,
@@ -29,7 +29,7 @@ pub struct Workers<'a, R> {
     pub gate: AnyGate<'a>,
 }
 
-/// What a SELECT gives: the accumulators behind it, and the selected vertices with the types that they may have.
+/// The result of a SELECT: the accumulators after it, and the selected vertices with the types that they may have.
 #[derive(Drop)]
 pub struct Selected {
     pub accums: Accums,
@@ -37,10 +37,11 @@ pub struct Selected {
     pub vertices: VertexList,
 }
 
-/// A whole SELECT: WHERE and ACCUM of all candidates, then POST-ACCUM, then HAVING, ORDER BY and LIMIT. The frame stays as it is.
+/// Runs a whole SELECT: WHERE and ACCUM of all candidates, then POST-ACCUM, then HAVING, ORDER BY and LIMIT. The frame
+/// isn't changed.
 ///
-/// The candidates are listed before any of it, and along a path they are counted: `PathBound` where it has more than
-/// 4,194,304 bindings, whatever WHERE would keep of them.
+/// The candidates are listed first, and along a path they are counted: returns `PathBound` if the path has more than
+/// 4,194,304 bindings, however many of them WHERE would keep.
 pub fn select<R: Threads + Sync>(
     workers: &Workers<'_, R>,
     alloc: Global,
@@ -63,7 +64,7 @@ pub fn select<R: Threads + Sync>(
     }
 }
 
-/// A SELECT of a block with these ends and candidates.
+/// Runs a SELECT of a block with these ends and candidates.
 fn select_among<R: Threads + Sync>(
     workers: &Workers<'_, R>,
     alloc: Global,
@@ -92,7 +93,7 @@ fn select_among<R: Threads + Sync>(
     }
 }
 
-/// POST-ACCUM and the tail, over what a block has left.
+/// Runs POST-ACCUM and the tail, given the result of the block.
 fn posted(
     alloc: Global,
     block: &Block,
@@ -132,7 +133,7 @@ fn with_vertices(after: After, types: List<u32>, vertices: VertexList) -> Select
     }
 }
 
-/// The ends of a block's candidates.
+/// Returns the ends of a block's candidates.
 fn ends_over(alloc: Global, block: &Block, over: &BlockContext<'_>) -> Result<Ends, OutOfMemory>
     ensures { IfOk result (HasEnds over.now.schema over.now.plan over.now.frame.things block.now) }
 {
@@ -140,7 +141,7 @@ fn ends_over(alloc: Global, block: &Block, over: &BlockContext<'_>) -> Result<En
     ends_of(alloc, block, over.graph.catalog, over.plan, things)
 }
 
-/// The types of the target, or of the source.
+/// Returns the types of the target, or of the source.
 fn types_of(ends: Ends, target: bool) -> List<u32>
     ensures { result ≡ (end_at ends target).types }
 {

@@ -1,4 +1,4 @@
-// Set expressions assigned.
+// Assignments of set expressions.
 ghost use Rattle.std.specs.Prelude.{◌≡◌};
 ghost use Rattle.std.specs.Option.{option_map};
 ghost use Rattle.gq_rules_meaning.specs.Answers.{blaming};
@@ -21,7 +21,7 @@ use gq_frame::{Frame, Live};
 use gq_plan_ir::{SetTypes, Sets};
 use std::alloc::Global;
 
-/// Assigns what a set expression holds.
+/// Assigns the vertices of a set expression.
 pub(crate) fn assign_sets(
     alloc: Global,
     context: &RunContext<'_>,
@@ -43,7 +43,7 @@ pub(crate) fn assign_sets(
     }
 }
 
-/// What a set expression holds, with its types.
+/// Returns the vertices of a set expression, with its types.
 fn set_held(
     alloc: Global,
     context: &RunContext<'_>,
@@ -62,7 +62,7 @@ fn set_held(
     or_fault(sets(alloc, expression, &at))
 }
 
-/// Gives a set to the set variable at a place.
+/// Assigns a set to the set variable at a place.
 pub(crate) fn give_set(
     context: &RunContext<'_>,
     place: u32,

@@ -1,4 +1,4 @@
-// Values assigned.
+// Assignments of values.
 ghost use Rattle.std.specs.Prelude.{◌≡◌};
 ghost use Rattle.gq_value.specs.AccumViews.{base_of};
 ghost use Rattle.gq_value.specs.Views.{val};
@@ -21,7 +21,7 @@ use gq_plan_ir::Expr;
 use gq_value::{BaseType, Value};
 use std::alloc::Global;
 
-/// Assigns a value to a variable, converted to its type. A place without a variable in view is `OutOfMemory`.
+/// Assigns a value to a variable, converted to its type. Returns `OutOfMemory` for a place without a variable in view.
 pub(crate) fn assign_variable(
     alloc: Global,
     context: &RunContext<'_>,
@@ -46,7 +46,7 @@ pub(crate) fn assign_variable(
     }
 }
 
-/// The value of an expression, converted to a type.
+/// Returns the value of an expression, converted to a type.
 fn converted_value(
     alloc: Global,
     context: &RunContext<'_>,

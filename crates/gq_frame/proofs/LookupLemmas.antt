@@ -1,4 +1,4 @@
--- NameLemmas: names as they come into view, change and leave.
+-- LookupLemmas: names that are declared, assigned and removed.
 use Rattle.std.proofs.Common.{◌≡◌, ◌≢◌, ◌⊎◌, inl, inr, ℕ, zero, suc, ◌+◌, ◌-◌, ◌<◌, ◌≤◌, ◌==◌, leb, Bool, true, false, cond, List, [], ◌∷◌, ◌++◌, drop, length, reverse, set, Option, Some, None, Result, Ok, Err, OnOk, refl, sym, ap, subst, ◌∙◌, arith}
 use Rattle.std.specs.Prelude.{is_some, if◌then◌else◌}
 use Rattle.std.specs.List.{slice_get}
@@ -55,9 +55,9 @@ set_get (a ∷ xs) (suc i) x e = ap (λ ys. a ∷ ys) (set_get xs i x e)
 same_self : (n : ℕ) → (n == n) ≡ true
 same_self n = grind (arith, nat_tests)
 
--- ---- what a place has once something else stands there
+-- ---- a place after something else was put there
 
--- the rest of the frame as it was, and a name in the place of p's
+-- the frame with another thing at place p
 choice : (places : List PlaceType) (things : List (Option Thing)) (p : ℕ) (old : Option Thing) (thing : Thing) (t : states.Thing) (other : Reference → Option states.Thing)
     → slice_get things p ≡ Some old → held_thing (slice_get places p) (Some (Some thing)) ≡ Some t
     → ((x : Reference) → other x ≡ thing_for places things x)
@@ -81,7 +81,7 @@ choice places things p old thing t other at h o (FieldAt c) = o (FieldAt c)
 choice places things p old thing t other at h o (Calls f) = o (Calls f)
 choice places things p old thing t other at h o (Does m) = o (Does m)
 
--- ---- names that come into view
+-- ---- names that are declared
 
 pub alike_now : (places : List PlaceType) (things : List (Option Thing)) (us : List Undo) (ns : List (Reference × states.Thing)) → Unwinds places things us ns → Alike places things ns
 alike_now places things [] [] h = h
@@ -119,7 +119,7 @@ new_lives places old new u thing s t things log accums at h l = record {
   slots = l.slots ∙ ap slots_are (sym accums);
 }
 
--- ---- names that change
+-- ---- names that are assigned
 
 same_place : (x : Reference) (p : ℕ) → same x (Place p) ≡ true → x ≡ Place p
 same_place (Place n) p e = ap Place (eqb-true n p e)
@@ -160,7 +160,7 @@ not_both p r (FieldAt c) d y = refl
 not_both p r (Calls f) d y = refl
 not_both p r (Does m) d y = refl
 
--- a name that is in view stands for the new thing, and all others for what they did
+-- a visible name refers to the new thing, and all others to what they did
 under_changed : (p : ℕ) (old t : states.Thing) (ns : List (Reference × states.Thing)) (x : Reference) → under same (Place p) ns ≡ Some old
     → under same x (changed same (Place p) t ns) ≡ cond (same (Place p) x) (Some t) (under same x ns)
 under_changed p old t [] x e = cc
@@ -176,7 +176,7 @@ under_changed p old t (n ∷ ns) x e = by_name (λ d. under_changed p old t ns x
         ∙ ap (cond (same n.0 x) (Some n.1)) (next d)
         ∙ exchanged (same n.0 x) (same (Place p) x) (Some n.1) (Some t) (under same x ns) (not_both p n.0 x d)
 
--- a place whose name is in view has something
+-- a place whose name is visible has something
 nothing : (held : Option PlaceType) (old : states.Thing) → held_thing held None ≡ Some old → ⊥
 nothing None old h = cc
 nothing (Some (held.Variable b)) old h = cc
@@ -254,7 +254,7 @@ named_by f p t s = if is_some (under f (Place p) s.names) then (record s { names
 pub seen_there : (places : List PlaceType) (live : Live) (p : ℕ) (s : State Reference) → Lives places live s → under same (Place p) s.names ≡ thing_in places live.frame.things p
 seen_there places live p s l = (alike_now places live.frame.things (reverse live.undo.items) s.names l.names).each (Place p)
 
--- a name that is in view
+-- a visible name
 pub assigned_lives : (places : List PlaceType) (old new : Live) (p : ℕ) (thing : Thing)
     → is_some (thing_in places old.frame.things p) ≡ true
     → new.frame.things ≡ set old.frame.things p (Some thing) → new.undo.items ≡ old.undo.items → new.frame.accums ≡ old.frame.accums
@@ -277,9 +277,9 @@ declared_lives places old new p thing d next world s t w l h =
     (subst (λ b. Lives places new (if b then (record s { names = changed same (Place p) t s.names }) else with_new (Place p) t s)) (sym (ap is_some (seen_there places old p s l) ∙ d))
     (next places s t l h))
 
--- ---- names that leave
+-- ---- names that are removed
 
--- the last name leaves
+-- the last name is removed
 pub last_leaves : (places : List PlaceType) (things : List (Option Thing)) (log rest : List Undo) (u : Undo) (ns : List (Reference × states.Thing))
     → log ≡ rest ++ u ∷ [] → Unwinds places things (reverse log) ns → Unwinds places (set things u.place u.was) (reverse rest) (drop 1 ns)
 last_leaves places things log rest u ns e l = one ns (subst (λ us. Unwinds places things us ns) (ap reverse e ∙ reverse-append rest (u ∷ [])) l)

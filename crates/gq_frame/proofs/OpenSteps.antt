@@ -1,5 +1,5 @@
 -- OpenSteps: contents one by one, for each target of each slot.
-use Rattle.std.proofs.Common.{◌≡◌, ℕ, zero, suc, ◌+◌, ◌<◌, ◌≤◌, List, [], ◌∷◌, ◌++◌, take, length, get_or, Some, refl, sym, ap, ◌∙◌, subst, arith, length-append}
+use Rattle.std.proofs.Common.{◌≡◌, ℕ, suc, ◌+◌, ◌<◌, ◌≤◌, List, [], ◌∷◌, ◌++◌, take, length, get_or, Some, refl, sym, ap, ◌∙◌, subst, arith, length-append}
 use Rattle.std.specs.List.{slice_get}
 use Rattle.std.proofs.lemmas.List.{length-map}
 use Rattle.std.proofs.Math.Seq.{take-length}
@@ -21,7 +21,7 @@ some_is h = cc
 abbrev pub OpenAt : Slots → List Content → ℕ → ℕ → Slot → Type 0
 OpenAt slots cs at v s = ShowsAt cs (number_of slots at v) (accum_of s.kind) (fresh (accum_of s.kind))
 
--- midway: the targets of i slots stand, and j of the next
+-- midway: the targets of i slots are open, and j of the next slot
 pub record OpenTo (slots : Slots) (i j : ℕ) (cs : List Content) : Type 0 where
   pub count : length cs ≡ number_of slots i j
   pub done : (at v : ℕ) (s : Slot) → slice_get slots.declared at ≡ Some s → v < targets_of slots.vertices s → at < i → OpenAt slots cs at v s
@@ -76,46 +76,30 @@ open_all slots i cs l m u = record {
 
 -- ---- copies
 
-abbrev pub SameEach : List Content → List Content → Type 0
-SameEach [] [] = Unit {0}
-SameEach [] (y ∷ ys) = ⊥
-SameEach (x ∷ xs) [] = ⊥
-SameEach (x ∷ xs) (y ∷ ys) = ShowsTheSame x y × SameEach xs ys
-
 -- a content that is the other
 pub shows_itself : (c d : Content) → c ≡ d → ShowsTheSame c d
 shows_itself c d e = record { each = λ k h s. subst (λ x. Shows k x h) e s }
 
-pub same_first : (cs : List Content) → cs ≡ [] → SameEach [] cs
-same_first cs e = subst (SameEach []) (sym e) tt
+pub same_first : (cs : List Content) → cs ≡ [] → ShowTheSame [] cs
+same_first cs e = subst (ShowTheSame []) (sym e) tt
 
-same_last : (xs ys : List Content) (x y : Content) → ShowsTheSame x y → SameEach xs ys → SameEach (xs ++ x ∷ []) (ys ++ y ∷ [])
+same_last : (xs ys : List Content) (x y : Content) → ShowsTheSame x y → ShowTheSame xs ys → ShowTheSame (xs ++ x ∷ []) (ys ++ y ∷ [])
 same_last [] [] x y h s = (h, tt)
 same_last [] (d ∷ ys) x y h s = absurd s
 same_last (c ∷ xs) [] x y h s = absurd s
 same_last (c ∷ xs) (d ∷ ys) x y h s = (s.0, same_last xs ys x y h s.1)
 
-pub same_more : (xs : List Content) (i : ℕ) (x y : Content) (ys ys' : List Content) → i < length xs → x ≡ get_or xs i x → ShowsTheSame x y → ys' ≡ ys ++ y ∷ [] → SameEach (take i xs) ys → SameEach (take (i + 1) xs) ys'
-same_more xs i x y ys ys' l is h more s = subst (SameEach (take (i + 1) xs)) (sym more) (subst (λ t. SameEach t (ys ++ y ∷ [])) (sym (take_more xs i x l is)) (same_last (take i xs) ys x y h s))
+pub same_more : (xs : List Content) (i : ℕ) (x y : Content) (ys ys' : List Content) → i < length xs → x ≡ get_or xs i x → ShowsTheSame x y → ys' ≡ ys ++ y ∷ [] → ShowTheSame (take i xs) ys → ShowTheSame (take (i + 1) xs) ys'
+same_more xs i x y ys ys' l is h more s = subst (ShowTheSame (take (i + 1) xs)) (sym more) (subst (λ t. ShowTheSame t (ys ++ y ∷ [])) (sym (take_more xs i x l is)) (same_last (take i xs) ys x y h s))
 
-same_length : (xs ys : List Content) → SameEach xs ys → length ys ≡ length xs
+pub same_length : (xs ys : List Content) → ShowTheSame xs ys → length ys ≡ length xs
 same_length [] [] s = refl
 same_length [] (y ∷ ys) s = absurd s
 same_length (x ∷ xs) [] s = absurd s
 same_length (x ∷ xs) (y ∷ ys) s = ap suc (same_length xs ys s.1)
 
-same_at : (xs ys : List Content) → SameEach xs ys → (t : ℕ) (k : Accum) (h : Holds k) (c : Content) → slice_get xs t ≡ Some c → Shows k c h → ShowsAt ys t k h
-same_at [] [] s t k h c g w = absurd (cc g)
-same_at [] (y ∷ ys) s t k h c g w = absurd s
-same_at (x ∷ xs) [] s t k h c g w = absurd s
-same_at (x ∷ xs) (y ∷ ys) s zero k h c g w = record { content = y; stands = refl; shows = s.0.each k h (subst (λ (d : Content). Shows k d h) (sym (some_is g)) w) }
-same_at (x ∷ xs) (y ∷ ys) s (suc t) k h c g w = let r = same_at xs ys s.1 t k h c g w in record { content = r.content; stands = r.stands; shows = r.shows }
-
-pub show_the_same : (xs : List Content) (i : ℕ) (ys : List Content) → length xs ≤ i → i ≤ length xs → SameEach (take i xs) ys → ShowTheSame xs ys
-show_the_same xs i ys l m s = all (subst (λ t. SameEach t ys) whole s)
+pub show_the_same : (xs : List Content) (i : ℕ) (ys : List Content) → length xs ≤ i → i ≤ length xs → ShowTheSame (take i xs) ys → ShowTheSame xs ys
+show_the_same xs i ys l m s = subst (λ t. ShowTheSame t ys) whole s
   where
     whole : take i xs ≡ xs
     whole = (let e : i ≡ length xs = omega (arith, l, m) in ap (λ n. take n xs) e) ∙ take-length xs
-
-    all : SameEach xs ys → ShowTheSame xs ys
-    all r = record { count = same_length xs ys r; each = λ t k h w. same_at xs ys r t k h w.content w.stands w.shows }

@@ -1,4 +1,4 @@
--- TargetLemmas: what stands at places of lists, and how many targets the first slots have.
+-- TargetLemmas: items of lists by their index, and the number of targets of the first slots.
 use Rattle.std.proofs.Common.{◌≡◌, ℕ, zero, suc, ◌+◌, ◌*◌, ◌^◌, ◌<◌, ◌≤◌, List, [], ◌∷◌, ◌++◌, take, length, get_or, Some, None, refl, sym, ap, ◌∙◌, arith}
 use Rattle.std.specs.List.{slice_get}
 use Rattle.gq_value.specs.declared.kind.Slot.{Slot}
@@ -63,7 +63,7 @@ count_next : (vertices : ℕ) (ds : List Slot) (s : Slot) → target_count verti
 count_next vertices [] s = omega arith
 count_next vertices (d ∷ ds) s = let e = count_next vertices ds s in omega (arith, e)
 
--- the targets of as many slots as were gone over
+-- the number of targets of the slots visited so far
 pub record CountsTo (vertices : ℕ) (ds : List Slot) (i n : ℕ) : Type 0 where
   pub count : n ≡ target_count vertices (attached_in (take i ds))
   pub few : n ≤ i * 2 ^ 32
@@ -81,7 +81,7 @@ take_whole [] (suc i) h = refl
 take_whole (x ∷ xs) zero h = absurd (omega (arith, h))
 take_whole (x ∷ xs) (suc i) h = ap (λ t. x ∷ t) (take_whole xs i (omega (arith, h)))
 
--- the targets of all slots before one
+-- the number of targets of all earlier slots
 pub counts_all : (vertices : ℕ) (ds items : List Slot) (at i n m v : ℕ) → items ≡ ds → length (take at items) ≤ i → m ≡ v → CountsTo vertices (take at items) i n → n + m ≡ target_count vertices (take at (attached_in ds)) + v
 counts_all vertices ds items at i n m v e l f c =
     let a : n ≡ target_count vertices (take at (attached_in ds)) =

@@ -1,5 +1,6 @@
 pub mod Targets
-pub mod Lends
+pub mod Pages
+pub mod Ints
 pub mod Names
 pub mod Slots
 pub mod Shows

@@ -1,4 +1,4 @@
--- Lives: when what is live shows a state of the definitions, now and once names have left view.
+-- Lives: when a frame with its undo log shows a state of the definitions, now and after names have been removed.
 use Rattle.std.specs.Prelude.{◌≡◌, ℕ, List, [], ◌∷◌, Option, reverse, drop, slice_set}
 use Rattle.gq_rules_typing.specs.Words.{under}
 use Rattle.gq_rules_meaning.specs.States as states
@@ -12,21 +12,21 @@ use Rattle.gq_frame.specs.Slots.{slots_are}
 use Rattle.gq_frame.specs.declared.live.Live.{Live}
 use Rattle.gq_frame.specs.declared.live.Undo.{Undo}
 
--- a name is in view exactly where its place has something, and it is the same
+-- a name is visible exactly if its place has something, and both are the same
 pub record Alike (places : List PlaceType) (things : List (Option Thing)) (names : List (Reference × states.Thing)) : Type 0 where
   pub each : (x : Reference) → under same x names ≡ thing_for places things x
 
--- with each entry undone, from the last one on, a name is gone, and those before it are in view as they were
+-- undoing the entries one by one, the last one first, removes one name each and leaves the earlier names visible as before
 abbrev pub Unwinds : List PlaceType → List (Option Thing) → List Undo → List (Reference × states.Thing) → Type 0
 Unwinds places things [] [] = Alike places things []
 Unwinds places things (u ∷ us) (n ∷ ns) = Alike places things (n ∷ ns) × (n.0 ≡ Place u.place) × Unwinds places (slice_set things u.place u.was) us ns
 Unwinds places things _ _ = ⊥
 
--- it shows the state, and as many names as leave view
+-- it shows the state, with an undo entry for each of its names
 pub record Lives (places : List PlaceType) (live : Live) (s : State Reference) : Type 0 where
   pub names : Unwinds places live.frame.things (reverse live.undo.items) s.names
   pub slots : s.slots ≡ slots_are live.frame.accums
 
--- so many names gone
+-- a state without its k last names
 abbrev pub without : ℕ → State Reference → State Reference
 without k s = record s { names = drop k s.names }

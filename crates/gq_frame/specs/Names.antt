@@ -1,4 +1,4 @@
--- Names: what stands at a place of the frame, in the words of the definitions. Aliases go before variables and sets.
+-- Names: what a place of the frame has, in the terms of the definitions. Aliases take precedence over variables and sets.
 use Rattle.std.specs.Prelude.{ℕ, ◌==◌, List, map, Option, Some, None, slice_get}
 use Rattle.std.specs.Option.{option_or, option_map}
 use Rattle.gq_value.specs.Views.{val}
@@ -19,8 +19,8 @@ use Rattle.gq_frame.specs.declared.frame.Thing.TheVariants as thing
 
 -- ---- aliases
 
--- what an alias stands for, behind its types: a vertex, an edge with the type under which it was walked, or within `S[..]` the
--- set and the vertex in turn
+-- what an alias refers to, after its types: a vertex, an edge with the type under which it was walked, or within `S[..]` the
+-- set and the current vertex
 pub data Placed : Type 0 where
   AVertex : List ℕ → ℕ → Placed
   AnEdge : ℕ → ℕ → Placed
@@ -49,7 +49,7 @@ aliases_named aliases = map alias_named aliases
 
 -- ---- places
 
--- what stands at a place, with the type that the plan says
+-- what a place has, with the type that the plan gives to it
 abbrev pub held_thing : Option PlaceType → Option (Option Thing) → Option states.Thing
 held_thing (Some (held.Variable b)) (Some (Some (thing.Value v))) = Some (Variable (base_of b) (val v))
 held_thing (Some (held.Set types)) (Some (Some (thing.Set vs))) = Some (SetOf types vs)

@@ -9,7 +9,7 @@ use Rattle.gq_frame.specs.declared.frame.Frame.{Frame}
 use Rattle.gq_frame.specs.Names.{thing_for}
 use Rattle.gq_frame.specs.Slots.{slots_are}
 
--- a name is visible in the state exactly where the frame has something at its place, and they are the same; the accumulators too
+-- a name is visible in the state exactly if the frame has something at its place, and both are the same; so are accumulators
 pub record Shows (places : List PlaceType) (f : Frame) (s : State Reference) : Type 0 where
   pub names : (x : Reference) → under same x s.names ≡ thing_for places f.things x
   pub slots : s.slots ≡ slots_are f.accums

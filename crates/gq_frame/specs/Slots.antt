@@ -1,5 +1,5 @@
 -- Slots: the accumulators of a query, as the definitions have them.
--- The code has the contents of all targets in one row.
+-- The code has the contents of all targets in one list.
 use Rattle.std.specs.Prelude.{◌≡◌, ℕ, suc, ◌<◌, List, [], ◌∷◌, map, take, drop, slice_get, Some, Result}
 use Rattle.gq_value.specs.declared.kind.Slot.{Slot}
 use Rattle.gq_value.specs.AccumViews.{accum_of}
@@ -21,7 +21,7 @@ use Rattle.gq_eval_operand.specs.Sound.{IsSound}
 abbrev pub slot_seen : ℕ → Slot → List Content → states.Slot Reference
 slot_seen n s cs = record { name = reference.Slot n; attached = s.attached; kind = accum_of s.kind; contents = map (λ c. view (accum_of s.kind) (out-Content c)) cs }
 
--- the slots from a number on, with the contents of all of their targets
+-- the slots from number n on, with the contents of all their targets
 abbrev pub slots_from : ℕ → ℕ → List Slot → List Content → List (states.Slot Reference)
 slots_from vertices n [] cs = []
 slots_from vertices n (s ∷ ss) cs = slot_seen n s (take (targets_of vertices s) cs) ∷ slots_from vertices (suc n) ss (drop (targets_of vertices s) cs)
@@ -34,6 +34,6 @@ pub record AreSound (a : Accums) : Type 0 where
   pub each : (n vertex : ℕ) (s : Slot) (c : Content) → slice_get a.slots.declared n ≡ Some s → vertex < targets_of a.slots.vertices s
       → slice_get a.contents (number_of a.slots n vertex) ≡ Some c → IsSound (accum_of s.kind) c
 
--- the answer is what the accumulator reads as, in any world of a plan
+-- the result is what the accumulator reads as, in any world of a plan
 pub record ReadsAs (a : Accums) (n vertex : ℕ) (result : Result Seen Halt) : Type 0 where
   pub each : (world : World Reference) → world.words.same ≡ same → Tells meant (states.read_slot world (slots_are a) (reference.Slot n) vertex) result

@@ -1,6 +1,6 @@
--- Targets: what stands at each target of the accumulators that a query declares.
--- The number of a target is gq_accum_laws's. The code has the contents in one row, and opens it in one pass.
-use Rattle.std.specs.Prelude.{if◌then◌else◌, ◌≡◌, ℕ, ◌<◌, Bool, List, map, length, slice_get, Some}
+-- Targets: the content at each target of the accumulators that a query declares.
+-- gq_accum_laws defines the number of a target. The code has the contents in one list, in the order of these numbers.
+use Rattle.std.specs.Prelude.{if◌then◌else◌, ◌≡◌, ℕ, ◌<◌, Bool, List, [], ◌∷◌, map, length, slice_get, Some}
 use Rattle.gq_value.specs.declared.kind.Slot.{Slot}
 use Rattle.gq_value.specs.Accums.{Accum}
 use Rattle.gq_value.specs.AccumViews.{accum_of}
@@ -8,14 +8,14 @@ use Rattle.gq_accum_laws.specs.Holds.{Holds}
 use Rattle.gq_accum_laws.specs.After.{fresh}
 use Rattle.gq_accum_laws.specs.Targets.{target_count, target_number}
 use Rattle.gq_nest.specs.declared.content.Content.{Content}
-use Rattle.gq_nest.specs.Shows.{Shows}
+use Rattle.gq_nest.specs.Shows.{Shows, ShowsTheSame}
 use Rattle.gq_frame.specs.declared.slots.Slots.{Slots}
 
 -- which of the slots are attached
 abbrev pub attached_in : List Slot → List Bool
 attached_in slots = map (λ s. s.attached) slots
 
--- how many targets a slot has
+-- the number of targets of a slot
 abbrev pub targets_of : ℕ → Slot → ℕ
 targets_of vertices s = if s.attached then vertices else 1
 
@@ -23,7 +23,7 @@ targets_of vertices s = if s.attached then vertices else 1
 abbrev pub number_of : Slots → ℕ → ℕ → ℕ
 number_of slots at vertex = target_number slots.vertices (attached_in slots.declared) at vertex
 
--- what stands at a target shows this
+-- the content at a target shows this
 pub record ShowsAt (contents : List Content) (target : ℕ) (k : Accum) (h : Holds k) : Type 0 where
   pub content : Content
   pub stands : slice_get contents target ≡ Some content
@@ -36,6 +36,7 @@ pub record AreOpen (slots : Slots) (contents : List Content) : Type 0 where
       → ShowsAt contents (number_of slots at vertex) (accum_of s.kind) (fresh (accum_of s.kind))
 
 -- as many contents, and each shows what the one in its place shows
-pub record ShowTheSame (old new : List Content) : Type 0 where
-  pub count : length new ≡ length old
-  pub each : (target : ℕ) (k : Accum) (h : Holds k) → ShowsAt old target k h → ShowsAt new target k h
+abbrev pub ShowTheSame : List Content → List Content → Type 0
+ShowTheSame [] [] = Unit {0}
+ShowTheSame (c ∷ cs) (d ∷ ds) = ShowsTheSame c d × ShowTheSame cs ds
+ShowTheSame _ _ = ⊥

@@ -1,39 +1,39 @@
-// What a query holds.
+// The state of a running query.
 use crate::accums::Accums;
 use gq_base::List;
 use gq_index::VertexList;
 use gq_value::Value;
 
-/// What stands at a place: a value or a set.
+/// What a name refers to: a value or a set.
 #[derive(Drop)]
 pub enum Thing {
     Value(Value),
     Set(VertexList),
 }
 
-/// What names and accumulators hold while a query runs.
+/// The values of names and the contents of accumulators while a query runs.
 ///
-/// A variable or a set has a place of the plan. A place whose name isn't visible has nothing.
+/// Each variable and each set has a place, by its number in the plan. The place of a name that isn't visible is `None`.
 #[derive(Drop)]
 pub struct Frame {
     pub things: List<Option<Thing>>,
     pub accums: Accums,
 }
 
-/// What an alias stands for. Types are those that the alias may have, by their numbers.
+/// What an alias refers to. Types are those that the alias may have, by their numbers.
 #[derive(Clone, Copy)]
 pub enum Bound<'a> {
-    /// A vertex, behind its types.
+    /// A vertex, after its types.
     Vertex(&'a [u32], u32),
 
     /// An edge, and the type under which it was walked.
     Edge(u32, u32),
 
-    /// Within `S[..]` the types of the set, the set, and the vertex in turn.
+    /// Within `S[..]`: the types of the set, the set, and the current vertex.
     Member(&'a [u32], &'a [u32], u32),
 }
 
-/// An alias, by its place.
+/// An alias and its place.
 #[derive(Clone, Copy)]
 pub struct Alias<'a> {
     pub place: u32,

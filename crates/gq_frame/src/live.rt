@@ -1,4 +1,4 @@
-// What is live, and how names come and go.
+// Scopes: how names come into view and leave it.
 ghost use Rattle.std.specs.Prelude.{◌≡◌, ◌-◌, ℕ, List, Some, OnOk, length, is_some, slice_get, slice_set};
 ghost use Rattle.gq_rules_meaning.specs.Expressions.{World};
 ghost use Rattle.gq_rules_meaning.specs.States as states;
@@ -14,14 +14,14 @@ use gq_base::OutOfMemory;
 use gq_plan_ir::PlaceType;
 use std::mem::replace;
 
-/// What stood at a place before a name came into view there.
+/// The former content of a place, which a name hides.
 #[derive(Drop)]
 pub struct Undo {
     pub place: u32,
     pub was: Option<Thing>,
 }
 
-/// What names and accumulators hold while a query runs, and what the names in view hide, the last one last.
+/// The frame of a running query, and what its visible names hide, with the last name's entry last.
 #[derive(Drop)]
 pub struct Live {
     pub frame: Frame,
@@ -29,7 +29,7 @@ pub struct Live {
 }
 
 impl Live {
-    /// How many names are in view.
+    /// The number of visible names.
     #[tactic(auto, using(crate::proofs::LookupLemmas::as_many))]
     pub fn mark(&self) -> usize
         ensures { (places : List PlaceType) (s : State Reference) → Lives places self.now s → result ≡ length s.names }
@@ -37,7 +37,8 @@ impl Live {
         self.undo.len()
     }
 
-    /// Brings a name into view, in front of all others.
+    /// Declares a name, which hides an earlier one of the same place. Returns `OutOfMemory` for a place past the frame's
+    /// end, too.
     pub fn declare(&mut self, place: u32, thing: Thing) -> Result<(), OutOfMemory>
         ensures names { OnOk result ((places : List PlaceType) (s : State Reference) (t : states.Thing) → Lives places self.old s
             → held_thing (slice_get places place) (Some (Some thing)) ≡ Some t → Lives places self.new (with_new (Place place) t s)) }
@@ -51,7 +52,7 @@ impl Live {
         Ok(())
     }
 
-    /// Gives a name what it stands for. One that is in view keeps its place among the names, another comes into view.
+    /// Assigns a value or a set to a name. A visible name keeps its scope; another name is declared.
     pub fn assign(
         &mut self,
         places: &[PlaceType],
@@ -70,7 +71,7 @@ impl Live {
         }
     }
 
-    /// Whether a name is in view.
+    /// Whether a name is visible.
     pub fn has(&self, places: &[PlaceType], place: u32) -> bool
         ensures { result ≡ is_some (thing_in places.now self.now.frame.things place) }
     {
@@ -83,7 +84,7 @@ impl Live {
         }
     }
 
-    /// Takes names out of view, the last one first, until so many are left; what they hid is in view again.
+    /// Removes names, the last one first, until `mark` are left. What they hid is visible again.
     pub fn leave(&mut self, mark: usize)
         ensures names { (places : List PlaceType) (s : State Reference) → Lives places self.old s → Lives places self.new (without (length s.names - mark) s) }
         ensures accums { self.new.frame.accums ≡ self.old.frame.accums }
@@ -93,7 +94,7 @@ impl Live {
         }
     }
 
-    /// Takes the last name out of view.
+    /// Removes the last name.
     fn leave_last(&mut self)
         ensures names { (places : List PlaceType) (s : State Reference) → Lives places self.old s → Lives places self.new (without 1 s) }
         ensures accums { self.new.frame.accums ≡ self.old.frame.accums }
@@ -103,7 +104,7 @@ impl Live {
         }
     }
 
-    /// Puts back what stood at a place.
+    /// Restores the former content of a place.
     fn restore(&mut self, undo: Undo)
         ensures things { self.new.frame.things ≡ slice_set self.old.frame.things undo.place undo.was }
         ensures accums { self.new.frame.accums ≡ self.old.frame.accums }
@@ -116,7 +117,7 @@ impl Live {
     }
 }
 
-/// Whether a thing is what the plan says of its place.
+/// Whether a thing has the sort that the plan gives to its place.
 fn fits(held: &PlaceType, thing: &Thing) -> bool
     ensures { result ≡ is_some (held_thing (Some held.now) (Some (Some thing.now))) }
 {

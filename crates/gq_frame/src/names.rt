@@ -1,4 +1,4 @@
-// What names stand for.
+// Name look-up.
 ghost use Rattle.std.specs.Prelude.{◌≡◌, ◌==◌, IfOk, MatchOption, Some, false, map, slice_get};
 ghost use Rattle.std.specs.Option.{option_map};
 ghost use Rattle.gq_eval_operand.specs.Types.{vertex_base};
@@ -17,7 +17,7 @@ use gq_index::VertexList;
 use gq_plan_ir::PlaceType;
 use gq_value::Value;
 
-/// What the name at a place stands for: the first alias of the place, or else the variable or the set that is there. Takes no memory.
+/// Looks up the name of a place: the first alias of the place, or else the variable or the set there. Doesn't allocate.
 pub fn named<'a>(
     aliases: &[Alias<'a>],
     places: &'a [PlaceType],
@@ -33,7 +33,7 @@ pub fn named<'a>(
     }
 }
 
-/// The types and the vertices of the set at a place, if one is in view. Takes no memory.
+/// The types and the vertices of the set at a place, if it is visible. Doesn't allocate.
 pub fn set_at<'a>(
     places: &'a [PlaceType],
     things: &'a [Option<Thing>],

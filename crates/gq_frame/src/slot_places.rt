@@ -1,4 +1,4 @@
-// What accumulators read as.
+// Reading accumulators.
 ghost use Rattle.std.specs.Prelude.{IfOk};
 ghost use Rattle.gq_eval_operand.specs.Sound.{Sound};
 ghost use Rattle.gq_frame.specs.Slots.{AreSound, ReadsAs};
@@ -6,8 +6,8 @@ ghost use Rattle.gq_frame.specs.Slots.{AreSound, ReadsAs};
 use crate::accums::Accums;
 use gq_eval_operand::{Halt, Seen, read};
 
-/// What stands at a target of accumulators, by its slot and its vertex, which is 0 for a global one. It takes a step for each slot
-/// before, and no memory.
+/// Reads an accumulator, by its slot and its vertex, which is 0 for a global one. Takes a step for each earlier slot.
+/// Doesn't allocate.
 #[tactic(auto, using(crate::proofs::SlotLemmas::slot_laws))]
 pub fn read_target<'a>(accums: &'a Accums, slot: u32, vertex: u32) -> Result<Seen<'a>, Halt>
     requires { AreSound accums.now }

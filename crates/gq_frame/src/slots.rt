@@ -1,4 +1,4 @@
-// Slots, and the numbers of their targets.
+// Slots and target numbers.
 ghost use Rattle.std.specs.Prelude.{if◌then◌else◌, ◌≡◌, ◌<◌, length, IfOk};
 ghost use Rattle.gq_frame.specs.Targets.{number_of, targets_of};
 
@@ -6,14 +6,14 @@ use gq_base::{List, OutOfMemory};
 use gq_value::Slot;
 use std::alloc::Global;
 
-/// The accumulators that a query declares, in order, and how many vertices the store has.
+/// The accumulators that a query declares, in order, and the number of vertices of the store.
 #[derive(Debug, Drop)]
 pub struct Slots {
     pub declared: List<Slot>,
     pub vertices: u32,
 }
 
-/// How many targets an accumulator has: one for each vertex where it is attached, and one where it is global.
+/// The number of targets of an accumulator: one for each vertex if it is attached, and one if it is global.
 pub fn targets(attached: bool, vertices: u32) -> u32
     ensures { result ≡ (if attached then vertices else 1) }
 {
@@ -21,10 +21,10 @@ pub fn targets(attached: bool, vertices: u32) -> u32
 }
 
 impl Slots {
-    /// The number of a target: all targets of the slots before, and the vertex, which is 0 where the slot isn't attached.
+    /// The index of a target in the array of all targets. The vertex is 0 for a slot that isn't attached.
     ///
-    /// It takes a step for each slot before. Targets of one slot stand in order of vertex, so one call serves them all.
-    /// Takes no memory.
+    /// Takes a step for each earlier slot. The targets of one slot are in order of their vertices, so one call serves
+    /// all of them. Doesn't allocate.
     pub fn target(&self, slot: u32, vertex: u32) -> u64
         requires { slot < length self.now.declared }
         ensures { result ≡ number_of self.now slot vertex }
@@ -36,14 +36,14 @@ impl Slots {
         number + u64::from(vertex)
     }
 
-    /// How many targets a slot has.
+    /// The number of targets of a slot.
     pub fn targets(&self, slot: &Slot) -> u32
         ensures { result ≡ targets_of self.now.vertices slot.now }
     {
         targets(slot.attached, self.vertices)
     }
 
-    /// Equal slots with memory of their own.
+    /// Copies the slots.
     pub fn duplicate(&self, alloc: Global) -> Result<Slots, OutOfMemory>
         ensures { IfOk result (λ copy. copy ≡ self.now) }
     {

@@ -1,4 +1,5 @@
--- ExactLemmas: two that may begin alike, where the first is known to find nothing where the second stands.
+-- ExactLemmas: two alternatives with a common beginning, if the first is known to find nothing at the start of the
+-- second.
 use Rattle.std.proofs.Common.{◌≡◌, ℕ, zero, suc, ◌+◌, ◌<◌, ◌≤◌, List, [], ◌∷◌, ◌++◌, length, Bool, true, false, Option, Some, None, ◌⊎◌, inl, inr, ⊎_elim, refl, sym, ap, ◌∙◌, subst, arith, append_assoc, append-nil, length-append}
 use Rattle.gq_grammar.specs.Lexemes.{Lexeme, Lexemes, Terminal, is_of, nothing}
 use Rattle.gq_grammar.specs.Languages.{Language, Token, ◌then◌, Many, Maybe, ◌∣◌, Made}
@@ -10,7 +11,7 @@ use Rattle.gq_grammar.proofs.ThenLemmas.{both_some, spelled_both, goes_both}
 use Rattle.gq_grammar.proofs.MadeLemmas.{or_some, either_first, either_second, maybe_takes}
 use Rattle.gq_grammar.proofs.ManyLemmas.{many_from-zero, many_from-suc, many_is, many_begins, many_takes}
 
--- what begins otherwise isn't found
+-- a parser finds nothing at a lexeme with which its language doesn't begin
 pub opens_none : {A : Type 0} {n : ℕ} {D D' : Language A} {p : Parser A} {fs cs : List Terminal} (gs : List Terminal) → Reads n D D' p fs cs → disjoint fs gs ≡ true → (l : Lexemes) → Starts gs l → p l ≡ None
 opens_none {p = p} {fs = fs} gs r apart' l s = ⊎_elim
     (λ none. none)
@@ -21,12 +22,12 @@ token_none : {A : Type 0} (tell : Lexeme → Unit {0}) (t : Lexeme) (l : Lexemes
 token_none tell t l true q h = ap (λ o. and_then (and_then o (λ b s. Some ((tell t, b), s))) (λ a r. Some (second a, r))) h
 token_none tell t l false q h = refl
 
--- behind one lexeme nothing is found
+-- after its first lexeme, nothing is found
 pub after_none : {A : Type 0} (k : Terminal) (q : Parser A) (t : Lexeme) (l : Lexemes) → q l ≡ None → after k q (t ∷ l) ≡ None
 unfolding after one token
 after_none k q t l h = token_none nothing t l (is_of k t) q h
 
--- ---- one of two
+-- ---- alternatives
 
 pub apart_reads : {A : Type 0} {n : ℕ} {D D' E E' : Language A} {p q : Parser A} {fs cs gs hs : List Terminal} → Reads n D D' p fs cs → Reads n E E' q gs hs
     → ((a : A) (x y : Lexemes) → E a x → length (x ++ y) ≤ n → p (x ++ y) ≡ None) → Reads n (◌∣◌ D E) (◌∣◌ D' E') (◌or◌ p q) (fs ++ gs) (cs ++ hs)
@@ -43,9 +44,9 @@ apart_reads {n = n} {D = D} {D' = D'} {E = E} {E' = E'} {p = p} {q = q} {fs = fs
       d;
 }
 
--- ---- what may be left out, and then another
+-- ---- an optional part, and then another
 
--- the first stops where the second stands
+-- the first part stops at the start of the second
 pub lead_exact : {A B : Type 0} {n : ℕ} {D D' : Language A} {E E' : Language B} {p : Parser A} {q : Parser B} {fs cs gs hs : List Terminal} → Takes n D D' p fs cs → Reads n E E' q gs hs
     → ((a : A) (b : B) (u v y : Lexemes) → D a u → E b v → length (u ++ (v ++ y)) ≤ n → p (u ++ (v ++ y)) ≡ Some (a, v ++ y)) → Reads n (◌then◌ D E) (◌then◌ D' E') (both p q) (fs ++ gs) hs
 lead_exact {n = n} {D' = D'} {E' = E'} {p = p} {q = q} {fs = fs} {gs = gs} {hs = hs} f g stops = record {
@@ -65,7 +66,7 @@ lead_exact {n = n} {D' = D'} {E' = E'} {p = p} {q = q} {fs = fs} {gs = gs} {hs =
       (g.whole c.1 d.1 y d.4 (no_longer n x y d.0 d.1 le d.2));
 }
 
--- a run of items stops where none stands
+-- a run of items stops at a lexeme that begins none
 many_stops : {A : Type 0} {D D' : Language A} {n : ℕ} {p : Parser A} {fs cs : List Terminal} → Reads n D D' p fs cs → disjoint cs fs ≡ true → (items found : List A) (k : ℕ) (x y : Lexemes) → Many D items x → length (x ++ y) ≤ k → length (x ++ y) ≤ n → p y ≡ None → (Starts cs y → ⊥) → many_from p k found (x ++ y) ≡ Some (found ++ items, y)
 many_stops {p = p} g apart' [] found zero x y d le len none on =
     ap (many_from p zero found) (ap (λ z. z ++ y) d) ∙ many_from-zero p found y ∙ ap (λ z. Some (z, y)) (sym (append-nil found))
@@ -96,7 +97,7 @@ maybe_stops {p = p} g (Some a) x y d len none on = ⊎_elim
     (λ more. absurd (on more.0))
     (g.whole a x y d len)
 
--- any number, none of which begins where the second stands
+-- any number of items, none of which begins like the second part
 pub many_lead : {A B : Type 0} {n : ℕ} {D D' : Language A} {E E' : Language B} {p : Parser A} {q : Parser B} {fs cs gs hs : List Terminal} → Reads n D D' p fs cs → Reads n E E' q gs hs → disjoint cs fs ≡ true → disjoint cs gs ≡ true
     → ((b : B) (x y : Lexemes) → E b x → length (x ++ y) ≤ n → p (x ++ y) ≡ None) → Reads n (◌then◌ (Many D) E) (◌then◌ (Many D') E') (both (many p) q) (fs ++ gs) hs
 many_lead {n = n} {D = D} {E = E} {p = p} {cs = cs} {gs = gs} f g apart' aside free = lead_exact (many_takes f apart') g
@@ -105,7 +106,7 @@ many_lead {n = n} {D = D} {E = E} {p = p} {cs = cs} {gs = gs} f g apart' aside f
     ∙ many_stops f apart' items [] (length (u ++ (v ++ y))) u (v ++ y) d (omega arith) le (free b v y e (omega (arith, length-append u (v ++ y))))
     (λ s. clash cs gs aside (v ++ y) s (starts_on gs v y (g.begins b v e))))
 
--- once or not at all, where it doesn't begin where the second stands
+-- an optional item that doesn't begin like the second part
 pub maybe_lead : {A B : Type 0} {n : ℕ} {D D' : Language A} {E E' : Language B} {p : Parser A} {q : Parser B} {fs cs gs hs : List Terminal} → Reads n D D' p fs cs → Reads n E E' q gs hs → disjoint cs gs ≡ true
     → ((b : B) (x y : Lexemes) → E b x → length (x ++ y) ≤ n → p (x ++ y) ≡ None) → Reads n (◌then◌ (Maybe D) E) (◌then◌ (Maybe D') E') (both (maybe p) q) (fs ++ gs) hs
 maybe_lead {n = n} {D = D} {E = E} {p = p} {cs = cs} {gs = gs} f g aside free = lead_exact (maybe_takes f) g

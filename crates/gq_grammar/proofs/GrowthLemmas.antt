@@ -1,10 +1,10 @@
--- GrowthLemmas: languages that grow with a count of levels, and what they are without it.
+-- GrowthLemmas: languages that grow with a bound on levels, and their unbounded union.
 use Rattle.std.proofs.Common.{◌≡◌, ℕ, zero, suc, ◌+◌, List, [], ◌∷◌, Option, Some, None, inl, inr, ⊎_elim, subst, arith}
 use Rattle.gq_grammar.specs.Lexemes.{Lexemes, Terminal}
 use Rattle.gq_grammar.specs.Languages.{Language, ◌then◌, Many, Maybe, ◌∣◌, Made}
 use Rattle.gq_grammar.specs.Signs.{second, inner, all_of, After, Enclosed, Separated}
 
--- D k grows with k, and W is all of it
+-- D k grows with k, and W is their union
 pub record Grows {A : Type 0} (D : ℕ → Language A) (W : Language A) : Type 0 where
   pub up : (k : ℕ) (a : A) (x : Lexemes) → D k a x → D (suc k) a x
   pub out : (k : ℕ) (a : A) (x : Lexemes) → D k a x → W a x
@@ -75,7 +75,7 @@ made_grows f h = record {
   of = λ b x d. let i = h.of d.0 x d.1 in (i.0, (d.0, i.1, d.2));
 }
 
--- ---- what is often put together
+-- ---- common combinations
 
 pub after_grows : {A : Type 0} {D : ℕ → Language A} {V : Language A} (k : Terminal) → Grows D V → Grows (λ n. After k (D n)) (After k V)
 unfolding After
@@ -89,7 +89,7 @@ pub separated_grows : {A : Type 0} {D : ℕ → Language A} {V : Language A} →
 unfolding Separated
 separated_grows d = made_grows all_of (maybe_grows (then_grows d (many_grows (after_grows _ d))))
 
--- ---- one level more
+-- ---- one more level
 
 -- two steps of a family
 abbrev step_of : {A : Type 0} → Language A → Language A → ℕ → Language A

@@ -1,4 +1,5 @@
--- LoopLemmas: what functions of a reader find, from what they call found. A loop reads items until it finds no more. Its invariant is one line, `Turns`, and its goals are in rulesets.
+-- LoopLemmas: what functions of a reader find, given what the functions that they call find. A loop reads items until
+-- it finds no more. Its invariant is one line, `Turns`, and its goals are in rulesets.
 use Rattle.std.proofs.Common.{◌≡◌, ℕ, zero, suc, ◌+◌, ◌-◌, ◌<◌, ◌≤◌, List, [], ◌∷◌, ◌++◌, length, drop, Option, Some, None, sym, ap, ◌∙◌, subst, arith, length-drop, replicate}
 use Rattle.std.specs.Option.{option_or}
 use Rattle.std.proofs.lemmas.Grind.{replicate_next}
@@ -6,7 +7,7 @@ use Rattle.gq_grammar.specs.Lexemes.{Lexemes}
 use Rattle.gq_grammar.specs.Parsers.{Parser, ◌or◌, or_else, many_after, many_from, many, Found}
 use Rattle.gq_grammar.proofs.ManyLemmas.{many_from-zero, many_from-suc, many_is}
 
--- what is left to read gives, behind what was found, what there is from the beginning on
+-- what was found, followed by what the rest gives, is what there is from the beginning on
 pub record Turns {A : Type 0} (p : Parser A) (all : Lexemes) (from turns : ℕ) (found : List A) (at : ℕ) : Type 0 where
   pub same : many_from p turns found (drop at all) ≡ many p (drop from all)
   pub from_le : from ≤ at
@@ -34,7 +35,7 @@ pub turns_end : {A : Type 0} (p : Parser A) (all : Lexemes) (from turns : ℕ) (
 turns_end p all from turns found at w e =
     (sym w.same ∙ ap (λ n. many_from p n found (drop at all)) e ∙ many_from-zero p found (drop at all), w.from_le, w.at_le)
 
--- the same beside a counter that rises to n
+-- the same with a counter that goes up to n
 pub turns_found : {A : Type 0} (p : Parser A) (all : Lexemes) (from n i : ℕ) (found : List A) (at : ℕ) (item : A) (next : ℕ) → Turns p all from (n - i) found at → i < n → Found p all at (Some (item, next)) → Turns p all from (n - (i + 1)) (found ++ item ∷ []) next
 turns_found p all from n i found at item next w h f = turns_more p all from (n - i) (n - (i + 1)) found at item next w (omega arith) f
 
@@ -46,7 +47,7 @@ turns_over p all from n i found at w h = turns_end p all from (n - i) found at w
 
 pub ruleset loops = (turns_begin, turns_found, turns_none, turns_over)
 
--- ---- signs of one kind in a row, of which only the number is kept
+-- ---- consecutive signs of one kind, which are only counted
 
 abbrev pub units : ℕ → List (Unit {0})
 units n = replicate n tt
@@ -59,7 +60,7 @@ signs_found p all from n i count at next w h f = subst (λ z. Turns p all from (
 
 pub ruleset sign_loops = (turns_begin, signs_found, turns_none, turns_over)
 
--- ---- one of several
+-- ---- one of several alternatives
 
 pub either_found : {A : Type 0} (p q : Parser A) (all : Lexemes) (at : ℕ) (r s o : Option (A × ℕ)) → o ≡ option_or r s → Found p all at r → Found q all at s → Found (p or q) all at o
 either_found p q all at r s o e f g = subst (Found (p or q) all at) (sym e) (found r f)

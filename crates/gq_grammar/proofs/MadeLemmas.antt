@@ -1,4 +1,4 @@
--- MadeLemmas: a value made of what is read, one of two, and once or not at all.
+-- MadeLemmas: mapped values, alternatives, and optional parts.
 use Rattle.std.proofs.Common.{◌≡◌, ℕ, ◌≤◌, List, [], ◌++◌, length, true, Option, Some, None, ◌⊎◌, inl, inr, ⊎_elim, refl, sym, ap, ◌∙◌, subst}
 use Rattle.gq_grammar.specs.Lexemes.{Lexemes, Terminal}
 use Rattle.gq_grammar.specs.Languages.{Language, Maybe, ◌∣◌, Made}
@@ -6,7 +6,7 @@ use Rattle.gq_grammar.specs.Parsers.{Parser, and_then, made, or_else, ◌or◌, 
 use Rattle.gq_grammar.proofs.Sets.{Starts, disjoint, clash, starts_left, starts_right, starts_on}
 use Rattle.gq_grammar.proofs.Claims.{Spelled, Goes, Reads, Takes, some_inj, or_cases, goes_more}
 
--- ---- a value made of what is read
+-- ---- a value that is computed from what is read
 
 pub made_some : {A B : Type 0} (f : A → B) (o : Option (A × Lexemes)) (b : B) (r : Lexemes) → and_then o (λ a r. Some (f a, r)) ≡ Some (b, r) → (a : A) × (o ≡ Some (a, r)) × (b ≡ f a)
 made_some f None b r h = cc
@@ -43,7 +43,7 @@ made_takes {D' = D'} {p = p} {cs = cs} f g = record {
   whole = λ b x y d le. goes_made f p cs d.0 b (x ++ y) y d.2 (g.whole d.0 x y d.1 le);
 }
 
--- ---- one of two
+-- ---- alternatives
 
 pub or_some : {X : Type 0} (o1 o2 : Option X) (x : X) → or_else o1 o2 ≡ Some x → (o1 ≡ Some x) ⊎ ((o1 ≡ None) × (o2 ≡ Some x))
 or_some None o2 x h = inr (refl, h)
@@ -77,7 +77,8 @@ either_reads {n = n} {D = D} {D' = D'} {E = E} {E' = E'} {p = p} {q = q} {fs = f
       d;
 }
 
--- ---- one of two that may begin alike: the first is tried first, and where it reads, it reads past what the second has
+-- ---- alternatives with a common beginning: the first is tried first, and if it matches, it reads further than the
+-- second
 
 pub choice_reads : {A : Type 0} {n : ℕ} {D D' E E' : Language A} {p q : Parser A} {fs cs gs hs : List Terminal} (over : List Terminal) → Reads n D D' p fs cs → Reads n E E' q gs hs
     → ((a : A) (x y : Lexemes) (b : A) (r : Lexemes) → E a x → length (x ++ y) ≤ n → p (x ++ y) ≡ Some (b, r) → Starts over y × ((z : Lexemes) × (y ≡ z ++ r)))
@@ -100,7 +101,7 @@ choice_reads {n = n} {D = D} {D' = D'} {E = E} {E' = E'} {p = p} {q = q} {fs = f
       d;
 }
 
--- ---- once or not at all
+-- ---- optional parts
 
 maybe_some : {A : Type 0} (o : Option (A × Lexemes)) (l : Lexemes) (c : Option A) (r : Lexemes) → maybe_at o l ≡ Some (c, r) → ((c ≡ None) × (l ≡ r)) ⊎ ((a : A) × (c ≡ Some a) × (o ≡ Some (a, r)))
 maybe_some {A} None l c r h =

@@ -1,4 +1,4 @@
--- ManyLemmas: any number.
+-- ManyLemmas: any number of items.
 use Rattle.std.proofs.Common.{◌≡◌, ℕ, zero, suc, ◌≤◌, List, [], ◌∷◌, ◌++◌, length, true, Some, ◌⊎◌, inl, inr, ⊎_elim, refl, sym, ap, ◌∙◌, subst, arith, append_assoc, append-nil}
 use Rattle.gq_grammar.specs.Lexemes.{Lexemes, Terminal}
 use Rattle.gq_grammar.specs.Languages.{Language, Many}
@@ -14,7 +14,7 @@ pub many_from-suc : {A : Type 0} (p : Parser A) (n : ℕ) (found : List A) (l : 
 unfolding many_from
 many_from-suc p n found l = refl
 
--- where a run of turns comes to, and what it read on the way
+-- where a run of iterations ends, and what it has read
 record Run {A : Type 0} (D : Language A) (fs : List Terminal) (p : Parser A) (n : ℕ) (found : List A) (l : Lexemes) : Type 0 where
   more : List A
   text : Lexemes
@@ -57,7 +57,7 @@ pub many_begins : {A : Type 0} {D : Language A} (fs : List Terminal) → ((a : A
 many_begins fs f [] x d = inl d
 many_begins fs f (a ∷ items) x d = inr (subst (Starts fs) (sym d.2) (starts_on fs d.0 d.1 (f a d.0 d.3)))
 
--- no more items to come
+-- no more items follow
 goes_end : {A : Type 0} {D : Language A} {p : Parser A} {k : ℕ} {found : List A} {y : Lexemes} (fs cs : List Terminal) → Run D fs p k found y → Goes (many_from p k found) (fs ++ cs) (found ++ []) y y
 goes_end {p = p} {k = k} {found = found} {y = y} fs cs w = ⊎_elim
     (λ none. inl (w.is ∙ ap (λ z. Some (found ++ z, w.left)) none.0 ∙ ap (λ z. Some (found ++ [], z)) (sym none.1)))
@@ -73,7 +73,7 @@ goes_step p k cs found items a l m y e g =
     (λ on. inr (on.0, record { found = on.1.found; eaten = on.1.eaten; left = on.1.left; is = turn ∙ on.1.is; after = on.1.after }))
     g
 
--- the last item is read on into y
+-- the last item reads on into y
 run_ahead : {A : Type 0} {D : Language A} (fs : List Terminal) (p : Parser A) → ((l : Lexemes) (a : A) (r : Lexemes) → p l ≡ Some (a, r) → Spelled D l a r × Starts fs l) → (k : ℕ) (found : List A) (l y : Lexemes) → Ahead p l y → Ahead (many_from p (suc k) found) l y
 run_ahead {D = D} fs p f k found l y a =
     let w = run {D = D} fs p f k (found ++ a.found ∷ []) a.left in

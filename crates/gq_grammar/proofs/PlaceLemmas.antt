@@ -10,7 +10,7 @@ use Rattle.gq_grammar.specs.Reserved.{is_reserved}
 use Rattle.gq_grammar.specs.Lexemes.{Lexeme, Lexemes, Terminal, Sign, Keyword, Name, Number, Text, Global, Attached, lexeme_of, lexemes_of, is_of, is_global_shape, is_attached_shape, is_number_shape, is_text_shape, number_in, text_in, nothing, spelling, number, said}
 use Rattle.gq_grammar.specs.Parsers.{token, token_at, one, Found}
 
--- ---- what another shape isn't
+-- ---- other shapes
 
 no_word : (s : TokenKind) → (s ≡ shape.Word → ⊥) → is_word_shape s ≡ false
 no_word shape.Word h = absurd (h refl)
@@ -58,7 +58,7 @@ name_is s text word r e w h = ap (λ z. is_word_shape z && not (is_reserved text
 -- ---- the token at a place
 
 module _ (bytes : List ℕ) (tokens : List Token) (all : Lexemes) (at : ℕ) (v : lexemes_of bytes tokens ≡ all) where
-  -- no token is left
+  -- no token remains
   pub none_left : {A : Type 0} (k : Terminal) (tell : Lexeme → A) → at ≡ length tokens → token k tell (drop at all) ≡ None
   unfolding token
   none_left k tell e =
@@ -88,11 +88,11 @@ module _ (bytes : List ℕ) (tokens : List Token) (all : Lexemes) (at : ℕ) (v 
         ap (λ z. token k tell (drop at z)) (sym v) ∙ ap (token k tell) left ∙ ap (token_at tell (lexeme_of bytes here) (drop (at + 1) (lexemes_of bytes tokens))) i
         ∙ ap (λ z. token_at tell (lexeme_of bytes here) (drop (at + 1) z) b) v
 
-    -- another token stands here
+    -- another token is here
     other_here : {A : Type 0} (k : Terminal) (tell : Lexeme → A) → is_of k (lexeme_of bytes here) ≡ false → token k tell (drop at all) ≡ None
     other_here k tell i = token_here k tell false i
 
-    -- one of the terminal stands here
+    -- a lexeme of the terminal is here
     found_here : {A : Type 0} (k : Terminal) (tell : Lexeme → A) (a : A) → is_of k (lexeme_of bytes here) ≡ true → a ≡ tell (lexeme_of bytes here) → Found (token k tell) all at (Some (a, at + 1))
     found_here k tell a i w =
         (token_here k tell true i ∙ ap (λ z. Some (z, drop (at + 1) all)) (sym w), omega arith, omega (arith, ap length v, length-map tokens (lexeme_of bytes), within))

@@ -1,4 +1,4 @@
--- SeriesLemmas: lists and kept texts are read as they say.
+-- SeriesLemmas: lists and kept texts are read as the grammar says.
 use Rattle.std.proofs.Common.{◌≡◌, ℕ, zero, suc, ◌+◌, ◌-◌, ◌<◌, ◌≤◌, List, [], ◌∷◌, ◌++◌, length, take, drop, map, get_or, Bool, true, false, Option, Some, None, ◌⊎◌, inl, inr, ⊎_elim, refl, sym, ap, ◌∙◌, subst, arith, append_assoc, append-nil, length-append, length-drop}
 use Rattle.std.proofs.Math.Seq.{take-append_seam}
 use Rattle.std.proofs.lemmas.List.{take_more, take_all, map-append, take-map, drop-map, length-take}
@@ -24,7 +24,7 @@ pub ended_reads : {A : Type 0} {n : ℕ} {D D' : Language A} {p : Parser A} {fs 
 unfolding Ended ended
 ended_reads {n = n} k r apart = made_reads first (then_reads r (one_reads n k) (omega arith) apart)
 
--- the same of what may be empty
+-- the same for what may be empty
 pub ended_takes : {A : Type 0} {n : ℕ} {D D' : Language A} {p : Parser A} {fs cs : List Terminal} (k : Terminal) → Takes n D D' p fs cs → disjoint cs (k ∷ []) ≡ true → Reads n (Ended k D) (Ended k D') (ended k p) (fs ++ (k ∷ [])) []
 unfolding Ended ended
 ended_takes {n = n} k r apart = made_reads first (lead_reads r (one_reads n k) apart)
@@ -35,7 +35,7 @@ kept_some {A} (Some p) l c r h =
     let i : ◌≡◌ {A = (A × List ℕ) × Lexemes} ((p.0, joined (take (length l - length p.1) l)), p.1) (c, r) = some_inj h in
     (ap (λ z. Some (z.0.0, z.1)) i, sym (ap (λ z. z.0.1) i) ∙ ap (λ z. joined (take (length l - length z) l)) (ap (λ z. z.1) i))
 
--- what stands before what is left
+-- the text before the remaining lexemes
 front : (text r : Lexemes) → take (length (text ++ r) - length r) (text ++ r) ≡ text
 front text r =
     let n : length (text ++ r) - length r ≡ length text = omega (arith, length-append text r) in
@@ -68,7 +68,7 @@ kept_reads {D' = D'} {p = p} {cs = cs} g = record {
       (g.whole c.0 x y d.0 le);
 }
 
--- what a function finds, with the text that it read
+-- what a function finds, with the text that was read
 pub kept_found : {A : Type 0} (p : Parser A) (all : Lexemes) (at : ℕ) (a : A) (end : ℕ) (text : List ℕ) → Found p all at (Some (a, end)) → text ≡ joined (between all at end) → Found (kept p) all at (Some ((a, text), end))
 unfolding kept
 kept_found p all at a end text f e =

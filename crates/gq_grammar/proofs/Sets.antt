@@ -1,4 +1,4 @@
--- Sets: sets of terminals, with which a production may begin or go on. Whether two are disjoint is computed.
+-- Sets: sets of terminals with which a production may begin or continue. Whether two are disjoint is computed.
 use Rattle.std.proofs.Common.{◌≡◌, ℕ, ◌<◌, List, [], ◌∷◌, ◌++◌, length, Bool, true, false, ◌==◌, ◌||◌, ◌&&◌, not, ◌⊎◌, inl, inr, ⊎_elim, refl, sym, ap, ◌∙◌, subst, arith, eq-eqb}
 use Rattle.std.specs.Str.{bytes_eq, str_eq_ignore_ascii_case}
 use Rattle.std.specs.Char.{to_ascii_lowercase}
@@ -38,7 +38,7 @@ same_texts a b h = (bytes_eq-Decides a b).0 h
 same_text : (a b : List ℕ) → a ≡ b → bytes_eq a b ≡ true
 same_text a b h = (bytes_eq-Decides a b).1 h
 
--- ---- two terminals that no lexeme is one of at once
+-- ---- two terminals that can't both match one lexeme
 
 -- the kinds of shapes, numbered
 abbrev pub kind_of_shape : TokenKind → ℕ
@@ -70,14 +70,14 @@ differ a b = false
 abbrev pub apart : Terminal → Terminal → Bool
 apart a b = not (kind_of a == kind_of b) || differ a b
 
--- ---- a set, and its lexemes
+-- ---- a set and its lexemes
 
--- the lexeme is one of a terminal of the set
+-- the lexeme matches a terminal of the set
 abbrev pub is_in : List Terminal → Lexeme → Bool
 is_in [] t = false
 is_in (c ∷ cs) t = is_of c t || is_in cs t
 
--- the first lexeme is
+-- the first lexeme matches a terminal of the set
 abbrev pub Starts : List Terminal → Lexemes → Type 0
 Starts cs [] = ⊥
 Starts cs (t ∷ l) = is_in cs t ≡ true
@@ -86,7 +86,7 @@ abbrev pub is_apart_from : Terminal → List Terminal → Bool
 is_apart_from c [] = true
 is_apart_from c (d ∷ ds) = apart c d && is_apart_from c ds
 
--- no lexeme is of both sets
+-- no lexeme matches both sets
 abbrev pub disjoint : List Terminal → List Terminal → Bool
 disjoint [] ds = true
 disjoint (c ∷ cs) ds = is_apart_from c ds && disjoint cs ds
@@ -110,7 +110,7 @@ abbrev pub subset : List Terminal → List Terminal → Bool
 subset [] ds = true
 subset (c ∷ cs) ds = has ds c && subset cs ds
 
--- ---- no lexeme is one of two terminals that are apart
+-- ---- no lexeme matches both of two terminals that are apart
 
 word_kind : (s : TokenKind) → is_word_shape s ≡ true → kind_of_shape s ≡ 0
 word_kind shape.Word h = refl
@@ -160,7 +160,7 @@ text_kind (shape.Number n) h = cc
 text_kind (shape.Text said) h = refl
 text_kind shape.Symbol h = cc
 
--- a lexeme of a terminal has its kind of shape
+-- a lexeme that matches a terminal has its kind of shape
 kind_is : (c : Terminal) (t : Lexeme) → is_of c t ≡ true → kind_of_shape t.shape ≡ kind_of c
 unfolding is_of
 kind_is (Sign sign) t h = symbol_kind t.shape (and_true (is_symbol_shape t.shape) (bytes_eq t.text sign) h).0
@@ -171,7 +171,7 @@ kind_is Text t h = text_kind t.shape h
 kind_is Global t h = global_kind t.shape h
 kind_is Attached t h = attached_kind t.shape h
 
--- a word in other letters is as reserved
+-- a word is reserved whatever the case of its letters
 reserved_too : (a b : List ℕ) → map to_ascii_lowercase a ≡ map to_ascii_lowercase b → is_reserved b ≡ true → is_reserved a ≡ true
 unfolding is_reserved
 reserved_too a b e h = rw e h
@@ -237,7 +237,7 @@ pub starts_right : (cs ds : List Terminal) (l : Lexemes) → Starts ds l → Sta
 starts_right cs ds [] h = h
 starts_right cs ds (t ∷ l) h = in_right cs ds t h
 
--- a list that begins so still does with more behind it
+-- a list that begins with such a lexeme still does after lexemes are appended
 pub starts_on : (cs : List Terminal) (l m : Lexemes) → Starts cs l → Starts cs (l ++ m)
 starts_on cs [] m h = absurd h
 starts_on cs (t ∷ l) m h = h

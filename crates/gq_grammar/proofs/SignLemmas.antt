@@ -1,4 +1,4 @@
--- SignLemmas: what grammars often put together is read as they say.
+-- SignLemmas: the common combinations of grammars are read as the grammar says.
 use Rattle.std.proofs.Common.{◌≡◌, ℕ, suc, ◌≤◌, List, [], ◌∷◌, ◌++◌, true, refl, arith}
 use Rattle.std.specs.Prelude.{codes}
 use Rattle.gq_grammar.specs.Lexemes.{Terminal, Sign, nothing}
@@ -20,24 +20,24 @@ pub stands_reads : {A : Type 0} (n : ℕ) (a : A) (k : Terminal) → Reads n (St
 unfolding Stands stands
 stands_reads n a k = made_reads (always a) (one_reads n k)
 
--- behind its first lexeme
+-- after its first lexeme
 pub after_reads : {A : Type 0} {n : ℕ} {D D' : Language A} {p : Parser A} {fs cs : List Terminal} (k : Terminal) → Reads n D D' p fs cs → Reads n (After k D) (After k D') (after k p) (k ∷ []) cs
 unfolding After after
 after_reads {n = n} k r = made_reads second (then_reads (one_reads n k) r (omega arith) refl)
 
--- in parentheses, within which there is one lexeme less
+-- in parentheses; what is within has one lexeme less
 pub enclosed_reads : {A : Type 0} {n m : ℕ} {D D' : Language A} {p : Parser A} {fs cs : List Terminal} → Reads m D D' p fs cs → n ≤ suc m → disjoint cs (Sign (codes ")") ∷ []) ≡ true → Reads n (Enclosed D) (Enclosed D') (enclosed p) (Sign (codes "(") ∷ []) []
 unfolding Enclosed enclosed
 enclosed_reads {n = n} {m = m} r nm apart =
     made_reads inner (then_reads (one_reads n (Sign (codes "("))) (then_reads r (one_reads m (Sign (codes ")"))) (omega arith) apart) nm refl)
 
--- the same of what may be empty
+-- the same for what may be empty
 pub enclosed_takes : {A : Type 0} {n m : ℕ} {D D' : Language A} {p : Parser A} {fs cs : List Terminal} → Takes m D D' p fs cs → n ≤ suc m → disjoint cs (Sign (codes ")") ∷ []) ≡ true → Reads n (Enclosed D) (Enclosed D') (enclosed p) (Sign (codes "(") ∷ []) []
 unfolding Enclosed enclosed
 enclosed_takes {n = n} {m = m} r nm apart =
     made_reads inner (then_reads (one_reads n (Sign (codes "("))) (lead_reads r (one_reads m (Sign (codes ")"))) apart) nm refl)
 
--- separated by commas, which nothing goes on with
+-- separated by commas, after which it doesn't continue
 pub separated_takes : {A : Type 0} {n : ℕ} {D D' : Language A} {p : Parser A} {fs cs : List Terminal} → Reads n D D' p fs cs → disjoint cs (Sign (codes ",") ∷ []) ≡ true → Takes n (Separated D) (Separated D') (separated p) fs (fs ++ (cs ++ ((Sign (codes ",") ∷ []) ++ cs)))
 unfolding Separated separated
 separated_takes r apart = made_takes all_of (maybe_takes (tail_reads r (many_takes (after_reads (Sign (codes ",")) r) apart) apart))

@@ -1,4 +1,4 @@
--- ThenLemmas: one after another, where the first, the second or neither may be empty.
+-- ThenLemmas: one part after another; the first, the second or neither may be empty.
 use Rattle.std.proofs.Common.{◌≡◌, ℕ, suc, ◌≤◌, List, ◌++◌, length, true, Option, Some, None, inl, inr, ⊎_elim, refl, sym, ap, ◌∙◌, subst, append_assoc}
 use Rattle.gq_grammar.specs.Lexemes.{Lexemes, Terminal}
 use Rattle.gq_grammar.specs.Languages.{Language, ◌then◌}
@@ -36,13 +36,13 @@ spelled_both D E l c r s a b = record {
   derives = (a.text, b.text, refl, a.derives, b.derives);
 }
 
--- the first stops exactly, and the second goes on as it does
+-- the first stops exactly, and then the second reads
 pub goes_both : {A B : Type 0} (p : Parser A) (q : Parser B) (hs : List Terminal) (a : A) (b : B) (l m y : Lexemes) → p l ≡ Some (a, m) → Goes q hs b m y → Goes (both p q) hs (a, b) l y
 goes_both p q hs a b l m y e (inl g) = inl (both_at p q l a b m y e g)
 goes_both p q hs a b l m y e (inr g) =
     inr (g.0, record { found = (a, g.1.found); eaten = g.1.eaten; left = g.1.left; is = both_at p q l a g.1.found m g.1.left e g.1.is; after = g.1.after })
 
--- a second parser that always answers goes on from where the first came
+-- a second parser that always finds a value continues where the first stopped
 both_ahead : {A B : Type 0} {E : Language B} {p : Parser A} {q : Parser B} → ((l : Lexemes) → (b : B) × (r : Lexemes) × (q l ≡ Some (b, r))) → ((l : Lexemes) (b : B) (r : Lexemes) → q l ≡ Some (b, r) → Spelled E l b r) → (l y : Lexemes) → Ahead p l y → Ahead (both p q) l y
 both_ahead {p = p} {q = q} total sound l y a =
     let w = total a.left in
@@ -63,7 +63,7 @@ then_reads {n = n} {m = m} {D' = D'} {E' = E'} {p = p} {q = q} {fs = fs} {cs = c
       (f.whole c.0 d.0 (d.1 ++ y) d.3 (subst (λ z. length z ≤ n) e le));
 }
 
--- what is behind the first may be left out
+-- the second part may be left out
 pub tail_reads : {A B : Type 0} {n : ℕ} {D D' : Language A} {E E' : Language B} {p : Parser A} {q : Parser B} {fs cs gs hs : List Terminal} → Reads n D D' p fs cs → Takes n E E' q gs hs → disjoint cs gs ≡ true → Reads n (◌then◌ D E) (◌then◌ D' E') (both p q) fs (cs ++ hs)
 tail_reads {n = n} {D' = D'} {E' = E'} {p = p} {q = q} {fs = fs} {cs = cs} {gs = gs} {hs = hs} f g apart' = record {
   sound = λ l c s h. let w = both_some p q l c s h in spelled_both D' E' l c w.0 s (f.sound l c.0 w.0 w.1) (g.sound w.0 c.1 s w.2);
@@ -82,7 +82,7 @@ tail_reads {n = n} {D' = D'} {E' = E'} {p = p} {q = q} {fs = fs} {cs = cs} {gs =
       (f.whole c.0 d.0 (d.1 ++ y) d.3 (subst (λ z. length z ≤ n) e le));
 }
 
--- what is before the second may be left out
+-- the first part may be left out
 pub lead_reads : {A B : Type 0} {n : ℕ} {D D' : Language A} {E E' : Language B} {p : Parser A} {q : Parser B} {fs cs gs hs : List Terminal} → Takes n D D' p fs cs → Reads n E E' q gs hs → disjoint cs gs ≡ true → Reads n (◌then◌ D E) (◌then◌ D' E') (both p q) (fs ++ gs) hs
 lead_reads {n = n} {D' = D'} {E' = E'} {p = p} {q = q} {fs = fs} {cs = cs} {gs = gs} {hs = hs} f g apart' = record {
   sound = λ l c s h. let w = both_some p q l c s h in spelled_both D' E' l c w.0 s (f.sound l c.0 w.0 w.1) (g.sound w.0 c.1 s w.2);

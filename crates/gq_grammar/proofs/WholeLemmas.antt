@@ -1,4 +1,4 @@
--- WholeLemmas: what a parser of a language finds is the longest prefix of the language, and a text has one value.
+-- WholeLemmas: a parser of a language finds the longest prefix of the language, and a text has one value.
 use Rattle.std.proofs.Common.{◌≡◌, ℕ, ◌+◌, ◌-◌, ◌≤◌, List, [], ◌++◌, length, take, drop, Some, None, ⊎_elim, sym, ap, ◌∙◌, subst, arith, length-append, length-drop}
 use Rattle.std.proofs.Math.Seq.{take-append_seam}
 use Rattle.std.proofs.lemmas.List.{take-append-drop, drop-drop}
@@ -11,13 +11,13 @@ use Rattle.gq_grammar.proofs.Claims.{Goes, Reads, some_inj}
 some_none : {X : Type 0} {x : X} → Some x ≡ None → ⊥
 some_none h = cc
 
--- a prefix, and what is behind it
+-- a prefix and the rest
 parted : (all : Lexemes) (at to : ℕ) → at ≤ to → drop at all ≡ between all at to ++ drop to all
 parted all at to le =
     let e : at + (to - at) ≡ to = omega arith in
     sym (take-append-drop (to - at) (drop at all)) ∙ ap (λ z. between all at to ++ z) (drop-drop (to - at) at all ∙ ap (λ n. drop n all) e)
 
--- what is before the lexemes that are left
+-- the lexemes before those that remain
 front : (all : Lexemes) (at to : ℕ) (text : Lexemes) → at ≤ to → to ≤ length all → drop at all ≡ text ++ drop to all → between all at to ≡ text
 front all at to text le len e =
     let n : to - at ≡ length text = omega (arith, ap length e, length-append text (drop to all), length-drop at all, length-drop to all) in
@@ -27,7 +27,7 @@ fits : (all : Lexemes) (at to n : ℕ) → at ≤ to → length all - at ≤ n �
 fits all at to n le h = omega (arith, ap length (parted all at to le), length-drop at all)
 
 module _ {A : Type 0} {n : ℕ} {D : Language A} {p : Parser A} {fs cs : List Terminal} (r : Reads n D D p fs cs) where
-  -- what goes on doesn't stop before
+  -- the parser reads at least as far as the value
   reaches : (a b : A) (l y rest : Lexemes) → Goes p cs b l y → p l ≡ Some (a, rest) → length rest ≤ length y
   reaches a b l y rest g e = ⊎_elim
       (λ exact. let i : ◌≡◌ {A = A × Lexemes} (b, y) (a, rest) = some_inj (sym exact ∙ e) in omega (arith, ap (λ z. length z.1) i))
@@ -37,7 +37,7 @@ module _ {A : Type 0} {n : ℕ} {D : Language A} {p : Parser A} {fs cs : List Te
   fails : (b : A) (l y : Lexemes) → Goes p cs b l y → p l ≡ None → ⊥
   fails b l y g e = ⊎_elim (λ exact. some_none (sym exact ∙ e)) (λ on. some_none (sym on.1.is ∙ e)) g
 
-  -- with nothing behind it, a text is read exactly
+  -- if nothing follows, a text is read exactly
   pub exactly : (a : A) (x : Lexemes) → D a x → length (x ++ []) ≤ n → p (x ++ []) ≡ Some (a, [])
   exactly a x d le = ⊎_elim (λ exact. exact) (λ on. absurd on.0) (r.whole a x [] d le)
 

@@ -1,4 +1,4 @@
--- Acts: the grammar of what accumulators are fed with, and of the acts of ACCUM and POST-ACCUM.
+-- Acts: the grammar of the inputs of accumulators, and of the acts of ACCUM and POST-ACCUM.
 use Rattle.std.specs.Prelude.{◌≡◌, ℕ, zero, suc, List, [], ◌∷◌, Option, Some, None, Bool, true, false}
 use Rattle.gq_tree.specs.declared.expr.Node.{Node}
 use Rattle.gq_tree.specs.declared.select.InputTree.{InputTree}
@@ -31,7 +31,7 @@ KeyedInput I = Made keyed_of (Enclosed (Chain (sign ",") Derives then Inputs I))
 unfoldable pub InputIn : Language InputTree → Language InputTree
 InputIn I = KeyedInput I ∣ Made input.One Derives
 
--- In, of at most so many levels
+-- In, with a bounded number of levels
 unfoldable pub NestedInput : ℕ → Language InputTree
 NestedInput zero t x = ⊥
 NestedInput (suc k) t x = InputIn (NestedInput k) t x
@@ -69,7 +69,7 @@ IfActs A = After (word "IF") (ActBranch A)
 abbrev pub first_and_rest : {A : Type 0} → A × List A → List A
 first_and_rest p = p.0 ∷ p.1
 
--- ELSE Acts, where the first act is no IF
+-- ELSE Acts, if the first act isn't IF
 unfoldable pub ElseActs : Language ActTree → Language (List ActTree)
 ElseActs A = After (word "ELSE") (Made first_and_rest (PlainAct then Many (After (sign ",") A)))
 
@@ -89,7 +89,7 @@ if_act p = act.If (p.0 ∷ p.1.0) p.1.1
 unfoldable pub ActIn : Language ActTree → Language ActTree
 ActIn A = PlainAct ∣ Made if_act (IfActs A then ActBranches A)
 
--- ActTree, of at most so many levels
+-- ActTree, with a bounded number of levels
 unfoldable pub NestedAct : ℕ → Language ActTree
 NestedAct zero t x = ⊥
 NestedAct (suc k) t x = ActIn (NestedAct k) t x

@@ -164,7 +164,7 @@ ItemOf = Made columns_item (Token Name spelling then NamedColumns) ∣ Made valu
 unfoldable pub PrintOf : Language Stmt
 PrintOf = Made stmt.Print (After (word "PRINT") (Chain (sign ",") ItemOf))
 
--- ---- statements that hold statements. S is the production Stmt one level deeper
+-- ---- statements that contain statements. S is the production Stmt one level deeper
 
 -- { Stmt ";" }
 unfoldable pub Stmts : Language Stmt → Language (List Stmt)
@@ -221,7 +221,7 @@ IfBranch S = After (word "IF") (Branch S)
 abbrev pub else_of : Unit {0} × Option (Stmt × List Stmt) → List Stmt
 else_of p = series p.1
 
--- ELSE { Stmt ";" }, where the first statement is no IF
+-- ELSE { Stmt ";" }, if the first statement isn't IF
 unfoldable pub ElseStmts : Language Stmt → Language (List Stmt)
 ElseStmts S = Made else_of (One (word "ELSE") then Maybe (Ended (sign ";") (PlainStmt S) then Stmts S))
 
@@ -244,7 +244,7 @@ IfOf S = Made if_of (IfBranch S then Branches S)
 unfoldable pub StmtIn : Language Stmt → Language Stmt
 StmtIn S = PlainStmt S ∣ IfOf S
 
--- Stmt, of at most so many levels
+-- Stmt, with a bounded number of levels
 unfoldable pub NestedStmt : ℕ → Language Stmt
 NestedStmt zero t x = ⊥
 NestedStmt (suc k) t x = StmtIn (NestedStmt k) t x

@@ -1,5 +1,6 @@
--- Cutting: how a script is cut into statements, from the left, each the longest prefix of the rest that is one. A lone `;` stands for nothing.
--- Here whole prefixes are looked at, the longer ones too. The code reads one statement after another.
+-- Cutting: how a script is cut into statements, from the left, each the longest prefix of the rest that is one.
+-- A lone `;` is skipped. The specification considers all prefixes, also longer ones. The code reads one statement
+-- after another.
 use Rattle.std.specs.Prelude.{◌≡◌, ℕ, suc, ◌≤◌, ◌<◌, true, false, List, [], ◌∷◌, length, slice_get, Some, All}
 use Rattle.gq_token.specs.declared.token.Token.{Token}
 use Rattle.gq_grammar.specs.Lexemes.{Lexeme, Lexemes, lexeme_of, lexemes_of, sign, is_of}
@@ -12,24 +13,24 @@ abbrev pub IsSemicolon : Lexeme → Type 0
 IsSemicolon t = is_of (sign ";") t ≡ true
 
 module _ (bytes : List ℕ) (tokens : List Token) where
-  -- the token of this number begins at this byte
+  -- the token with this number begins at this byte
   abbrev pub BeginsAt : ℕ → ℕ → Type 0
   BeginsAt i at = (t : Token) × (slice_get tokens i ≡ Some t) × (at ≡ t.from)
 
-  -- from one token to before another there are only lone `;`
+  -- there are only lone `;` from one token up to another
   pub record AreSemicolons (from to : ℕ) : Type 0 where
     pub from_le : from ≤ to
     pub to_le : to ≤ length tokens
     pub all : All IsSemicolon (between (lexemes_of bytes tokens) from to)
 
-  -- from token `at` on the next statement is this, after any lone `;`, and what follows it begins at `next`
+  -- after any lone `;`, the next statement from token `at` on is this one, and what follows it begins at `next`
   pub record IsNext (at : ℕ) (placed : Placed) (next : ℕ) : Type 0 where
     pub start : ℕ
     pub apart : AreSemicolons at start
     pub longest : IsLongest StatementOf (lexemes_of bytes tokens) start placed.statement next
     pub place : BeginsAt start placed.from
 
-  -- from token `at` on these statements are cut, one after another, and the rest begins at token `to`
+  -- these statements are cut from token `at` on, one after another, and the rest begins at token `to`
   abbrev pub Cuts : ℕ → List Placed → ℕ → Type 0
   Cuts at [] to = at ≡ to
   Cuts at (s ∷ others) to = (next : ℕ) × IsNext at s next × Cuts next others to
@@ -40,8 +41,8 @@ module _ (bytes : List ℕ) (tokens : List Token) where
     pub cuts : Cuts 0 statements end
     pub rest : AreSemicolons end (length tokens)
 
-  -- statement `number`, counted from 1, can't be read, and its first token begins at this byte: the statements before it are cut, and
-  -- no prefix of the rest is a statement
+  -- statement `number`, counted from 1, can't be read, and its first token begins at this byte: the statements before
+  -- it are cut, and no prefix of the rest is a statement
   pub record FailsAt (number at : ℕ) : Type 0 where
     pub statements : List Placed
     pub end : ℕ

@@ -1,5 +1,5 @@
--- Expressions: their grammar, a definition for each production, from loose to tight.
--- E is the production Expr one level of nesting below: what stands in parentheses and between the commas of a call.
+-- Expressions: the grammar of expressions, a definition for each production, from lowest precedence to highest.
+-- E is the production Expr one level of nesting deeper: what is in parentheses and between the commas of a call.
 use Rattle.std.specs.Prelude.{ℕ, zero, suc, List, Option, true, false}
 use Rattle.gq_tree.specs.declared.expr.Node.{Node}
 use Rattle.gq_tree.specs.declared.expr.Node.TheVariants as node
@@ -81,7 +81,7 @@ And E = Made and_of (Not E then Many (After (word "AND") (Not E)))
 unfoldable pub Expr : Language Node → Language Node
 Expr E = Made or_of (And E then Many (After (word "OR") (And E)))
 
--- Expr, with at most so many levels of nesting
+-- Expr, with a bounded number of levels of nesting
 unfoldable pub Nested : ℕ → Language Node
 Nested zero t x = ⊥
 Nested (suc k) t x = Expr (Nested k) t x

@@ -1,4 +1,4 @@
--- Jobs: the grammar of loading jobs. CREATE and RUN are read before: a statement begins so.
+-- Jobs: the grammar of loading jobs. CREATE and RUN are read before, since other statements begin with them too.
 use Rattle.std.specs.Prelude.{◌≡◌, ℕ, zero, suc, List, [], ◌∷◌, Option, Some, None, Bool, true, false}
 use Rattle.gq_tree.specs.declared.job.FileTree.{FileTree}
 use Rattle.gq_tree.specs.declared.job.FileTree.TheVariants as file
@@ -87,7 +87,7 @@ job_of p = record { name = p.0; graph = p.1.0; lines = p.1.1 }
 unfoldable pub JobName : Language (List ℕ)
 JobName = After (word "LOADING") (After (word "JOB") (Token Name spelling))
 
--- Job = CREATE LOADING JOB Name FOR GRAPH Name "{" { Line ";" } "}", behind its CREATE
+-- Job = CREATE LOADING JOB Name FOR GRAPH Name "{" { Line ";" } "}", after its CREATE
 unfoldable pub JobOf : Language JobTree
 JobOf = Made job_of (JobName then After (word "FOR") OfGraph then JobLines)
 
@@ -102,6 +102,6 @@ Paths = After (word "USING") (Chain (sign ",") FilePath)
 abbrev pub run_job_of : List ℕ × Option (List (List ℕ × List ℕ)) → RunJobTree
 run_job_of p = record { name = p.0; paths = listed p.1 }
 
--- RunJob = RUN LOADING JOB Name [ USING Name "=" Text { "," Name "=" Text } ], behind its RUN
+-- RunJob = RUN LOADING JOB Name [ USING Name "=" Text { "," Name "=" Text } ], after its RUN
 unfoldable pub RunJobOf : Language RunJobTree
 RunJobOf = Made run_job_of (JobName then Maybe Paths)

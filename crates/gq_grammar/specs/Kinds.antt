@@ -1,4 +1,4 @@
--- Kinds: the grammar of types, of kinds of accumulators, and of the lines before the statements of a body.
+-- Kinds: the grammar of types, of accumulator kinds, and of the definitions before the statements of a body.
 use Rattle.std.specs.Prelude.{◌≡◌, ℕ, zero, suc, List, [], ◌∷◌, Option, Some, None, Bool, true, false}
 use Rattle.gq_tree.specs.declared.expr.Node.{Node}
 use Rattle.gq_tree.specs.declared.query.BaseTree.{BaseTree}
@@ -77,7 +77,7 @@ bits_of p = kind.Bits p.0 p.1
 unfoldable pub FlatKind : Language KindTree
 FlatKind = Made plain_of (PlainOf then AngledElem) ∣ Made bits_of (BitsOf then Maybe AngledElem) ∣ Stands kind.Avg (word "AvgAccum")
 
--- no sign ascends
+-- ascending if neither is given
 abbrev pub descends : Option Bool → Bool
 descends None = false
 descends (Some b) = b
@@ -140,12 +140,12 @@ GroupKind K = Made group_of (After (word "GroupByAccum") (After (sign "<") (Ende
 unfoldable pub KindIn : Language KindTree → Language KindTree
 KindIn K = FlatKind ∣ HeapKind ∣ MapKind K ∣ GroupKind K
 
--- Kind, of at most so many levels
+-- Kind, with a bounded number of levels
 unfoldable pub Kind : ℕ → Language KindTree
 Kind zero t x = ⊥
 Kind (suc n) t x = KindIn (Kind n) t x
 
--- ---- the lines before the statements of a body
+-- ---- the definitions before the statements of a body
 
 -- "=" Expr
 unfoldable pub Value : Language Node

@@ -1,5 +1,5 @@
--- Lexemes: what a grammar sees of tokens, and the terminals, which say what a single one may be.
--- A grammar never sees bytes or places; the code keeps the tokens and looks at one when it is asked for a terminal.
+-- Lexemes: what a grammar sees of tokens, and the terminals, each of which matches single lexemes.
+-- A grammar never sees bytes or places; the code keeps the tokens and inspects one when it is asked for a terminal.
 use Rattle.std.specs.Prelude.{ℕ, Bool, true, false, not, ◌&&◌, List, [], map, codes}
 use Prim.Native.String.{String}
 use Rattle.std.specs.Str.{bytes_eq, str_eq_ignore_ascii_case}
@@ -10,7 +10,7 @@ use Rattle.gq_token.specs.Kinds.{is_word_shape, is_symbol_shape}
 use Rattle.gq_token.specs.Cut.{text_of}
 use Rattle.gq_grammar.specs.Reserved.{is_reserved}
 
--- a token without where it stands: its shape and its bytes
+-- a token without its place: its shape and its bytes
 pub record Lexeme : Type 0 where
   pub shape : TokenKind
   pub text : List ℕ
@@ -26,7 +26,7 @@ lexeme_of bytes token = record { shape = token.shape; text = text_of bytes token
 abbrev pub lexemes_of : List ℕ → List Token → Lexemes
 lexemes_of bytes tokens = map (lexeme_of bytes) tokens
 
--- what a single lexeme may be: a certain symbol, a certain word, a name, or any of a shape
+-- a test of a single lexeme: a certain symbol, a certain word, a name, or any lexeme of a shape
 pub data Terminal : Type 0 where
   Sign : List ℕ → Terminal
   Keyword : List ℕ → Terminal
@@ -59,7 +59,7 @@ abbrev pub is_text_shape : TokenKind → Bool
 is_text_shape (shape.Text said) = true
 is_text_shape _ = false
 
--- the lexeme is one of the terminal. A word is read in letters of any case, and a name is a word that isn't reserved
+-- the lexeme matches the terminal. Letter case doesn't matter in a word, and a name is a word that isn't reserved
 unfoldable pub is_of : Terminal → Lexeme → Bool
 is_of (Sign sign) t = is_symbol_shape t.shape && bytes_eq t.text sign
 is_of (Keyword word) t = is_word_shape t.shape && str_eq_ignore_ascii_case t.text word
@@ -69,7 +69,7 @@ is_of Text t = is_text_shape t.shape
 is_of Global t = is_global_shape t.shape
 is_of Attached t = is_attached_shape t.shape
 
--- what a lexeme tells: nothing, its bytes, its number, or what its text says
+-- the value of a lexeme: nothing, its bytes, its number, or the value of its text
 abbrev pub nothing : Lexeme → Unit {0}
 nothing t = tt
 

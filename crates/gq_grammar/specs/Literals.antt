@@ -1,4 +1,4 @@
--- Literals: values as a script writes them, and what statements are often put together from.
+-- Literals: values as a script writes them, and common parts of statements.
 use Rattle.std.specs.Prelude.{◌≡◌, ℕ, zero, suc, List, [], ◌∷◌, Option, Some, None, Bool, true, false}
 use Rattle.gq_tree.specs.declared.schema.Literal.{Literal}
 use Rattle.gq_tree.specs.declared.schema.Literal.TheVariants as literal
@@ -7,12 +7,12 @@ use Rattle.gq_grammar.specs.Languages.{Language, Token, ◌then◌, Many, Maybe,
 use Rattle.gq_grammar.specs.Signs.{One, Stands, After, Enclosed, Separated}
 use Rattle.gq_grammar.specs.Series.{Chain, Ended, Kept}
 
--- none where the list is left out
+-- an optional list; empty if it is left out
 abbrev pub listed : {A : Type 0} → Option (List A) → List A
 listed None = []
 listed (Some items) = items
 
--- one item and others, or none at all
+-- a first item and others, or an empty list
 abbrev pub series : {A : Type 0} → Option (A × List A) → List A
 series None = []
 series (Some p) = p.0 ∷ p.1

@@ -1,10 +1,10 @@
--- Parsers: what the code of a reader computes, by the same signs as a language: the one thing tried after the other, from the left.
--- They serve inner contracts and those of `Source`; what a reader promises is said by languages.
+-- Parsers: what the code of a reader computes, by the combinators of languages, with alternatives tried in order.
+-- They serve internal contracts and those of `Source`; what a reader guarantees is stated with languages.
 use Rattle.std.specs.Prelude.{◌≡◌, ℕ, zero, suc, ◌≤◌, List, [], ◌∷◌, ◌++◌, length, drop, Option, Some, None, Bool, true, false}
 use Rattle.gq_grammar.specs.Lexemes.{Lexeme, Lexemes, Terminal, sign, is_of, nothing}
 use Rattle.gq_grammar.specs.Signs.{second, inner, all_of, always}
 
--- a value and the lexemes after it, where there is one
+-- a value and the remaining lexemes, if there is a value
 abbrev pub Parser : Type 0 → Type 0
 Parser A = Lexemes → Option (A × Lexemes)
 
@@ -31,7 +31,7 @@ or_else None o = o
 or_else (Some x) o = Some x
 
 infixl 10 ◌or◌
--- the one, or the other where the one finds nothing
+-- the first, or the second if the first finds nothing
 abbrev pub ◌or◌ : {A : Type 0} → Parser A → Parser A → Parser A
 ◌or◌ p q = λ l. or_else (p l) (q l)
 
@@ -46,7 +46,7 @@ abbrev pub many_after : {A : Type 0} → Option (A × Lexemes) → List A → Le
 many_after None found l go = Some (found, l)
 many_after (Some p) found l go = go (found ++ p.0 ∷ []) p.1
 
--- at most n turns, after those that were found
+-- at most n iterations, after the items found so far
 unfoldable pub many_from : {A : Type 0} → Parser A → ℕ → List A → Lexemes → Option (List A × Lexemes)
 many_from p zero found l = Some (found, l)
 many_from p (suc n) found l = many_after (p l) found l (many_from p n)
@@ -54,7 +54,7 @@ many_from p (suc n) found l = many_after (p l) found l (many_from p n)
 unfoldable pub many : {A : Type 0} → Parser A → Parser (List A)
 many p = λ l. many_from p (length l) [] l
 
--- ---- what is often put together
+-- ---- common combinations
 
 unfoldable pub one : Terminal → Parser (Unit {0})
 one terminal = token terminal nothing
@@ -73,7 +73,7 @@ separated p = made all_of (maybe (both p (many (after (sign ",") p))))
 
 -- ---- what a function of a reader ensures
 
--- the parser's outcome from a place on, where a place stands for the lexemes behind it
+-- the parser's result from a place on; a place represents the lexemes from there on
 abbrev pub Found : {A : Type 0} → Parser A → Lexemes → ℕ → Option (A × ℕ) → Type 0
 Found p all at None = p (drop at all) ≡ None
 Found p all at (Some x) = (p (drop at all) ≡ Some (x.0, drop x.1 all)) × (at ≤ x.1) × (x.1 ≤ length all)

@@ -1,4 +1,4 @@
--- Queries: the grammar of queries around their bodies, of INSTALL QUERY and of RUN QUERY.
+-- Queries: the grammar of queries around their bodies, and of INSTALL QUERY and RUN QUERY.
 use Rattle.std.specs.Prelude.{◌≡◌, ℕ, zero, suc, List, [], ◌∷◌, Option, Some, None, Bool, true, false}
 use Rattle.gq_tree.specs.declared.schema.Literal.{Literal}
 use Rattle.gq_tree.specs.declared.query.BaseTree.{BaseTree}
@@ -54,11 +54,12 @@ query_of p = record { parameters = p.0; graph = p.1.0; modes = p.1.1.0; body = p
 unfoldable pub QueryOf : Language QueryTree
 QueryOf = Made query_of (Enclosed (Separated ParameterOf) then QueryRest)
 
--- [ OR REPLACE ] QUERY, and whether OR REPLACE stands there
+-- [ OR REPLACE ] QUERY, and whether it has OR REPLACE
 unfoldable pub QueryHead : Language Bool
 QueryHead = Made is_there (Ended (word "QUERY") (Maybe (After (word "OR") (One (word "REPLACE")))))
 
--- Query = CREATE [ OR REPLACE ] QUERY Name "(" [ Param { "," Param } ] ")" [ FOR GRAPH Name ] { Mode } Body, behind its CREATE
+-- Query = CREATE [ OR REPLACE ] QUERY Name "(" [ Param { "," Param } ] ")" [ FOR GRAPH Name ] { Mode } Body, after its
+-- CREATE
 unfoldable pub CreatedQuery : Language (Bool × (List ℕ × QueryTree))
 CreatedQuery = QueryHead then Token Name spelling then QueryOf
 
@@ -85,6 +86,6 @@ ArgumentOf = Made argument.Literal LiteralOf ∣ Made vertex_argument (Enclosed 
 abbrev pub run_of : List ℕ × Option (List Argument) → RunTree
 run_of p = record { name = p.0; arguments = p.1 }
 
--- Run = RUN QUERY Name [ "(" [ Arg { "," Arg } ] ")" ], behind its RUN
+-- Run = RUN QUERY Name [ "(" [ Arg { "," Arg } ] ")" ], after its RUN
 unfoldable pub RunOf : Language RunTree
 RunOf = Made run_of (After (word "QUERY") (Token Name spelling) then Maybe (Enclosed (Separated ArgumentOf)))

@@ -1,4 +1,4 @@
--- Reserved: the words that can't be names, in letters of any case.
+-- Reserved: the words that can't be names, in any letter case.
 use Rattle.std.specs.Prelude.{ℕ, Bool, ◌||◌, List, codes}
 use Rattle.std.specs.Str.{str_eq_ignore_ascii_case}
 
@@ -11,7 +11,7 @@ module _ (word : List ℕ) where
   abbrev pub is_expression_word : Bool
   is_expression_word = is (codes "AND") || is (codes "OR") || is (codes "NOT") || is (codes "TRUE") || is (codes "FALSE") || is (codes "_")
 
-  -- a word at the head of SELECT
+  -- a word at the beginning of SELECT
   abbrev pub is_select_word : Bool
   is_select_word =
       is (codes "SELECT") || is (codes "FROM") || is (codes "WHERE") || is (codes "ACCUM") || is (codes "POST") || is (codes "POST_ACCUM")
@@ -40,15 +40,15 @@ module _ (word : List ℕ) where
   abbrev pub is_tuple_word : Bool
   is_tuple_word = is (codes "TYPEDEF") || is (codes "TUPLE")
 
-  -- a kind of accumulators that keep a number
+  -- an accumulator kind that keeps a number
   abbrev pub is_number_kind : Bool
   is_number_kind = is (codes "SumAccum") || is (codes "MinAccum") || is (codes "MaxAccum") || is (codes "AvgAccum")
 
-  -- a kind of accumulators that keep bits
+  -- an accumulator kind that keeps bits
   abbrev pub is_bit_kind : Bool
   is_bit_kind = is (codes "OrAccum") || is (codes "AndAccum") || is (codes "BitwiseOrAccum") || is (codes "BitwiseAndAccum")
 
-  -- a kind of accumulators that keep a collection
+  -- an accumulator kind that keeps a collection
   abbrev pub is_collection_kind : Bool
   is_collection_kind =
       is (codes "SetAccum") || is (codes "BagAccum") || is (codes "ListAccum") || is (codes "MapAccum") || is (codes "GroupByAccum")

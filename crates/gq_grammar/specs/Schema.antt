@@ -1,4 +1,5 @@
--- Schema: the grammar of vertex types, edge types, graphs and INSERT. CREATE is read before: a statement begins so.
+-- Schema: the grammar of vertex types, edge types, graphs and INSERT.
+-- CREATE is read before, since other statements begin with it too.
 use Rattle.std.specs.Prelude.{◌≡◌, ℕ, zero, suc, List, [], ◌∷◌, Option, Some, None, Bool, true, false}
 use Rattle.gq_graph.specs.declared.types.IdKind.{IdKind}
 use Rattle.gq_graph.specs.declared.types.IdKind.TheVariants as id_kind
@@ -70,7 +71,7 @@ vertex_of p = record { name = p.0.0; id = p.0.1.0.0; id_kind = p.0.1.0.1; attrib
 unfoldable pub VertexShape : Language (List ℕ × ((List ℕ × IdKind) × List AttributeTree))
 VertexShape = After (word "VERTEX") (Token Name spelling then Enclosed (IdOf then Attributes))
 
--- Vertex = CREATE VERTEX Name "(" PRIMARY_ID Name IdType { "," Attr } ")" [ WITH VOpt { "," VOpt } ], behind its CREATE
+-- Vertex = CREATE VERTEX Name "(" PRIMARY_ID Name IdType { "," Attr } ")" [ WITH VOpt { "," VOpt } ], after its CREATE
 unfoldable pub VertexOf : Language VertexTree
 VertexOf = Made vertex_of (VertexShape then Maybe Options)
 
@@ -104,13 +105,13 @@ Reverse = After (word "WITH") (After (word "REVERSE_EDGE") Setting)
 abbrev pub directed_of : EndsTree × Option (List ℕ) → EdgeTree
 directed_of p = edge.Directed p.0 p.1
 
--- Edge = CREATE DIRECTED EDGE Ends [ WITH REVERSE_EDGE "=" Text ] | CREATE UNDIRECTED EDGE Ends, behind its CREATE
+-- Edge = CREATE DIRECTED EDGE Ends [ WITH REVERSE_EDGE "=" Text ] | CREATE UNDIRECTED EDGE Ends, after its CREATE
 unfoldable pub EdgeOf : Language EdgeTree
 EdgeOf =
     Made directed_of (After (word "DIRECTED") (After (word "EDGE") Ends) then Maybe Reverse)
     ∣ Made edge.Undirected (After (word "UNDIRECTED") (After (word "EDGE") Ends))
 
--- no types where nothing is named
+-- the members; no types if the list is left out
 abbrev pub members_of : Option MembersTree → MembersTree
 members_of None = members.Named []
 members_of (Some m) = m
@@ -122,7 +123,7 @@ SomeMembers = Stands members.All (sign "*") ∣ Made members.Named Names
 abbrev pub graph_of : List ℕ × MembersTree → GraphTree
 graph_of p = record { name = p.0; members = p.1 }
 
--- Graph = CREATE GRAPH Name "(" [ "*" | Name { "," Name } ] ")", behind its CREATE
+-- Graph = CREATE GRAPH Name "(" [ "*" | Name { "," Name } ] ")", after its CREATE
 unfoldable pub GraphOf : Language GraphTree
 GraphOf = Made graph_of (After (word "GRAPH") (Token Name spelling then Enclosed (Made members_of (Maybe SomeMembers))))
 

@@ -15,7 +15,7 @@ use Rattle.gq_grammar.specs.Queries.{CreatedQuery, InterpretOf, InstallOf, RunOf
 abbrev pub created_query : Bool × (List ℕ × QueryTree) → Statement
 created_query p = top.Query p.0 p.1.0 p.1.1
 
--- what stands behind CREATE
+-- what follows CREATE
 unfoldable pub Created : Language Statement
 Created =
     Made top.Vertex VertexOf ∣ Made top.Edge EdgeOf ∣ Made top.Graph GraphOf ∣ Made top.Job JobOf ∣ Made created_query CreatedQuery

@@ -92,7 +92,7 @@ PathOf = Made steps_of (StepOf then Maybe (StepOf then Maybe StepOf))
 unfoldable pub WalkOf : Language PatternTree
 WalkOf = Made walk.Path PathOf ∣ Made walk.Hop HopOf
 
--- ---- the parts of SELECT, each with what stands before it
+-- ---- the parts of SELECT, each with the parts before it
 
 -- SELECT Name FROM Name [ ":" Name ]
 unfoldable pub From : Language ((List ℕ × List ℕ) × Option (List ℕ))

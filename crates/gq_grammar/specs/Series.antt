@@ -1,5 +1,5 @@
--- Series: signs for a list with separators, for a part with its end, and for a part that keeps its spelling; and the same
--- for what code computes.
+-- Series: combinators for lists with separators, parts with a terminator, and parts that keep their spelling.
+-- The same combinators follow for parsers.
 use Rattle.std.specs.Prelude.{ℕ, ◌-◌, ◌≡◌, List, [], ◌∷◌, Option, Some, None, ◌++◌, length, take}
 use Rattle.gq_grammar.specs.Lexemes.{Lexeme, Lexemes, Terminal}
 use Rattle.gq_grammar.specs.Languages.{Language, ◌then◌, Many, Made}
@@ -29,7 +29,7 @@ Ended k D = Made first (D then One k)
 unfoldable pub Kept : {A : Type 0} → Language A → Language (A × List ℕ)
 Kept D p x = D p.0 x × (p.1 ≡ joined x)
 
--- ---- the same for what code computes
+-- ---- the same for parsers
 
 unfoldable pub chain : {A : Type 0} → Terminal → Parser A → Parser (List A)
 chain k p = made one_and_all (both p (many (after k p)))

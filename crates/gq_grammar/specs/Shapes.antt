@@ -1,4 +1,4 @@
--- Shapes: the tree that each production of expressions makes of its parts. A chain of one is what it consists of.
+-- Shapes: the tree that each production of expressions builds from its parts. A chain of one is its only part.
 use Rattle.std.specs.Prelude.{ℕ, zero, suc, List, [], ◌∷◌, length, Option, Some, None}
 use Rattle.gq_tree.specs.declared.expr.Node.{Node}
 use Rattle.gq_tree.specs.declared.expr.Node.TheVariants as node
@@ -8,7 +8,7 @@ use Rattle.gq_tree.specs.declared.expr.AddSign.{AddSign}
 use Rattle.gq_tree.specs.declared.expr.MulSign.{MulSign}
 use Rattle.gq_tree.specs.declared.expr.CmpSign.{CmpSign}
 
--- a name, or a call where there are parentheses
+-- a name, or a call if there are parentheses
 abbrev pub named_at : List ℕ → Option (List Node) → Node
 named_at name None = node.Name name
 named_at name (Some arguments) = node.Call name arguments
@@ -16,7 +16,7 @@ named_at name (Some arguments) = node.Call name arguments
 abbrev pub named : List ℕ × Option (List Node) → Node
 named p = named_at p.0 p.1
 
--- a field, or a method where there are parentheses
+-- a field, or a method if there are parentheses
 abbrev pub part_at : List ℕ → Option (List Node) → Part
 part_at name None = part.Field name
 part_at name (Some arguments) = part.Method name arguments
@@ -24,7 +24,7 @@ part_at name (Some arguments) = part.Method name arguments
 abbrev pub part_of : List ℕ × Option (List Node) → Part
 part_of p = part_at p.0 p.1
 
--- an accumulator of a vertex, or what it held before where there is a `'`
+-- an accumulator of a vertex, or its earlier value if there is a `'`
 abbrev pub attached_at : List ℕ → Option (Unit {0}) → Part
 attached_at name None = part.Attached name
 attached_at name (Some u) = part.Before name

@@ -1,4 +1,4 @@
--- Signs: what grammars often put together of the signs of Languages.
+-- Signs: common combinations of the combinators of Languages.
 use Rattle.std.specs.Prelude.{List, [], ◌∷◌, Option, Some, None}
 use Rattle.gq_grammar.specs.Lexemes.{Terminal, sign, nothing}
 use Rattle.gq_grammar.specs.Languages.{Language, Token, ◌then◌, Many, Maybe, Made}
@@ -16,11 +16,11 @@ all_of (Some p) = p.0 ∷ p.1
 abbrev pub always : {A : Type 0} → A → Unit {0} → A
 always a u = a
 
--- one lexeme of a terminal, which tells nothing more
+-- one lexeme of a terminal, without a value
 unfoldable pub One : Terminal → Language (Unit {0})
 One terminal = Token terminal nothing
 
--- one lexeme of a terminal, which stands for this value
+-- one lexeme of a terminal, with this value
 unfoldable pub Stands : {A : Type 0} → A → Terminal → Language A
 Stands a terminal = Made (always a) (One terminal)
 

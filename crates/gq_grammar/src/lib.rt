@@ -1,7 +1,7 @@
 //! The grammar of GSQL, and the combinators with which grammars are specified and parsers are proved.
 //!
 //! A language is a relation between lists of lexemes and trees, built from a few combinators that read like
-//! EBNF. A parser asks a `Source` for one token at a time, and its contract says that it finds the longest
+//! EBNF. A parser asks a `Source` for one token at a time, and its contract states that it finds the longest
 //! prefix that derives.
 //!
 //! Read `specs/Lexemes.antt` and `specs/Languages.antt` first, then the grammar: `specs/Expressions.antt`,

@@ -2,7 +2,7 @@
 ghost use Rattle.std.specs.Prelude.{◌≡◌};
 ghost use Rattle.gq_grammar.specs.Reserved as words;
 
-/// Whether the word, in letters of any case, belongs to the language and can't be a name.
+/// Whether the word, in any letter case, is reserved by the language and can't be a name.
 #[tactic(auto, unfolding(crate::specs::Reserved::is_reserved))]
 pub fn is_reserved(word: &str) -> bool
     ensures { result ≡ words.is_reserved word.now }
@@ -136,7 +136,7 @@ fn is_collection_kind(word: &str) -> bool
         || is(word, "HeapAccum")
 }
 
-// The same word, in letters of any case.
+// Compares two words, ignoring the case of letters.
 fn is(word: &str, other: &str) -> bool
     ensures { result ≡ words.is word.now other.now }
 {

@@ -1,4 +1,4 @@
-// Tokens with the bytes that they were cut from.
+// Tokens with the bytes from which they were cut.
 ghost use Rattle.std.specs.Prelude.{◌≡◌, ◌≤◌, length, All, IfOk};
 ghost use Rattle.std.specs.Option.{option_map};
 ghost use Rattle.gq_token.specs.Cut.{IsSpelledIn};
@@ -15,7 +15,7 @@ use gq_value::Txt;
 use std::alloc::Global;
 use std::marker::Model;
 
-/// The tokens of a script with its bytes, as readers see them: contracts see a list of lexemes. It only lends.
+/// The tokens of a script with its bytes, as readers see them. Contracts see a list of lexemes. It borrows both.
 #[derive(Drop)]
 pub struct Source<'a> {
     bytes: &'a [u8],
@@ -35,7 +35,7 @@ impl<'a> Model for Source<'a> {
 }
 
 impl<'a> Source<'a> {
-    /// The tokens, which were cut from the script `bytes`.
+    /// Borrows the tokens, which were cut from the script `bytes`.
     pub fn new(bytes: &'a [u8], tokens: &'a [Token]) -> Source<'a>
         requires { All (IsSpelledIn bytes.now) tokens.now }
         ensures { result ≡ lexemes_of bytes.now tokens.now }
@@ -43,7 +43,7 @@ impl<'a> Source<'a> {
         Source { bytes, tokens }
     }
 
-    /// The bytes of the tokens from `from` to before `to`, joined.
+    /// Copies the bytes of the tokens from `from` up to, but not including, `to`, joined.
     #[tactic(auto, using(crate::proofs::SeriesLemmas::joins))]
     pub fn joined(&self, alloc: Global, from: usize, to: usize) -> Result<Vec<u8>, OutOfMemory>
         requires order { from ≤ to }
@@ -57,14 +57,14 @@ impl<'a> Source<'a> {
         Ok(text)
     }
 
-    /// How many tokens there are.
+    /// The number of tokens.
     pub fn len(&self) -> usize
         ensures { result ≡ length self.now }
     {
         self.tokens.len()
     }
 
-    /// The place after this symbol, where it stands at `at`.
+    /// The place after this symbol, if it is at `at`.
     pub fn sign(&self, at: usize, sign: &str) -> Option<usize>
         requires { at ≤ length self.now }
         ensures { Found (one (Sign sign.now)) self.now at (option_map (λ next. (tt, next)) result) }
@@ -79,7 +79,7 @@ impl<'a> Source<'a> {
         }
     }
 
-    /// This value and the place after the symbol, where the symbol stands at `at`.
+    /// This value and the place after the symbol, if the symbol is at `at`.
     #[tactic(auto, unfolding(crate::specs::Parsers::stands))]
     pub fn stands<T: Drop>(&self, at: usize, sign: &str, value: T) -> Option<(T, usize)>
         requires { at ≤ length self.now }
@@ -91,7 +91,7 @@ impl<'a> Source<'a> {
         }
     }
 
-    /// The place after this word, where it stands at `at` in letters of any case.
+    /// The place after this word, if it is at `at`, in any letter case.
     pub fn keyword(&self, at: usize, word: &str) -> Option<usize>
         requires { at ≤ length self.now }
         ensures { Found (one (Keyword word.now)) self.now at (option_map (λ next. (tt, next)) result) }
@@ -168,7 +168,7 @@ impl<'a> Source<'a> {
         }
     }
 
-    /// What the text at `at` says, and the place after it.
+    /// The value of the text at `at`, and the place after it.
     pub fn text(&self, at: usize) -> Option<(&'a Txt, usize)>
         requires { at ≤ length self.now }
         ensures { Found (token Text lexemes.said) self.now at (option_map (λ read. (read.0.now, read.1)) result) }

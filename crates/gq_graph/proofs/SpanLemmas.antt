@@ -18,7 +18,7 @@ same_here {X} xs ys i d same = sym (first xs) ∙ ap (λ l. get_or l 0 d) same �
     first : (zs : List X) → get_or (drop i zs) 0 d ≡ get_or zs i d
     first zs = get_or-drop i zs 0 d ∙ ap (λ n. get_or zs n d) (omega arith)
 
--- and behind it, where the item there was changed
+-- and after it, if the item there was changed
 pub same_behind : {X : Type 0} (xs ys : List X) (i : ℕ) (y : X) → drop i xs ≡ drop i ys → drop (i + 1) (set xs i y) ≡ drop (i + 1) ys
 same_behind xs ys i y same =
     drop-set-lt (i + 1) xs i y (omega arith) ∙ sym (drop-drop 1 i xs) ∙ ap (drop 1) same ∙ drop-drop 1 i ys
@@ -121,7 +121,7 @@ apart_pushed spans values row span are start len =
           ];
     }
 
--- a row that goes behind all others
+-- a row that is moved after all others
 pub rows_moved : (spans : List Span) (values row : List Value) (n : ℕ) (span : Span) → AreApart spans (length values) → span.start ≡ length values → span.len ≡ length row
     → rows_of (set spans n span) (values ++ row) ≡ set (rows_of spans values) n row
 rows_moved spans values row n span are start len =
@@ -228,7 +228,7 @@ written_is spans values now row rows n span view are inside this len done =
 pub inside_view : (spans : List Span) (values : List Value) (rows : List (List Value)) (n : ℕ) → rows_of spans values ≡ rows → n < length rows → n < length spans
 inside_view spans values rows n view low = omega (arith, low, ap length view, length-map spans (part_of values))
 
--- the first rows alone
+-- only the first rows
 pub cut_is : (spans after : List Span) (values : List Value) (rows : List (List Value)) (len : ℕ) → rows_of spans values ≡ rows → after ≡ take len spans → rows_of after values ≡ take len rows
 cut_is spans after values rows len view cut = ap (λ s. rows_of s values) cut ∙ sym (take-map (part_of values) len spans) ∙ ap (take len) view
 

@@ -1,4 +1,4 @@
--- Candidates: what a block goes through: from which vertices it walks, along which edges, to where, and in what order.
+-- Candidates: the candidates of a block: from which vertices it walks, along which edges, to where, and in what order.
 -- Here every edge is looked at under every type from every vertex. The code has lists of walks and prefix sums.
 use Rattle.std.specs.Prelude.{ℕ, suc, ◌==◌, Bool, false, if◌then◌else◌, List, [], ◌∷◌, filter, map, length, Option, Some, None}
 use Rattle.std.specs.Option.{is_some, unwrap_or}

@@ -1,5 +1,5 @@
 -- Catalog: vertex types, edge types and graphs, as lists: look-ups by name, and what a declaration appends. The number of
--- each is its place in its list. Here a name is looked for from the first entry on. The code asks a tree
+-- each is its place in its list. Here a name is searched for from the first entry on. The code searches a tree
 -- of names.
 use Rattle.std.specs.Prelude.{ℕ, ◌+◌, Bool, List, [], ◌∷◌, ◌++◌, length, map, Option, Some, None, is_some, unwrap_or, ◌||◌, bytes_eq, position, slice_index_or}
 use Rattle.gq_graph.specs.declared.types.VertexType.{VertexType}
@@ -9,17 +9,17 @@ use Rattle.gq_graph.specs.declared.types.IdShape.{IdShape}
 use Rattle.gq_graph.specs.declared.types.Attribute.{Attribute}
 use Rattle.gq_graph.specs.Defaults.{settled}
 
--- what was created so far
+-- everything created so far
 pub record Schema : Type 0 where
   pub vertex_types : List VertexType
   pub edge_types : List EdgeType
   pub graphs : List GraphType
 
--- where a name stands among names
+-- the place of a name among names
 abbrev pub name_place : List (List ℕ) → List ℕ → Option ℕ
 name_place names name = position (bytes_eq name) names
 
--- whether a name stands among names
+-- whether a name is among names
 abbrev pub stands : List (List ℕ) → List ℕ → Bool
 stands names name = is_some (name_place names name)
 

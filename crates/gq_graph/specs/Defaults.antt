@@ -1,4 +1,4 @@
--- Defaults: which defaults an attribute may have, and what is kept of them. A number is converted to the attribute's type.
+-- Defaults: which defaults an attribute may have, and how they are stored: a number is converted to the type.
 use Rattle.std.specs.Prelude.{ℕ, ℤ, pos, negsuc, Bool, true, false, ◌&&◌, nat_lt, List, Option, Some, None, ◌≡◌}
 use Rattle.std.specs.Option.{option_map, option_map_or}
 use Rattle.gq_value.specs.declared.kind.BaseType.{BaseType, BaseType-F, fold-BaseType}
@@ -67,7 +67,7 @@ abbrev pub magnitude : ℤ → ℕ
 magnitude (pos n) = n
 magnitude (negsuc n) = 0
 
--- the value as one of the type, where it suits
+-- the value as one of the type, if it suits
 abbrev pub converted_from : Val → Sort → Value → Value
 converted_from (UInt n) INT v = value.Int (pos n)
 converted_from (UInt n) _ v = v
@@ -82,6 +82,6 @@ converted sort v = converted_from (val v) sort v
 abbrev pub has_good_default : Attribute → Bool
 has_good_default attribute = option_map_or (λ v. suits (val v) (sort_of attribute.kind)) attribute.default true
 
--- the attribute as it is kept, with its default converted
+-- the attribute as it is stored, with its default converted
 abbrev pub settled : Attribute → Attribute
 settled attribute = record attribute { default = option_map (converted (sort_of attribute.kind)) attribute.default }

@@ -1,5 +1,5 @@
 -- Edges: the edges of a store, as a list of rows: how edges are named, and what an upsert does. An edge's number is its
--- place. Here an edge is looked for from the first row on. The code asks chains of rows whose names have one hash.
+-- place. Here an edge is searched for from the first row on. The code follows chains of rows whose names have one hash.
 use Rattle.std.specs.Prelude.{ℕ, ◌≡◌, ◌==◌, ◌&&◌, ◌||◌, not, if◌then◌else◌, Bool, true, false, is_some, List, [], ◌∷◌, ◌++◌, take, find, Option, Some, None, position, slice_index_or, slice_set}
 use Rattle.std.specs.Ordering.{is_eq}
 use Rattle.std.specs.Cmp.Lexicographic.{pointwise}
@@ -53,7 +53,7 @@ no_edge = record { kind = 0; from = 0; to = 0; attributes = [] }
 abbrev pub edge_at : List EdgeRow → ℕ → EdgeRow
 edge_at rows n = slice_index_or rows n no_edge
 
--- the row with that number keeps its ends and has the edge's attributes, or else the edge goes last
+-- the row with that number keeps its ends and has the edge's attributes, or else the edge is appended
 abbrev pub edge_put : List EdgeRow → EdgeRow → Option ℕ → List EdgeRow
 edge_put rows edge (Some n) = slice_set rows n (record (edge_at rows n) { attributes = edge.attributes })
 edge_put rows edge None = rows ++ edge ∷ []
@@ -66,14 +66,14 @@ naming_of namings kind = find (λ naming. naming.kind == kind) namings
 abbrev pub noted : List Naming → Naming → List Naming
 noted namings naming = if is_some (naming_of namings naming.kind) then namings else namings ++ naming ∷ []
 
--- an upsert: the edge of that name has the attributes, and a new name goes last
+-- an upsert: the edge of that name gets the attributes; with a new name it is appended
 abbrev pub upsert_edge : EdgeTable → Naming → EdgeRow → EdgeTable
 upsert_edge table naming edge = record {
   rows = edge_put table.rows edge (edge_number table.rows naming edge);
   namings = noted table.namings naming;
 }
 
--- edges of the naming's type are named so, where there are any
+-- edges of the naming's type are named so, if there are any
 abbrev pub Agrees : List Naming → Naming → Type 0
 Agrees namings naming = (known : Naming) → naming_of namings naming.kind ≡ Some known → known ≡ naming
 

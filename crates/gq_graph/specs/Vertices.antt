@@ -1,6 +1,6 @@
 -- Vertices: the vertices of a store, as a list of rows: a vertex's number by its name, and what an upsert does. A vertex's
--- number is its place. Here a vertex is looked for from the first row on. The code asks chains of rows whose names have one
--- hash.
+-- number is its place. Here a vertex is searched for from the first row on. The code follows chains of rows whose names
+-- have one hash.
 use Rattle.std.specs.Prelude.{ℕ, ◌<◌, ◌≡◌, ◌≢◌, ◌==◌, ◌&&◌, Bool, List, [], ◌∷◌, ◌++◌, length, take, Option, Some, None, bytes_eq, position, slice_index_or, slice_set}
 use Rattle.gq_graph.specs.declared.rows.VertexRow.{VertexRow}
 
@@ -12,12 +12,12 @@ is_vertex kind id row = (row.kind == kind) && bytes_eq id row.id
 abbrev pub vertex_number : List VertexRow → ℕ → List ℕ → Option ℕ
 vertex_number rows kind id = position (is_vertex kind id) rows
 
--- the row in the place of the one with that number, or else last
+-- replaces the row with that number, or else appends the row
 abbrev pub vertex_put : List VertexRow → VertexRow → Option ℕ → List VertexRow
 vertex_put rows row (Some n) = slice_set rows n row
 vertex_put rows row None = rows ++ row ∷ []
 
--- an upsert: the vertex of the row's name has the row's attributes, and a new name goes last
+-- an upsert: the vertex of the row's name gets the row's attributes; with a new name it is appended
 abbrev pub upsert_vertex : List VertexRow → VertexRow → List VertexRow
 upsert_vertex rows row = vertex_put rows row (vertex_number rows row.kind row.id)
 

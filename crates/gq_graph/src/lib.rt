@@ -6,12 +6,12 @@
 //! same with hash tables and adjacency lists.
 //!
 //! Read `specs/Catalog.antt` first, then `specs/Vertices.antt` and `specs/Edges.antt` (what an upsert does to
-//! a list of rows) and `specs/Candidates.antt` (which matches a block goes through, and in what order).
+//! a list of rows) and `specs/Candidates.antt` (the matches of a block, and their order).
 //! `src/types.rt` has vertex types, edge types and graphs; `src/rows.rt` has the rows of a store.
 //!
-//! `Rows` keeps the attributes of many rows in one list, and where each row begins in it, so that a row takes no
-//! memory of its own. A row that is put in the place of another of as many values takes its place there; one of
-//! another number goes behind all others, and the place of the old one stays unused. Read `specs/Spans.antt` for it
+//! `Rows` stores the attributes of many rows in one list, and where each row begins in it, so that a row needs no
+//! allocation. A row that replaces one with the same number of values is written in its place; one with another
+//! number is appended, and the space of the old one stays unused. Read `specs/Spans.antt` for it
 //! (what parts of a list are, and when they are apart); the list is in `src/row_list.rt`.
 #![tactic(auto)]
 

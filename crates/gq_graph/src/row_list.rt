@@ -51,7 +51,7 @@ impl Rows {
         &self.values[start..start + span.len as usize]
     }
 
-    /// Puts a row last, whose values are moved. Unchanged after OutOfMemory.
+    /// Appends a row, whose values are moved. Unchanged after OutOfMemory.
     pub fn push(&mut self, row: &mut Row) -> Result<(), OutOfMemory>
         ensures ok { OnOk result (self.new ≡ self.old ++ row.old ∷ []) }
         ensures err { OnErr result (self.new ≡ self.old) }
@@ -62,7 +62,7 @@ impl Rows {
         Ok(())
     }
 
-    /// Puts a row, whose values are moved, in the place of another. It takes no memory where that one has as many values. Unchanged
+    /// Replaces a row; the values of the new one are moved. It takes no memory if both have as many values. Unchanged
     /// after OutOfMemory.
     pub fn set(&mut self, number: u32, row: &mut Row) -> Result<(), OutOfMemory>
         requires { number < length self.old }
@@ -79,14 +79,14 @@ impl Rows {
         Ok(())
     }
 
-    /// Keeps the first `len` rows, or all where there are fewer. The memory of the values that go isn't used again.
+    /// Keeps the first `len` rows, or all if there are fewer. The memory of the removed values isn't reused.
     pub fn truncate(&mut self, len: usize)
         ensures { self.new ≡ take len self.old }
     {
         self.spans.truncate(len);
     }
 
-    /// Equal rows with memory of their own.
+    /// A deep copy of the rows.
     pub fn duplicate(&self, alloc: Global) -> Result<Rows, OutOfMemory>
         ensures { IfOk result (λ copy. copy ≡ self.now) }
     {
@@ -107,7 +107,7 @@ fn copied(alloc: Global, values: &[Value]) -> Result<Vec<Value>, OutOfMemory>
     Ok(copy)
 }
 
-/// Puts a span last where there is room for it.
+/// Appends a span, for which there is room.
 fn put(spans: &mut Vec<Span>, span: Span)
     requires { vec_len spans.old < vec_capacity spans.old }
     ensures { spans.new.items ≡ spans.old.items ++ span ∷ [] }

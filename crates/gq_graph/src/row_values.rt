@@ -14,10 +14,10 @@ pub(crate) struct Span {
     pub len: u32,
 }
 
-/// How many values a list of rows holds at most.
+/// The largest number of values in a list of rows.
 const MOST_VALUES: usize = 4_294_967_295;
 
-/// Takes a value out of a row, which has another in its place then.
+/// Takes a value out of a row, and leaves another in its place.
 fn take_out(row: &mut Row, at: usize) -> Value
     requires { at < length row.old }
     ensures value { slice_get row.old at ≡ Some result }
@@ -26,7 +26,7 @@ fn take_out(row: &mut Row, at: usize) -> Value
     mem::replace(row.at_mut(at), Value::Bool(false))
 }
 
-/// Puts the values of a row last, where there is room for them.
+/// Appends the values of a row.
 fn move_all(values: &mut Vec<Value>, row: &mut Row) -> Result<(), OutOfMemory>
     ensures ok { OnOk result (values.new.items ≡ values.old.items ++ row.old) }
     ensures err { OnErr result (take (length values.old.items) values.new.items ≡ values.old.items) }
@@ -37,7 +37,7 @@ fn move_all(values: &mut Vec<Value>, row: &mut Row) -> Result<(), OutOfMemory>
     Ok(())
 }
 
-/// Puts the values of a row last, and tells where they are. Unchanged after OutOfMemory.
+/// Appends the values of a row, and returns where they are. Unchanged after OutOfMemory.
 pub(crate) fn append(values: &mut Vec<Value>, row: &mut Row) -> Result<Span, OutOfMemory>
     ensures ok { OnOk result (values.new.items ≡ values.old.items ++ row.old) }
     ensures start { IfOk result (λ span. span.start ≡ length values.old.items) }
@@ -60,7 +60,7 @@ pub(crate) fn append(values: &mut Vec<Value>, row: &mut Row) -> Result<Span, Out
     }
 }
 
-/// Puts the values of a row in the places of others, from `start` on.
+/// Replaces the values from `start` on by those of a row.
 pub(crate) fn write(values: &mut Vec<Value>, start: usize, row: &mut Row)
     requires { start + length row.old ≤ length values.old.items }
     ensures { values.new.items ≡ written values.old.items start row.old }
@@ -70,7 +70,7 @@ pub(crate) fn write(values: &mut Vec<Value>, start: usize, row: &mut Row)
     }
 }
 
-/// Puts a value in the place of another.
+/// Replaces a value.
 fn put_at(values: &mut Vec<Value>, at: usize, value: Value)
     requires { at < length values.old.items }
     ensures { values.new.items ≡ slice_set values.old.items at value }

@@ -1,4 +1,4 @@
-// What a store holds, and what a block goes through.
+// The rows of a store, and the candidates of a block.
 use crate::types::Numbers;
 use gq_base::OutOfMemory;
 use gq_value::{Row, Txt};
@@ -47,14 +47,14 @@ pub struct Naming {
     pub key: u32,
 }
 
-/// The edge types that a hop may go along, and the vertex types that it may reach.
+/// The edge types that a hop may take, and the vertex types that it may reach.
 #[derive(Debug, Drop)]
 pub struct Pattern {
     pub edges: Numbers,
     pub targets: Numbers,
 }
 
-/// One way to bind a block's names: a source vertex and, where the block has a pattern, an edge row that can be walked
+/// One way to bind a block's names: a source vertex and, if the block has a pattern, an edge row that can be walked
 /// from it under an edge type, and the row's far end. All of them are numbers.
 #[derive(Clone, Copy, Debug, PartialEq, Eq)]
 pub struct Candidate {

@@ -3,7 +3,7 @@ ghost use Rattle.std.specs.Prelude.{◌≡◌, ◌+◌, ◌<◌, ℕ};
 
 use std::marker::Model;
 
-/// How many steps a call took that says so. Contracts see it as that number.
+/// The number of steps that a call took. Contracts see it as that number.
 #[derive(Debug, Drop)]
 pub struct Steps {
     count: u64,
@@ -23,7 +23,7 @@ impl Steps {
         Steps { count: 0 }
     }
 
-    /// One step more. The caller sees to it that there are fewer than 18446744073709551615 so far.
+    /// Adds one step. The caller ensures that there are fewer than 18446744073709551615 so far.
     pub fn tick(&mut self)
         requires { self.old < u64.MAX }
         ensures { self.new ≡ self.old + 1 }

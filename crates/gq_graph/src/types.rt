@@ -1,4 +1,4 @@
-// What a catalog holds: vertex types, edge types, graphs.
+// The contents of a catalog: vertex types, edge types, graphs.
 use gq_base::List;
 use gq_value::{BaseType, Txt, Value};
 
@@ -15,7 +15,7 @@ pub enum IdKind {
 pub struct IdShape {
     pub name: Txt,
     pub kind: IdKind,
-    /// Whether the id is an attribute too, and then the first one.
+    /// Whether the id is also an attribute, which is then the first one.
     pub shown: bool,
 }
 
@@ -24,7 +24,7 @@ pub struct IdShape {
 pub struct Attribute {
     pub name: Txt,
     pub kind: BaseType,
-    /// What stands where no value is given. Without it that is 0, false, the empty text or second 0.
+    /// The value if none is given. Without a default that is 0, false, the empty text or second 0.
     pub default: Option<Value>,
 }
 
@@ -54,9 +54,9 @@ pub struct EdgeType {
     pub from: u32,
     /// The number of the vertex type that its edges go to.
     pub to: u32,
-    /// The forward type, where this is a reverse type.
+    /// The forward type, if this is a reverse type.
     pub forward: Option<u32>,
-    /// The reverse type, where this has one.
+    /// The reverse type, if this has one.
     pub reverse: Option<u32>,
     /// How many of the attributes, from the first one on, belong to an edge's name.
     pub discriminators: u32,

@@ -22,13 +22,13 @@ use Rattle.gq_index.proofs.WalkLemmas.{filter_flat_map, flat_map_filter, flat_ma
 use Rattle.gq_index.proofs.IndexLemmas.{map_flat_map}
 use Rattle.gq_index.proofs.SightLemmas.{by_number_below, along_is, candidates_from_is}
 
--- flags of the numbers below a count say which of them are listed
+-- the flags of the numbers below a count say which of them are listed
 pub flagged_is : (listed : List ℕ) (flags : List Bool) (k : ℕ) → flags ≡ map (among listed) (below (length flags)) → k < length flags
     → get_or flags k false ≡ among listed k
 flagged_is listed flags k are h =
     ap (λ l. get_or l k false) are ∙ get_or-map-range_with_len (among listed) 0 (length flags) k k false h (zero-add k)
 
--- flags of the numbers below a count are as many
+-- there are as many flags as numbers below the count
 pub flags_fit : (listed : List ℕ) (flags : List Bool) (count : ℕ) → flags ≡ map (among listed) (below count)
     → flags ≡ map (among listed) (below (length flags))
 flags_fit listed flags count are =
@@ -41,7 +41,7 @@ chosen_only true fits walks = refl
 chosen_only false fits [] = refl
 chosen_only false fits (w ∷ walks) = chosen_only false fits walks
 
--- walks of one type are chosen together
+-- walks of one type are chosen or dropped together
 chosen_kind : (chooses fits : ℕ → Bool) (v e r : ℕ) (fars : List ℕ)
     → filter (λ (w : Traversal). chooses w.kind && fits w.target) (map (λ far. record { source = v; kind = e; row = r; target = far }) fars)
     ≡ filter (λ (w : Traversal). chooses e && fits w.target) (map (λ far. record { source = v; kind = e; row = r; target = far }) fars)
@@ -57,7 +57,7 @@ none_or_all : (b : Bool) (f : ℕ → List Traversal) (xs : List ℕ) → flat_m
 none_or_all true f xs = refl
 none_or_all false f xs = flat_map_nothing xs
 
--- the wanted walks from a vertex under a type
+-- the wanted walks from a vertex under one type
 wanted_under : (types : List EdgeType) (edges : List EdgeRow) (chooses fits : ℕ → Bool) (v e : ℕ)
     → filter (λ (w : Traversal). chooses w.kind && fits w.target) (walks_under types edges v e)
     ≡ cond (chooses e) (flat_map (λ r. filter (λ (w : Traversal). fits w.target) (walks_along types v e r (edge_at edges r))) (below (length edges))) []
@@ -92,7 +92,7 @@ wanted_from sight pattern v =
     ∙ sym (flat_map_filter (λ e. flat_map (C e) (below m)) (among pattern.edges) (below n))
     ∙ sym (candidates_from_is sight pattern v)
 
--- the walks that are kept of an index are the candidates
+-- the walks that are kept from an index are the candidates
 pub gathered_is : (sight : Sight) (pattern : Pattern) (set : List ℕ) (index : List (List Traversal)) (sources : List ℕ)
     → index ≡ adjacency sight → sources ≡ by_number sight set
     → map of_walk (flat_map (λ v. filter (is_wanted pattern.edges sight.kinds pattern.targets) (walks_at index v)) sources) ≡ candidates sight set (Some pattern)

@@ -1,4 +1,5 @@
--- DegreeLemmas: the walks from a vertex stand by type, and those of one type are as many as the edges that can be walked.
+-- DegreeLemmas: the walks from a vertex are ordered by type, and there are as many of one type as edges that can be
+-- walked.
 use Rattle.std.proofs.Common.{inl, inr, ℕ, zero, suc, ◌+◌, ◌-◌, ◌<◌, ◌≤◌, ◌≡◌, ◌≢◌, Bool, true, false, cond, List, [], ◌∷◌, ◌++◌, ◌==◌, length, get_or, take, drop, map, Option, Some, None, refl, ap, sym, ◌∙◌, subst, arith, leb, ltb, leb-true, eq-eqb, zero-add, append-nil, length-append}
 use Rattle.std.specs.List.{filter, flat_map, All, count_by, slice_get}
 use Rattle.std.specs.List.Sorted.{IsNonDecreasingBy, IsPartitionPoint}
@@ -23,7 +24,7 @@ use Rattle.gq_index.proofs.PlaceLemmas.{nat_up}
 use Rattle.gq_index.proofs.WalkLemmas.{filter_flat_map, flat_map_below, flat_map_agree, All-flat_map, all_below}
 use Rattle.gq_index.proofs.RunLemmas.{count_cons, count_front}
 
--- types never fall, and the first is at least a
+-- types ascend, and the first is at least a
 abbrev Climbs : ℕ → List Traversal → Type 0
 Climbs a [] = Unit {0}
 Climbs a (w ∷ ws) = (a ≤ w.kind) × Climbs w.kind ws
@@ -62,7 +63,7 @@ one_kind v e r (x ∷ xs) =
     All-cons (λ (w : Traversal). w.kind ≡ e) (record { source = v; kind = e; row = r; target = x }) (map (λ far. record { source = v; kind = e; row = r; target = far }) xs)
     refl (one_kind v e r xs)
 
--- the walks under a type have it
+-- the walks under a type have that type
 under_kind : (types : List EdgeType) (edges : List EdgeRow) (v e : ℕ) → All (λ (w : Traversal). w.kind ≡ e) (walks_under types edges v e)
 under_kind types edges v e =
     All-flat_map (λ (w : Traversal). w.kind ≡ e) (λ r. r < length edges) (λ r. walks_along types v e r (edge_at edges r))
@@ -92,7 +93,7 @@ from_climbs types edges v = nat_up P (tt, All-nil (λ (w : Traversal). w.kind < 
 no_way : Neighbor
 no_way = record { kind = 0; row = 0; target = 0 }
 
--- the types of the ways from a vertex never fall
+-- the types of the ways from a vertex ascend
 pub ways_climb : (types : List EdgeType) (edges : List EdgeRow) (v : ℕ) (ways : List Neighbor) → map (walked v) ways ≡ walks_from types edges v
     → IsNonDecreasingBy (λ (way : Neighbor). way.kind) ways
 unfolding no_way
@@ -110,7 +111,7 @@ ways_climb types edges v ways are = IsNonDecreasingBy-from_default (λ (way : Ne
     at : (i j : ℕ) → i ≤ j → j < length ways → (get_or ways i no_way).kind ≤ (get_or ways j no_way).kind
     at i j le h = omega (arith, kind i (omega arith), kind j h, climbs_two 0 W i j up le (omega (arith, length-map ways (walked v))))
 
--- where the first n fail, the others count
+-- if the first n fail, only the others count
 count_behind : {X : Type 0} (p : X → Bool) (d : X) (xs : List X) (n : ℕ) → n ≤ length xs → ((i : ℕ) → i < n → p (get_or xs i d) ≡ false)
     → count_by p xs ≡ count_by p (drop n xs)
 count_behind p d xs zero h none = refl
@@ -125,7 +126,7 @@ lower_differs a k h = grind (arith, nat_tests)
 higher_differs : (a k : ℕ) → leb a k ≡ false → (a == k) ≡ false
 higher_differs a k h = grind (arith, nat_tests)
 
--- the ways of a type, between the two points
+-- the ways of a type lie between the two positions
 pub part_count : (ways rest : List Neighbor) (first r k : ℕ) → first ≤ length ways
     → IsPartitionPoint (λ (way : Neighbor). ltb way.kind k ≡ true) (λ (way : Neighbor). ltb way.kind k ≡ false) ways first
     → rest ≡ drop first ways → r ≤ length rest
@@ -188,7 +189,7 @@ only_one g k = nat_up P (λ h. absurd (omega arith)) step
       | inr other ↦ ap (λ b. flat_map G (below n) ++ cond b (g n) []) (differs n k other) ∙ append-nil (flat_map G (below n)) ∙ before (omega arith)
     ]
 
--- of walks by type, those of a type
+-- in walks ordered by type, those of one type
 pub of_kind_in : (F : ℕ → List Traversal) → ((e : ℕ) → All (λ (w : Traversal). w.kind ≡ e) (F e)) → (k n : ℕ) → k < n
     → filter (λ (w : Traversal). w.kind == k) (flat_map F (below n)) ≡ F k
 of_kind_in F same k n h =
@@ -198,12 +199,12 @@ of_kind_in F same k n h =
     (All-weaker (λ (w : Traversal). w.kind ≡ e) (λ (w : Traversal). (w.kind == k) ≡ (e == k)) (λ w q. ap (λ n. n == k) q) (F e) (same e)))
     ∙ only_one F k n h
 
--- of the walks from a vertex, those of a type are the walks under it
+-- among the walks from a vertex, those of a type are the walks under it
 pub of_kind : (types : List EdgeType) (edges : List EdgeRow) (v k : ℕ) → k < length types
     → filter (λ (w : Traversal). w.kind == k) (walks_from types edges v) ≡ walks_under types edges v k
 of_kind types edges v k h = of_kind_in (walks_under types edges v) (under_kind types edges v) k (length types) h
 
--- the walks under a type are as many as the edges that can be walked
+-- there are as many walks under a type as edges that can be walked
 under_length : (types : List EdgeType) (edges : List EdgeRow) (v k : ℕ)
     → length (walks_under types edges v k) ≡ length (filter (λ (edge : EdgeRow). is_some (far_end (k, type_at types k) edge v)) edges)
 under_length types edges v k = nat_up P (λ _. refl) step (length edges) (omega arith) ∙ ap (λ l. length (filter q l)) (take_all (length edges) edges (omega arith))
@@ -229,7 +230,7 @@ under_length types edges v k = nat_up P (λ _. refl) step (length edges) (omega 
         ∙ ap (λ n. length (filter q (take m edges)) + n) (along (far_end (k, type_at types k) edge v) m edge)
         ∙ sym (ap length (filter_more q edges m no_edge (omega arith)) ∙ length-append (filter q (take m edges)) (cond (q edge) (edge ∷ []) []))
 
--- the ways of a type are as many as its degree says
+-- the number of ways of a type is its degree
 pub degree_is : (sight : Sight) (type : EdgeType) (v k r : ℕ) (ways : List Neighbor) → map (walked v) ways ≡ walks_from sight.types sight.edges v
     → slice_get sight.types k ≡ Some type → count_by (λ (way : Neighbor). way.kind == k) ways ≡ r → r ≡ degree sight (k, type) v
 degree_is sight type v k r ways are is counted =

@@ -1,4 +1,4 @@
--- GatherLemmas: what one more way and one more source add to the walks that are kept.
+-- GatherLemmas: what one more way and one more source add to the kept walks.
 use Rattle.std.proofs.Common.{ℕ, ◌+◌, ◌<◌, ◌≤◌, ◌≡◌, Bool, false, cond, List, [], ◌∷◌, ◌++◌, length, get_or, take, map, Some, None, refl, ap, sym, ◌∙◌, arith, append-nil}
 use Rattle.std.specs.List.{filter, flat_map, slice_get}
 use Rattle.std.proofs.lemmas.List.{append_assoc, take_more, map_push, get_or-map, length-map}
@@ -13,7 +13,7 @@ use Rattle.gq_index.specs.declared.walks.Neighbor.{Neighbor}
 use Rattle.gq_index.specs.Sights.{vertex_kinds}
 use Rattle.gq_index.specs.Walks.{walked}
 
--- a vertex that is there is a target where its type is listed
+-- an existing vertex is a target if its type is listed
 pub target_there : (vertices : List VertexRow) (listed : List ℕ) (v : ℕ) → v < length vertices
     → is_target (vertex_kinds vertices) listed v ≡ among listed (vertex_at vertices v).kind
 target_there vertices listed v h =
@@ -34,14 +34,14 @@ wanted_more p v i ways d h =
     ap (λ l. filter p (map (walked v) l)) (take_more ways i d h) ∙ ap (filter p) (map_push (walked v) (take i ways) (get_or ways i d))
     ∙ filter-append p (map (walked v) (take i ways)) (walked v (get_or ways i d) ∷ [])
 
--- the wanted walks of one way more
+-- the wanted walks after one more way
 pub added_is : (p : Traversal → Bool) (v i : ℕ) (ways : List Neighbor) (d : Neighbor) (before : List Traversal) → i < length ways
     → (before ++ filter p (map (walked v) (take i ways))) ++ filter p (walked v (get_or ways i d) ∷ []) ≡ before ++ filter p (map (walked v) (take (i + 1) ways))
 added_is p v i ways d before h =
     append_assoc before (filter p (map (walked v) (take i ways))) (filter p (walked v (get_or ways i d) ∷ []))
     ∙ ap (λ l. before ++ l) (sym (wanted_more p v i ways d h))
 
--- the wanted walks of one source more
+-- the wanted walks after one more source
 pub gathered_more : (F : ℕ → List Traversal) (sources : List ℕ) (i : ℕ) (last : List Traversal) → i < length sources → last ≡ F (get_or sources i 0)
     → flat_map F (take i sources) ++ last ≡ flat_map F (take (i + 1) sources)
 gathered_more F sources i last h is =

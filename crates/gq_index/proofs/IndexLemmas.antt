@@ -1,4 +1,4 @@
--- IndexLemmas: an index and the lists that stand for it, and what walks along the edges behind the first ones make of it.
+-- IndexLemmas: an index and the lists that represent it, and how walks along the edges after the first ones extend it.
 use Rattle.std.proofs.Common.{inl, inr, ℕ, ◌+◌, ◌-◌, ◌<◌, ◌≤◌, ◌≡◌, Bool, true, false, cond, not, List, [], ◌∷◌, ◌++◌, ◌==◌, ◌&&◌, length, get_or, take, map, refl, ap, ap₂, sym, ◌∙◌, subst, arith, zero-add, append-nil}
 use Rattle.std.specs.List.{filter, flat_map, All}
 use Rattle.std.specs.Option.{is_some, option_to_list}
@@ -19,7 +19,7 @@ use Rattle.gq_index.proofs.PlaceLemmas.{nat_up, map_below_agree}
 use Rattle.gq_index.proofs.WalkLemmas.{flat_map_below, flat_map_agree, under_behind, all_walks_from, all_behind_from, lt_or_le, All-flat_map, all_below}
 use Rattle.gq_index.proofs.DegreeLemmas.{one_kind, of_kind, of_kind_in}
 
--- ---- the walks along the first edges, and along those behind
+-- ---- the walks along the first edges, and along those after
 
 flat_map_split : {Y : Type 0} (h : ℕ → List Y) (a b : ℕ) → flat_map h (below (a + b)) ≡ flat_map h (below a) ++ flat_map (λ r. h (a + r)) (below b)
 flat_map_split {Y} h a =
@@ -59,7 +59,7 @@ by_type_from types edges v =
     flat_map_agree (λ e. filter (λ (walk : Traversal). walk.kind == e) (taken_from v (all_walks types edges))) (walks_under types edges v) (length types)
     (λ e h. ap (filter (λ (walk : Traversal). walk.kind == e)) (all_walks_from types edges v) ∙ of_kind types edges v e h)
 
--- with those along the edges behind the first ones they are those along all
+-- with those along the edges after the first ones they are those along all edges
 grown_from : (types : List EdgeType) (edges : List EdgeRow) (first v : ℕ) → first ≤ length edges
     → by_type (length types) (taken_from v (all_walks types (take first edges) ++ walks_behind types first edges)) ≡ walks_from types edges v
 unfolding by_type
@@ -90,7 +90,7 @@ map_flat_map f g (x ∷ xs) = map-append f (g x) (flat_map g xs) ∙ ap (λ l. m
 pub length_laid : (lists : List (List Neighbor)) → length (laid_out lists) ≡ length lists
 length_laid lists = length-map-range_with_len (λ v. map (walked v) (ways_at lists v)) 0 (length lists)
 
--- the list of a vertex, taken from it
+-- the list of a vertex, as walks from it
 pub laid_at : (lists : List (List Neighbor)) (v : ℕ) → map (walked v) (ways_at lists v) ≡ get_or (laid_out lists) v []
 laid_at lists v = elim (lt_or_le v (length lists)) [
   | inl h ↦ sym (get_or-map-range_with_len (λ v. map (walked v) (ways_at lists v)) 0 (length lists) v v [] h (zero-add v))
@@ -106,7 +106,7 @@ listed_first types edges lists index laid are = record {
       ∙ get_or-map-range_with_len (walks_from types edges) 0 (length index) v v [] h (zero-add v) ∙ sym (by_type_from types edges v);
 }
 
--- and lists that hold those behind too are an index of all
+-- and lists that also hold the later ones are an index of all edges
 pub listed_last : (types : List EdgeType) (edges : List EdgeRow) (first n : ℕ) (lists : List (List Neighbor)) → first ≤ length edges
     → AreListed n (length types) lists (all_walks types (take first edges) ++ walks_behind types first edges)
     → laid_out lists ≡ map (walks_from types edges) (below n)

@@ -1,4 +1,4 @@
--- KeptLemmas: an index that is kept stays so while rows and types are added, and upserts only add rows.
+-- KeptLemmas: an index stays valid while rows and types are added, and upserts only add rows.
 use Rattle.std.proofs.Common.{inl, inr, ℕ, ◌+◌, ◌<◌, ◌≤◌, ◌≡◌, Bool, true, false, cond, set, List, [], ◌∷◌, ◌++◌, length, take, map, Option, Some, None, refl, ap, ap₂, sym, ◌∙◌, subst, arith, append-nil, length-append, length-set}
 use Rattle.std.specs.Prelude.{Result, Ok, Err}
 use Rattle.std.specs.List.{flat_map}
@@ -26,7 +26,7 @@ use Rattle.gq_index.specs.Walks.{walks_along, walks_under, walks_from}
 use Rattle.gq_index.proofs.PlaceLemmas.{map_below_agree}
 use Rattle.gq_index.proofs.WalkLemmas.{flat_map_agree, lt_or_le}
 
--- ---- what is kept
+-- ---- the kept index
 
 pub nothing_kept : (kept : KeptIndex) (schema : Schema) (store : Store) → kept.index ≡ [] → kept.edges ≡ 0 → kept.types ≤ length schema.edge_types → IsKept kept schema store
 nothing_kept kept schema store empty none few = record {
@@ -71,7 +71,7 @@ walks_same types a b v long same =
     along : (e r : ℕ) → far_end (e, type_at types e) (edge_at a r) v ≡ far_end (e, type_at types e) (edge_at b r) v → walks_along types v e r (edge_at a r) ≡ walks_along types v e r (edge_at b r)
     along e r is = ap (λ (o : Option ℕ). map {B = Traversal} (λ far. record { source = v; kind = e; row = r; target = far }) (option_to_list o)) is
 
--- an index stays kept while types, vertices and edges are added
+-- an index stays valid while types, vertices and edges are added
 pub kept_grows : (kept : KeptIndex) (a b : Schema) (s t : Store) → CatalogGrown a b → StoreGrown s t → IsKept kept a s → IsKept kept b t
 kept_grows kept a b s t types rows was = record {
   types = omega (arith, was.types, ap length types.types, length-append a.edge_types types.more);
@@ -170,7 +170,7 @@ puts_grow old new steps (Err fault.OutOfMemory) begun = done_grows old new begun
 
 -- ---- edges without their attributes
 
--- a list has the types and ends of all rows
+-- the list has the types and ends of all rows
 pub record AreEnds (ends rows : List EdgeRow) : Type 0 where
   pub long : length ends ≡ length rows
   pub same : (r : ℕ) → r < length rows → SameWay (edge_at rows r) (edge_at ends r)
@@ -179,11 +179,11 @@ pub are_ends : (ends rows : List EdgeRow) → length ends ≡ length rows → ((
     → ((r : ℕ) → r < length rows → (edge_at ends r).from ≡ (edge_at rows r).from) → ((r : ℕ) → r < length rows → (edge_at ends r).to ≡ (edge_at rows r).to) → AreEnds ends rows
 are_ends ends rows long kinds froms tos = record { long = long; same = λ r h. record { kind = kinds r h; from = froms r h; to = tos r h } }
 
--- a store of the same vertices, with other edges
+-- a store with the same vertices and other edges
 abbrev pub with_edges : Store → List EdgeRow → Store
 with_edges store rows = record store { edges = record store.edges { rows = rows } }
 
--- walks depend on no attribute
+-- walks depend on no attributes
 pub ends_walks : (types : List EdgeType) (ends rows : List EdgeRow) (n : ℕ) → AreEnds ends rows → map (walks_from types ends) (below n) ≡ map (walks_from types rows) (below n)
 ends_walks types ends rows n are = map_below_agree (walks_from types ends) (walks_from types rows) n (λ v _. sym (walks_same types rows ends v (sym are.long) are.same))
 
@@ -200,7 +200,7 @@ rows_kept kept schema store ends are was =
     turned : (x y : EdgeRow) → SameWay x y → SameWay y x
     turned x y same = record { kind = sym same.kind; from = sym same.from; to = sym same.to }
 
--- ---- ends that are there
+-- ---- ends that exist
 
 pub within_more : (n i : ℕ) (edges : List EdgeRow) (edge : EdgeRow) → AllWithin n i edges → EndsWithin n edge → edge ≡ edge_at edges i → AllWithin n (i + 1) edges
 within_more n i edges edge before here is r h = elim (lt_or_le r i) [

@@ -1,4 +1,4 @@
--- ListLemmas: walks by type, what one more walk does to them, and the lists that hold them.
+-- ListLemmas: walks by type, the effect of adding a walk, and the lists that hold them.
 use Rattle.std.proofs.Common.{inl, inr, ℕ, suc, ◌+◌, ◌-◌, ◌<◌, ◌≤◌, ◌≡◌, ◌≢◌, Bool, true, false, cond, set, List, [], ◌∷◌, ◌++◌, ◌==◌, length, get_or, take, drop, map, replicate, refl, ap, ap₂, sym, ◌∙◌, subst, arith, leb, leb-true, le-leb, eq-eqb, append-nil, length-append, length-set}
 use Rattle.std.specs.List.{filter, All, insert}
 use Rattle.std.specs.List.Sorted.{IsPartitionPoint, IsPartitionedBy}
@@ -13,7 +13,7 @@ use Rattle.gq_index.specs.Walks.{no_walk, walk_at, walked, ways_at, by_type, tak
 use Rattle.gq_index.proofs.PlaceLemmas.{nat_up}
 use Rattle.gq_index.proofs.WalkLemmas.{flat_map_below, lt_or_le}
 
--- ---- one walk more, under a test
+-- ---- one more walk, under a test
 
 pub kept_push : (p : Traversal → Bool) (walks : List Traversal) (w : Traversal) → p w ≡ true → filter p (walks ++ w ∷ []) ≡ filter p walks ++ w ∷ []
 kept_push p walks w e = filter-append p walks (w ∷ []) ∙ ap (λ b. filter p walks ++ cond b (w ∷ []) []) e
@@ -62,7 +62,7 @@ by_type_low walks = nat_up P (subst (All (λ (w : Traversal). w.kind < 0)) (sym 
         (All-weaker (λ (w : Traversal). w.kind < n) (λ (w : Traversal). w.kind < n + 1) (λ w h. omega arith) (by_type n walks) before)
         (All-weaker (λ (w : Traversal). w.kind ≡ n) (λ (w : Traversal). w.kind < n + 1) (λ w h. omega arith) (typed n walks) (typed_kind n walks)))
 
--- below its type a walk more changes nothing
+-- a walk of a higher type doesn't change the walks of lower types
 by_type_under : (walks : List Traversal) (w : Traversal) (n : ℕ) → n ≤ w.kind → by_type n (walks ++ w ∷ []) ≡ by_type n walks
 by_type_under walks w = nat_up P (λ _. by_type_zero (walks ++ w ∷ []) ∙ sym (by_type_zero walks)) step
   where
@@ -75,7 +75,7 @@ by_type_under walks w = nat_up P (λ _. by_type_zero (walks ++ w ∷ []) ∙ sym
         ∙ ap (λ l. by_type n walks ++ l) (dropped_push (λ (walk : Traversal). walk.kind == n) walks w (differs w.kind n (λ e. absurd (omega arith))))
         ∙ sym (by_type_more n walks)
 
--- a walk goes behind those up to its type, and before the rest
+-- a walk is inserted after those of its type and lower types, and before the rest
 record Parted (k count : ℕ) (walks : List Traversal) (w : Traversal) : Type 0 where
   rest : List Traversal
   whole : by_type count walks ≡ by_type (k + 1) walks ++ rest
@@ -115,13 +115,13 @@ parted k walks w is = nat_up P (λ h. absurd (omega arith)) step
       | inr high ↦ let same : k ≡ n = omega arith in subst (λ (m : ℕ). Parted k (m + 1) walks w) same first
     ]
 
--- the place behind a list whose last element passes
+-- the end of a list whose last element passes
 pub last_place : {X : Type 0} (p : X → Bool) (xs : List X) (last : ℕ) (x : X) → length xs ≡ last + 1 → p (get_or xs last x) ≡ true
     → IsPartitionedBy p xs → IsPartitionPoint (λ y. p y ≡ true) (λ y. p y ≡ false) xs (length xs)
 last_place p xs last x long passes parts =
     ((λ i d low within. parts i last d (omega (arith, long)) (omega (arith, long)) (ap p (get_or_default xs last d x (omega (arith, long))) ∙ passes)), λ i d high within. absurd (omega arith))
 
--- ---- a way is inserted
+-- ---- inserting a way
 
 module _ (k v : ℕ) (list : List Neighbor) (low rest : List Traversal) (are : map (walked v) list ≡ low ++ rest)
     (under : All (λ (w : Traversal). w.kind < k + 1) low) (above : All (λ (w : Traversal). k < w.kind) rest) where
@@ -231,7 +231,7 @@ none_taken v n (w ∷ walks) past all =
     ap (λ b. cond b (w ∷ taken_from v walks) (taken_from v walks)) (differs w.source v (λ e. absurd (omega (arith, e))))
     ∙ none_taken v n walks past (λ i d h. all (suc i) d (omega arith))
 
--- no walk is taken from a vertex behind those
+-- no walk is taken from a later vertex
 pub listed_wider : (n m count : ℕ) (lists wider : List (List Neighbor)) (walks : List Traversal) → AreListed n count lists walks
     → All (λ (w : Traversal). w.source < n) walks → wider ≡ lists ++ replicate m [] → AreListed (n + m) count wider walks
 listed_wider n m count lists wider walks before all is = record {
@@ -246,14 +246,14 @@ listed_wider n m count lists wider walks before all is = record {
           ∙ sym (ap (by_type count) (none_taken v n walks past all) ∙ by_type_none count)
     ]
 
--- one empty list more
+-- one more empty list
 pub widened_more : {V : Type 0} (f : V → List Neighbor) (old vs : List V) (i : ℕ) (v : V) → map f vs ≡ map f old ++ replicate i [] → f v ≡ []
     → map f (vs ++ v ∷ []) ≡ map f old ++ replicate (i + 1) []
 widened_more f old vs i v all e =
     map-append f vs (v ∷ []) ∙ ap₂ (λ (xs : List (List Neighbor)) (x : List Neighbor). xs ++ x ∷ []) all e
     ∙ append_assoc (map f old) (replicate i []) ([] ∷ []) ∙ ap (λ l. map f old ++ l) (replicate-append-replicate i 1 [])
 
--- a list that was written back holds one walk more
+-- a list that was written back holds one more walk
 pub put_more : {V : Type 0} (f : V → List Neighbor) (vs : List V) (old new : V) (n count : ℕ) (walks : List Traversal) (w : Traversal) → w.source < length vs
     → AreListed n count (map f vs) walks → old ≡ get_or vs w.source old
     → (map (walked w.source) (f old) ≡ by_type count (taken_from w.source walks)

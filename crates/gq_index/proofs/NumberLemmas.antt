@@ -1,4 +1,4 @@
--- NumberLemmas: a vertex that is there keeps its number while upserts are taken.
+-- NumberLemmas: an existing vertex keeps its number while upserts succeed.
 use Rattle.std.proofs.Common.{◌≡◌, ℕ, cond, List, [], ◌∷◌, get_or, set, Bool, true, false, Option, Some, None, refl, sym, ap, subst, ◌∙◌}
 use Rattle.std.specs.Prelude.{is_some}
 use Rattle.gq_graph.specs.declared.rows.VertexRow.{VertexRow}
@@ -9,7 +9,7 @@ use Rattle.gq_index.proofs.StepLemmas.{number_kept}
 use Rattle.gq_vertex.proofs.VertexLemmas.{number_low}
 use Rattle.gq_vertex.proofs.SortedLemmas.{position_set}
 
--- a row in the place of another of its name
+-- a row replaced by another of the same name
 number_set : (rows : List VertexRow) (row : VertexRow) (m kind : ℕ) (id : List ℕ) → vertex_number rows row.kind row.id ≡ Some m → vertex_number (set rows m row) kind id ≡ vertex_number rows kind id
 number_set rows row m kind id at =
     let low = number_low rows row.kind m row.id at in

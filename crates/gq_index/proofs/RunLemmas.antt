@@ -1,4 +1,4 @@
--- RunLemmas: what one more walk does to segments and places, and what the search for a segment finds.
+-- RunLemmas: the effect of one more walk on segments and places, and what the search for a segment finds.
 use Rattle.std.proofs.Common.{eq-eqb, inl, inr, ℕ, zero, suc, ◌+◌, ◌-◌, ◌/◌, ◌^◌, ◌<◌, ◌≤◌, ◌≡◌, Bool, true, false, cond, not, List, [], ◌∷◌, ◌++◌, ◌==◌, ◌&&◌, ◌||◌, nat_le, length, get_or, map, refl, ap, ap₂, sym, ◌∙◌, subst, arith, zero-add}
 use Rattle.std.specs.List.{count_by}
 use Rattle.std.proofs.lemmas.List.{get_or_append_left, get_or_push, length_push, map_push}
@@ -28,7 +28,7 @@ stepped w v e d s t some half next under less =
 pub count_cons : {X : Type 0} (p : X → Bool) (x : X) (xs : List X) → count_by p (x ∷ xs) ≡ cond (p x) 1 0 + count_by p xs
 count_cons p x xs = sum_by-cons (λ y. cond (p y) 1 0) x xs
 
--- where the first n pass and no other does, n pass
+-- if exactly the first n pass, n pass
 pub count_front : {X : Type 0} (p : X → Bool) (d : X) (xs : List X) (n : ℕ) → n ≤ length xs
     → ((k : ℕ) → k < n → p (get_or xs k d) ≡ true) → ((k : ℕ) → n ≤ k → k < length xs → p (get_or xs k d) ≡ false) → count_by p xs ≡ n
 count_front p d [] n long front back = omega arith
@@ -56,7 +56,7 @@ found_is segments place low long before after =
     sym (count_front (λ (s : Segment). nat_le s.start place) (record { source = 0; kind = 0; start = 0 }) segments low long
     (λ k h. le_holds (segment_at segments k).start place (before k h)) (λ k g h. le_fails (segment_at segments k).start place (after k g h)))
 
--- so many segments start at or before a place, where the last of them does and the next one doesn't
+-- the number of segments that start at or before a place: the last of them does, and the next one doesn't
 pub end_is : (segments : List Segment) (place end : ℕ) → IsRising segments → end ≤ length segments
     → (0 < end → (segment_at segments (end - 1)).start ≤ place) → (end < length segments → place < (segment_at segments end).start)
     → end ≡ count_by (λ (s : Segment). nat_le s.start place) segments
@@ -79,13 +79,13 @@ shown_at segments reached i h =
     ap (λ l. walk_at l i) (shown_is segments reached)
     ∙ get_or-map-range_with_len (λ i. walk_of (segment_of segments i) (reached_at reached i)) 0 (length reached) i i (record { source = 0; kind = 0; row = 0; target = 0 }) h (zero-add i)
 
--- from the last start on the last segment counts
+-- from the last start on, the last segment is the one
 last_segment : (segments : List Segment) (i : ℕ) → ((k : ℕ) → k < length segments → (segment_at segments k).start ≤ i)
     → segment_of segments i ≡ segment_at segments (length segments - 1)
 last_segment segments i all =
     ap (λ n. segment_at segments (n - 1)) (sym (found_is segments i (length segments) (omega arith) all (λ k g h. absurd (omega arith))))
 
--- a segment that starts later changes nothing before it
+-- a later segment changes nothing before its start
 earlier_segment : (segments : List Segment) (s : Segment) (i : ℕ) → i < s.start → 0 < length segments
     → segment_of (segments ++ s ∷ []) i ≡ segment_of segments i
 earlier_segment segments s i late some =
@@ -116,7 +116,7 @@ run_count_more walks w =
     ∙ many_more (opens (walks ++ w ∷ [])) (length walks)
     ∙ ap (λ m. m + cond (opens (walks ++ w ∷ []) (length walks)) 1 0) (many_agree (opens (walks ++ w ∷ [])) (opens walks) (length walks) (opens_kept walks w))
 
--- the walk put last
+-- the walk that was appended
 put_last : (walks : List Traversal) (w : Traversal) (n : ℕ) → length walks ≡ n → walk_at (walks ++ w ∷ []) n ≡ w
 put_last walks w n e = get_or_push walks w (record { source = 0; kind = 0; row = 0; target = 0 }) n e
 

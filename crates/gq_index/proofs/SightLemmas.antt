@@ -1,4 +1,4 @@
--- SightLemmas: the definition of candidates, which goes through numbered lists, as one that goes through numbers.
+-- SightLemmas: the definition of candidates, which enumerates numbered lists, restated over numbers.
 use Rattle.std.proofs.Common.{ℕ, suc, ◌+◌, ◌≤◌, ◌≡◌, Bool, true, false, cond, List, [], ◌∷◌, ◌++◌, length, get_or, take, map, Option, Some, None, refl, ap, sym, ◌∙◌, arith}
 use Rattle.std.specs.List.{filter, flat_map}
 use Rattle.std.specs.Option.{option_to_list}

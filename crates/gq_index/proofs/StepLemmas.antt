@@ -1,4 +1,4 @@
--- Upserts one by one, and one after the other.
+-- StepLemmas: single upserts, and sequences of them.
 use Rattle.std.proofs.Common.{◌≡◌, ℕ, ◌+◌, ◌≤◌, cond, List, [], ◌∷◌, ◌++◌, length, Option, Some, None, Bool, true, false, inl, inr, refl, sym, ap, ap₂, subst, ◌∙◌, arith}
 use Rattle.std.specs.Prelude.{Err, ◌&&◌, nat_le, is_some, is_none, unwrap_or, bytes_eq, ◌==◌}
 use Rattle.std.specs.List.{position_from}
@@ -18,7 +18,7 @@ use Rattle.gq_index.specs.Steps.{Name, Step, Vertex, End, Edge, after, after_all
 
 -- ---- one upsert
 
--- no refusal where the name is known or there is room
+-- no refusal if the name is known or there is room
 pub taken : (o : Option ℕ) (most len : ℕ) → ((o ≡ None) × (most ≤ len) → ⊥) → (is_none o && nat_le most len) ≡ false
 taken None most len never = elim (cases_Bool (nat_le most len)) [ inl full ↦ absurd (never (refl, leb-true most len full)) | inr room ↦ room ]
 taken (Some n) most len never = refl
@@ -26,7 +26,7 @@ taken (Some n) most len never = refl
 pub refused : (o : Option ℕ) (most len : ℕ) → (o ≡ None) × (most ≤ len) → (is_none o && nat_le most len) ≡ true
 refused o most len full = and_from (is_none o) (nat_le most len) (ap is_none full.0) (le-leb most len full.1)
 
--- an upsert alone
+-- a single upsert
 pub done_one : (before later : Store) (step : Step) → is_refused before step ≡ false → later ≡ after before step → Done before (step ∷ []) later
 done_one before later step room leads = record { taken = (room, tt); leads = leads }
 
@@ -43,7 +43,7 @@ refused_one before later step same full = record {
 pub none_begun : (before later : Store) (steps : List Step) → later ≡ before → Begun before steps later
 none_begun before later steps same = record { first = []; others = steps; whole = refl; done = record { taken = tt; leads = same } }
 
--- ---- upserts one after the other
+-- ---- sequences of upserts
 
 pub after_all-append : (store : Store) (xs ys : List Step) → after_all store (xs ++ ys) ≡ after_all (after_all store xs) ys
 after_all-append store [] ys = refl
@@ -77,7 +77,7 @@ begun_more a b c xs ys first later = record {
   done = done_more a b c xs later.first first later.done;
 }
 
--- what was refused or begun stays so, whatever would follow
+-- a refused or partial sequence stays so, whatever would follow
 pub refused_before : (a c : Store) (xs ys : List Step) → Refused a xs c → Refused a (xs ++ ys) c
 refused_before a c xs ys first = record {
   first = first.first;
@@ -96,7 +96,7 @@ begun_before a c xs ys first = record {
   done = first.done;
 }
 
--- all upserts, of which memory was wanting for the next
+-- all upserts succeeded, and memory ran out for the next
 pub begun_all : (a c : Store) (xs ys : List Step) → Done a xs c → Begun a (xs ++ ys) c
 begun_all a c xs ys first = record { first = xs; others = ys; whole = refl; done = first }
 
@@ -120,7 +120,7 @@ from_last {A} p k (x ∷ xs) y isnt is = go (p x) isnt (λ h. from_last p (k + 1
     go true h more = absurd (cc)
     go false h more = more h ∙ ap (λ (i : ℕ). Some i) (omega arith)
 
--- a vertex that is there keeps its number when one more is put last
+-- an existing vertex keeps its number when another is appended
 pub number_kept : (rows : List VertexRow) (row : VertexRow) (kind n : ℕ) (id : List ℕ) → vertex_number rows kind id ≡ Some n → vertex_number (rows ++ row ∷ []) kind id ≡ Some n
 number_kept rows row kind n id is =
     position_from-zero (is_vertex kind id) (rows ++ row ∷ [])
@@ -133,14 +133,14 @@ number_last rows row new =
     (and_from (row.kind == row.kind) (bytes_eq row.id row.id) (eq-eqb row.kind row.kind refl) ((bytes_eq-Decides row.id row.id).1 refl))
     ∙ ap (λ (i : ℕ). Some i) (omega arith)
 
--- the number of a vertex that was put last
+-- the number of an appended vertex
 pub number_new : (rows after_rows : List VertexRow) (row : VertexRow) (n : ℕ) → vertex_number rows row.kind row.id ≡ None
     → after_rows ≡ upsert_vertex rows row → n ≡ unwrap_or (vertex_number rows row.kind row.id) (length rows) → vertex_number after_rows row.kind row.id ≡ Some n
 number_new rows after_rows row n new put is =
     ap (λ rs. vertex_number rs row.kind row.id) (put ∙ ap (vertex_put rows row) new) ∙ number_last rows row new
     ∙ ap (λ (i : ℕ). Some i) (sym (is ∙ ap (λ o. unwrap_or o (length rows)) new))
 
--- ---- what the tables answered
+-- ---- the results of the tables
 
 pub vertex_ok : (store : Store) (rows : List VertexRow) (row : VertexRow) → rows ≡ upsert_vertex store.vertices row
     → ((vertex_number store.vertices row.kind row.id ≡ None) × (most_vertices ≤ length store.vertices) → ⊥)

@@ -85,7 +85,7 @@ type_walks_from types edges v e =
     ∙ flat_map_agree (λ r. filter (λ (w : Traversal). w.source == v) (ends r)) (λ r. walks_along types v e r (edge_at edges r)) (length edges)
     (λ r _. edge_walks t e r v (edge_at edges r))
 
--- the walks from a vertex under a type along the edges behind the first ones
+-- the walks from a vertex under a type along the edges after the first ones
 abbrev pub under_behind : List EdgeType → List EdgeRow → ℕ → ℕ → ℕ → List Traversal
 under_behind types edges first v e = flat_map (λ r. walks_along types v e (first + r) (edge_at edges (first + r))) (below (length edges - first))
 
@@ -134,7 +134,7 @@ lt_or_le a zero = inr (omega arith)
 lt_or_le zero (suc b) = inl (omega arith)
 lt_or_le (suc a) (suc b) = elim (lt_or_le a b) [ inl h ↦ inl (omega arith) | inr h ↦ inr (omega arith) ]
 
--- the part of a type is its edges
+-- the part of a type consists of its edges
 kind_part : (edges : List EdgeRow) (starts order : List ℕ) (kinds b : ℕ) → IsPlaced (edge_kinds kinds edges) (kinds + 1) starts order
     → get_or (cut_up starts order) (min kinds b) [] ≡ passing (holds (edge_kinds kinds edges) (min kinds b)) (length edges)
 kind_part edges starts order kinds b placed =
@@ -155,7 +155,7 @@ kind_part_below edges starts order part kinds b placed e =
 pub both_none : (t : EdgeType) (e r : ℕ) (edge : EdgeRow) → (edge.kind == base_of t e) ≡ false → both_ways t e r edge ≡ []
 both_none t e r edge other = rw (other, both_ways) refl
 
--- an edge of the type, walked backwards, forwards, and both ways
+-- an edge of the type, walked backwards, forwards, or both ways
 pub both_back : (t : EdgeType) (e r : ℕ) (edge : EdgeRow) → (edge.kind == base_of t e) ≡ true → is_some t.forward ≡ true
     → both_ways t e r edge ≡ (record { source = edge.to; kind = e; row = r; target = edge.from }) ∷ []
 both_back t e r edge has back = rw (has, back, both_ways) refl
@@ -183,7 +183,7 @@ cond_none : (b : Bool) → cond {A = List Traversal} b [] [] ≡ []
 cond_none true = refl
 cond_none false = refl
 
--- an edge that isn't in the part of a type has no walks under it
+-- an edge outside the part of a type has no walks under it
 kept_kind : (t : EdgeType) (e r : ℕ) (edge : EdgeRow) (kinds : ℕ)
     → cond (min edge.kind kinds == min kinds (base_of t e)) (both_ways t e r edge) [] ≡ both_ways t e r edge
 kept_kind t e r edge kinds = elim (cases_eq edge.kind (base_of t e)) [

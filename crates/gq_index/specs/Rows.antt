@@ -1,5 +1,5 @@
--- Rows: when the rows of a store are whole: a vertex has a value for each attribute of its type, and the ends of an edge are
--- vertices of the store.
+-- Rows: when the rows of a store are well-formed.
+-- A vertex has a value for each attribute of its type, and the ends of an edge are vertices of the store.
 use Rattle.std.specs.Prelude.{◌≡◌, ℕ, ◌<◌, ◌≤◌, List, length, slice_get, Some}
 use Rattle.gq_graph.specs.Catalog.{Schema}
 use Rattle.gq_graph.specs.Vertices.{vertex_at}

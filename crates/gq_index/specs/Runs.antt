@@ -1,4 +1,4 @@
--- Runs: a list of walks as segments, each with its first place, and what is reached at each place.
+-- Runs: a list of walks as segments, each with its first place, and the edge and far end at each place.
 use Rattle.std.specs.Prelude.{ℕ, ◌-◌, ◌<◌, ◌≤◌, ◌≡◌, Bool, ◌&&◌, ◌||◌, not, ◌==◌, nat_le, List, length, map, slice_index_or, count_by}
 use Rattle.gq_index.specs.declared.runs.Reached.{Reached}
 use Rattle.gq_index.specs.declared.runs.Segment.{Segment}
@@ -10,15 +10,15 @@ use Rattle.gq_index.specs.Walks.{walk_at}
 abbrev pub segment_at : List Segment → ℕ → Segment
 segment_at segments k = slice_index_or segments k (record { source = 0; kind = 0; start = 0 })
 
--- what is reached at a place
+-- the edge and far end at a place
 abbrev pub reached_at : List Reached → ℕ → Reached
 reached_at reached i = slice_index_or reached i (record { row = 0; target = 0 })
 
--- the walk of a segment and of what is reached
+-- the walk that a segment and the edge and far end at a place show
 abbrev pub walk_of : Segment → Reached → Traversal
 walk_of s r = record { source = s.source; kind = s.kind; row = r.row; target = r.target }
 
--- the segment of a place: the last one that starts there or before
+-- the segment of a place: the last one that starts at or before it
 abbrev pub segment_of : List Segment → ℕ → Segment
 segment_of segments i = segment_at segments (count_by (λ s. nat_le s.start i) segments - 1)
 
@@ -35,7 +35,7 @@ abbrev pub opens : List Traversal → ℕ → Bool
 opens walks i =
     (i == 0) || not (((walk_at walks i).source == (walk_at walks (i - 1)).source) && ((walk_at walks i).kind == (walk_at walks (i - 1)).kind))
 
--- how many runs of walks with one source and one type there are
+-- how many runs of walks with the same source and type there are
 unfoldable pub run_count : List Traversal → ℕ
 run_count walks = many (opens walks) (length walks)
 

@@ -13,7 +13,7 @@ use Rattle.gq_index.specs.Places.{many}
 abbrev pub of_walk : Traversal → Candidate
 of_walk walk = record { source = walk.source; edge = Some walk.row; kind = Some walk.kind; target = Some walk.target }
 
--- the candidates that are kept
+-- the candidates that the kept rows represent
 abbrev pub listed : CandidateRows → List Candidate
 listed (Vertices vertices) = map alone vertices.items
 listed (Edges walks) = map of_walk walks
@@ -22,12 +22,12 @@ listed (Edges walks) = map of_walk walks
 abbrev pub candidate_at : List Candidate → ℕ → Candidate
 candidate_at cs i = slice_index_or cs i (alone 0)
 
--- whether both have one type
+-- whether both have the same type
 abbrev pub same_kind : Option ℕ → Option ℕ → Bool
 same_kind (Some a) (Some b) = a == b
 same_kind _ _ = false
 
--- whether a candidate along an edge stands first in its segment, where this one stands before it
+-- whether a candidate along an edge opens a segment after this candidate
 abbrev pub opens_beside : ℕ → Candidate → Candidate → Bool
 opens_beside i c before = is_some c.kind && ((i == 0) || not ((c.source == before.source) && same_kind c.kind before.kind))
 

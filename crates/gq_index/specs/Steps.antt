@@ -1,5 +1,5 @@
--- Steps: what is put into a store: one upsert, when it is refused, and upserts one after the other. Here each name is looked
--- for from the first row on. The code asks the tables, and a name's number once.
+-- Steps: what is put into a store: one upsert, when it is refused, and sequences of upserts.
+-- The specification searches each name from the first row on. The code looks names up in the tables, each name once.
 use Rattle.std.specs.Prelude.{◌≡◌, ℕ, Bool, true, false, ◌&&◌, nat_le, if◌then◌else◌, List, [], ◌∷◌, ◌++◌, length, is_some, is_none, unwrap_or, fold, Result, Ok, Err}
 use Rattle.gq_graph.specs.declared.rows.VertexRow.{VertexRow}
 use Rattle.gq_graph.specs.declared.rows.EdgeRow.{EdgeRow}
@@ -16,8 +16,8 @@ pub record Name : Type 0 where
   pub kind : ℕ
   pub id : List ℕ
 
--- one upsert: of a vertex; of an end of an edge, which gets this row where it isn't there, and stays as it is where it is; of an
--- edge between two vertices that are there
+-- one upsert: of a vertex; of an end of an edge, which gets this row if it doesn't exist, and is unchanged if it does;
+-- of an edge between two existing vertices
 pub data Step : Type 0 where
   Vertex : VertexRow → Step
   End : VertexRow → Step
@@ -26,11 +26,11 @@ pub data Step : Type 0 where
 abbrev pub name_of : VertexRow → Name
 name_of row = record { kind = row.kind; id = row.id }
 
--- the number of a vertex that is there
+-- the number of an existing vertex
 abbrev pub number_of : Store → Name → ℕ
 number_of store name = unwrap_or (vertex_number store.vertices name.kind name.id) 0
 
--- whether the vertex of that name is there
+-- whether the vertex of that name exists
 abbrev pub has_vertex : Store → Name → Bool
 has_vertex store name = is_some (vertex_number store.vertices name.kind name.id)
 
@@ -45,14 +45,14 @@ after store (End row) = if has_vertex store (name_of row) then store else record
 after store (Edge naming from to attributes) =
     record store { edges = upsert_edge store.edges naming (edge_between store naming from to attributes) }
 
--- whether an upsert is refused: its name is new, and its table holds as many rows as it may
+-- whether an upsert is refused: its name is new and its table is full
 abbrev pub is_refused : Store → Step → Bool
 is_refused store (Vertex row) = is_none (vertex_number store.vertices row.kind row.id) && nat_le most_vertices (length store.vertices)
 is_refused store (End row) = is_none (vertex_number store.vertices row.kind row.id) && nat_le most_vertices (length store.vertices)
 is_refused store (Edge naming from to attributes) =
     is_none (edge_number store.edges.rows naming (edge_between store naming from to attributes)) && nat_le most_edges (length store.edges.rows)
 
--- the store after upserts, one after the other
+-- the store after a sequence of upserts
 abbrev pub after_all : Store → List Step → Store
 after_all store steps = fold after store steps
 
@@ -61,12 +61,12 @@ abbrev pub AllTaken : Store → List Step → Type 0
 AllTaken store [] = Unit {0}
 AllTaken store (step ∷ steps) = (is_refused store step ≡ false) × AllTaken (after store step) steps
 
--- all upserts are taken, and this store is what they lead to
+-- all upserts succeed, and this store is their result
 pub record Done (before : Store) (steps : List Step) (later : Store) : Type 0 where
   pub taken : AllTaken before steps
   pub leads : later ≡ after_all before steps
 
--- one of the upserts is refused, and the store is what those before it lead to
+-- one of the upserts is refused, and the store is the result of those before it
 pub record Refused (before : Store) (steps : List Step) (later : Store) : Type 0 where
   pub first : List Step
   pub refused : Step
@@ -75,14 +75,15 @@ pub record Refused (before : Store) (steps : List Step) (later : Store) : Type 0
   pub done : Done before first later
   pub full : is_refused later refused ≡ true
 
--- the store is what some of the upserts, from the first one on, lead to
+-- the store is the result of a prefix of the upserts
 pub record Begun (before : Store) (steps : List Step) (later : Store) : Type 0 where
   pub first : List Step
   pub others : List Step
   pub whole : steps ≡ first ++ others
   pub done : Done before first later
 
--- what an answer says of the upserts: Ok, that all were taken; Full, that one was refused; OutOfMemory, that some were taken
+-- what a result says of the upserts: Ok, that all succeeded; Full, that one was refused; OutOfMemory, that a prefix
+-- succeeded
 abbrev pub Puts : {A : Type 0} → Store → List Step → Store → Result A StoreFault → Type 0
 Puts before steps later (Ok a) = Done before steps later
 Puts before steps later (Err fault.Full) = Refused before steps later

@@ -1,6 +1,6 @@
 -- Walks: the ways along edges from each vertex, by edge type and by edge.
--- Here each vertex looks at every edge under every type. The code looks at each edge once under each type that has it, and
--- puts each walk behind those of its type in the list of its vertex.
+-- The specification tests every edge under every type from each vertex. The code visits each edge once under each type
+-- that has it, and inserts each walk after those of its type in the list of its vertex.
 use Rattle.std.specs.Prelude.{ℕ, ◌+◌, ◌-◌, ◌<◌, ◌≡◌, min, filter, ◌&&◌, not, if◌then◌else◌, ◌==◌, List, [], ◌∷◌, length, map, slice_index_or}
 use Rattle.std.specs.List.{flat_map}
 use Rattle.std.specs.Option.{is_some, unwrap_or, option_to_list}
@@ -13,7 +13,7 @@ use Rattle.gq_index.specs.declared.walks.Neighbor.{Neighbor}
 use Rattle.gq_index.specs.Places.{below}
 use Rattle.gq_index.specs.Sights.{type_at}
 
--- no walk
+-- the default walk, for places without one
 abbrev pub no_walk : Traversal
 no_walk = record { source = 0; kind = 0; row = 0; target = 0 }
 
@@ -21,11 +21,11 @@ no_walk = record { source = 0; kind = 0; row = 0; target = 0 }
 abbrev pub walk_at : List Traversal → ℕ → Traversal
 walk_at walks i = slice_index_or walks i no_walk
 
--- a way, taken from a vertex
+-- the walk of a way from a vertex
 abbrev pub walked : ℕ → Neighbor → Traversal
 walked v way = record { source = v; kind = way.kind; row = way.row; target = way.target }
 
--- a walk without the vertex that it is taken from
+-- a walk without its source vertex
 abbrev pub way_of : Traversal → Neighbor
 way_of walk = record { kind = walk.kind; row = walk.row; target = walk.target }
 
@@ -54,7 +54,7 @@ walks_at index v = slice_index_or index v []
 abbrev pub ways_at : List (List Neighbor) → ℕ → List Neighbor
 ways_at lists v = slice_index_or lists v []
 
--- what lists of ways stand for: the walks from each vertex
+-- what lists of ways represent: the walks from each vertex
 abbrev pub laid_out : List (List Neighbor) → List (List Traversal)
 laid_out lists = map (λ v. map (walked v) (ways_at lists v)) (below (length lists))
 
@@ -62,7 +62,7 @@ laid_out lists = map (λ v. map (walked v) (ways_at lists v)) (below (length lis
 abbrev pub base_of : EdgeType → ℕ → ℕ
 base_of type e = unwrap_or type.forward e
 
--- the walks along an edge from both of its ends, under a type, if the type has it
+-- the walks along an edge from both of its ends, under a type, if the type has the edge
 abbrev pub both_ways : EdgeType → ℕ → ℕ → EdgeRow → List Traversal
 both_ways type e r edge =
     if not (edge.kind == base_of type e) then []
@@ -75,7 +75,7 @@ both_ways type e r edge =
     back : Traversal
     back = record { source = edge.to; kind = e; row = r; target = edge.from }
 
--- the type of each edge; types that aren't there are one more
+-- the type of each edge; unknown types share one extra number
 abbrev pub edge_kinds : ℕ → List EdgeRow → List ℕ
 edge_kinds count edges = map (λ (edge : EdgeRow). min edge.kind count) edges
 
@@ -87,23 +87,23 @@ type_walks type e edges = flat_map (λ r. both_ways type e r (edge_at edges r)) 
 unfoldable pub all_walks : List EdgeType → List EdgeRow → List Traversal
 all_walks types edges = flat_map (λ e. type_walks (type_at types e) e edges) (below (length types))
 
--- the walks along the edges behind the first ones, under one type
+-- the walks along the edges after the first ones, under one type
 unfoldable pub type_walks_behind : EdgeType → ℕ → ℕ → List EdgeRow → List Traversal
 type_walks_behind type e first edges = flat_map (λ r. both_ways type e (first + r) (edge_at edges (first + r))) (below (length edges - first))
 
--- the walks along the edges behind the first ones, by type and by edge
+-- the walks along the edges after the first ones, by type and by edge
 unfoldable pub walks_behind : List EdgeType → ℕ → List EdgeRow → List Traversal
 walks_behind types first edges = flat_map (λ e. type_walks_behind (type_at types e) e first edges) (below (length types))
 
--- walks by type, those of one type as they stand
+-- walks sorted by type; the order within a type is kept
 unfoldable pub by_type : ℕ → List Traversal → List Traversal
 by_type count walks = flat_map (λ e. filter (λ (walk : Traversal). walk.kind == e) walks) (below count)
 
--- the walks that are taken from a vertex
+-- the walks from a vertex
 abbrev pub taken_from : ℕ → List Traversal → List Traversal
 taken_from v walks = filter (λ (walk : Traversal). walk.source == v) walks
 
--- n lists have, for each vertex, those walks that are taken from it, by type
+-- n lists hold, for each vertex, the walks from it, by type
 pub record AreListed (n count : ℕ) (lists : List (List Neighbor)) (walks : List Traversal) : Type 0 where
   pub long : length lists ≡ n
   pub own : (v : ℕ) → v < n → map (walked v) (ways_at lists v) ≡ by_type count (taken_from v walks)

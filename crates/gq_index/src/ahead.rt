@@ -1,27 +1,27 @@
-// What walks will be put behind, read ahead.
+// Prefetching of the lists to which walks will be added.
 
 use crate::walks::Neighbor;
 use gq_base::{List, OutOfMemory};
 use gq_edge::EdgeEnds;
 use std::alloc::Global;
 
-/// How many edges' lists are read at once.
+/// The number of edges whose lists are prefetched at once.
 const AHEAD: usize = 64;
 
-/// Reads the ends of the lists that the walks along the next edges go into.
+/// Prefetches the ends of the lists to which the walks along the next edges will be added.
 ///
-/// A put waits for memory twice: for the list of a vertex, and for the last way in it. Here the processor waits for those of many puts
-/// at once. Nothing is promised of it; it is for the sake of time.
+/// A put waits for memory twice: for the list of a vertex, and for its last way. Prefetching lets the processor wait
+/// for those of many puts at once. It affects only time, and nothing is guaranteed of it.
 #[derive(Drop)]
 pub(crate) struct Ahead {
-    /// How many edges have had their turn.
+    /// The number of edges so far.
     turns: usize,
-    /// What was read. It is kept, so that the compiler leaves the reads.
+    /// The values that were read. They are kept so that the compiler doesn't remove the reads.
     seen: List<u32>,
 }
 
 impl Ahead {
-    /// No edge has had its turn.
+    /// Returns the state before the first edge.
     pub fn new(alloc: Global) -> Ahead {
         Ahead {
             turns: 0,
@@ -29,7 +29,8 @@ impl Ahead {
         }
     }
 
-    /// To be called before the walks along each edge are put, for the edges at the given places behind the first ones, in order.
+    /// Is called before the walks along each edge are put, for the edges at the given places after the first ones, in
+    /// order.
     pub fn turn(
         &mut self,
         places: &[u32],
@@ -53,7 +54,7 @@ impl Ahead {
     }
 }
 
-/// The edge of the last way from a vertex.
+/// The row of the last way from a vertex.
 fn last_row(lists: &[Vec<Neighbor>], vertex: u32) -> u32 {
     match lists.get(vertex as usize) {
         Some(list) => match list.last() {

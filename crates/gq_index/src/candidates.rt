@@ -21,7 +21,7 @@ use gq_vertex::Vertices;
 use std::alloc::Global;
 use std::marker::Model;
 
-/// What is kept of candidates.
+/// The representation of candidates.
 #[derive(Drop)]
 pub enum CandidateRows {
     Vertices(Vec<u32>),
@@ -35,7 +35,7 @@ struct Wanted<'a> {
     targets: Marks<'a>,
 }
 
-/// Whether a vertex is there and has a type that is listed.
+/// Whether a vertex exists and has a listed type.
 fn reaches(targets: &Marks<'_>, vertices: &Vertices, vertex: u32) -> bool
     ensures { result ≡ is_target (vertex_kinds vertices.now) targets.now vertex }
 {
@@ -74,7 +74,7 @@ fn add_way(
     Ok(())
 }
 
-/// Adds those walks from one vertex that are wanted.
+/// Adds the wanted walks from one vertex.
 fn add_wanted(
     source: u32,
     ways: &[Neighbor],
@@ -99,7 +99,7 @@ fn add_wanted(
     Ok(())
 }
 
-/// All wanted walks from the given vertices.
+/// Collects all wanted walks from the given vertices.
 fn gather(
     alloc: Global,
     index: &Index,
@@ -124,7 +124,7 @@ fn gather(
     Ok(Runs::of(segments, reached))
 }
 
-/// The numbers below a count.
+/// The numbers that are below a count.
 fn below(alloc: Global, numbers: &[u32], count: u32) -> Result<Vec<u32>, OutOfMemory>
     ensures { IfOk result (λ kept. kept.items ≡ filter (λ n. nat_lt n count) numbers.now) }
 {
@@ -137,7 +137,7 @@ fn below(alloc: Global, numbers: &[u32], count: u32) -> Result<Vec<u32>, OutOfMe
     )
 }
 
-/// The vertices of a set that are there, by number, at a cost of the set alone.
+/// The existing vertices of a set, by number, at a cost that depends on the set alone.
 pub fn in_number_order(
     alloc: Global,
     set: &[u32],
@@ -151,7 +151,7 @@ pub fn in_number_order(
     Ok(sources)
 }
 
-/// All candidates of a step along edges.
+/// Collects all candidates of a step along edges.
 fn walks_of(
     alloc: Global,
     graph: &Graph<'_>,
@@ -223,8 +223,9 @@ impl Candidates {
         }
     }
 
-    /// The candidates of a set along a pattern, or of a set alone. The cost is that of sorting the set, and of the walks
-    /// from its vertices, whatever else the graph holds. More than 4,294,967,295 candidates are `OutOfMemory` too.
+    /// Collects the candidates of a set along a pattern, or of a set alone. The cost is that of sorting the set and of
+    /// the walks from its vertices, whatever else the graph holds. Also returns `OutOfMemory` past 4,294,967,295
+    /// candidates.
     pub fn of(
         alloc: Global,
         graph: &Graph<'_>,
@@ -248,7 +249,7 @@ impl Candidates {
         }
     }
 
-    /// How many candidates there are.
+    /// The number of candidates.
     pub fn count(&self) -> u64
         ensures { result ≡ length self.now }
     {
@@ -258,15 +259,15 @@ impl Candidates {
         }
     }
 
-    /// The candidate at a place, found by halving, so that a worker may begin anywhere.
+    /// The candidate at a place, found by binary search, so that a worker can begin anywhere.
     ///
-    /// Adds to `steps` one for each segment that is looked at, and one for the edge that is read. Takes no memory.
+    /// Adds one to `steps` for each segment that is examined, and one for the edge that is read. Allocates nothing.
     pub fn at(&self, place: u64, steps: &mut Steps) -> Candidate
         requires within { place < length self.now }
         requires room { steps.old < 2 ^ 63 }
         ensures candidate { slice_get self.now place ≡ Some result }
 
-        // Halving alone takes as many steps as the number of segments has binary digits.
+        // A binary search takes at most as many steps as the number of segments has binary digits.
         ensures few { (d : ℕ) → segment_count self.now < 2 ^ d → steps.new ≤ steps.old + d + 1 }
     {
         match &self.held {
@@ -275,8 +276,8 @@ impl Candidates {
         }
     }
 
-    /// The candidate at a place, as `at` finds it. Where places are read in order each takes one step, else the cursor is of no help.
-    /// Takes no memory.
+    /// The candidate at a place, as `at` finds it. If places are read in order, each takes one step; otherwise the
+    /// cursor doesn't help. Allocates nothing.
     pub fn near(&self, place: u64, cursor: &mut Cursor) -> Candidate
         requires { place < length self.now }
         ensures { slice_get self.now place ≡ Some result }

@@ -1,7 +1,7 @@
 // Chunks of candidates.
 ghost use Rattle.std.specs.Prelude.{◌≡◌, ◌+◌, ◌*◌, ◌<◌, ◌≤◌, min};
 
-/// The first place of chunk `c`, and the place behind its last one. The last chunk of `count` candidates may be short.
+/// The first place of chunk `c`, and the place after its last one. The last chunk of `count` candidates may be shorter.
 pub fn chunk(c: u64, size: u64, count: u64) -> (u64, u64)
     requires some { 1 ≤ size }
     requires begun { c * size < count }

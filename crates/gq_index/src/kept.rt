@@ -1,4 +1,4 @@
-// An index that is kept.
+// An index that is kept between queries.
 ghost use Rattle.std.specs.Prelude.{◌≡◌, ◌<◌, ◌≤◌, true, IfOk, length};
 ghost use Rattle.gq_graph.specs.Catalog.{Schema};
 ghost use Rattle.gq_index.specs.declared.store.Store as meant;
@@ -15,18 +15,18 @@ use gq_schema::Catalog;
 use std::alloc::Global;
 use std::mem;
 
-/// How many ways may move, for each edge that the index knows, before it is built anew.
+/// How many ways may move for each edge of the index before it is rebuilt instead.
 const MOST_MOVES: u64 = 16;
 
-/// An index over the rows that there were when it was last brought up to date, to be kept between queries.
+/// An index, kept between queries, of the rows that existed when it was last updated.
 #[derive(Drop)]
 pub struct KeptIndex {
     index: Index,
-    /// How many edge types it knows.
+    /// How many edge types it covers.
     types: u32,
-    /// How many edges it knows.
+    /// How many edges it covers.
     edges: u32,
-    /// Whether their ends are among the vertices that it knows.
+    /// Whether the ends of all these edges are among the vertices that it covers.
     whole: bool,
 }
 
@@ -37,7 +37,7 @@ fn is_within(edge: &EdgeEnds, vertices: u32) -> bool
     edge.from() < vertices && edge.to() < vertices
 }
 
-/// Whether the ends of all edges behind the first ones are among the first vertices.
+/// Whether the ends of all edges after the first ones are among the first vertices.
 fn are_within(edges: &[EdgeEnds], known: u32, vertices: u32) -> bool
     requires before { AllWithin vertices known edges.now }
     ensures { result ≡ true → AllWithin vertices (length edges.now) edges.now }
@@ -50,13 +50,13 @@ fn are_within(edges: &[EdgeEnds], known: u32, vertices: u32) -> bool
     true
 }
 
-/// How many ways from a vertex stand behind those of a type.
+/// How many ways from a vertex come after those of a type.
 fn behind(index: &Index, vertex: u32, kind: u32) -> u64 {
     let ways = index.ways(vertex);
     (ways.len() - ways.partition_point(|way| way.kind <= kind)) as u64
 }
 
-/// The type under which an edge is walked back.
+/// The type under which an edge is walked backwards.
 fn type_back(types: &[EdgeType], kind: u32) -> u32 {
     match types.get(kind as usize) {
         Some(of) => of.reverse.unwrap_or(kind),
@@ -75,7 +75,7 @@ fn moves(index: &Index, types: &[EdgeType], edges: &[EdgeEnds]) -> u64 {
 }
 
 impl KeptIndex {
-    /// An index that knows nothing, which takes no memory.
+    /// Returns an index that covers nothing; allocates nothing.
     pub fn new(alloc: Global) -> KeptIndex
         ensures kept { (schema : Schema) → (store : meant.Store) → IsKept result schema store }
         ensures types { result.types ≡ 0 }
@@ -83,7 +83,7 @@ impl KeptIndex {
         KeptIndex::of_types(alloc, 0)
     }
 
-    /// An index that knows these types, and no vertices or edges.
+    /// Returns an index that covers these types, and no vertices or edges.
     fn of_types(alloc: Global, types: u32) -> KeptIndex
         ensures kept { (schema : Schema) → (store : meant.Store) → types ≤ length schema.edge_types → IsKept result schema store }
         ensures types { result.types ≡ types }
@@ -97,14 +97,14 @@ impl KeptIndex {
         }
     }
 
-    /// The index, as it was last brought up to date.
+    /// The index, as of its last update.
     pub fn index(&self) -> &Index
         ensures { result.now ≡ self.now.index }
     {
         &self.index
     }
 
-    /// Whether adding what is new costs less than beginning anew.
+    /// Whether extending the index costs less than rebuilding it.
     fn goes_on(&self, types: &[EdgeType], edges: &[EdgeEnds]) -> bool
         requires { self.now.edges ≤ length edges.now }
         ensures types { result ≡ true → self.now.types ≡ length types.now }
@@ -117,10 +117,10 @@ impl KeptIndex {
         moves(&self.index, types, &edges[self.edges as usize..]) <= most
     }
 
-    /// Brings the index up to date. The cost is that of the rows that are new, and of walks from their ends that stand behind
-    /// theirs; where there are new edge types, or where it costs less, the index is built anew.
+    /// Updates the index. The cost is that of the new rows, and of the walks from their ends that have to move to
+    /// make room. If there are new edge types, or if that costs less, the index is rebuilt.
     ///
-    /// After `OutOfMemory` it knows nothing.
+    /// After `OutOfMemory` it covers nothing.
     pub fn catch_up(
         &mut self,
         alloc: Global,
@@ -139,7 +139,7 @@ impl KeptIndex {
         self.extend(alloc, catalog, store)
     }
 
-    /// Adds the vertices and edges that are new.
+    /// Adds the new vertices and edges.
     fn extend(&mut self, alloc: Global, catalog: &Catalog, store: &Store) -> Result<(), OutOfMemory>
         requires kept { IsKept self.old catalog.now store.now }
         requires types { self.old.types ≡ length catalog.now.edge_types }

@@ -1,13 +1,13 @@
-//! The store, the adjacency index over its edges, and the candidates that a SELECT block goes through.
+//! The store, the adjacency index over its edges, and the candidates that a SELECT block processes.
 //!
-//! An index has a list of walks for each vertex. It is built from a catalog and a store; a `KeptIndex` is brought
-//! up to date when rows were added behind those that it knows. The candidates of one source and edge type form a
-//! segment, so `Candidates::at` finds a candidate by its position, and workers share only a counter of chunks.
+//! An index has a list of walks for each vertex. It is built from a catalog and a store; a `KeptIndex` is updated
+//! when rows were appended to those that it covers. The candidates of one source and edge type form a
+//! segment. `Candidates::at` finds a candidate by its position, so workers share only a counter of chunks.
 //!
 //! Read `Candidates.antt` of `gq_graph` first, then `specs/Walks.antt` and `specs/Runs.antt`. `src/index.rt`
-//! has the adjacency lists, which `src/walks.rt` fills, and `src/runs.rt` the segments. `specs/Kept.antt` says what
-//! is kept in `src/kept.rt`. Rows enter the store in `src/put.rt`: `specs/Steps.antt` says that a row is a list of
-//! upserts, and that a store is a fold of them.
+//! has the adjacency lists, which `src/walks.rt` fills, and `src/runs.rt` the segments. `specs/Kept.antt` specifies
+//! what `src/kept.rt` keeps. Rows enter the store in `src/put.rt`: `specs/Steps.antt` defines a row as a list of
+//! upserts, and a store as a fold of them.
 #![tactic(auto)]
 
 mod ahead;

@@ -1,4 +1,4 @@
-// A list of candidates in the making.
+// A growing list of candidates.
 ghost use Rattle.std.specs.Prelude.{◌≡◌, ◌<◌, ◌^◌, ◌++◌, [], ◌∷◌, length, OnErr, OnOk};
 ghost use Rattle.gq_index.specs.Segments.{of_walk};
 
@@ -9,7 +9,7 @@ use gq_base::OutOfMemory;
 use std::alloc::Global;
 use std::marker::Model;
 
-/// Candidates along edges in the making, one behind the other. Contracts see them as a list.
+/// A growing list of candidates along edges. Contracts see them as a list.
 ///
 /// They take 12 bytes for each segment, which is one source with one edge type, and 8 for each candidate.
 #[derive(Drop)]
@@ -32,7 +32,7 @@ impl Model for Listing {
 }
 
 impl Listing {
-    /// No candidates, which takes no memory.
+    /// Returns an empty list; allocates nothing.
     pub fn new(alloc: Global) -> Listing
         ensures { result ≡ [] }
     {
@@ -42,14 +42,14 @@ impl Listing {
         }
     }
 
-    /// How many candidates there are.
+    /// The number of candidates.
     pub fn len(&self) -> usize
         ensures { result ≡ length self.now }
     {
         self.reached.len()
     }
 
-    /// Puts the candidate along a walk last. After `OutOfMemory` there are none.
+    /// Appends the candidate along a walk. After `OutOfMemory` the list is empty.
     pub fn push(&mut self, walk: Traversal) -> Result<(), OutOfMemory>
         requires { length self.old < 2 ^ 32 }
         ensures ok { OnOk result (self.new ≡ self.old ++ of_walk walk ∷ []) }
@@ -65,7 +65,7 @@ impl Listing {
         }
     }
 
-    /// The candidates.
+    /// Returns the candidates.
     pub fn done(self) -> Candidates
         ensures { result ≡ self }
     {

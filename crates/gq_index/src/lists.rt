@@ -11,9 +11,9 @@ use gq_edge::EdgeEnds;
 use gq_graph::EdgeType;
 use std::alloc::Global;
 
-/// Where a way of this type goes: behind those of its type and of lower ones.
+/// The position at which a way of this type is inserted: after those of its type and of lower types.
 ///
-/// Ways come by type, but for those that are put behind an index that is kept. So the last one is looked at first.
+/// Ways arrive by type, except those that are added to a kept index. So the last way is checked first.
 fn place_for(list: &[Neighbor], kind: u32) -> usize
     ensures bound { result ≤ length list.now }
     ensures place { IsPartitionedBy (λ (other : Neighbor). nat_le other.kind kind) list.now
@@ -26,7 +26,7 @@ fn place_for(list: &[Neighbor], kind: u32) -> usize
     list.partition_point(|other| other.kind <= kind)
 }
 
-/// Puts a way behind those of its type and of lower ones.
+/// Inserts a way after those of its type and of lower types.
 fn insert(list: &mut Vec<Neighbor>, way: Neighbor) -> Result<(), OutOfMemory>
     ensures { IfOk result (λ _. (count v : ℕ) (walks : List Traversal) → way.kind < count
         → map (walked v) list.old.items ≡ by_type count walks
@@ -37,7 +37,7 @@ fn insert(list: &mut Vec<Neighbor>, way: Neighbor) -> Result<(), OutOfMemory>
     Ok(())
 }
 
-/// Puts a walk into the list of the vertex that it is taken from, where that is there.
+/// Adds a walk to the list of its source vertex, if that exists.
 pub fn put(lists: &mut Vec<Vec<Neighbor>>, walk: Traversal) -> Result<(), OutOfMemory>
     ensures { IfOk result (λ _. (n count : ℕ) (walks : List Traversal) → walk.kind < count
         → AreListed n count (map (λ list. list.items) lists.old.items) walks
@@ -54,7 +54,7 @@ pub fn put(lists: &mut Vec<Vec<Neighbor>>, walk: Traversal) -> Result<(), OutOfM
     insert(&mut lists[walk.source as usize], way)
 }
 
-/// Counts a way from a vertex, where that is one of the new ones.
+/// Counts a way from a vertex, if it is one of the new ones.
 fn count(room: &mut [u32], first: u32, vertex: u32)
     ensures { length room.new ≡ length room.old }
 {
@@ -67,7 +67,7 @@ fn count(room: &mut [u32], first: u32, vertex: u32)
     }
 }
 
-/// Whether edges of a type are walked from their TO vertices too.
+/// Whether edges of a type are also walked from their TO vertices.
 fn is_walked_back(types: &[EdgeType], kind: u32) -> bool {
     match types.get(kind as usize) {
         Some(of) => !of.directed || of.reverse.is_some(),
@@ -75,7 +75,7 @@ fn is_walked_back(types: &[EdgeType], kind: u32) -> bool {
     }
 }
 
-/// How many ways there will be along these edges from each of the new vertices, of which `first` is the first one.
+/// The number of ways along these edges from each of the new vertices, of which `first` is the first one.
 pub fn room_for(
     alloc: Global,
     types: &[EdgeType],
@@ -96,7 +96,7 @@ pub fn room_for(
     Ok(room)
 }
 
-/// Puts empty lists last, each with room for so many ways.
+/// Appends empty lists, each with a capacity from `room`.
 pub fn widen(alloc: Global, lists: &mut Vec<Vec<Neighbor>>, room: &[u32]) -> Result<(), OutOfMemory>
     ensures { IfOk result (λ _. map (λ list. list.items) lists.new.items ≡ map (λ list. list.items) lists.old.items ++ replicate (length room.now) []) }
 {

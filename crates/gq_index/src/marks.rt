@@ -7,7 +7,7 @@ use gq_base::OutOfMemory;
 use std::alloc::Global;
 use std::marker::Model;
 
-/// For each number below the count whether it is listed.
+/// Flags, for each number below the count, whether it is listed.
 fn flags(alloc: Global, listed: &[u32], count: u32) -> Result<Vec<bool>, OutOfMemory>
     ensures { IfOk result (λ f. f.items ≡ map (among listed.now) (range_with_len 0 count)) }
 {
@@ -18,7 +18,7 @@ fn flags(alloc: Global, listed: &[u32], count: u32) -> Result<Vec<bool>, OutOfMe
     )
 }
 
-/// A list of numbers that tells at once whether a low number is listed. Contracts see the list.
+/// A list of numbers with a constant-time membership test for low numbers. Contracts see the list.
 #[derive(Drop)]
 pub struct Marks<'a> {
     listed: &'a [u32],
@@ -38,7 +38,7 @@ impl<'a> Model for Marks<'a> {
 }
 
 impl<'a> Marks<'a> {
-    /// The marks of a list, with a flag for each number below the count.
+    /// Marks a list, with a flag for each number below the count.
     pub fn of(alloc: Global, listed: &'a [u32], count: u32) -> Result<Marks<'a>, OutOfMemory>
         ensures { IfOk result (λ m. m ≡ listed.now) }
     {

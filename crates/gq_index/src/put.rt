@@ -1,4 +1,4 @@
-// Rows put into a store.
+// Putting rows into a store.
 ghost use Rattle.std.specs.Prelude.{◌≡◌, ◌≤◌, ℕ, List, [], ◌∷◌, length, take, Some, IfOk, OnErr};
 ghost use Rattle.gq_graph.specs.Vertices.{vertex_number};
 ghost use Rattle.gq_graph.specs.Edges.{Agrees};
@@ -14,17 +14,18 @@ use gq_graph::{Naming, StoreFault};
 use gq_value::{Row, Value, duplicate_row};
 use std::alloc::Global;
 
-/// An end of an edge: a vertex by its type and id, and the attributes that it gets where it isn't there yet.
+/// An end of an edge: a vertex by its type and id, and the attributes that it gets if it doesn't exist yet.
 #[derive(Clone, Copy)]
 pub struct EndpointRef<'a> {
     pub kind: u32,
     pub id: &'a str,
-    /// The number of the vertex, where it is known to be there. With None it is looked for.
+    /// The number of the vertex, if it is known to exist. With None it is looked up.
     pub at: Option<u32>,
     pub missing: &'a [Value],
 }
 
-/// Puts a vertex into the store. The values are moved out of the row, of whose content nothing is said then. Unchanged after a refusal.
+/// Puts a vertex into the store. Moves the values out of the row, whose content is unspecified afterwards. Unchanged
+/// after a refusal.
 pub fn put_vertex(
     store: &mut Store,
     kind: u32,
@@ -41,8 +42,9 @@ pub fn put_vertex(
     }
 }
 
-/// Puts an edge into the store, and before it those of its ends that aren't there: first the FROM vertex, then the TO vertex. After a
-/// refusal the ends that were put stay. The values are moved out of the row, of whose content nothing is said then.
+/// Puts an edge into the store, and before it those of its ends that don't exist: first the FROM vertex, then the TO
+/// vertex. After a refusal the ends that were put stay. Moves the values out of the row, whose content is unspecified
+/// afterwards.
 pub fn put_edge(
     alloc: Global,
     store: &mut Store,
@@ -56,7 +58,7 @@ pub fn put_edge(
     requires from { IsAt store.old.vertices from }
     requires to { IsAt store.old.vertices to }
     ensures puts { Puts store.old (edge_steps naming (row_of from.entry) (row_of to.entry) attributes.old) store.new result }
-    // What the edges of each type are named by stays so.
+    // The namings of edge types stay in agreement with the catalog.
     ensures named { (type_at : ℕ → EdgeType) → naming ≡ naming_in type_at naming.kind →
         AreNamedBy type_at store.old.edges.namings → AreNamedBy type_at store.new.edges.namings }
     ensures edges { OnErr result (store.new.edges ≡ store.old.edges) }
@@ -84,7 +86,7 @@ pub fn put_edge(
     }
 }
 
-/// Puts an end of an edge into the store where it isn't there, and gives its number.
+/// Puts an end of an edge into the store if it doesn't exist, and returns its number.
 fn put_end(alloc: Global, store: &mut Store, end: EndpointRef<'_>) -> Result<u32, StoreFault>
     requires { IsAt store.old.vertices end }
     ensures puts { Puts store.old (spec.End (row_of end.entry) ∷ []) store.new result }
@@ -109,7 +111,7 @@ fn put_end(alloc: Global, store: &mut Store, end: EndpointRef<'_>) -> Result<u32
     }
 }
 
-/// The number of the vertex that an end is, where it is there.
+/// The number of an end's vertex, if it exists.
 fn number_of(store: &Store, end: EndpointRef<'_>) -> Option<u32>
     requires { IsAt store.now.vertices end }
     ensures { result ≡ vertex_number store.now.vertices end.entry.kind end.entry.id.now }

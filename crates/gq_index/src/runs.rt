@@ -1,4 +1,4 @@
-// A list of walks that keeps the source and the type of neighbours once.
+// A list of walks that stores the source and the type of consecutive walks once.
 ghost use Rattle.std.specs.Prelude.{◌≡◌, ℕ, ◌+◌, ◌-◌, ◌<◌, ◌≤◌, ◌^◌, ◌++◌, List, [], ◌∷◌, length, IfOk, vec_len, count_by, nat_le, ◌==◌, ◌&&◌, true, false};
 ghost use Rattle.gq_index.specs.declared.walks.Traversal.{Traversal};
 ghost use Rattle.gq_index.specs.Runs.{shown, IsRising, Holds, run_count, segment_at, reached_at, segment_of, walk_of};
@@ -9,7 +9,7 @@ use gq_base::OutOfMemory;
 use gq_graph::Steps;
 use std::marker::Model;
 
-/// The source and the type of neighbouring walks, and the place of the first of them.
+/// The source and the type of consecutive walks, and the place of the first of them.
 #[derive(Clone, Copy)]
 pub struct Segment {
     pub source: u32,
@@ -24,7 +24,7 @@ pub struct Reached {
     pub target: u32,
 }
 
-/// How many segments start at or before a place, found by halving. Each segment that is looked at is a step.
+/// The number of segments that start at or before a place, found by binary search. Each examined segment is a step.
 fn find(segments: &[Segment], place: u64, steps: &mut Steps) -> usize
     requires rising { IsRising segments.now }
     requires short { length segments.now < 2 ^ 63 }
@@ -46,7 +46,7 @@ fn find(segments: &[Segment], place: u64, steps: &mut Steps) -> usize
     low
 }
 
-/// Whether the first segments, so many of them, start at or before a place.
+/// Whether the first `end` segments start at or before `place`.
 fn start_by(segments: &[Segment], place: u64, end: usize) -> bool
     requires { end ≤ length segments.now }
     ensures { result ≡ true → 0 < end → (segment_at segments.now (end - 1)).start ≤ place }
@@ -57,7 +57,7 @@ fn start_by(segments: &[Segment], place: u64, end: usize) -> bool
     segments[end - 1].start as u64 <= place
 }
 
-/// Whether the segment behind the first ones, so many of them, starts after a place.
+/// Whether the segment after the first `end` ones starts after `place`.
 fn starts_after(segments: &[Segment], place: u64, end: usize) -> bool
     ensures { result ≡ true → end < length segments.now → place < (segment_at segments.now end).start }
 {
@@ -67,7 +67,7 @@ fn starts_after(segments: &[Segment], place: u64, end: usize) -> bool
     segments[end].start as u64 > place
 }
 
-/// Whether no more and no fewer segments than these start at or before a place.
+/// Whether exactly the first `end` segments start at or before `place`.
 fn is_end(segments: &[Segment], place: u64, end: usize) -> bool
     requires rising { IsRising segments.now }
     ensures { result ≡ true → end ≡ count_by (λ s. nat_le s.start place) segments.now }
@@ -81,7 +81,7 @@ fn is_end(segments: &[Segment], place: u64, end: usize) -> bool
     starts_after(segments, place, end)
 }
 
-/// How many segments start at or before a place: as many as `near`, or one more, or else it is found by halving.
+/// The number of segments that start at or before a place: `near`, or one more, or else found by binary search.
 fn find_near(segments: &[Segment], place: u64, near: usize) -> usize
     requires rising { IsRising segments.now }
     requires short { length segments.now < 2 ^ 63 }
@@ -109,7 +109,7 @@ fn continues(segments: &[Segment], walk: Traversal) -> bool
     walk.source == last.source && walk.kind == last.kind
 }
 
-/// Puts a walk last.
+/// Appends a walk.
 pub fn push(
     segments: &mut Vec<Segment>,
     reached: &mut Vec<Reached>,
@@ -169,7 +169,7 @@ fn traversal(segment: Segment, reached: Reached) -> Traversal
     }
 }
 
-/// The walk at a place, whose segment is looked for beside the one before.
+/// The walk at a place, whose segment is searched near the previous one.
 fn walk_near(
     segments: &[Segment],
     reached: &[Reached],
@@ -187,14 +187,14 @@ fn walk_near(
     traversal(segment, reached[place as usize])
 }
 
-/// Where a reader of candidates is: how many segments start at or before the place that it read last.
+/// The position of a reader of candidates: how many segments start at or before the place that it read last.
 #[derive(Drop)]
 pub struct Cursor {
     end: usize,
 }
 
 impl Cursor {
-    /// Before the first place.
+    /// Returns a cursor before the first place.
     pub fn new() -> Cursor {
         Cursor { end: 0 }
     }
@@ -220,7 +220,7 @@ impl Model for Runs {
 }
 
 impl Runs {
-    /// The list that segments and places show.
+    /// Returns the list that segments and places show.
     pub fn of(segments: Vec<Segment>, reached: Vec<Reached>) -> Runs
         requires { Holds segments.items reached.items (shown segments.items reached.items) }
         ensures { result ≡ shown segments.items reached.items }
@@ -228,7 +228,7 @@ impl Runs {
         Runs { segments, reached }
     }
 
-    /// How many walks there are.
+    /// The number of walks.
     pub fn len(&self) -> u64
         ensures { result ≡ length self.now }
     {
@@ -245,7 +245,7 @@ impl Runs {
         walk_at_place(&self.segments, &self.reached, place, steps)
     }
 
-    /// The walk at a place, in one step where it is that of the cursor or the next one.
+    /// The walk at a place; takes one step if its segment is that of the cursor or the next one.
     pub fn near(&self, place: u64, cursor: &mut Cursor) -> Traversal
         requires within { place < length self.now }
         ensures { result ≡ walk_at self.now place }

@@ -6,7 +6,7 @@ use gq_base::{List, OutOfMemory};
 use std::alloc::Global;
 use std::marker::Model;
 
-/// The numbers of vertices, none of them twice. Contracts see them as a list.
+/// Distinct vertex numbers. Contracts see them as a list.
 #[derive(Debug, Drop)]
 pub struct VertexList {
     vertices: List<u32>,
@@ -24,7 +24,7 @@ impl Model for VertexList {
 }
 
 impl VertexList {
-    /// No vertices, which takes no memory.
+    /// Returns an empty list; allocates nothing.
     pub fn new(alloc: Global) -> VertexList
         ensures { result ≡ [] }
     {
@@ -33,7 +33,7 @@ impl VertexList {
         }
     }
 
-    /// Puts a vertex last that isn't listed yet. Unchanged after `OutOfMemory`.
+    /// Appends a vertex that isn't listed yet. Unchanged after `OutOfMemory`.
     pub fn push(&mut self, vertex: u32) -> Result<(), OutOfMemory>
         requires new { among self.old vertex ≡ false }
         ensures ok { OnOk result (self.new ≡ self.old ++ vertex ∷ []) }
@@ -42,7 +42,7 @@ impl VertexList {
         self.vertices.push(vertex)
     }
 
-    /// Whether a vertex is listed. It looks at each.
+    /// Whether a vertex is listed. The time is linear.
     pub fn contains(&self, vertex: u32) -> bool
         ensures { result ≡ among self.now vertex }
     {
@@ -57,14 +57,14 @@ impl VertexList {
         self.vertices.at(place)
     }
 
-    /// How many vertices there are.
+    /// The number of vertices.
     pub fn len(&self) -> usize
         ensures { result ≡ length self.now }
     {
         self.vertices.len()
     }
 
-    /// The vertices, in order, to loop over.
+    /// The vertices in order, as a slice.
     pub fn as_slice(&self) -> &[u32]
         ensures { result.now ≡ self.now }
     {

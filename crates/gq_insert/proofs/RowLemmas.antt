@@ -1,4 +1,4 @@
--- Rows made value by value, and an edge's row.
+-- Rows built value by value, and an edge's row.
 use Rattle.std.proofs.Common.{ℕ, suc, ℤ, ◌+◌, ◌-◌, ◌<◌, ◌≤◌, ◌≡◌, List, [], ◌∷◌, ◌++◌, length, get_or, take, drop, Option, Some, None, refl, ap, ◌∙◌, sym, arith, add-one, drop-cons}
 use Rattle.std.proofs.lemmas.List.{take_all}
 use Rattle.gq_tree.specs.declared.schema.Literal.{Literal}
@@ -10,7 +10,7 @@ use Rattle.gq_load_check.specs.declared.job.Target.TheVariants as targets
 use Rattle.gq_load_check.specs.Targets.{edge_type_at}
 use Rattle.gq_insert.specs.Inserts.{attribute_value, value_and, row_of, end_of, both, edge_with, insert_of}
 
--- the values of a row, behind others
+-- the values of a row, appended to earlier ones
 abbrev pub behind : List Value → Option (List Value) → Option (List Value)
 behind before None = None
 behind before (Some row) = Some (before ++ row)

@@ -1,4 +1,4 @@
--- Fits: when a catalog's types are whole, and when an insert is one of a catalog.
+-- Fits: when a catalog's types are sound, and when an insert fits a catalog.
 use Rattle.std.specs.Prelude.{ℕ, ◌<◌, ◌≤◌, ◌≡◌, ◌≢◌, Bool, true, false, ◌&&◌, List, [], ◌∷◌, length, All, None, ℤ, pos}
 use Rattle.std.specs.Fmt.{decimal, signed_decimal}
 use Rattle.std.specs.Option.{option_map_or}
@@ -21,7 +21,7 @@ use Rattle.gq_load_check.specs.Targets.{vertex_type_at, edge_type_at}
 
 -- ---- values and ids
 
--- a value of an attribute's type. That numbers lie within 64 bits is what the code's values can't but keep to
+-- a value of an attribute's type. The code's numbers always fit in 64 bits
 abbrev pub is_value : Sort → Val → Bool
 is_value INT (Int z) = true
 is_value UINT (UInt n) = true
@@ -36,7 +36,7 @@ row_fits [] [] = true
 row_fits (a ∷ attributes) (v ∷ row) = is_value (sort_of a.kind) (val v) && row_fits attributes row
 row_fits _ _ = false
 
--- an id as it is kept: a text that isn't empty, or the shortest decimal text of a number
+-- an id in stored form: a text that isn't empty, or the shortest decimal text of a number
 abbrev pub IsId : IdKind → List ℕ → Type 0
 IsId id.Text text = text ≢ []
 IsId id.Int text = (z : ℤ) × (is_within number.Int z ≡ true) × (text ≡ signed_decimal z)
@@ -62,21 +62,21 @@ pub record EdgeTypeFits (schema : Schema) (t : EdgeType) : Type 0 where
   pub key : t.discriminators ≤ length t.attributes
   pub attributes : All AttributeFits t.attributes
 
--- all types are whole, as declarations leave them
+-- all types are sound, as declarations leave them
 pub record IsSound (schema : Schema) : Type 0 where
   pub vertex_types : All VertexTypeFits schema.vertex_types
   pub edge_types : All (EdgeTypeFits schema) schema.edge_types
 
 -- ---- inserts
 
--- an end of a type
+-- an end has this vertex type
 pub record EndFits (schema : Schema) (n : ℕ) (end : Endpoint) : Type 0 where
   pub kind : end.kind ≡ n
   pub there : n < length schema.vertex_types
   pub id : IsId (vertex_type_at schema n).id.kind end.id
   pub missing : row_fits (vertex_type_at schema n).attributes end.missing ≡ true
 
--- both ends of an edge of a type
+-- both ends of an edge fit the edge's type
 pub record EndsFit (schema : Schema) (n : ℕ) (ends : Endpoint × Endpoint) : Type 0 where
   pub from : EndFits schema (edge_type_at schema n).from ends.0
   pub to : EndFits schema (edge_type_at schema n).to ends.1
@@ -94,7 +94,7 @@ pub record EdgeFits (schema : Schema) (n : ℕ) (flag : Bool) (count : ℕ) (fir
   pub ends : EndsFit schema n (first, second)
   pub row : row_fits (edge_type_at schema n).attributes values ≡ true
 
--- an insert's numbers, flags, ids and rows are those of its type
+-- an insert's type number, flags, ids and rows are those of its type
 abbrev pub InsertFits : Schema → Insert → Type 0
 InsertFits schema (insert.Vertex n text values) = VertexFits schema n text values
 InsertFits schema (insert.Edge n flag count first second values) = EdgeFits schema n flag count first second values

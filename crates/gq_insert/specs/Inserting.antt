@@ -1,4 +1,4 @@
--- Inserting: what INSERT INTO makes of a store, or why it is refused.
+-- Inserting: the store after INSERT INTO, or why the statement is refused.
 use Rattle.std.specs.Prelude.{Option, Some, None, option_and_then, Result, Ok, Err}
 use Rattle.gq_graph.specs.Catalog.{Schema}
 use Rattle.gq_tree.specs.declared.schema.InsertTree.{InsertTree}
@@ -13,7 +13,7 @@ use Rattle.gq_load.specs.Inserts.{steps_of_insert}
 use Rattle.gq_load_csv.specs.Readings.{reading}
 use Rattle.gq_load.specs.Puts.{put_all}
 
--- the refusal of a statement whose row is refused so; OutOfMemory refuses nothing
+-- the refusal of a statement for the fault of its row; OutOfMemory isn't a refusal
 abbrev pub refusal_of : InsertFault → Option Refusal
 refusal_of (fault.NoSuchType x) = Some (refusal.NoSuchType x)
 refusal_of (fault.WrongCount x) = Some (refusal.WrongCount x)
@@ -21,7 +21,7 @@ refusal_of fault.NotAllowed = Some refusal.NotAllowed
 refusal_of fault.Mismatch = Some refusal.Mismatch
 refusal_of fault.OutOfMemory = None
 
--- a refusal where one is due, and else what putting the row makes
+-- the refusal if one is due, else the result of putting the row
 abbrev pub refused_or : Option Refusal → Result Store Refusal → Result Store Refusal
 refused_or None put = put
 refused_or (Some due) put = Err due
@@ -34,11 +34,11 @@ abbrev pub stored_or : Option Store → Result Store Refusal
 stored_or (Some store) = Ok store
 stored_or None = Err refusal.StoreFull
 
--- a row that is put, unless an upsert of it is refused
+-- the store with the row put into it, unless an upsert is refused
 abbrev pub row_put : Store → Insert → Result Store Refusal
 row_put store row = stored_or (put_all store (steps_of_insert row))
 
--- a tree that names no row is refused before that
+-- the same for the row of a tree; a tree without one was refused before
 abbrev pub named_put : Store → Option Insert → Result Store Refusal
 named_put store (Some row) = row_put store row
 named_put store None = Err refusal.Mismatch

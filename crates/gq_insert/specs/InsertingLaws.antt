@@ -1,4 +1,4 @@
--- InsertingLaws: a row of a catalog is put as its type says.
+-- InsertingLaws: a row that fits a catalog is put as its type says.
 use Rattle.std.proofs.Common.{◌≡◌, ℕ, ◌<◌, List, [], ◌∷◌, length, Option, Some, None, Bool, true, false, Result, Ok, Err, refl, sym, ap, subst, ◌∙◌, arith}
 use Rattle.std.specs.Prelude.{◌&&◌}
 use Rattle.gq_graph.specs.Catalog.{Schema}
@@ -42,7 +42,7 @@ row_long (a ∷ attributes) (v ∷ row) fits =
     second true q h = h
     second false q h = absurd (cc)
 
--- edges of the row's type that are there are named as it is
+-- existing edges of the row's type are named in the same way
 pub row_named : (schema : Schema) (store : Store) (row : Insert) → IsSound schema → InsertFits schema row → StoreFits schema store → IsNamedAs store row
 row_named schema store (insert.Vertex n id attributes) sound fits kept = tt
 row_named schema store (insert.Edge n directed key from to attributes) sound fits kept =
@@ -51,14 +51,14 @@ row_named schema store (insert.Edge n directed key from to attributes) sound fit
     let same : naming_in (edge_type_at schema) n ≡ naming_with n directed key = ap (λ b. naming_with n b t.discriminators) (sym fits.directed) ∙ ap (naming_with n directed) (sym fits.key) in
     (omega (arith, fits.key, whole.key, row_long t.attributes attributes fits.row), subst (Agrees store.edges.namings) same (kept.named n))
 
--- an end is put as its type says
+-- an end that is put has its type
 end_fits : (schema : Schema) (n : ℕ) (end : Endpoint) → EndFits schema n end → IsVertexOf schema (end_row end)
 end_fits schema n end fits = record {
   there = subst (λ k. k < length schema.vertex_types) (sym fits.kind) fits.there;
   values = sym (row_long (vertex_type_at schema n).attributes end.missing fits.missing) ∙ ap (λ k. length (vertex_type_at schema k).attributes) (sym fits.kind);
 }
 
--- the upserts of a row are of the catalog's types, and put an edge behind its ends
+-- the upserts of a row have types of the catalog, and put each edge after its ends
 row_fit : (schema : Schema) (row : Insert) → InsertFits schema row → UpsertsFit schema (steps_of_insert row)
 row_fit schema (insert.Vertex n id attributes) fits =
     one_fits schema _ (record { there = fits.there; values = sym (row_long (vertex_type_at schema n).attributes attributes fits.row) })
@@ -68,7 +68,7 @@ row_fit schema (insert.Edge n directed key from to attributes) fits =
     (ap (λ b. naming_with n b key) fits.directed ∙ ap (naming_with n t.directed) fits.key)
     (end_fits schema t.from from fits.ends.from) (end_fits schema t.to to fits.ends.to)
 
--- whatever the answer, the store stays one of the catalog
+-- whatever the answer, the store keeps to the catalog
 pub row_keeps : {A : Type 0} (schema : Schema) (before later : Store) (row : Insert) (result : Result A StoreFault) → InsertFits schema row
     → PutsAll before (steps_of_insert row) later result → StoreFits schema before → StoreFits schema later
 row_keeps schema before later row (Ok a) fits puts kept =
@@ -76,13 +76,13 @@ row_keeps schema before later row (Ok a) fits puts kept =
 row_keeps schema before later row (Err fault.Full) fits puts kept = subst (StoreFits schema) (sym puts.0) kept
 row_keeps schema before later row (Err fault.OutOfMemory) fits puts kept = subst (StoreFits schema) (sym puts) kept
 
--- and it has grown
+-- and only grows
 pub row_grows : {A : Type 0} (before later : Store) (row : Insert) (result : Result A StoreFault) → PutsAll before (steps_of_insert row) later result → StoreGrown before later
 row_grows {A} before later row (Ok a) puts = puts_grow before later (steps_of_insert row) (Ok a) puts
 row_grows before later row (Err fault.Full) puts = subst (StoreGrown before) (sym puts.0) (store_same before)
 row_grows before later row (Err fault.OutOfMemory) puts = subst (StoreGrown before) (sym puts) (store_same before)
 
--- a row that no rule refuses is put
+-- a row that no rule refuses is the one that is put
 pub row_due : (schema : Schema) (store : Store) (tree : InsertTree) (row : Insert) → insert_refusal reading schema tree ≡ None → insert_named reading schema tree ≡ Some row
     → row_put store row ≡ row_inserted schema store tree
 row_due schema store tree row none is =

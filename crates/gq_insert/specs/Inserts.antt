@@ -1,5 +1,5 @@
--- Inserts: the row that an INSERT names, with its values as its type has them, and why an INSERT is refused.
--- Times are read by a function that gives what gq_time says of each text.
+-- Inserts: the row that an INSERT describes, with values of its type, and why an INSERT is refused.
+-- Times are read by a function that returns what gq_time specifies for each text.
 use Rattle.std.specs.Prelude.{ℕ, ◌≡◌, ◌≢◌, ◌==◌, ◌||◌, Bool, true, false, if◌then◌else◌, List, [], ◌∷◌, length, map, take, drop, ℤ, Option, Some, None, Result, Ok, Err, is_some}
 use Rattle.std.specs.Fmt.{decimal, signed_decimal}
 use Rattle.std.specs.List.{list_any}
@@ -48,7 +48,7 @@ id_text kind (literal.Number minus n) = number_id kind minus n
 id_text kind (literal.Text text) = text_id kind text
 id_text kind (literal.Truth b) = None
 
--- a number as a value of an attribute's type, where it fits
+-- a number as a value of an attribute's type, if it fits
 abbrev pub number_value : Sort → Bool → ℕ → Option Value
 number_value INT minus n = if_fits (is_within number.Int (signed minus n)) (value.Int (signed minus n))
 number_value UINT minus n = if_fits (is_within number.UInt (signed minus n)) (value.UInt n)
@@ -58,7 +58,7 @@ abbrev pub truth_value : Sort → Bool → Option Value
 truth_value BOOL b = Some (value.Bool b)
 truth_value sort b = None
 
--- a text stands for a time where it reads as one
+-- a text as a value of an attribute's type; as a time, if it reads as one
 abbrev pub text_value : (List ℕ → Option ℤ) → Sort → List ℕ → Option Value
 text_value read STRING text = Some (value.Text text)
 text_value read DATETIME text = option_map value.Int (read text)
@@ -84,7 +84,7 @@ row_of read [] [] = Some []
 row_of read (a ∷ attributes) (l ∷ values) = value_and (attribute_value read a l) (row_of read attributes values)
 row_of read _ _ = None
 
--- the row of a vertex that is made for an edge
+-- the row of a vertex that is created for an edge
 abbrev pub default_row : List Attribute → List Value
 default_row attributes = map default_of attributes
 
@@ -98,7 +98,7 @@ abbrev pub end_with : Schema → ℕ → Option (List ℕ) → Option Endpoint
 end_with schema n None = None
 end_with schema n (Some text) = Some (record { kind = n; id = text; missing = default_row (vertex_type_at schema n).attributes })
 
--- an end of a type
+-- the end of an edge, with its vertex type
 abbrev pub end_of : Schema → ℕ → Option Literal → Option Endpoint
 end_of schema n l = end_with schema n (given_id (vertex_type_at schema n).id.kind l)
 
@@ -116,7 +116,7 @@ edge_with schema n (Some ends) (Some row) =
     Some (insert.Edge n (edge_type_at schema n).directed (edge_type_at schema n).discriminators ends.0 ends.1 row)
 edge_with schema n _ _ = None
 
--- the row of a type with these values, where each is of its type
+-- the row of a type with these values, if each has its type
 abbrev pub insert_of : (List ℕ → Option ℤ) → Schema → Target → List (Option Literal) → Option Insert
 insert_of read schema (targets.Vertex n) (a ∷ values) =
     vertex_with n (given_id (vertex_type_at schema n).id.kind a) (row_of read (vertex_type_at schema n).attributes values)
@@ -131,34 +131,34 @@ abbrev pub vertex_target : Option ℕ → Option Target
 vertex_target None = None
 vertex_target (Some n) = Some (targets.Vertex n)
 
--- an edge type that is no reverse type
+-- the target of an edge type that isn't a reverse type
 abbrev pub edge_target : Schema → Option ℕ → Option Target
 edge_target schema None = None
 edge_target schema (Some n) = if is_some (edge_type_at schema n).forward then None else Some (targets.Edge n)
 
--- a vertex or edge type of the catalog, of whatever graph
+-- a vertex or edge type of the catalog, in any graph or none
 abbrev pub target_named : Schema → List ℕ → Option Target
 target_named schema name = option_or (vertex_target (vertex_type_of schema name)) (edge_target schema (edge_type_of schema name))
 
--- the row that an INSERT names
+-- the row that an INSERT describes
 abbrev pub insert_named : (List ℕ → Option ℤ) → Schema → InsertTree → Option Insert
 insert_named read schema tree = option_and_then (λ t. insert_of read schema t tree.values) (target_named schema tree.name)
 
 -- ---- refusals
 
--- a call answers the fault that is due, or OutOfMemory; it answers Ok only where none is due
+-- a call returns the fault that is due, or OutOfMemory; it returns Ok only if none is due
 abbrev pub Judges : {A : Type 0} → Option InsertFault → Result A InsertFault → Type 0
 Judges due (Ok a) = due ≡ None
 Judges due (Err f) = f ≢ fault.OutOfMemory → due ≡ Some f
 
--- the fault is the one that is due, if it isn't OutOfMemory for its name
+-- the fault is the one that is due, unless it is OutOfMemory for its name
 abbrev pub Tells : InsertFault → InsertFault → Type 0
 Tells due found = found ≢ fault.OutOfMemory → found ≡ due
 
 abbrev pub wrong_count : Schema → Target → InsertTree → Option InsertFault
 wrong_count schema t tree = if length tree.values == value_count schema t then None else Some (fault.WrongCount tree.name)
 
--- `_` or an empty text, which stand for no id
+-- `_` or an empty text, which can't be an id
 abbrev pub is_no_id : Option Literal → Bool
 is_no_id None = true
 is_no_id (Some (literal.Text [])) = true
@@ -173,7 +173,7 @@ not_allowed schema t values =
     if list_any is_no_id (take (id_count t) values) || list_any is_default (take (key_count schema t) (drop (id_count t) values))
     then Some fault.NotAllowed else None
 
--- a value isn't of its type
+-- Mismatch if there is no row, because a value doesn't have its type
 abbrev pub mismatch : Option Insert → Option InsertFault
 mismatch None = Some fault.Mismatch
 mismatch (Some i) = None

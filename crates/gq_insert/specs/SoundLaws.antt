@@ -1,4 +1,4 @@
--- SoundLaws: declarations leave a catalog's types whole.
+-- SoundLaws: declarations keep a catalog's types sound.
 use Rattle.std.proofs.Common.{ℕ, zero, suc, pos, ◌<◌, ◌≤◌, ◌≡◌, ◌≢◌, Bool, true, false, not, cond, List, [], ◌∷◌, ◌++◌, length, map, All, Option, Some, None, refl, ap, sym, subst, ◌∙◌, arith, is_some, length-append}
 use Rattle.std.proofs.lemmas.List.{length-map}
 use Rattle.std.proofs.lemmas.List.Quantifiers.{position-Some}
@@ -111,7 +111,7 @@ all_two P x y first second zero d low = first
 all_two P x y first second (suc zero) d low = second
 all_two P x y first second (suc (suc k)) d low = absurd (omega arith)
 
--- the end of a name that is a vertex type's
+-- the end of a name is a vertex type, if it isn't refused
 end_low : (schema : Schema) (name : List ℕ) → no_end schema name ≡ None → end_of schema name < length schema.vertex_types
 end_low schema name none = by (vertex_type_of schema name) refl none
   where

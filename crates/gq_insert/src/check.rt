@@ -1,4 +1,4 @@
-// Whether an INSERT names a row of a catalog.
+// Checks that an INSERT describes a row of a catalog.
 ghost use Rattle.std.specs.Prelude.{◌≡◌, ◌<◌, ◌||◌, ◌+◌, ℕ, ℤ, List, false, Option, Some, None, IfOk, IfSome, OnOk, length, take, drop};
 ghost use Rattle.std.specs.List.{list_any};
 ghost use Rattle.gq_load_csv.specs.Fields.{TellsTimes};
@@ -29,7 +29,7 @@ fn edge_target(catalog: &Catalog, number: u32) -> Option<Target>
     }
 }
 
-/// The type that an INSERT names.
+/// Returns the type that an INSERT names.
 fn target_named(catalog: &Catalog, name: &str) -> Option<Target>
     ensures named { result ≡ spec.target_named catalog.now name.now }
     ensures there { IfSome result (HasTarget catalog.now) }
@@ -124,7 +124,7 @@ fn check_names(
     Ok(())
 }
 
-/// An end of an edge, or None where its id isn't one of the type.
+/// Returns an end of an edge, or None if its id doesn't fit the type.
 fn end_of(
     alloc: Global,
     catalog: &Catalog,
@@ -177,7 +177,7 @@ fn vertex_insert(
     }
 }
 
-/// Both ends of an edge, or None where an id isn't one of its type.
+/// Returns both ends of an edge, or None if an id doesn't fit its type.
 fn ends_of(
     alloc: Global,
     catalog: &Catalog,
@@ -260,7 +260,7 @@ fn edge_insert(
     }
 }
 
-/// The row of a type with these values, or None where one isn't of its type.
+/// Returns the row of a type with these values, or None if one doesn't have its type.
 fn insert_of(
     alloc: Global,
     catalog: &Catalog,
@@ -286,7 +286,7 @@ fn insert_of(
     }
 }
 
-/// The row of the type, or why the values are refused.
+/// Returns the row of the type, or why the values are refused.
 fn checked(
     alloc: Global,
     catalog: &Catalog,
@@ -314,8 +314,8 @@ fn checked(
     }
 }
 
-/// The row that an INSERT names, with its values as its type has them, or the first rule that fails: its type, the number of its
-/// values, `_` or an empty text for an id and `_` for a discriminator, and the type of a value.
+/// Returns the row that an INSERT describes, with values of its type, or the first rule that fails: its type, the
+/// number of its values, `_` or an empty text for an id and `_` for a discriminator, and the type of a value.
 pub fn check_insert(
     alloc: Global,
     catalog: &Catalog,

@@ -8,7 +8,7 @@ ghost use Rattle.gq_insert.specs.Inserting.{unless_refused};
 use gq_diagnostics::{Refusal, StatementFault};
 use gq_load_check::InsertFault;
 
-/// The refusal of a statement whose row is refused.
+/// Returns the refusal of a statement for the fault of its row.
 pub(crate) fn statement_fault(fault: InsertFault) -> StatementFault
     ensures { (due : Option InsertFault) (put : Result Store Refusal) (old new : Store) → (fault ≢ InsertFault.OutOfMemory → due ≡ Some fault) → new ≡ old
         → Denies (unless_refused due put) old new result }

@@ -17,9 +17,9 @@ use gq_schema::Catalog;
 use gq_tree::InsertTree;
 use std::alloc::Global;
 
-/// INSERT INTO. The store gains the row, and before an edge those of its ends that aren't there, or is as it was.
+/// Executes INSERT INTO. The store gains the row, an edge after those of its ends that don't exist, or is unchanged.
 ///
-/// Refused by the first rule that the row fails, else where its table is full.
+/// Refused for the first rule that the row violates, or else if its table is full.
 pub fn insert_row(
     alloc: Global,
     catalog: &Catalog,
@@ -29,7 +29,7 @@ pub fn insert_row(
     requires sound { IsSound catalog.now }
     requires store { StoreFits catalog.now store.old }
     ensures inserted { Answers (row_inserted catalog.now store.old tree.now) store.old store.new result }
-    // The store stays one of its catalog, and grows at its end.
+    // The store keeps to its catalog and only grows at its end.
     ensures fits { StoreFits catalog.now store.new }
     ensures grown { StoreGrown store.old store.new }
 {

@@ -1,4 +1,4 @@
-// What holds of catalogs that declarations make.
+// Laws about catalogs made by declarations.
 ghost use Rattle.std.specs.Prelude.{◌≡◌, ◌++◌, ℕ, Bool, List, [], Option, None, All, true, length};
 ghost use Rattle.gq_graph.specs.Catalog.{Schema, edge_types_of, end_of, with_edge_types, with_graph, with_vertex_type};
 ghost use Rattle.gq_graph.specs.Defaults.{is_plain};
@@ -8,7 +8,7 @@ ghost use Rattle.gq_graph.specs.declared.types.IdShape.{IdShape};
 ghost use Rattle.gq_schema.specs.Refusals.{edge_refusal, vertex_refusal};
 ghost use Rattle.gq_insert.specs.Fits.{IsSound};
 
-/// The types of a catalog are whole at first, and each declaration that isn't refused leaves them so.
+/// The types of an empty catalog are sound, and each declaration that isn't refused keeps them so.
 #[tactic(auto, using(crate::specs::SoundLaws::soundness))]
 pub fn catalogs_are_sound()
     ensures empty { IsSound (record { vertex_types = []; edge_types = []; graphs = [] }) }

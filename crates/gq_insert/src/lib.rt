@@ -15,5 +15,6 @@ mod insert;
 mod laws;
 mod values;
 
+pub use check::check_insert;
 pub use insert::insert_row;
 pub use laws::catalogs_are_sound;

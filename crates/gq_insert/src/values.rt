@@ -86,7 +86,7 @@ fn text_id(alloc: Global, kind: IdKind, text: &str) -> Result<Option<Txt>, OutOf
     }
 }
 
-/// The text of an id, if the literal is one of the kind.
+/// Returns the text of an id, if the literal has this kind.
 fn id_text(alloc: Global, kind: IdKind, literal: &Literal) -> Result<Option<Txt>, OutOfMemory>
     ensures { IfOk result (λ id. id ≡ spec.id_text kind literal.now) }
 {
@@ -185,7 +185,7 @@ fn attribute_value(
     }
 }
 
-/// The text of an id that is given, or None where `_` stands for it or the literal isn't of the kind.
+/// Returns the text of an id, or None if it is `_` or the literal isn't of the kind.
 pub(crate) fn given_id(
     alloc: Global,
     kind: IdKind,
@@ -199,7 +199,7 @@ pub(crate) fn given_id(
     }
 }
 
-/// A value for each attribute, or None where one isn't of its type.
+/// Returns a value for each attribute, or None if one doesn't have its type.
 pub(crate) fn row_of(
     alloc: Global,
     attributes: &[Attribute],

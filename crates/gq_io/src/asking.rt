@@ -1,4 +1,4 @@
-// Files, by what is known of them.
+// Reading of files, by what is known of them.
 ghost use Rattle.std.specs.Prelude.{◌≡◌, ◌≤◌, ℕ, IfOk, IsErrOf};
 ghost use Rattle.gq_io.specs.Counts.{Rose};
 ghost use Rattle.gq_io.specs.Known.{Answered, Bytes, MayAnswer, known_of};
@@ -6,8 +6,8 @@ ghost use Rattle.gq_io.specs.Known.{Answered, Bytes, MayAnswer, known_of};
 use crate::files::{FileFault, Files};
 use std::alloc::Global;
 
-/// All bytes of a file. Where files aren't told, a refusal has its cause in their counts, from any earlier time on; bytes need
-/// none.
+/// Reads all bytes of a file. If the files aren't known, a refusal is justified by their counts, from any earlier time
+/// on; bytes need no justification.
 pub fn ask<F: Files>(alloc: Global, files: &mut F, name: &str) -> Result<Vec<u8>, FileFault>
     ensures answered { (before : ℕ) → before ≤ F.absences files.old
         → Answered (known_of (F.held files.old) before (F.absences files.new) (F.length_met files.new)) name.now result }

@@ -8,10 +8,10 @@ ghost use Rattle.gq_io.specs.Files.{AnswersFrom, most_bytes};
 use std::alloc::{AllocError, AllocFailed, Global};
 use thiserror::Error;
 
-/// The most bytes that one file may have.
+/// The maximum size of a file in bytes.
 pub const MOST_BYTES: usize = 1_073_741_824;
 
-/// Why a file was not read.
+/// Why a file wasn't read.
 #[derive(Clone, Copy, Debug, PartialEq, Eq, Error)]
 pub enum FileFault {
     /// There is no file of that name.
@@ -48,22 +48,22 @@ impl<T: Drop> From<AllocFailed<T>> for FileFault {
 
 /// Files that are read whole, by name.
 pub trait Files {
-    /// The files, by name, where the device tells them.
+    /// The files, by name, if the device reports them.
     ghost held: { Self → Option Listing };
 
     /// How often a read has failed.
     ghost faults: { Self → ℕ };
 
-    /// How often a file was not there, where the device doesn't tell its files.
+    /// How often a file didn't exist, if the device doesn't report its files.
     ghost absences: { Self → ℕ };
 
-    /// The number of bytes that the last read met, where the device doesn't tell its files.
+    /// The number of bytes of the last read, if the device doesn't report its files.
     ghost length_met: { Self → ℕ };
 
-    /// All bytes of the first file of that name.
+    /// Reads all bytes of the first file of that name.
     ///
-    /// Where the device tells its files and `faults` didn't rise, Missing and TooLarge come exactly where the file is
-    /// not there or has more than `MOST_BYTES` bytes: no other answer but OutOfMemory is left then.
+    /// If the device reports its files and `faults` didn't increase, Missing and TooLarge are returned exactly if the
+    /// file doesn't exist or has more than `MOST_BYTES` bytes; then OutOfMemory is the only other possible error.
     fn read(&mut self, alloc: Global, name: &str) -> Result<Vec<u8>, FileFault>
         ensures held { held self.new ≡ held self.old }
         ensures told { (pairs : Listing) → held self.old ≡ Some pairs → AnswersFrom pairs name.now result }
@@ -71,11 +71,11 @@ pub trait Files {
 
         ensures failed { IsErrOf result FileFault.Failed → Rose (faults self.old) (faults self.new) }
 
-        // The causes of the other refusals where the files aren't told.
+        // The causes of the other refusals, if the files aren't reported.
         ensures missing { held self.old ≡ None → IsErrOf result FileFault.Missing → Rose (absences self.old) (absences self.new) }
         ensures too_large { held self.old ≡ None → IsErrOf result FileFault.TooLarge → most_bytes < length_met self.new }
 
-        // The length of what was read where the files aren't told.
+        // The length of what was read, if the files aren't reported.
         ensures met { held self.old ≡ None → IfOk result (λ bytes. length_met self.new ≡ length bytes.items) }
 
         ensures faults_stay { faults self.old ≤ faults self.new }

@@ -1,14 +1,14 @@
-// Gates, at which workers pass.
+// Gates, which workers pass.
 ghost use Rattle.std.specs.Prelude.{◌≡◌, ◌<◌};
 
 use std::marker::Model;
 use std::sync::atomic::{AtomicU64, Ordering};
 
-/// What each worker of a block passes after it has drawn a chunk.
+/// What each worker of a block passes after it has taken a chunk.
 ///
-/// A gate sees workers at work, and changes nothing that they do. Tests hold workers up at one.
+/// A gate observes workers at work, and doesn't affect their results. Tests delay workers at one.
 pub trait Gate: Sync {
-    /// Worker `worker`, of at most 64, has drawn the chunk `chunk`.
+    /// Worker `worker`, of at most 64, has taken the chunk `chunk`.
     fn pass(&self, worker: u32, chunk: u64)
         requires { worker < 64 };
 }
@@ -21,10 +21,10 @@ impl Gate for OpenGate {
     fn pass(&self, _worker: u32, _chunk: u64) {}
 }
 
-/// A gate at which each worker waits at its first pass, but not for ever, until another worker has come to it.
+/// A gate at which each worker waits at its first pass, for a bounded time, until another worker has arrived.
 ///
-/// It is for tests that several workers run. Contracts see `turns`, and none speaks of what other threads did: that is
-/// tested alone.
+/// It lets tests make sure that several workers run. Contracts see `turns`, and don't mention what other threads did;
+/// only tests check that.
 #[derive(Debug, Drop)]
 pub struct HoldGate {
     turns: u64,
@@ -41,7 +41,7 @@ impl Model for HoldGate {
 }
 
 impl HoldGate {
-    /// A gate at which the first pass of a worker looks up to `turns` times for another one.
+    /// Returns a gate at which the first pass of a worker polls up to `turns` times for another worker.
     pub fn new(turns: u64) -> Self
         ensures { result ≡ turns }
     {
@@ -52,7 +52,7 @@ impl HoldGate {
         }
     }
 
-    /// Whether the first passes of at least two workers saw that another worker had come.
+    /// Whether the first passes of at least two workers saw that another worker had arrived.
     pub fn met(&self) -> bool {
         self.met.load(Ordering::SeqCst).count_ones() >= 2
     }
@@ -73,9 +73,10 @@ impl Gate for HoldGate {
     }
 }
 
-/// A gate at which one chosen worker waits at its first pass, but not for ever, until the others have passed often enough.
+/// A gate at which one chosen worker waits at its first pass, for a bounded time, until the others have passed often
+/// enough.
 ///
-/// It is for tests: however late a worker is, the answer of a block stays the same. Contracts see `turns` alone.
+/// It is for tests that the result of a block is the same however late a worker is. Contracts see only `turns`.
 #[derive(Debug, Drop)]
 pub struct HeldGate {
     worker: u32,
@@ -95,7 +96,8 @@ impl Model for HeldGate {
 }
 
 impl HeldGate {
-    /// A gate at which the first pass of `worker` looks up to `turns` times whether the others have made `passes` passes.
+    /// Returns a gate at which the first pass of `worker` polls up to `turns` times until the others have made `passes`
+    /// passes.
     pub fn new(worker: u32, passes: u64, turns: u64) -> Self
         ensures { result ≡ turns }
     {
@@ -109,7 +111,7 @@ impl HeldGate {
         }
     }
 
-    /// Whether the chosen worker came, and saw that the others had made their passes.
+    /// Whether the chosen worker arrived and saw that the others had made their passes.
     pub fn has_seen(&self) -> bool {
         self.seen.load(Ordering::SeqCst) != 0
     }
@@ -133,7 +135,7 @@ impl Gate for HeldGate {
     }
 }
 
-/// Any of the gates, for whoever runs a whole script: queries run behind traits, whose methods take one type of gate.
+/// Any of the gates, for code that runs a whole script: queries run behind traits, whose methods take one type of gate.
 #[derive(Clone, Copy, Debug)]
 pub enum AnyGate<'g> {
     /// Nobody waits. This is the gate of the program.

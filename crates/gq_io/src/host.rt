@@ -1,4 +1,4 @@
-// The devices of the host: the edge at which trust begins. They count what fails, and tell no content.
+// The devices of the host, the trusted boundary. They count failures, and report no contents.
 ghost use Rattle.std.specs.Prelude.{◌≡◌, ◌<◌, ◌≤◌, None, length, IfOk, IfSome, IsErrOf};
 ghost use Rattle.gq_io.specs.Files.{most_bytes};
 
@@ -9,7 +9,7 @@ use std::fs;
 use std::io::{ErrorKind, Read};
 use std::marker::Model;
 
-/// How many bytes one read of the host asks for.
+/// The number of bytes that one read of the host asks for.
 const PIECE: usize = 65_536;
 
 /// The files of the host, by their paths. Contracts see what was counted.
@@ -30,7 +30,7 @@ impl<'a, R: std::rt::Files> Model for HostFiles<'a, R> {
 }
 
 impl<'a, R: std::rt::Files> HostFiles<'a, R> {
-    /// Nothing was counted so far.
+    /// Returns files for which nothing was counted so far.
     pub fn new(rt: &'a R) -> Self
         ensures { result ≡ record { faults = 0; absences = 0; length_met = 0 } }
     {
@@ -91,7 +91,7 @@ impl<'a, R: Print> Model for HostSink<'a, R> {
 }
 
 impl<'a, R: Print> HostSink<'a, R> {
-    /// No write has failed so far.
+    /// Returns a sink of which no write has failed so far.
     pub fn new(rt: &'a R) -> Self
         ensures { result ≡ 0 }
     {
@@ -104,7 +104,7 @@ impl<R: Print> Sink for HostSink<'_, R> {
 
     ghost faults = { λ s. s };
 
-    /// A write that takes nothing of a piece with bytes counts as a failure.
+    /// Counts a write as failed if it takes no byte of a nonempty piece.
     fn write(&mut self, piece: &[u8]) -> Result<usize, SinkFault> {
         match self.rt.write_some(piece) {
             Ok(count) if count > 0 || piece.is_empty() => Ok(count),
@@ -116,13 +116,13 @@ impl<R: Print> Sink for HostSink<'_, R> {
     }
 }
 
-// All bytes that a reader has left, and in `met` how many came. A failed read is not counted here.
+// Reads all remaining bytes of a reader, and sets `met` to their number. A failed read isn't counted here.
 fn read_whole<R: Read>(alloc: Global, reader: &mut R, met: &mut usize) -> Result<Vec<u8>, FileFault>
-    // Over a reader that tells its bytes.
+    // For a reader that reports its bytes.
     ensures all { IfOk result (λ bytes. IfSome (R.remaining reader.old) (λ told. bytes.items ≡ told)) }
     ensures larger { IsErrOf result FileFault.TooLarge → IfSome (R.remaining reader.old) (λ told. most_bytes < length told) }
 
-    // Over each reader.
+    // For every reader.
     ensures most { IfOk result (λ bytes. length bytes.items ≤ most_bytes) }
     ensures met { IfOk result (λ bytes. met.new ≡ length bytes.items) }
     ensures too_large { IsErrOf result FileFault.TooLarge → most_bytes < met.new }

@@ -43,7 +43,7 @@ impl Entry {
     }
 }
 
-/// Files in memory that never fail. Contracts see them as the list of names with their bytes.
+/// Files in memory that never fail. Contracts see them as a list of names with their bytes.
 #[derive(Drop)]
 pub struct SureFiles {
     alloc: Global,
@@ -59,7 +59,7 @@ impl Model for SureFiles {
 }
 
 impl SureFiles {
-    /// No files.
+    /// Returns an empty set of files.
     pub fn new(alloc: Global) -> Self
         ensures { result ≡ [] }
     {
@@ -67,7 +67,7 @@ impl SureFiles {
         SureFiles { alloc, entries }
     }
 
-    /// Adds a file. Of several files with one name the first counts.
+    /// Adds a file. If several files have one name, the first is read.
     pub fn add(&mut self, name: &str, bytes: &[u8]) -> Result<(), OutOfMemory>
         ensures ok { OnOk result (self.new ≡ self.old ++ (name.now, bytes.now) ∷ []) }
         ensures err { OnErr result (self.new ≡ self.old) }
@@ -98,7 +98,7 @@ impl Files for SureFiles {
     }
 }
 
-/// Files in memory, of which those reads fail that `fail_at` named.
+/// Files in memory; the reads that `fail_at` named fail.
 #[derive(Drop)]
 pub struct MemoryFiles {
     files: SureFiles,
@@ -114,7 +114,7 @@ impl Model for MemoryFiles {
 }
 
 impl MemoryFiles {
-    /// No files, no reads so far, and none that is to fail.
+    /// Returns an empty set of files, with no reads so far and none that is to fail.
     pub fn new(alloc: Global) -> Self
         ensures { result ≡ record { listing = []; schedule = unplanned } }
     {
@@ -124,7 +124,7 @@ impl MemoryFiles {
         }
     }
 
-    /// Adds a file. Of several files with one name the first counts.
+    /// Adds a file. If several files have one name, the first is read.
     pub fn add(&mut self, name: &str, bytes: &[u8]) -> Result<(), OutOfMemory>
         ensures ok { OnOk result (self.new ≡ record self.old { listing = self.old.listing ++ (name.now, bytes.now) ∷ [] }) }
         ensures err { OnErr result (self.new ≡ self.old) }
@@ -132,7 +132,7 @@ impl MemoryFiles {
         self.files.add(name, bytes)
     }
 
-    /// The read with this number, counted from 1, is to fail.
+    /// Makes the read with this number, counted from 1, fail.
     pub fn fail_at(&mut self, call: u64) -> Result<(), OutOfMemory>
         ensures ok { OnOk result (self.new ≡ record self.old { schedule = planned self.old.schedule call }) }
         ensures err { OnErr result (self.new ≡ self.old) }
@@ -154,7 +154,7 @@ impl Files for MemoryFiles {
         ensures answer { AnswersFrom self.old.listing name.now result }
         ensures most { IfOk result (λ bytes. length bytes.items ≤ most_bytes) }
 
-        // It fails, and counts it, exactly at the calls that were named.
+        // It fails, and counts the failure, exactly at the named calls.
         ensures failed { IsErrOf result FileFault.Failed ↔ IsTrue (is_due self.old.schedule) }
         ensures after { self.new ≡ record self.old { schedule = called self.old.schedule } }
         ensures faults_stay { self.old.schedule.faults ≤ self.new.schedule.faults }

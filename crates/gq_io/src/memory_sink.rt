@@ -9,7 +9,7 @@ use gq_base::OutOfMemory;
 use std::alloc::Global;
 use std::marker::Model;
 
-/// A sink in memory that never fails. Contracts see the bytes written, and the most bytes that one write takes.
+/// A sink in memory that never fails. Contracts see the bytes written, and the maximum number of bytes of one write.
 #[derive(Drop)]
 pub struct SureSink {
     bytes: Vec<u8>,
@@ -28,7 +28,7 @@ impl Model for SureSink {
 }
 
 impl SureSink {
-    /// A sink to which nothing was written, and of which each write takes at most `most` bytes.
+    /// Returns an empty sink of which each write takes at most `most` bytes.
     pub fn new(alloc: Global, most: usize) -> Self
         requires { 0 < most }
         ensures { result ≡ record { written = []; most = most } }
@@ -66,7 +66,7 @@ impl Sink for SureSink {
     }
 }
 
-/// A sink in memory, of which those writes fail that `fail_at` named.
+/// A sink in memory; the writes that `fail_at` named fail.
 #[derive(Drop)]
 pub struct MemorySink {
     sink: SureSink,
@@ -82,7 +82,7 @@ impl Model for MemorySink {
 }
 
 impl MemorySink {
-    /// A sink to which nothing was written, of which each write takes at most `most` bytes, and none is to fail.
+    /// Returns an empty sink of which each write takes at most `most` bytes, and none is to fail.
     pub fn new(alloc: Global, most: usize) -> Self
         requires { 0 < most }
         ensures { result ≡ record { written = []; most = most; schedule = unplanned } }
@@ -93,7 +93,7 @@ impl MemorySink {
         }
     }
 
-    /// The write with this number, counted from 1, is to fail.
+    /// Makes the write with this number, counted from 1, fail.
     pub fn fail_at(&mut self, call: u64) -> Result<(), OutOfMemory>
         ensures ok { OnOk result (self.new ≡ record self.old { schedule = planned self.old.schedule call }) }
         ensures err { OnErr result (self.new ≡ self.old) }
@@ -114,7 +114,7 @@ impl Sink for MemorySink {
 
     ghost faults = { λ s. s.schedule.faults };
 
-    /// Takes as many bytes of the piece as one write may take, but at a call that was named.
+    /// Takes as many bytes of the piece as one write may take, except at a named call.
     fn write(&mut self, piece: &[u8]) -> Result<usize, SinkFault>
         ensures count { IfOk result (λ n. n ≡ min (length piece.now) self.old.most) }
         ensures taken { IfOk result (λ n. self.new ≡ record self.old { written = self.old.written ++ take n piece.now; schedule = called self.old.schedule }) }
@@ -122,7 +122,7 @@ impl Sink for MemorySink {
         ensures some { IfOk result (λ n. 0 < length piece.now → 0 < n) }
         ensures faults_stay { self.old.schedule.faults ≤ self.new.schedule.faults }
 
-        // It fails, and counts it, exactly at the calls that were named.
+        // It fails, and counts the failure, exactly at the named calls.
         ensures failed { IsErrOf result SinkFault.Failed ↔ IsTrue (is_due self.old.schedule) }
     {
         if self.calls.count() {

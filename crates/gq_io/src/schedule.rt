@@ -8,7 +8,7 @@ use gq_base::OutOfMemory;
 use std::alloc::Global;
 use std::marker::Model;
 
-/// The calls of a device, of which those fail that were named.
+/// The calls of a device, of which the named ones fail.
 #[derive(Drop)]
 pub struct Calls {
     made: u64,
@@ -36,7 +36,7 @@ impl Calls {
         }
     }
 
-    /// The call with this number, counted from 1, is to fail.
+    /// Makes the call with this number, counted from 1, fail.
     pub fn fail_at(&mut self, call: u64) -> Result<(), OutOfMemory>
         ensures ok { OnOk result (self.new ≡ planned self.old call) }
         ensures err { OnErr result (self.new ≡ self.old) }
@@ -45,7 +45,7 @@ impl Calls {
         Ok(())
     }
 
-    /// Counts one more call, and tells whether it fails.
+    /// Counts one more call, and returns whether it fails.
     pub fn count(&mut self) -> bool
         ensures due { result ≡ is_due self.old }
         ensures called { self.new ≡ called self.old }

@@ -16,15 +16,15 @@ pub enum SinkFault {
     OutOfMemory,
 }
 
-/// Something that takes bytes, a piece at a time.
+/// Something that takes bytes, one piece at a time.
 pub trait Sink {
-    /// The bytes that were written so far, where the device tells them.
+    /// The bytes that were written so far, if the device reports them.
     ghost written: { Self → Option (List ℕ) };
 
     /// How often a write has failed.
     ghost faults: { Self → ℕ };
 
-    /// Takes the first bytes of a piece, at least one unless the piece is empty, and tells how many.
+    /// Takes the first bytes of a piece, at least one unless the piece is empty, and returns how many.
     fn write(&mut self, piece: &[u8]) -> Result<usize, SinkFault>
         ensures taken { IfOk result (λ n. TakesSome (written self.old) (written self.new) piece.now n) }
         ensures kept { OnErr result (written self.new ≡ written self.old) }
@@ -32,8 +32,8 @@ pub trait Sink {
         ensures faults_stay { faults self.old ≤ faults self.new };
 }
 
-/// Writes all bytes, by as many writes as it takes. On a fault, which is that of the write that failed, a prefix of
-/// the bytes was written. Takes no memory itself.
+/// Writes all bytes, with as many writes as necessary. On a fault, which is that of the failed write, a prefix of
+/// the bytes was written. Allocates nothing itself.
 pub fn write_all<K: Sink>(out: &mut K, bytes: &[u8]) -> Result<(), SinkFault>
     ensures all { OnOk result (Appends (K.written out.old) (K.written out.new) bytes.now) }
     ensures prefix { OnErr result (AppendsPrefix (K.written out.old) (K.written out.new) bytes.now) }

@@ -1,4 +1,4 @@
--- Averages, written out: halves, digits that are cut off in place of rounded, a sign only where a digit isn't zero.
+-- The text of averages: halves, digits that are truncated instead of rounded, a sign only if a digit isn't zero.
 use Rattle.std.proofs.Common.{◌≡◌, pos, negsuc, refl, codes}
 use Rattle.std.specs.Fmt.{digits}
 use Rattle.gq_json.specs.Average.{fraction_text}

@@ -1,4 +1,4 @@
--- The text of a printed value, an equation for each variant.
+-- The text of a printed value, one equation for each variant.
 use Rattle.std.proofs.Common.{◌≡◌, ℕ, ℤ, Bool, List, map, sym, ap, ◌∙◌}
 use Rattle.std.specs.Fmt.{decimal, signed_decimal}
 use Rattle.gq_value.specs.declared.value.Fraction.{Fraction}

@@ -1,17 +1,17 @@
--- Json: the text of the lines that a run prints. It is compact: there are no blanks between its parts.
--- Here the text of a value is put together from the texts of its parts. The code writes it into one buffer, from the front on.
+-- Json: the text of the lines that a run prints. It is compact, without blanks between its parts.
+-- The specification concatenates the texts of a value's parts. The code appends to one buffer, from the front on.
 use Rattle.std.specs.Prelude.{ℕ, ◌/◌, ◌%◌, ◌+◌, List, [], ◌∷◌, ◌++◌, map, codes, ◌==◌, nat_lt, Bool, if◌then◌else◌}
 use Rattle.std.specs.List.{flat_map, join_with_byte}
 use Rattle.std.specs.Fmt.{decimal, signed_decimal}
 use Rattle.gq_json.specs.declared.out.Out.{Out, Out-F, fold-Out}
 use Rattle.gq_json.specs.Average.{fraction_text}
 
--- a hexadecimal digit, in lower case
+-- a hexadecimal digit in lower case
 abbrev pub hex_digit : ℕ → ℕ
 hex_digit n = if nat_lt n 10 then 48 + n else 87 + n
 
--- a byte within quotes: a quote and a backslash stand behind a backslash, and the bytes below 32 have names of two
--- letters, or are written as `\u00` and two digits
+-- a byte within quotes: a quote and a backslash get a backslash before them, and the bytes below 32 are written as an
+-- escape of two characters, or as `\u00` and two digits
 abbrev pub escaped : ℕ → List ℕ
 escaped b =
     if b == 34 then codes "\\\""
@@ -28,11 +28,11 @@ escaped b =
 abbrev pub quoted : List ℕ → List ℕ
 quoted text = 34 ∷ flat_map escaped text ++ 34 ∷ []
 
--- texts with commas between them
+-- texts separated by commas
 abbrev pub listed : List (List ℕ) → List ℕ
 listed texts = join_with_byte 44 texts
 
--- what stands in front of the text at this place among others
+-- what is written before the item at a place: a comma, but nothing before the first
 abbrev pub comma_before : ℕ → List ℕ
 comma_before place = if place == 0 then [] else 44 ∷ []
 
@@ -40,19 +40,19 @@ comma_before place = if place == 0 then [] else 44 ∷ []
 abbrev pub bool_text : Bool → List ℕ
 bool_text b = if b then codes "true" else codes "false"
 
--- a list, of the texts of its values
+-- a list, from the texts of its values
 abbrev pub list_text : List (List ℕ) → List ℕ
 list_text values = 91 ∷ listed values ++ 93 ∷ []
 
--- a member, of its name and the text of its value
+-- a member, from its name and the text of its value
 abbrev pub member_text : List ℕ × List ℕ → List ℕ
 member_text member = quoted member.0 ++ 58 ∷ member.1
 
--- an object, of its names with the texts of their values, in order
+-- an object, from its names and the texts of their values, in order
 abbrev pub object_text : List (List ℕ × List ℕ) → List ℕ
 object_text members = 123 ∷ listed (map member_text members) ++ 125 ∷ []
 
--- a printed value, of the texts of its parts
+-- a printed value, from the texts of its parts
 abbrev pub text_of_parts : Out-F (List ℕ) → List ℕ
 text_of_parts (Out-F.Int z) = signed_decimal z
 text_of_parts (Out-F.UInt n) = decimal n
@@ -62,7 +62,7 @@ text_of_parts (Out-F.Fraction fraction) = fraction_text fraction
 text_of_parts (Out-F.List values) = list_text values
 text_of_parts (Out-F.Object members) = object_text members
 
--- a printed value, to any depth
+-- a printed value of any depth
 unfoldable pub out_text : Out → List ℕ
 out_text = fold-Out (List ℕ) text_of_parts
 
@@ -70,7 +70,7 @@ out_text = fold-Out (List ℕ) text_of_parts
 abbrev pub with_text : List ℕ × Out → List ℕ × List ℕ
 with_text member = (member.0, out_text member.1)
 
--- what one PRINT printed
+-- the object that one PRINT printed
 abbrev pub printed_text : List (List ℕ × Out) → List ℕ
 printed_text members = object_text (map with_text members)
 

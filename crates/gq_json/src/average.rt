@@ -1,4 +1,4 @@
-// Averages, by whole numbers alone.
+// Averages as text, by integer arithmetic alone.
 ghost use Rattle.std.specs.Prelude.{◌≡◌, ◌+◌, ◌*◌, ◌/◌, ◌<◌, ◌++◌, ℕ, OnOk};
 ghost use Rattle.gq_json.specs.Average.{decimals, fraction_text, sign, trimmed};
 
@@ -6,7 +6,7 @@ use gq_base::OutOfMemory;
 use gq_value::Fraction;
 use itoa::Buffer;
 
-/// The text of an average, behind what the line holds.
+/// Appends the text of an average to the line.
 #[tactic(auto, unfolding(crate::specs::Average::fraction_text))]
 pub fn push_fraction(line: &mut Vec<u8>, fraction: Fraction) -> Result<(), OutOfMemory>
     ensures { OnOk result (line.new.items ≡ line.old.items ++ fraction_text fraction) }
@@ -24,7 +24,7 @@ pub fn push_fraction(line: &mut Vec<u8>, fraction: Fraction) -> Result<(), OutOf
     push_decimals(line, millionths)
 }
 
-// The minus sign of a number below 0, where one of its digits isn't a zero.
+// Appends the minus sign of a number below 0, if one of its digits isn't a zero.
 fn push_sign(line: &mut Vec<u8>, number: i64, some_digit: bool) -> Result<(), OutOfMemory>
     ensures { OnOk result (line.new.items ≡ line.old.items ++ sign number some_digit) }
 {
@@ -34,7 +34,7 @@ fn push_sign(line: &mut Vec<u8>, number: i64, some_digit: bool) -> Result<(), Ou
     Ok(())
 }
 
-// How many millionths are in `rest / count`.
+// The whole millionths in `rest / count`.
 fn millionths_of(rest: u64, count: u64) -> u32
     requires { rest < count }
     ensures value { result ≡ rest * 1000000 / count }
@@ -43,7 +43,7 @@ fn millionths_of(rest: u64, count: u64) -> u32
     (u128::from(rest) * 1_000_000 / u128::from(count)) as u32
 }
 
-// The point and so many millionths, or nothing for none.
+// Appends the point and the digits of a number of millionths; nothing for 0.
 #[tactic(auto, using(std::proofs::lemmas::Fmt::decimal_nonempty))]
 fn push_decimals(line: &mut Vec<u8>, millionths: u32) -> Result<(), OutOfMemory>
     requires { millionths < 1000000 }
@@ -59,7 +59,7 @@ fn push_decimals(line: &mut Vec<u8>, millionths: u32) -> Result<(), OutOfMemory>
     Ok(())
 }
 
-// The digits without the zeros at their end.
+// The digits without trailing zeros.
 #[tactic(auto, using(crate::proofs::TrimmedLemmas::trims))]
 fn trimmed(digits: &[u8]) -> &[u8]
     ensures { result.now ≡ trimmed digits.now }

@@ -1,4 +1,4 @@
-// The lines. Each is written into one buffer that grows.
+// Whole lines. Each is written into one growable buffer.
 ghost use Rattle.std.specs.Prelude.{◌≡◌, IfOk, map};
 ghost use Rattle.gq_json.specs.Json.{line_text, error_text};
 
@@ -8,7 +8,7 @@ use crate::value::{push_comma, push_members};
 use gq_base::OutOfMemory;
 use std::alloc::Global;
 
-/// The line of a query that printed these objects, the line feed included.
+/// Returns the line of a query that printed these objects, with its line feed.
 pub fn json_line(alloc: Global, printed: &[Printed]) -> Result<Vec<u8>, OutOfMemory>
     ensures { IfOk result (λ line. line.items ≡ line_text (map (λ object. object.members) printed.now)) }
 {
@@ -21,7 +21,7 @@ pub fn json_line(alloc: Global, printed: &[Printed]) -> Result<Vec<u8>, OutOfMem
     Ok(line)
 }
 
-/// The line of a refusal with this message, the line feed included.
+/// Returns the line of a refusal with this message, with its line feed.
 pub fn error_line(alloc: Global, message: &str) -> Result<Vec<u8>, OutOfMemory>
     ensures { IfOk result (λ line. line.items ≡ error_text message.now) }
 {

@@ -2,7 +2,7 @@
 use gq_base::List;
 use gq_value::{Fraction, Txt};
 
-/// A printed value, to any depth.
+/// A printed value of any depth.
 #[derive(Debug, Drop)]
 pub enum Out {
     Int(i64),

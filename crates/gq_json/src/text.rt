@@ -1,10 +1,10 @@
-// Texts in quotes.
+// Quoted texts.
 ghost use Rattle.std.specs.Prelude.{◌≡◌, ◌<◌, ◌++◌, OnOk};
 ghost use Rattle.gq_json.specs.Json.{hex_digit, escaped, quoted};
 
 use gq_base::OutOfMemory;
 
-/// The text in quotes, behind what the line holds.
+/// Appends the quoted text to the line.
 pub fn push_quoted(line: &mut Vec<u8>, text: &str) -> Result<(), OutOfMemory>
     ensures { OnOk result (line.new.items ≡ line.old.items ++ quoted text.now) }
 {

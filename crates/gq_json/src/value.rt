@@ -40,7 +40,7 @@ fn push_values(line: &mut Vec<u8>, values: &[Out]) -> Result<(), OutOfMemory>
     Ok(())
 }
 
-/// An object of these members, behind what the line holds.
+/// Appends an object of these members to the line.
 #[cycle(values)]
 pub fn push_members(line: &mut Vec<u8>, members: &[(Txt, Out)]) -> Result<(), OutOfMemory>
     ensures { OnOk result (line.new.items ≡ line.old.items ++ printed_text members.now) }
@@ -55,7 +55,7 @@ pub fn push_members(line: &mut Vec<u8>, members: &[(Txt, Out)]) -> Result<(), Ou
     Ok(())
 }
 
-// A name, and the colon behind it.
+// Appends a name and its colon.
 fn push_name(line: &mut Vec<u8>, name: &Txt) -> Result<(), OutOfMemory>
     ensures { OnOk result (line.new.items ≡ line.old.items ++ (quoted name.now ++ 58 ∷ [])) }
 {
@@ -64,7 +64,7 @@ fn push_name(line: &mut Vec<u8>, name: &Txt) -> Result<(), OutOfMemory>
     Ok(())
 }
 
-/// The comma in front of what stands at this place among others; the first has none.
+/// Appends the comma before the item at a place; the first has none.
 pub fn push_comma(line: &mut Vec<u8>, place: usize) -> Result<(), OutOfMemory>
     ensures { OnOk result (line.new.items ≡ line.old.items ++ comma_before place) }
 {

@@ -1,4 +1,4 @@
--- Some records at once: one more that is read, and one more that is put.
+-- Batches of records: the steps of reading one more record, and of putting one more.
 use Rattle.std.proofs.Common.{◌≡◌, ◌⊎◌, ℕ, zero, suc, ◌+◌, ◌<◌, ◌≤◌, List, [], ◌∷◌, ◌++◌, length, take, set, map, Some, inl, inr, refl, sym, ap, ap₂, subst, ◌∙◌, arith}
 use Rattle.std.specs.Prelude.{slice_get, nat_lt, if◌then◌else◌, Bool, Err}
 use Rattle.std.proofs.lemmas.Bool.{cases_Bool, cases_lt, lt-ltb, ltb-true}
@@ -26,7 +26,7 @@ use Rattle.gq_load.proofs.RowLemmas.{Reading}
 
 -- ---- lists
 
--- what stands in a list where one item was written, or put last
+-- the item at an index of a list after one item was overwritten or appended
 get_set : {A : Type 0} (xs : List A) (i k : ℕ) (y z : A) → slice_get (set xs i y) k ≡ Some z → (y ≡ z) ⊎ ((k ≡ i → ⊥) × (slice_get xs k ≡ Some z))
 get_set {A} [] i k y z is = absurd (cc)
 get_set {A} (x ∷ xs) zero zero y z is = inl (same_some y z is)
@@ -40,7 +40,7 @@ get_last {A} [] (suc k) y z is = absurd (cc)
 get_last {A} (x ∷ xs) zero y z is = inr is
 get_last {A} (x ∷ xs) (suc k) y z is = get_last xs k y z is
 
--- the first items are fewer of them, and some more
+-- a longer prefix is a shorter one followed by more items
 take_more : {A : Type 0} (i n : ℕ) (xs : List A) → i ≤ n → (ys : List A) × (take n xs ≡ take i xs ++ ys)
 take_more {A} zero n xs low = (take n xs, refl)
 take_more {A} (suc i) zero xs low = absurd (omega arith)
@@ -88,7 +88,7 @@ reads_more schema routes before now rest batch i fields r low on next is = recor
       ∙ sym (map-append (judged read schema routes) on.taken (fields ∷ []));
 }
 
--- none are left, or there was no room for more
+-- no records are left, or the batch was full
 pub left_none : (count room : ℕ) (after : List Fields) → count < room → left_behind count room after ≡ []
 left_none count room after low = ap (λ (b : Bool). if b then [] else after) (lt-ltb count room low)
 
@@ -108,7 +108,7 @@ pub reads_room : (schema : Schema) (routes : List Route) (before now : List Fiel
 reads_room schema routes before now batch count room high on =
     subst (λ (rest : List Fields). ReadsOn schema routes before rest batch) (sym (left_some count room now high)) on
 
--- records that were read are left no more
+-- each record that is read leaves fewer records
 pub fewer_left : (schema : Schema) (routes : List Route) (before after : List Fields) (batch : List ReadRecord) → 0 < length batch → ReadsOn schema routes before after batch → length after < length before
 fewer_left schema routes before after batch some on =
     omega (
@@ -127,7 +127,7 @@ verdict_is schema routes verdict.Short drafts = refl
 verdict_is schema routes verdict.Unreadable drafts = refl
 verdict_is schema routes verdict.Loaded drafts = refl
 
--- what the first so many records are judged
+-- the judgements of the first `i` records
 abbrev pub judged_to : Schema → List Route → List ReadRecord → ℕ → List Judged
 judged_to schema routes batch i = map (judged_of schema routes) (take i batch)
 
@@ -147,7 +147,7 @@ puts_more schema routes batch i r a b c at first next =
     subst (λ (s : List Step). Done a s c) (sym (steps_more schema routes batch i r at))
     (done_more a b c (steps_in (judged_to schema routes batch i)) (steps_from (judged_of schema routes r)) first next)
 
--- the steps of more records begin with those of fewer
+-- the steps of a shorter prefix of records are a prefix of the steps of a longer one
 steps_upto : (schema : Schema) (routes : List Route) (batch : List ReadRecord) (i n : ℕ) → i ≤ n
     → (others : List Step) × (steps_in (judged_to schema routes batch n) ≡ steps_in (judged_to schema routes batch i) ++ others)
 steps_upto schema routes batch i n low =
@@ -168,7 +168,7 @@ puts_stop A B schema routes batch i n r a b c f low at first next =
     (err_before A B a c (steps_in (judged_to schema routes batch i) ++ steps_from (judged_of schema routes r)) more.0 f
     (err_more A A a b c (steps_in (judged_to schema routes batch i)) (steps_from (judged_of schema routes r)) f first next))
 
--- OutOfMemory behind a record that was put
+-- OutOfMemory after a record was put
 pub puts_begun : (schema : Schema) (routes : List Route) (batch : List ReadRecord) (i n : ℕ) (a c : Store) → i ≤ n
     → Done a (steps_in (judged_to schema routes batch i)) c → Begun a (steps_in (judged_to schema routes batch n)) c
 puts_begun schema routes batch i n a c low done =

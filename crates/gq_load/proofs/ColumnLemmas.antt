@@ -1,4 +1,4 @@
--- Names that the header lacks, column by column and destination by destination.
+-- Names that the header lacks, by column and by destination.
 use Rattle.std.proofs.Common.{◌≡◌, ℕ, ◌+◌, List, [], ◌∷◌, ◌++◌, take, drop, Option, Some, None, map, refl, sym, ap, ◌∙◌}
 use Rattle.std.specs.Prelude.{slice_get, find, Err}
 use Rattle.std.specs.Option.{option_map, option_or}
@@ -19,7 +19,7 @@ names_of header own others = ap (option_map name_in) (find-append (is_missing he
     over None b = refl
     over (Some x) b = refl
 
--- what is told of one destination's columns, after those before it
+-- what an answer says of one destination's columns, given those before it
 pub names_here : (A B : Type 0) (header : Option Fields) (destinations : List LoadInto) (i : ℕ) (into : LoadInto) (f : LoadFault) → slice_get destinations i ≡ Some into
     → missing_name header (columns_of destinations) ≡ missing_name header (columns_of (drop i destinations))
     → Names {A = A} (missing_name header into.columns) (Err f) → Names {A = B} (missing_name header (columns_of destinations)) (Err f)

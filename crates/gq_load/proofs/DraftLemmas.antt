@@ -1,4 +1,4 @@
--- Drafts one by one.
+-- Drafts, one by one.
 use Rattle.std.proofs.Common.{◌≡◌, ℕ, zero, suc, ◌+◌, ◌<◌, ◌≤◌, List, [], ◌∷◌, ◌++◌, length, take, drop, set, Option, Some, None, false, inl, inr, refl, sym, ap, ap₂, subst, ◌∙◌, arith}
 use Rattle.std.specs.Prelude.{slice_get, option_and_then, Err}
 use Rattle.std.proofs.lemmas.Bool.{cases_lt}
@@ -30,7 +30,7 @@ and_more : (a b : List Step) (o : Option (List Step)) → and_steps a (and_steps
 and_more a b None = refl
 and_more a b (Some more) = ap (λ (s : List Step). Some s) (sym (append_assoc a b more))
 
--- the drafts of the routes up to a place
+-- the steps of the drafts of the routes up to a place
 abbrev pub drafted_to : Schema → List Route → List Draft → ℕ → List Step
 drafted_to schema routes drafts i = all_drafted schema (take i routes) (take i drafts)
 
@@ -41,7 +41,7 @@ drafted_more schema routes drafts now i route draft at same next =
     ap₂ (all_drafted schema) (to_place routes i route at) next
     ∙ drafted_last schema (take i routes) (take i drafts) route draft (omega (arith, length-take i routes, length-take i drafts))
 
--- the routes from a place on
+-- the steps of the routes from a place on
 pub steps_here : (read : Reading) (schema : Schema) (routes : List Route) (fields : Fields) (i : ℕ) (route : Route) → slice_get routes i ≡ Some route
     → steps_of read schema (drop i routes) fields ≡ option_and_then (λ steps. and_steps steps (steps_of read schema (drop (i + 1) routes) fields)) (steps_along read schema route fields)
 steps_here read schema routes fields i route at = ap (λ rs. steps_of read schema rs fields) (from_place routes i route at)
@@ -70,7 +70,7 @@ steps_end whole read schema routes drafts fields i high same so_far =
     so_far ∙ ap (λ rs. and_steps (drafted_to schema routes drafts i) (steps_of read schema rs fields)) (at_end routes i high)
     ∙ ap (λ (s : List Step). Some s) (append-nil (drafted_to schema routes drafts i) ∙ ap₂ (all_drafted schema) (take_all i routes high) (take_all i drafts (omega arith)))
 
--- each draft up to a place is sized, with one more
+-- if each draft up to a place is sized and the next one is, so are all up to the next place
 pub sized_more : (schema : Schema) (routes : List Route) (drafts : List Draft) (i : ℕ) (route : Route) (draft : Draft)
     → slice_get routes i ≡ Some route → i < length drafts → IsSized schema route draft
     → ((k : ℕ) (r : Route) (d : Draft) → k < i → slice_get routes k ≡ Some r → slice_get drafts k ≡ Some d → IsSized schema r d)

@@ -1,4 +1,4 @@
--- FoundLemmas: ends that were found, one more, and behind upserts.
+-- FoundLemmas: the ends of edges that were found: appending one, and their validity after upserts.
 use Rattle.std.proofs.Common.{◌≡◌, ℕ, ◌+◌, ◌*◌, ◌<◌, ◌≤◌, List, [], ◌∷◌, ◌++◌, length, get_or, Some, inl, inr, refl, sym, ap, subst, ◌∙◌, arith}
 use Rattle.std.specs.Prelude.{slice_get}
 use Rattle.std.proofs.lemmas.Bool.{cases_lt}
@@ -28,7 +28,7 @@ keeps_all found i low = refl
 pub keeps_more : (old now : List FoundEnds) (ends : FoundEnds) → length old ≤ length now → KeepsThose old now → KeepsThose old (now ++ ends ∷ [])
 keeps_more old now ends long keeps i low = get_or_append_left now (ends ∷ []) no_ends i (omega arith) ∙ keeps i low
 
--- the ends of the records up to a place stand behind those that were there before
+-- the ends of the records up to a place are stored after those that were there before
 abbrev pub StandBehind : List VertexRow → ℕ → ℕ → ℕ → List ReadRecord → ℕ → List FoundEnds → ℕ → Type 0
 StandBehind vertices from to place batch first found i =
     (k : ℕ) (r : ReadRecord) (draft : Draft) → k < i → slice_get batch k ≡ Some r → slice_get r.drafts.items place ≡ Some draft
@@ -70,7 +70,7 @@ found_more schema routes batch vertices old new n route room long at keeps own f
           (own k r draft at_r (ap (slice_get r.drafts.items) (sym same) ∙ at_d)))
     ]
 
--- ---- behind upserts, and what was read of them
+-- ---- after upserts, and reads of them
 
 pub ends_later : (vertices later : List VertexRow) (from to : ℕ) (draft : Draft) (ends other : FoundEnds)
     → ((kind n : ℕ) (id : List ℕ) → vertex_number vertices kind id ≡ Some n → vertex_number later kind id ≡ Some n)

@@ -1,4 +1,4 @@
--- Lists from a place on, and up to a place.
+-- Suffixes and prefixes of lists.
 use Rattle.std.proofs.Common.{◌≡◌, ℕ, zero, suc, ◌+◌, ◌<◌, ◌≤◌, List, [], ◌∷◌, ◌++◌, length, take, drop, Some, refl, sym, ap, ◌∙◌, arith, add-one, get_or, set}
 use Rattle.std.specs.Prelude.{slice_get}
 use Rattle.std.proofs.lemmas.List.{take_more}
@@ -6,7 +6,7 @@ use Rattle.std.proofs.lemmas.Option.{get_or_from_slice_get, slice_get_within, sl
 use Rattle.std.proofs.Math.Seq.{drop-cons}
 use Rattle.std.proofs.Math.ListN.{drop_of_length-le}
 
--- the items from a place on begin with the one there
+-- the suffix from a place begins with the item at the place
 pub from_place : {A : Type 0} (xs : List A) (i : ℕ) (x : A) → slice_get xs i ≡ Some x → drop i xs ≡ x ∷ drop (i + 1) xs
 from_place {A} xs i x is =
     let low = slice_get_within xs i x is in
@@ -15,33 +15,33 @@ from_place {A} xs i x is =
 pub to_place : {A : Type 0} (xs : List A) (i : ℕ) (x : A) → slice_get xs i ≡ Some x → take (i + 1) xs ≡ take i xs ++ x ∷ []
 to_place {A} xs i x is = take_more xs i x (slice_get_within xs i x is) ∙ ap (λ y. take i xs ++ y ∷ []) (get_or_from_slice_get xs i x x is)
 
--- none at the end
+-- the suffix at the end is empty
 pub at_end : {A : Type 0} (xs : List A) (i : ℕ) → length xs ≤ i → drop i xs ≡ []
 at_end {A} xs i high = drop_of_length-le xs high
 
--- a read by an index is of the item there
+-- a read by index returns the item at that index
 pub item_at : {A : Type 0} (xs : List A) (i : ℕ) (x : A) → i < length xs → x ≡ get_or xs i x → slice_get xs i ≡ Some x
 item_at {A} xs i x low is = slice_get-get_or xs i x low ∙ ap (λ y. Some y) (sym is)
 
--- all items
+-- a prefix as long as the list is the list
 pub take_all : {A : Type 0} (i : ℕ) (xs : List A) → length xs ≤ i → take i xs ≡ xs
 take_all {A} zero [] high = refl
 take_all {A} (suc i) [] high = refl
 take_all {A} zero (x ∷ xs) high = absurd (omega arith)
 take_all {A} (suc i) (x ∷ xs) high = ap (λ ys. x ∷ ys) (take_all i xs (omega arith))
 
--- the item at a place is the first one from there on
+-- the item at a place is the first one of the suffix from there
 first_from : {A : Type 0} (xs : List A) (i : ℕ) → slice_get xs i ≡ slice_get (drop i xs) 0
 first_from {A} [] zero = refl
 first_from {A} [] (suc i) = refl
 first_from {A} (x ∷ xs) zero = refl
 first_from {A} (x ∷ xs) (suc i) = first_from xs i
 
--- lists that agree from a place on have the same item there
+-- lists with the same suffix from a place have the same item there
 pub same_item : {A : Type 0} (xs ys : List A) (i : ℕ) → drop i xs ≡ drop i ys → slice_get xs i ≡ slice_get ys i
 same_item {A} xs ys i same = first_from xs i ∙ ap (λ zs. slice_get zs 0) same ∙ sym (first_from ys i)
 
--- and agree from the next place on
+-- and the same suffix from the next place
 behind : {A : Type 0} (xs : List A) (i : ℕ) → drop (i + 1) xs ≡ drop 1 (drop i xs)
 behind {A} xs i = rw add-one (go xs i)
   where
@@ -61,7 +61,7 @@ pub same_behind : {A : Type 0} (xs ys : List A) (i : ℕ) (y : A) → drop i xs 
 same_behind {A} xs ys i y same =
     ap (λ (n : ℕ). drop n (set xs i y)) (add-one i) ∙ unset xs i y ∙ ap (λ (n : ℕ). drop n xs) (sym (add-one i)) ∙ behind xs i ∙ ap (drop 1) same ∙ sym (behind ys i)
 
--- what was written stands there, and all else is as it was
+-- a write changes the item at its index and no other
 pub get_written : {A : Type 0} (xs : List A) (i : ℕ) (y : A) → i < length xs → slice_get (set xs i y) i ≡ Some y
 get_written {A} [] i y low = absurd (omega arith)
 get_written {A} (x ∷ xs) zero y low = refl

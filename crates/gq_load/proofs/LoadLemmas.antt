@@ -1,4 +1,4 @@
--- Records one by one.
+-- Records, one by one.
 use Rattle.std.proofs.Common.{zero, suc, cond, get_or, ◌≡◌, ℕ, ◌<◌, List, [], ◌∷◌, ◌++◌, length, drop, map, Option, Some, None, true, refl, sym, ap, subst, ◌∙◌, arith}
 use Rattle.std.specs.Prelude.{Result, Err}
 use Rattle.std.proofs.lemmas.List.{append_assoc, append-nil, map-append}
@@ -27,7 +27,7 @@ use Rattle.gq_load.specs.declared.report.Report.{Report}
 use Rattle.gq_load.specs.Reports.{report_of}
 use Rattle.gq_load.specs.Loads.{all_steps, IsLoaded, LoadsBy, Loads, header_of, loaded_of, first_of}
 
--- some records, from the first one on, were loaded; these are left
+-- the loop's invariant: a prefix of the records was loaded, and these are left
 pub record IsUnderWay (schema : Schema) (routes : List Route) (records : List Fields) (before : Store) (left : List Fields) (now : Store) (report : Report) : Type 0 where
   pub behind : List Fields
   pub split : records ≡ behind ++ left
@@ -40,12 +40,12 @@ starts schema routes records before = record {
   each = λ read tells. record { done = record { taken = tt; leads = refl }; counted = refl };
 }
 
--- the steps of records are those of what they are judged
+-- the steps of records are those of their judgements
 steps_judged : (read : Reading) (schema : Schema) (routes : List Route) (records : List Fields) → all_steps read schema routes records ≡ steps_in (map (judged read schema routes) records)
 steps_judged read schema routes [] = refl
 steps_judged read schema routes (r ∷ rs) = ap (λ (s : List Step). steps_from (judged read schema routes r) ++ s) (steps_judged read schema routes rs)
 
--- the steps of the records up to a batch, and of the batch
+-- the steps of the records before a batch, followed by those of the batch
 steps_last : (read : Reading) (schema : Schema) (routes : List Route) (behind taken : List Fields) (judgements : List Judged) → judgements ≡ map (judged read schema routes) taken
     → all_steps read schema routes (behind ++ taken) ≡ all_steps read schema routes behind ++ steps_in judgements
 steps_last read schema routes behind taken judgements are =
@@ -76,7 +76,7 @@ pub ends : (read : Reading) (schema : Schema) (routes : List Route) (records : L
 ends read schema routes records before left now report tells way none =
     subst (λ (rs : List Fields). IsLoaded read schema routes rs before now report) (sym (way.split ∙ ap (λ ls. way.behind ++ ls) none ∙ append-nil way.behind)) (way.each read tells)
 
--- the steps of all records are those of the records behind and of those left
+-- the steps of all records are those of the records already loaded, followed by those left
 steps_split : (read : Reading) (schema : Schema) (routes : List Route) (records behind left : List Fields) → records ≡ behind ++ left
     → all_steps read schema routes records ≡ all_steps read schema routes behind ++ all_steps read schema routes left
 steps_split read schema routes records behind left split =
@@ -101,14 +101,14 @@ stops A read schema routes records before left rest now later report batch f tel
 
 -- ---- a line
 
--- the types of a line's routes are there
+-- the types of a line's routes exist
 pub all_there : (schema : Schema) (header : Option Fields) (destinations : List LoadInto) → ((k : ℕ) (d : LoadInto) → k < length destinations → IntoFits schema (get_or destinations k d))
     → (k : ℕ) (r : Route) → k < length (map (route_of schema header) destinations) → IsThere schema (get_or (map (route_of schema header) destinations) k r)
 all_there schema header [] fits k r low = absurd (omega arith)
 all_there schema header (d ∷ ds) fits zero r low = (fits 0 d (omega arith)).there
 all_there schema header (d ∷ ds) fits (suc k) r low = all_there schema header ds (λ j e below. fits (suc j) e (omega arith)) k r (omega arith)
 
--- a load by the header that the records begin with
+-- a load whose header is the first record
 pub with_header : (read : Reading) (schema : Schema) (line : LoadLine) (records rest : List Fields) (header : Fields) (before later : Store) (result : Result Report LoadFault)
     → line.header ≡ true → records ≡ header ∷ rest → LoadsBy read schema line (Some header) rest before later result → Loads read schema line records before later result
 with_header read schema line records rest header before later result has is loads =
@@ -125,7 +125,7 @@ with_no_header read schema line records none before later result has is nothing 
     subst (λ (o : Option Fields). LoadsBy read schema line o (loaded_of line records) before later result) (sym h)
     (subst (λ (rs : List Fields). LoadsBy read schema line None rs before later result) (sym r) loads)
 
--- a file of no bytes has no records
+-- an empty file has no records
 pub no_records : (separator : ℕ) (quote : Option ℕ) → records_of separator quote [] ≡ []
 unfolding records_from next_record strip_bom
 no_records separator quote = refl

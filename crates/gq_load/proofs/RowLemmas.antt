@@ -1,4 +1,4 @@
--- Values one by one.
+-- Values, one by one.
 use Rattle.std.proofs.Common.{◌≡◌, ℕ, ℤ, ◌+◌, ◌-◌, ◌≤◌, List, [], ◌∷◌, ◌++◌, length, drop, Option, Some, None, Bool, refl, sym, ap, ap₂, ◌∙◌, arith}
 use Rattle.std.specs.Prelude.{slice_get, nat_lt, option_and_then}
 use Rattle.std.specs.Option.{option_map}
@@ -13,11 +13,11 @@ use Rattle.gq_load.proofs.ListLemmas.{from_place, at_end}
 abbrev pub Reading : Type 0
 Reading = List ℕ → Option ℤ
 
--- values before others
+-- values prepended to others
 abbrev pub before : List Value → Option (List Value) → Option (List Value)
 before values others = option_map (λ more. values ++ more) others
 
--- what remains to be read from a place on
+-- the values that remain to be read from a place on
 abbrev pub rest_of : Reading → ℕ → List Attribute → List (Option ℕ) → Fields → ℕ → Option (List Value)
 rest_of read keys attributes sources fields i = values_of read (keys - i) (drop i attributes) (drop i sources) fields
 
@@ -31,7 +31,7 @@ first_key keys i = grind (arith, nat_tests)
 one_less : (keys i : ℕ) → (keys - i) - 1 ≡ keys - (i + 1)
 one_less keys i = omega arith
 
--- the values from a place on are that of the place and those behind it
+-- the values from a place on are the one at the place followed by the rest
 here : (read : Reading) (keys i : ℕ) (attributes : List Attribute) (sources : List (Option ℕ)) (fields : Fields) (a : Attribute) (s : Option ℕ)
     → slice_get attributes i ≡ Some a → slice_get sources i ≡ Some s
     → rest_of read keys attributes sources fields i

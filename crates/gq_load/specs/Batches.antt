@@ -1,4 +1,4 @@
--- Batches: records as they were read, before any row of theirs is put. No clause of another crate cites this.
+-- Batches: records that were read, before any of their rows is put. No clause of another crate cites this.
 use Rattle.std.specs.Prelude.{◌≡◌, ◌<◌, ◌++◌, ℕ, ℤ, List, [], length, map, slice_get, nat_lt, if◌then◌else◌, Option, Some}
 use Rattle.std.specs.List.{flat_map}
 use Rattle.gq_graph.specs.Catalog.{Schema}
@@ -13,7 +13,7 @@ use Rattle.gq_load.specs.Columns.{Fields}
 use Rattle.gq_load.specs.Drafts.{all_drafted, AreSized}
 use Rattle.gq_load.specs.Records.{Judged, Short, Unreadable, Loaded, judged, steps_from}
 
--- what a record is judged by its verdict, and, where it is loaded, by its drafts
+-- the judgement of a record, by its verdict and, if it is loaded, by its drafts
 abbrev pub judged_by : Schema → List Route → Verdict → List Draft → Judged
 judged_by schema routes verdict.Short drafts = Short
 judged_by schema routes verdict.Unreadable drafts = Unreadable
@@ -22,11 +22,11 @@ judged_by schema routes verdict.Loaded drafts = Loaded (all_drafted schema route
 abbrev pub judged_of : Schema → List Route → ReadRecord → Judged
 judged_of schema routes r = judged_by schema routes r.verdict r.drafts.items
 
--- what records put, one after the other
+-- the steps of records, in order
 abbrev pub steps_in : List Judged → List Step
 steps_in judgements = flat_map steps_from judgements
 
--- each has a draft for each route
+-- each record has a draft for each route
 abbrev pub HaveDrafts : List Route → List ReadRecord → Type 0
 HaveDrafts routes batch = (k : ℕ) (r : ReadRecord) → slice_get batch k ≡ Some r → length r.drafts.items ≡ length routes
 
@@ -34,17 +34,17 @@ HaveDrafts routes batch = (k : ℕ) (r : ReadRecord) → slice_get batch k ≡ S
 abbrev pub IsWhole : Schema → List Route → Verdict → List Draft → Type 0
 IsWhole schema routes v drafts = v ≡ verdict.Loaded → AreSized schema routes drafts
 
--- so it is with the first `count` of them
+-- the same for the first `count` records
 abbrev pub AreWhole : Schema → List Route → ℕ → List ReadRecord → Type 0
 AreWhole schema routes count batch =
     (k : ℕ) (r : ReadRecord) → k < count → slice_get batch k ≡ Some r → IsWhole schema routes r.verdict r.drafts.items
 
--- these are the next records of those that were left before, and these are left behind them
+-- the batch holds the next records of those left before, and `after` is what is left after them
 pub record ReadsOn (schema : Schema) (routes : List Route) (before after : List Fields) (batch : List ReadRecord) : Type 0 where
   pub taken : List Fields
   pub split : before ≡ taken ++ after
   pub judged : (read : List ℕ → Option ℤ) → TellsTimes read → map (judged_of schema routes) batch ≡ map (judged read schema routes) taken
 
--- what is left behind so many records, which had room for so many: nothing, where they are fewer
+-- what is left after reading `count` records into a batch with this room: nothing, if they are fewer than the room
 abbrev pub left_behind : ℕ → ℕ → List Fields → List Fields
 left_behind count room after = if nat_lt count room then [] else after

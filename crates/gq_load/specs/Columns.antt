@@ -1,4 +1,4 @@
--- Columns: the field that each column of a line stands for, by the file's header.
+-- Columns: the field that each column of a line refers to, by the file's header.
 use Rattle.std.specs.Prelude.{◌≡◌, Result, Ok, Err, if◌then◌else◌, ℕ, Bool, false, List, [], Option, Some, None, is_none, bytes_eq, position, find}
 use Rattle.std.specs.Option.{option_map}
 use Rattle.std.specs.List.{flat_map}
@@ -12,7 +12,7 @@ use Rattle.gq_load.specs.declared.fault.LoadFault.TheVariants as fault
 abbrev pub Fields : Type 0
 Fields = List (List ℕ)
 
--- the first field of the header that is the name
+-- the index of the first field of the header that equals the name
 abbrev pub place_in : Option Fields → List ℕ → Option ℕ
 place_in None name = None
 place_in (Some header) name = position (bytes_eq name) header
@@ -23,7 +23,7 @@ field_of header (column.Number n) = Some n
 field_of header (column.Named name) = place_in header name
 field_of header column.Default = None
 
--- whether a column is named and the header lacks the name
+-- whether a column is given by a name that the header lacks
 abbrev pub is_missing : Option Fields → Column → Bool
 is_missing header (column.Named name) = is_none (place_in header name)
 is_missing header (column.Number n) = false
@@ -42,11 +42,11 @@ columns_of destinations = flat_map (λ (into : LoadInto). into.columns) destinat
 abbrev pub missing_name : Option Fields → List Column → Option (List ℕ)
 missing_name header columns = option_map name_in (find (is_missing header) columns)
 
--- the name of a column that the header lacks
+-- the column's name, if the header lacks it
 abbrev pub missing_one : Option Fields → Column → Option (List ℕ)
 missing_one header column = if is_missing header column then Some (name_in column) else None
 
--- an answer tells of a name exactly where one is missing; OutOfMemory may come at any time
+-- an answer names a column exactly if one is missing; OutOfMemory may occur at any time
 abbrev pub Names : {A : Type 0} → Option (List ℕ) → Result A LoadFault → Type 0
 Names missing (Ok a) = missing ≡ None
 Names missing (Err (fault.NoColumn name)) = missing ≡ Some name

@@ -1,5 +1,5 @@
--- Keeping: when a store is one of a catalog: its vertices are of types that are there, and have their attributes; its edges are
--- of types that are there, named as these say, and lead from vertex to vertex. And when upserts leave a store so.
+-- Keeping: when a store fits a catalog, and when upserts keep it so. Its vertices have existing types, and their
+-- attributes; its edges have existing types, are named as these say, and lead from vertex to vertex.
 use Rattle.std.specs.Prelude.{◌≡◌, ℕ, ◌<◌, true, List, [], ◌∷◌, length, Some, All}
 use Rattle.gq_graph.specs.Catalog.{Schema}
 use Rattle.gq_graph.specs.declared.rows.Naming.{Naming}
@@ -11,20 +11,20 @@ use Rattle.gq_load_check.specs.Targets.{vertex_type_at, edge_type_at}
 use Rattle.gq_index.specs.Namings.{AreNamedBy, naming_in}
 use Rattle.gq_index.specs.Steps.{Step, Vertex, End, Edge, after, has_vertex}
 
--- no vertices and no edges
+-- a store without vertices and edges
 abbrev pub no_rows : Store
 no_rows = record { vertices = []; edges = record { rows = []; namings = [] } }
 
--- types that have edges are below a number
+-- the types that have edges are below a number
 abbrev pub AreWithin : ℕ → List Naming → Type 0
 AreWithin n namings = (kind : ℕ) (known : Naming) → naming_of namings kind ≡ Some known → kind < n
 
--- a vertex is of a type of the catalog, and has a value for each attribute
+-- a vertex has a type of the catalog, and a value for each attribute
 pub record IsVertexOf (schema : Schema) (row : VertexRow) : Type 0 where
   pub there : row.kind < length schema.vertex_types
   pub values : length row.attributes ≡ length (vertex_type_at schema row.kind).attributes
 
--- both ends of an edge are among so many vertices
+-- both ends of an edge are among the first `count` vertices
 pub record IsAmong (count : ℕ) (edge : EdgeRow) : Type 0 where
   pub from : edge.from < count
   pub to : edge.to < count
@@ -37,7 +37,7 @@ pub record StoreFits (schema : Schema) (store : Store) : Type 0 where
 
 -- ---- upserts
 
--- an upsert of a vertex is one of the catalog's; one of an edge is of a type of the catalog, and names it as that says
+-- an upsert of a vertex has a type of the catalog; one of an edge does too, and names the edge as that type says
 abbrev pub IsOfTypes : Schema → Step → Type 0
 IsOfTypes schema (Vertex row) = IsVertexOf schema row
 IsOfTypes schema (End row) = IsVertexOf schema row
@@ -48,18 +48,18 @@ abbrev pub AllOfTypes : Schema → List Step → Type 0
 AllOfTypes schema [] = Unit {0}
 AllOfTypes schema (step ∷ steps) = IsOfTypes schema step × AllOfTypes schema steps
 
--- the vertices that an edge is put between are there
+-- the ends of an edge exist when it is put
 abbrev pub HasItsEnds : Store → Step → Type 0
 HasItsEnds store (Vertex row) = Unit {0}
 HasItsEnds store (End row) = Unit {0}
 HasItsEnds store (Edge naming from to attributes) = (has_vertex store from ≡ true) × (has_vertex store to ≡ true)
 
--- they are there when the edge's turn comes
+-- the same for each edge of a list of upserts, at its step
 abbrev pub EndsComeFirst : Store → List Step → Type 0
 EndsComeFirst store [] = Unit {0}
 EndsComeFirst store (step ∷ steps) = HasItsEnds store step × EndsComeFirst (after store step) steps
 
--- upserts of a catalog's types, which put an edge behind its ends, into whatever store
+-- upserts of a catalog's types, each edge after its ends, whatever store they are put into
 pub record UpsertsFit (schema : Schema) (steps : List Step) : Type 0 where
   pub types : AllOfTypes schema steps
   pub ends : (store : Store) → EndsComeFirst store steps

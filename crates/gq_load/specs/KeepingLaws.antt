@@ -1,4 +1,4 @@
--- KeepingLaws: a store stays one of its catalog while upserts of its types are taken, and while it grows.
+-- KeepingLaws: a store keeps to its catalog while upserts of its types are put, and while the catalog grows.
 use Rattle.std.proofs.Common.{◌≡◌, ℕ, ◌<◌, ◌≤◌, List, [], ◌∷◌, ◌++◌, length, get_or, take, min, All, Option, Some, None, Bool, true, false, cond, eqb, refl, sym, ap, subst, ◌∙◌, arith}
 use Rattle.std.specs.Prelude.{is_some, slice_get, unwrap_or, ◌==◌}
 use Rattle.std.specs.Option.{option_or}
@@ -59,7 +59,7 @@ longer : (rows : List VertexRow) (row : VertexRow) (o : Option ℕ) → length r
 longer rows row (Some n) = omega (arith, length-set rows n row)
 longer rows row None = omega (arith, length-append rows (row ∷ []))
 
--- a vertex that is there has a number below their count
+-- the number of an existing vertex is below the number of vertices
 number_low : (store : Store) (name : Name) → has_vertex store name ≡ true → number_of store name < length store.vertices
 number_low store name there = by (vertex_number store.vertices name.kind name.id) refl there
   where
@@ -67,7 +67,7 @@ number_low store name there = by (vertex_number store.vertices name.kind name.id
     by None is none = absurd (cc)
     by (Some n) is some = (position-Some (is_vertex name.kind name.id) store.vertices n no_vertex is).0
 
--- the vertex of an end is there once the end is put
+-- the vertex of an end exists once the end is put
 end_is_there : (store : Store) (row : VertexRow) → has_vertex (after store (End row)) (name_of row) ≡ true
 end_is_there store row = by (vertex_number store.vertices row.kind row.id) refl
   where
@@ -78,7 +78,7 @@ end_is_there store row = by (vertex_number store.vertices row.kind row.id) refl
     by (Some n) is = ap is_some is
     by None is = ap is_some (number_new store.vertices (upsert_vertex store.vertices row) row (unwrap_or (vertex_number store.vertices row.kind row.id) (length store.vertices)) is refl refl)
 
--- and stays there
+-- and remains
 stays_there : (store : Store) (name : Name) (row : VertexRow) → has_vertex store name ≡ true → has_vertex (after store (End row)) name ≡ true
 stays_there store name row there = by (vertex_number store.vertices row.kind row.id) refl
   where
@@ -168,7 +168,7 @@ ends_join : (store : Store) (xs ys : List Step) → EndsComeFirst store xs → (
 ends_join store [] ys first others = others store
 ends_join store (x ∷ xs) ys first others = (first.0, ends_join (after store x) xs ys first.1 others)
 
--- no upserts, one of a vertex, an edge with its ends, and upserts behind others
+-- no upserts, one of a vertex, an edge with its ends, and concatenated upserts
 pub none_fit : (schema : Schema) → UpsertsFit schema []
 none_fit schema = record { types = tt; ends = λ store. tt }
 
@@ -230,7 +230,7 @@ attributes_there schema store fits = record {
       omega (arith, own.values, ap (λ (u : VertexType). length u.attributes) (get_or_from_slice_get schema.vertex_types (vertex_at store.vertices v).kind t no_vertex_type is));
 }
 
--- and each edge its ends
+-- and each edge has its ends
 pub rows_join : (schema : Schema) (store : Store) → StoreFits schema store → HaveEnds store.vertices store.edges.rows
 rows_join schema store fits = record { from = λ r e is. (among r e is).from; to = λ r e is. (among r e is).to }
   where

@@ -18,7 +18,7 @@ was_loaded Short = false
 was_loaded Unreadable = false
 was_loaded (Loaded steps) = true
 
--- how many records there are, and what became of them
+-- the number of records, and how many were judged in each way
 abbrev pub report_of : List Judged → Report
 report_of records = record {
   lines = length records;

@@ -1,4 +1,4 @@
--- Routes: a destination of a line with the fields that its values come from, and the defaults of its ends.
+-- Routes: a destination of a line, with the fields of its values and the defaults of its ends.
 use Rattle.std.specs.Prelude.{ℕ, List, [], map, Option}
 use Rattle.gq_graph.specs.Catalog.{Schema}
 use Rattle.gq_value.specs.declared.value.Value.{Value}
@@ -10,7 +10,7 @@ use Rattle.gq_load_csv.specs.Fields.{default_of}
 use Rattle.gq_load.specs.declared.route.Route.{Route}
 use Rattle.gq_load.specs.Columns.{Fields, field_of}
 
--- the attributes of a vertex that nothing is said of
+-- the default attributes of a vertex
 abbrev pub defaults_of : Schema → ℕ → List Value
 defaults_of schema kind = map default_of (vertex_type_at schema kind).attributes
 

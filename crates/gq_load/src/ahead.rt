@@ -1,4 +1,4 @@
-// What the puts of some records will look for, read ahead.
+// Prefetches what the puts of a batch of records will look up.
 ghost use Rattle.std.specs.Prelude.{◌<◌, ◌≡◌, ◌+◌, ◌*◌, ℕ, length, slice_get, slice_index_or, Some, All, IfOk, IfSome};
 ghost use Rattle.gq_load_check.specs.Targets.{edge_type_at};
 ghost use Rattle.gq_load.specs.Records.{IsThere};
@@ -14,10 +14,10 @@ use gq_index::Store;
 use gq_load_check::Target;
 use gq_schema::Catalog;
 
-/// How many records are read before the first of them is put.
+/// The number of records that are read before the first of them is put.
 pub(crate) const AHEAD: usize = 256;
 
-/// The numbers of the vertices that an edge's ends are, where they were found. A number stays.
+/// The numbers of the vertices at an edge's ends, if they were found. A vertex keeps its number.
 #[derive(Clone, Copy)]
 pub(crate) struct FoundEnds {
     pub from: Option<u32>,
@@ -30,11 +30,11 @@ const NO_ENDS: FoundEnds = FoundEnds {
     to: None,
 };
 
-/// Reads ahead what the puts of these records will look for, and lists the ends that were found: `AHEAD` of them for each route, in order
-/// of record.
+/// Reads ahead what the puts of these records will look up, and lists the ends that were found: `AHEAD` of them for
+/// each route, in order of record.
 ///
-/// One record's search waits for memory, and then for memory again. Here the processor waits for those of many records at once: each of
-/// these loops is short, and none of its reads hangs on what another one found. `places` is a buffer.
+/// The lookups of one record wait for memory several times in a row. Here the processor waits for those of many records
+/// at once: each loop is short, and none of its reads depends on the result of another one. `places` is a buffer.
 pub(crate) fn look_ahead(
     catalog: &Catalog,
     routes: &[Route],
@@ -61,7 +61,7 @@ pub(crate) fn look_ahead(
     Ok(())
 }
 
-/// The same of edges: their ends first, by which they are found.
+/// The same for edges: first their ends, which are needed to find them.
 fn edges_ahead(
     catalog: &Catalog,
     kind: u32,
@@ -89,7 +89,7 @@ fn edges_ahead(
     Ok(())
 }
 
-/// Where the searches for the vertices of a route begin.
+/// Lists where the lookups of the vertices of a route begin.
 fn list_ids(
     kind: u32,
     place: usize,
@@ -107,7 +107,7 @@ fn list_ids(
     Ok(())
 }
 
-/// Where the searches for both ends of the edges of a route begin.
+/// Lists where the lookups of both ends of the edges of a route begin.
 fn list_ends(
     from: u32,
     to: u32,
@@ -129,7 +129,7 @@ fn list_ends(
     Ok(())
 }
 
-/// No ends, once for each record.
+/// Lists no ends, once for each record.
 fn list_no_ends(batch: &[ReadRecord<'_>], found: &mut List<FoundEnds>) -> Result<(), OutOfMemory>
     ensures long { IfOk result (λ _. length found.new ≡ length found.old + length batch.now) }
     ensures others { IfOk result (λ _. KeepsThose found.old found.new) }
@@ -140,7 +140,7 @@ fn list_no_ends(batch: &[ReadRecord<'_>], found: &mut List<FoundEnds>) -> Result
     Ok(())
 }
 
-/// The ends of the edges of a route.
+/// Finds the ends of the edges of a route.
 fn find_ends(
     from: u32,
     to: u32,
@@ -161,7 +161,7 @@ fn find_ends(
     Ok(())
 }
 
-/// Where the searches begin for the edges whose ends are there, among those that were found from `first` on.
+/// Lists where the lookups begin for the edges whose ends exist, among the ends found from `first` on.
 fn list_edges(
     kind: u32,
     directed: bool,
@@ -180,7 +180,7 @@ fn list_edges(
     Ok(())
 }
 
-/// The ends of the edge that a record has along a route.
+/// Returns the ends of the edge that a record has along a route.
 fn ends_of(from: u32, to: u32, place: usize, read: &ReadRecord<'_>, store: &Store) -> FoundEnds
     ensures { (draft : Draft) → slice_get read.now.drafts.items place ≡ Some draft →
         EndsAreFound store.now.vertices from to draft result }
@@ -194,21 +194,21 @@ fn ends_of(from: u32, to: u32, place: usize, read: &ReadRecord<'_>, store: &Stor
     }
 }
 
-/// Reads what stands at these places of the table of vertices. It is kept in the buffer, so that the compiler leaves the reads.
+/// Reads these places of the vertex table. The results are stored in the buffer so that the compiler keeps the reads.
 fn touch_vertices(store: &Store, places: &mut [u32]) {
     for place in places.iter_mut() {
         *place = store.vertices.touch(*place);
     }
 }
 
-/// The same of the table of edges.
+/// The same for the edge table.
 fn touch_edges(store: &Store, places: &mut [u32]) {
     for place in places.iter_mut() {
         *place = store.edges.touch(*place);
     }
 }
 
-/// The ends that were found for the edge of the nth record along a route.
+/// Returns the ends that were found for the edge of the nth record along a route.
 pub(crate) fn ends_at(found: &[FoundEnds], route: usize, nth: usize) -> FoundEnds
     ensures { TellsOf (slice_index_or found.now (route * 256 + nth) no_ends) result }
 {
@@ -221,7 +221,7 @@ pub(crate) fn ends_at(found: &[FoundEnds], route: usize, nth: usize) -> FoundEnd
     }
 }
 
-/// Where they stand, if there can be such a place.
+/// Returns their index, if it fits.
 fn place_of(route: usize, nth: usize) -> Option<usize>
     ensures { IfSome result (λ place. place ≡ route * 256 + nth) }
 {

@@ -1,4 +1,4 @@
-// Some records at once: all of them are read, and then put in order.
+// Batches of records: all of them are read first, and then put in order.
 ghost use Rattle.std.specs.Prelude.{◌≡◌, ◌++◌, ◌≤◌, List, length, map, take, All, IfOk};
 ghost use Rattle.gq_load_check.specs.Targets.{edge_type_at};
 ghost use Rattle.gq_index.specs.Steps.{Puts};
@@ -20,7 +20,7 @@ use gq_load_csv::{Record, Records};
 use gq_schema::Catalog;
 use std::alloc::Global;
 
-/// Room for so many records, with a draft for each of so many routes.
+/// Allocates room for `count` records, with a draft for each route.
 pub(crate) fn batch<'a>(
     alloc: Global,
     count: usize,
@@ -39,7 +39,8 @@ pub(crate) fn batch<'a>(
     Ok(batch)
 }
 
-/// Reads the next records, as many as there is room for, and tells how many. Where that is less than the room, none are left.
+/// Reads the next records, as many as there is room for, and returns how many. If that is less than the room, none are
+/// left.
 ///
 /// `row` is a buffer. Nothing is put.
 pub(crate) fn read_batch<'a>(
@@ -75,9 +76,10 @@ pub(crate) fn read_batch<'a>(
     Ok(batch.len())
 }
 
-/// Puts the rows of the first `count` records, in order, and counts these in the report. After a refusal the upserts before it stay.
+/// Puts the rows of the first `count` records in order, and counts the records in the report. After a refusal the
+/// upserts before it remain.
 ///
-/// `found` has the ends that `look_ahead` found for these records.
+/// `found` holds the ends that `look_ahead` found for these records.
 pub(crate) fn put_batch(
     alloc: Global,
     catalog: &Catalog,

@@ -1,4 +1,4 @@
-// The field of a column.
+// Field numbers of columns.
 ghost use Rattle.std.specs.Prelude.{◌≡◌, bytes_eq, position, map, IfOk};
 ghost use Rattle.std.specs.Option.{option_copied};
 ghost use Rattle.gq_load.specs.Columns as spec;
@@ -10,7 +10,7 @@ use gq_tree::Column;
 use gq_value::Txt;
 use std::alloc::Global;
 
-/// The number of each column's field, or the first name that the header lacks.
+/// Returns the number of each column's field, or the first name that the header lacks.
 pub(crate) fn fields(
     alloc: Global,
     header: Option<&Record<'_>>,
@@ -63,7 +63,7 @@ fn place_in(header: Option<&Record<'_>>, name: &str) -> Option<u64>
     }
 }
 
-/// The first field that is the name.
+/// Returns the index of the first field that equals the name.
 fn place(header: &Record<'_>, name: &[u8]) -> Option<u64>
     ensures { result ≡ position (bytes_eq name.now) header.now }
 {

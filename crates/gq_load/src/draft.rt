@@ -1,4 +1,4 @@
-// Rows as they are read, before any row of their record is put.
+// Rows as read, before any row of their record is put.
 ghost use Rattle.std.specs.Prelude.{◌≡◌, ◌≤◌, ◌<◌, ℕ, ℤ, List, Option, Some, None, length, true, IfOk};
 ghost use Rattle.gq_load_csv.specs.Fields.{TellsTimes};
 ghost use Rattle.gq_load_check.specs.Targets.{HasTarget, attributes_of, vertex_type_at, edge_type_at};
@@ -22,7 +22,7 @@ use gq_schema::Catalog;
 use gq_value::Row;
 use std::alloc::Global;
 
-/// The values of one row: a vertex's id, or both ids of an edge, and the attributes. Its memory is used again.
+/// The values of one row: a vertex's id or both ids of an edge, and the attributes. Its memory is reused.
 #[derive(Drop)]
 pub struct Draft<'a> {
     /// A vertex's id, or that of an edge's FROM vertex.
@@ -32,7 +32,7 @@ pub struct Draft<'a> {
     pub row: Row,
 }
 
-/// So many drafts.
+/// Returns `count` empty drafts.
 pub fn drafts<'a>(alloc: Global, count: usize) -> Result<Vec<Draft<'a>>, OutOfMemory>
     ensures { IfOk result (λ drafts. length drafts.items ≡ count) }
 {
@@ -47,7 +47,7 @@ pub fn drafts<'a>(alloc: Global, count: usize) -> Result<Vec<Draft<'a>>, OutOfMe
     Ok(drafts)
 }
 
-/// Reads the row of a route from a record. False is a row with a value that can't be read.
+/// Reads the row of a route from a record. Returns false if a value can't be read.
 pub(crate) fn read_draft<'a>(
     alloc: Global,
     catalog: &Catalog,
@@ -153,7 +153,7 @@ fn read_edge<'a>(
     )
 }
 
-/// A vertex type, by its number.
+/// Returns a vertex type by number.
 fn vertex_at(catalog: &Catalog, kind: u32) -> &VertexType
     requires { kind < length catalog.now.vertex_types }
     ensures { result.now ≡ vertex_type_at catalog.now kind }
@@ -161,7 +161,7 @@ fn vertex_at(catalog: &Catalog, kind: u32) -> &VertexType
     catalog.vertex_at(kind)
 }
 
-/// An edge type, by its number.
+/// Returns an edge type by number.
 pub(crate) fn edge_at(catalog: &Catalog, kind: u32) -> &EdgeType
     requires { kind < length catalog.now.edge_types }
     ensures { result.now ≡ edge_type_at catalog.now kind }
@@ -169,7 +169,7 @@ pub(crate) fn edge_at(catalog: &Catalog, kind: u32) -> &EdgeType
     catalog.edge_at(kind)
 }
 
-/// Puts the row of a draft into the store. What the edges of each type are named by stays so. `ends` were found before.
+/// Puts the row of a draft into the store. The naming of each type's edges stays the same. `ends` were found before.
 pub(crate) fn put_draft(
     alloc: Global,
     catalog: &Catalog,

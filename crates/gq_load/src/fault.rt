@@ -1,16 +1,16 @@
-// Why a file isn't loaded.
+// Reasons why a file isn't loaded.
 use gq_base::OutOfMemory;
 use gq_graph::StoreFault;
 use gq_value::Txt;
 use thiserror::Error;
 
-/// Why a file isn't loaded, or not to its end.
+/// Why a file isn't loaded, or not completely.
 #[derive(Debug, Drop, Error)]
 pub enum LoadFault {
-    /// A column has this name, and the file's header lacks it, or the file has no header.
+    /// A column has this name, but the file's header lacks it, or the file has no header.
     #[error("no such column")]
     NoColumn(Txt),
-    /// A row's name is new, and its table holds as many rows as it may.
+    /// A row's name is new, and its table is full.
     #[error("store full")]
     Full,
     #[error("out of memory")]

@@ -12,9 +12,10 @@ use gq_load_check::{Endpoint, Insert};
 use gq_value::{Value, duplicate_row};
 use std::alloc::Global;
 
-/// Puts a row into the store, and before an edge those of its ends that aren't there. Unchanged after a refusal.
+/// Puts a row into the store; an edge after those of its ends that don't exist yet. A refusal leaves the store
+/// unchanged.
 ///
-/// Edges of the row's type that are there are named as it is, as they are where both are of one catalog's types.
+/// Existing edges of the row's type must be named in the same way, as they are if both have a type of the same catalog.
 pub fn insert(alloc: Global, row: &Insert, store: &mut Store) -> Result<(), StoreFault>
     requires { IsNamedAs store.old row.now }
     ensures { Inserts store.old row.now store.new result }
@@ -88,7 +89,7 @@ fn insert_edge(
     }
 }
 
-/// An end as it is put.
+/// Borrows an end as the store takes it.
 fn lent(end: &Endpoint) -> gq_index::EndpointRef<'_>
     ensures row { row_of result ≡ end_row end.now }
     ensures unknown { result.at ≡ None }

@@ -1,4 +1,4 @@
-// What holds of stores while upserts are taken and their catalog grows.
+// Laws about stores while upserts are put and their catalog grows.
 ghost use Rattle.std.specs.Prelude.{◌≡◌, List, [], Some, None};
 ghost use Rattle.gq_graph.specs.Catalog.{Schema};
 ghost use Rattle.gq_index.specs.declared.store.Store.{Store};
@@ -8,14 +8,14 @@ ghost use Rattle.gq_index.specs.Steps.{Step, Done, Refused, Begun};
 ghost use Rattle.gq_load.specs.Puts.{put_all};
 ghost use Rattle.gq_load.specs.Keeping.{StoreFits, UpsertsFit, no_rows};
 
-/// Upserts that were all taken make the store that the function gives, and where one was refused it gives none.
+/// The function of upserts gives the store after upserts that all succeeded, and None if one was refused.
 pub fn upserts_are_decided()
     ensures taken { (before later : Store) (steps : List Step) → Done before steps later → put_all before steps ≡ Some later }
     ensures refused { (before later : Store) (steps : List Step) → Refused before steps later → put_all before steps ≡ None }
 {}
 
-/// A store without rows is one of every catalog; upserts of a catalog's types that put an edge behind its ends leave a store
-/// one of the catalog; and a store of a catalog is one of each catalog that has grown out of it.
+/// A store without rows fits every catalog; upserts of a catalog's types that put each edge after its ends keep a store
+/// within the catalog; and a store that fits a catalog fits every extension of it.
 pub fn stores_stay_fit()
     ensures empty { (schema : Schema) → StoreFits schema no_rows }
     ensures by_upserts { (schema : Schema) (before later : Store) (steps : List Step) → UpsertsFit schema steps → Begun before steps later

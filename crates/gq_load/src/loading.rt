@@ -21,10 +21,10 @@ use gq_load_csv::{Record, Records};
 use gq_schema::Catalog;
 use std::alloc::Global;
 
-/// Loads a file of these bytes into the store, as the line says, and tells what became of its records.
+/// Loads a file with these bytes into the store, as the line says, and returns a report on its records.
 ///
-/// The catalog is one that the line was checked for, or one that has grown out of it, and the store's edges are named as its
-/// types say. `NoColumn` leaves the store as it was. After `Full` and `OutOfMemory` the upserts before stay.
+/// The catalog is the one that the line was checked for, or an extension of it, and the store's edges are named as
+/// their types say. `NoColumn` leaves the store unchanged. After `Full` and `OutOfMemory` the upserts before remain.
 pub fn load(
     alloc: Global,
     catalog: &Catalog,
@@ -54,7 +54,7 @@ pub fn load(
     }
 }
 
-/// Loads the records behind a header.
+/// Loads the records after the header.
 fn load_by(
     alloc: Global,
     catalog: &Catalog,

@@ -1,4 +1,4 @@
-// What becomes of a record.
+// Judgements of records.
 ghost use Rattle.std.specs.Prelude.{◌≡◌, ◌≤◌, ◌<◌, ℕ, ℤ, List, Option, length, true, All, IfOk};
 ghost use Rattle.gq_load_csv.specs.Fields.{TellsTimes};
 ghost use Rattle.gq_load_check.specs.Targets.{edge_type_at};
@@ -22,7 +22,7 @@ use gq_load_csv::Record;
 use gq_schema::Catalog;
 use std::alloc::Global;
 
-/// What became of a record.
+/// The judgement of a record.
 #[derive(Clone, Copy, Debug, PartialEq, Eq)]
 pub enum Verdict {
     /// It lacks the field of a value.
@@ -32,14 +32,14 @@ pub enum Verdict {
     Loaded,
 }
 
-/// A record as it was read, before any row of it is put: what became of it, and a draft for each route, whose memory is used again.
+/// A record as read, before any row of it is put: its verdict, and a draft for each route, whose memory is reused.
 #[derive(Drop)]
 pub(crate) struct ReadRecord<'a> {
     pub verdict: Verdict,
     pub drafts: Vec<Draft<'a>>,
 }
 
-/// Judges a record, and reads its rows where it is loaded. There is a draft for each route.
+/// Judges a record, and reads its rows if it is loaded. There is a draft for each route.
 pub(crate) fn judge<'a>(
     alloc: Global,
     catalog: &Catalog,
@@ -64,11 +64,11 @@ pub(crate) fn judge<'a>(
     }
 }
 
-/// Puts the rows of a record that was read, along all routes in order. A record that isn't loaded changes nothing. After a refusal
-/// the upserts before it stay.
+/// Puts the rows of a record that was read, along all routes in order. A record that isn't loaded changes nothing.
+/// After a refusal the upserts before it remain.
 ///
-/// There is a draft for each route. What the edges of each type are named by stays so. `found` has the ends that were found for the
-/// records of the batch, of which this is the nth.
+/// There is a draft for each route. The naming of each type's edges stays the same. `found` holds the ends that were
+/// found for the records of the batch, of which this is the nth.
 pub(crate) fn put_record(
     alloc: Global,
     catalog: &Catalog,
@@ -108,7 +108,7 @@ fn lacks_any(sources: &[Option<u64>], count: usize) -> bool
     sources.iter().any(|source| lacks(*source, count))
 }
 
-/// Whether a record of so many fields lacks one.
+/// Whether a record with `count` fields lacks this one.
 fn lacks(source: Option<u64>, count: usize) -> bool
     ensures { result ≡ spec.lacks count source }
 {
@@ -118,7 +118,7 @@ fn lacks(source: Option<u64>, count: usize) -> bool
     }
 }
 
-/// Reads the rows of all routes. False is a record with a value that can't be read.
+/// Reads the rows of all routes. Returns false if a value can't be read.
 fn read_drafts<'a>(
     alloc: Global,
     catalog: &Catalog,

@@ -1,4 +1,4 @@
-// What is told of a load.
+// Reports of loads.
 ghost use Rattle.std.specs.Prelude.{◌≡◌, ◌+◌, ◌++◌, [], ◌∷◌, List, IfOk};
 ghost use Rattle.gq_load.specs.declared.record.Verdict.{Verdict};
 ghost use Rattle.gq_load.specs.Records.{Judged, verdict_of};
@@ -7,7 +7,7 @@ ghost use Rattle.gq_load.specs.Reports.{report_of};
 use crate::record::Verdict;
 use gq_base::OutOfMemory;
 
-/// How many records a file has, its header not counted, and what became of them.
+/// The number of records of a file, without its header, and how they were judged.
 #[derive(Clone, Copy, Debug, PartialEq, Eq)]
 pub struct Report {
     pub lines: u64,
@@ -19,7 +19,7 @@ pub struct Report {
 }
 
 impl Report {
-    /// The report of no records.
+    /// Returns the report of no records.
     pub(crate) fn none() -> Report
         ensures { result ≡ report_of [] }
     {
@@ -32,7 +32,7 @@ impl Report {
     }
 }
 
-/// The report with one record more. Beyond 2^64 - 1 records memory is wanting.
+/// Counts one more record in a report. Returns `OutOfMemory` past 2^64 - 1 records.
 pub(crate) fn with_record(report: Report, verdict: Verdict) -> Result<Report, OutOfMemory>
     ensures { IfOk result (λ more. (records : List Judged) (judged : Judged) → report ≡ report_of records → verdict ≡
         verdict_of judged → more ≡ report_of (records ++ judged ∷ [])) }

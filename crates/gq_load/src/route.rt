@@ -1,4 +1,4 @@
-// Destinations with the fields that their values come from.
+// Destinations with the fields of their values.
 ghost use Rattle.std.specs.Prelude.{◌≡◌, ◌<◌, length, map, IfOk, All};
 ghost use Rattle.std.specs.Option.{option_copied};
 ghost use Rattle.gq_load_csv.specs.Fields.{default_of};
@@ -18,19 +18,19 @@ use gq_schema::Catalog;
 use gq_value::Row;
 use std::alloc::Global;
 
-/// A destination of a line, with the field that each of its values comes from.
+/// A destination of a line, with the field of each of its values.
 #[derive(Drop)]
 pub struct Route {
     pub target: Target,
-    /// The number of the field of each value, or none where the attribute's default stands.
+    /// The number of the field of each value, or None for the attribute's default.
     pub fields: List<Option<u64>>,
-    /// What an edge's FROM vertex gets where it isn't there.
+    /// The attributes that an edge's FROM vertex gets if it doesn't exist.
     pub from: Row,
-    /// What an edge's TO vertex gets where it isn't there.
+    /// The attributes that an edge's TO vertex gets if it doesn't exist.
     pub to: Row,
 }
 
-/// The routes of a line's destinations, by the file's header, or the first name of a column that the header lacks.
+/// Returns the routes of a line's destinations, by the file's header, or the first column name that the header lacks.
 pub fn routes(
     alloc: Global,
     catalog: &Catalog,
@@ -90,7 +90,7 @@ fn made_route(
     })
 }
 
-/// The defaults of a vertex type's attributes.
+/// Returns the defaults of a vertex type's attributes.
 fn defaults(alloc: Global, catalog: &Catalog, kind: u32) -> Result<Row, OutOfMemory>
     requires { kind < length catalog.now.vertex_types }
     ensures { IfOk result (λ row. row ≡ defaults_of catalog.now kind) }
@@ -98,7 +98,7 @@ fn defaults(alloc: Global, catalog: &Catalog, kind: u32) -> Result<Row, OutOfMem
     default_row(alloc, catalog.vertex_at(kind).attributes.as_slice())
 }
 
-/// The defaults of all attributes.
+/// Returns the defaults of these attributes.
 pub fn default_row(alloc: Global, attributes: &[Attribute]) -> Result<Row, OutOfMemory>
     ensures { IfOk result (λ row. row ≡ map default_of attributes.now) }
 {

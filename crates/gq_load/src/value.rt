@@ -9,8 +9,8 @@ use gq_load_csv::{Id, Record, default_value, read_int, read_key, read_value};
 use gq_value::{Row, Value};
 use std::alloc::Global;
 
-/// Reads the values of attributes in order, of which the first `keys` are discriminators, into `values`, whose memory is used again.
-/// False is a row with a value that can't be read.
+/// Reads the values of attributes in order, of which the first `keys` are discriminators, into `values`, whose memory
+/// is reused. Returns false if a value can't be read.
 pub(crate) fn read_values(
     alloc: Global,
     keys: u32,
@@ -43,7 +43,8 @@ pub(crate) fn read_values(
     Ok(true)
 }
 
-/// The value of an INT attribute whose field has few digits and nothing else, a discriminator or not. None says nothing of the field.
+/// Returns the value of an INT attribute, a discriminator or not, if its field is only a few digits. None says nothing
+/// about the field.
 fn int_at(attribute: &Attribute, source: Option<u64>, row: &Record<'_>) -> Option<i64>
     ensures { IfSome result (λ n. (read : List ℕ → Option ℤ) (key : Bool) →
         spec.value_of read key attribute.now source row.now ≡ Some (Value.Int n)) }
@@ -82,7 +83,7 @@ fn read_one(
     }
 }
 
-/// Reads an id into `id`. False is an id that can't be read.
+/// Reads an id into `id`. Returns false if it can't be read.
 pub(crate) fn read_name<'a>(
     id: &mut Id<'a>,
     kind: IdKind,

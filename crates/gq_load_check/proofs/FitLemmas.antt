@@ -1,4 +1,4 @@
--- A line that isn't refused is one of the catalog.
+-- A line that isn't refused fits the catalog.
 use Rattle.std.proofs.Common.{ℕ, zero, suc, ◌<◌, ◌≡◌, ◌||◌, ◌&&◌, ◌==◌, Bool, true, false, not, cond, List, [], ◌∷◌, length, get_or, take, map, All, Option, Some, None, refl, ap, subst, arith, is_some}
 use Rattle.std.proofs.lemmas.Bool.{eqb-true}
 use Rattle.std.proofs.lemmas.List.{length-map}

@@ -1,4 +1,4 @@
--- GrowthLaws: what a catalog that grows keeps.
+-- GrowthLaws: what stays valid when a catalog is extended.
 use Rattle.std.proofs.Common.{ℕ, ◌+◌, ◌<◌, ◌≤◌, ◌≡◌, false, List, [], ◌∷◌, ◌++◌, length, get_or, take, drop, min, All, refl, ap, sym, subst, ◌∙◌, arith}
 use Rattle.std.proofs.lemmas.List.{get_or-take, length-take, take-append-drop, take-append-le}
 use Rattle.std.proofs.Math.Seq.{take-append_seam, take-length}
@@ -14,7 +14,7 @@ use Rattle.gq_load_check.specs.declared.job.LoadLine.{LoadLine}
 use Rattle.gq_load_check.specs.Targets.{no_vertex_type, no_edge_type, vertex_type_at, edge_type_at, attributes_of, value_count, name_count, HasTarget}
 use Rattle.gq_load_check.specs.Fits.{is_default, IntoFits, LineFits, HasGrown}
 
--- ---- lists that begin with others
+-- ---- prefixes of lists
 
 low_min : (m n : ℕ) → min m n ≡ m → m ≤ n
 low_min m n is = omega (arith, is)

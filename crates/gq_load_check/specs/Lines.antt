@@ -1,4 +1,4 @@
--- Lines: what a checked job is of its tree, in a catalog and for a graph: numbers stand for names, and options for their texts.
+-- Lines: the checked job of a tree, for a catalog and a graph: numbers replace names, values replace option texts.
 use Rattle.std.specs.Prelude.{ℕ, ◌==◌, ◌&&◌, not, Bool, false, if◌then◌else◌, List, [], ◌∷◌, ◌++◌, map, Option, Some, None, is_some, bytes_eq}
 use Rattle.std.specs.List.{list_any}
 use Rattle.std.specs.Option.{unwrap_or}
@@ -37,7 +37,7 @@ defines lines name = list_any (is_define name) lines
 abbrev pub File : Type 0
 File = List ℕ × Option (List ℕ)
 
--- the files that a line adds to those of the lines behind it: a later DEFINE replaces an earlier one of its name
+-- adds the file that a line defines to those of the lines after it; a later DEFINE of the same name replaces it
 abbrev pub files_with : JobLine → List JobLine → List File → List File
 files_with (Load load) later files = files
 files_with (Define name path) later files = if defines later name then files else files ++ (name, path) ∷ []
@@ -49,16 +49,16 @@ files_of (line ∷ lines) = files_with line lines (files_of lines)
 
 -- ---- destinations
 
--- whether a number stands among numbers
+-- whether a number occurs in a list
 abbrev pub has : List ℕ → ℕ → Bool
 has numbers n = list_any (λ k. k == n) numbers
 
--- a vertex type of the graph
+-- the target of a vertex type, if it belongs to the graph
 abbrev pub vertex_target : GraphType → Option ℕ → Option Target
 vertex_target graph None = None
 vertex_target graph (Some n) = if has graph.vertices n then Some (targets.Vertex n) else None
 
--- an edge type of the graph that is no reverse type
+-- the target of an edge type, if it belongs to the graph and isn't a reverse type
 abbrev pub edge_target : Schema → GraphType → Option ℕ → Option Target
 edge_target schema graph None = None
 edge_target schema graph (Some n) =
@@ -90,7 +90,7 @@ line_of schema graph load = record {
   destinations = map (into_of schema graph) load.destinations;
 }
 
--- the LOADs of a job, in order of text
+-- the LOADs of a job, in source order
 abbrev pub lines_of : Schema → GraphType → List JobLine → List LoadLine
 lines_of schema graph [] = []
 lines_of schema graph (Load load ∷ lines) = line_of schema graph load ∷ lines_of schema graph lines

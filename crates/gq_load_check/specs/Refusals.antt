@@ -1,5 +1,5 @@
--- Refusals: why a loading job is refused, the first rule that fails, in order of text. The code goes through the rules in this
--- order and builds the fault where one fails.
+-- Refusals: why a loading job is refused: the first rule that fails, in source order. The code checks the rules in this
+-- order and builds the fault of the first one that fails.
 use Rattle.std.specs.Prelude.{ℕ, ◌≡◌, ◌≢◌, ◌==◌, if◌then◌else◌, List, [], ◌∷◌, length, take, Option, Some, None, Result, Ok, Err}
 use Rattle.std.specs.List.{list_any}
 use Rattle.std.specs.Option.{option_or}
@@ -20,12 +20,12 @@ use Rattle.gq_load_check.specs.Fits.{is_default}
 use Rattle.gq_load_check.specs.Options.{Opt, has_bad_option}
 use Rattle.gq_load_check.specs.Lines.{defines, target_of}
 
--- a call answers the fault that is due, or OutOfMemory; it answers Ok only where none is due
+-- a call returns the fault that is due, or OutOfMemory; it returns Ok only if none is due
 abbrev pub Judges : {A : Type 0} → Option JobFault → Result A JobFault → Type 0
 Judges due (Ok a) = due ≡ None
 Judges due (Err f) = f ≢ fault.OutOfMemory → due ≡ Some f
 
--- the first fault of the items of a list
+-- the first fault among the items of a list
 abbrev pub first_due : {A : Type 0} → (A → Option JobFault) → List A → Option JobFault
 first_due due [] = None
 first_due due (x ∷ xs) = option_or (due x) (first_due due xs)
@@ -33,7 +33,7 @@ first_due due (x ∷ xs) = option_or (due x) (first_due due xs)
 abbrev pub bad_option : List Opt → Option JobFault
 bad_option options = if has_bad_option options then Some fault.BadOption else None
 
--- a name stands behind LOAD that no line of the job defines
+-- the LOAD reads from a name that no line of the job defines
 abbrev pub unknown_file : List JobLine → FileTree → Option JobFault
 unknown_file lines (trees.Path path) = None
 unknown_file lines (trees.Defined name) = if defines lines name then None else Some (fault.UnknownFile name)
@@ -41,11 +41,11 @@ unknown_file lines (trees.Defined name) = if defines lines name then None else S
 abbrev pub wrong_count : Schema → Target → Destination → Option JobFault
 wrong_count schema t d = if length d.columns == value_count schema t then None else Some (fault.WrongCount d.name)
 
--- `_` stands for an id or a discriminator
+-- an id or a discriminator is `_`
 abbrev pub id_missing : Schema → Target → Destination → Option JobFault
 id_missing schema t d = if list_any is_default (take (name_count schema t) d.columns) then Some (fault.IdMissing d.name) else None
 
--- why the columns of a destination are refused, whose type is known or isn't there
+-- why the columns of a destination are refused, given its type, or None if there is no such type
 abbrev pub columns_refusal : Schema → Destination → Option Target → Option JobFault
 columns_refusal schema d None = Some (fault.NoSuchType d.name)
 columns_refusal schema d (Some t) = option_or (wrong_count schema t d) (id_missing schema t d)

@@ -1,4 +1,4 @@
-// Whether a loading job can be run on a catalog.
+// Checks whether a loading job can be run on a catalog.
 ghost use Rattle.std.specs.Prelude.{◌≡◌, ◌<◌, ◌++◌, ◌∷◌, [], length, take, map, All, Some, IfOk, OnOk};
 ghost use Rattle.std.specs.List.{list_any};
 ghost use Rattle.gq_load_check.specs.Fits.{LineFits, is_default};
@@ -115,7 +115,7 @@ fn check_ids(
     Ok(())
 }
 
-/// The type of a destination, or why the destination is refused.
+/// Returns the type of a destination, or why the destination is refused.
 #[tactic(auto, using(crate::proofs::JudgeLemmas::judging))]
 fn check_destination(
     alloc: Global,
@@ -183,7 +183,7 @@ fn destinations_of(
     Ok(intos)
 }
 
-/// A LOAD checked, or why it is refused.
+/// Checks a LOAD: returns the checked line, or why it is refused.
 #[tactic(auto, using(crate::proofs::JudgeLemmas::judging))]
 fn line_of(
     alloc: Global,
@@ -264,9 +264,9 @@ fn lines_of(
     Ok(checked)
 }
 
-/// The job of a tree, for a graph of the catalog: numbers stand for the names of types, and options for their texts. Else the
-/// first rule that fails, line after line: options, then the file, then for each destination its type, the number of its columns,
-/// and `_` for an id or a discriminator.
+/// Checks the job of a tree for a graph of the catalog: names of types become numbers, option texts become values.
+/// Otherwise returns the first rule that fails, line by line: options, then the file, then for each destination its
+/// type, the number of its columns, its columns, and `_` for an id or a discriminator.
 pub fn check_job(
     alloc: Global,
     catalog: &Catalog,

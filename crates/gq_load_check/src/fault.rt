@@ -9,19 +9,19 @@ use thiserror::Error;
 /// Why a loading job is refused.
 #[derive(Debug, Drop, Error)]
 pub enum JobFault {
-    /// The name isn't a vertex type or an edge type of the graph, as the destination says, or it is a reverse type's.
+    /// The graph has no vertex type or no edge type with this name, as the destination asks, or it is a reverse type.
     #[error("no such type")]
     NoSuchType(Txt),
-    /// The values aren't the one id or both ids, and one for each attribute. The name is that of the destination.
+    /// The number of columns isn't that of the ids and attributes. Holds the name of the destination.
     #[error("wrong number of values")]
     WrongCount(Txt),
-    /// `_` stands for an id or a discriminator. The name is that of the destination.
+    /// An id or a discriminator is `_`. Holds the name of the destination.
     #[error("not allowed here")]
     IdMissing(Txt),
-    /// No line of the job defines the name.
+    /// No line of the job defines this name.
     #[error("unknown file")]
     UnknownFile(Txt),
-    /// QUOTE is neither word, or SEPARATOR isn't one ASCII byte other than CR, LF and the quote.
+    /// QUOTE is neither `double` nor `single`, or SEPARATOR isn't one ASCII byte other than CR, LF and the quote.
     #[error("bad option")]
     BadOption,
     #[error("out of memory")]
@@ -39,7 +39,7 @@ impl From<OutOfMemory> for JobFault {
     }
 }
 
-/// NoSuchType, or OutOfMemory where the name can't be kept; likewise the others.
+/// Returns `NoSuchType`, or `OutOfMemory` if the name can't be copied; the others likewise.
 pub(crate) fn no_such_type(alloc: Global, name: &str) -> JobFault
     ensures { Tells (JobFault.NoSuchType name.now) result }
 {

@@ -54,7 +54,7 @@ fn add_file(
     }
 }
 
-/// The files that the lines define.
+/// Returns the files that the lines define.
 pub(crate) fn files_of(
     alloc: Global,
     lines: &[JobLine],

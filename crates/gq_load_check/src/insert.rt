@@ -1,9 +1,9 @@
-// Checked inserts: plain data, which contracts see as it is.
+// Checked inserts: plain data, which contracts see unchanged.
 use gq_base::OutOfMemory;
 use gq_value::{Row, Txt};
 use thiserror::Error;
 
-/// An end of an edge: a vertex by its type and id, and what stands in its row where it isn't there yet.
+/// An end of an edge: a vertex by type and id, and the row it gets if it doesn't exist yet.
 #[derive(Drop)]
 pub struct Endpoint {
     pub kind: u32,
@@ -12,7 +12,7 @@ pub struct Endpoint {
     pub missing: Row,
 }
 
-/// A row that is put into a store.
+/// A row to insert into a store.
 #[derive(Drop)]
 pub enum Insert {
     Vertex {
@@ -23,7 +23,7 @@ pub enum Insert {
     Edge {
         kind: u32,
         directed: bool,
-        /// How many of the attributes, from the first one on, belong to the edge's name.
+        /// The number of leading attributes that are part of the edge's key.
         key: u32,
         from: Endpoint,
         to: Endpoint,
@@ -34,16 +34,16 @@ pub enum Insert {
 /// Why an INSERT is refused.
 #[derive(Debug, Drop, Error)]
 pub enum InsertFault {
-    /// No vertex or edge type of the catalog has the name, or it is a reverse type's.
+    /// The catalog has no vertex or edge type with this name, or it is a reverse type.
     #[error("no such type")]
     NoSuchType(Txt),
-    /// The values aren't the one id or both ids, and one for each attribute.
+    /// The number of values isn't that of the ids and attributes.
     #[error("wrong number of values")]
     WrongCount(Txt),
-    /// `_` or an empty text stands for an id, or `_` for a discriminator.
+    /// An id is `_` or the empty text, or a discriminator is `_`.
     #[error("not allowed here")]
     NotAllowed,
-    /// A value isn't of its type.
+    /// A value doesn't have the type of its attribute.
     #[error("type mismatch")]
     Mismatch,
     #[error("out of memory")]

@@ -1,4 +1,4 @@
-// Checked jobs: plain data, which contracts see as it is.
+// Checked jobs: plain data, which contracts see unchanged.
 ghost use Rattle.std.specs.Prelude.{◌≡◌};
 
 use gq_base::List;
@@ -13,36 +13,36 @@ pub enum FileName {
     Path(Txt),
 }
 
-/// The type that rows go to, by its number in the catalog. An edge type is no reverse type.
+/// The type that rows are loaded into, by its number in the catalog. An edge type isn't a reverse type.
 #[derive(Clone, Copy, Debug, PartialEq, Eq)]
 pub enum Target {
     Vertex(u32),
     Edge(u32),
 }
 
-/// A destination of a LOAD: a type, and a column for each value of its rows, which are the id of a vertex or both ids of an
-/// edge, and then the attributes in order of declaration.
+/// A destination of a LOAD: a type, and a column for each value of its rows: the id of a vertex or both ids of an edge,
+/// then the attributes in order of declaration.
 #[derive(Drop)]
 pub struct LoadInto {
     pub target: Target,
     pub columns: List<Column>,
 }
 
-/// A LOAD, checked.
+/// A checked LOAD.
 #[derive(Drop)]
 pub struct LoadLine {
     pub file: FileName,
-    /// The byte between two fields, which is ASCII, ends no line and is no quote.
+    /// The byte between two fields: ASCII, and not LF, CR or the quote.
     pub separator: u8,
     /// Whether the first record names the columns.
     pub header: bool,
-    /// The byte that may stand round a field: `"`, `'` or none.
+    /// The byte that may enclose a field: `"`, `'` or none.
     pub quote: Option<u8>,
     pub destinations: List<LoadInto>,
 }
 
-/// A loading job, checked: each name of a file that it defines, once, with its path where it has one, and its LOADs in order of
-/// text.
+/// A checked loading job: each file name once, with the path if the job defines one, and the LOADs in source
+/// order.
 #[derive(Drop)]
 pub struct Job {
     pub files: List<(Txt, Option<Txt>)>,
@@ -50,7 +50,7 @@ pub struct Job {
 }
 
 impl LoadLine {
-    /// Where the line reads from.
+    /// Returns where the line reads from.
     pub fn file(&self) -> &FileName
         ensures { result.now ≡ self.now.file }
     {

@@ -18,7 +18,7 @@ fn same_option(one: LoadOption, other: LoadOption) -> bool
     }
 }
 
-/// The text of the last option of a name.
+/// Returns the text of the last option with this name.
 fn option_text(name: LoadOption, options: &[(LoadOption, Txt)]) -> Option<&Txt>
     ensures { option_copied result ≡ spec.option_text name options.now }
 {
@@ -43,7 +43,7 @@ fn quote_byte(text: &str) -> Option<u8>
     }
 }
 
-/// The quote that is chosen.
+/// Returns the quote that the options choose.
 pub(crate) fn quote_of(options: &[(LoadOption, Txt)]) -> Option<u8>
     ensures { result ≡ spec.quote_of options.now }
 {
@@ -86,7 +86,7 @@ fn first_byte(text: &str) -> u8
     }
 }
 
-/// The separator that is chosen.
+/// Returns the separator that the options choose.
 pub(crate) fn separator_of(options: &[(LoadOption, Txt)]) -> u8
     ensures { result ≡ spec.separator_of options.now }
 {
@@ -102,7 +102,7 @@ fn is_true(text: &str) -> bool
     text.eq_ignore_ascii_case("true")
 }
 
-/// Whether there is a header.
+/// Whether the options say that there is a header.
 pub(crate) fn header_of(options: &[(LoadOption, Txt)]) -> bool
     ensures { result ≡ spec.header_of options.now }
 {
@@ -130,7 +130,7 @@ fn has_bad_separator(options: &[(LoadOption, Txt)]) -> bool
     }
 }
 
-/// Whether QUOTE or SEPARATOR has a text that it can't have.
+/// Whether QUOTE or SEPARATOR has an invalid text.
 pub(crate) fn has_bad_option(options: &[(LoadOption, Txt)]) -> bool
     ensures { result ≡ spec.has_bad_option options.now }
 {

@@ -1,11 +1,11 @@
-// Look-ups of paths. They take no memory, and time that is linear in the files and the paths that are given.
+// Path lookup. It allocates nothing and is linear in the number of files and supplied paths.
 ghost use Rattle.std.specs.Prelude.{◌≡◌};
 ghost use Rattle.std.specs.Option.{option_copied};
 ghost use Rattle.gq_load_check.specs.Paths as spec;
 
 use gq_value::Txt;
 
-/// The first name that a run of a job gives a path, and of which the job has no file.
+/// Returns the first name that a run supplies a path for although the job has no such file.
 pub fn undefined<'a>(files: &[(Txt, Option<Txt>)], given: &'a [(Txt, Txt)]) -> Option<&'a str>
     ensures { option_copied result ≡ spec.undefined_name files.now given.now }
 {
@@ -15,7 +15,7 @@ pub fn undefined<'a>(files: &[(Txt, Option<Txt>)], given: &'a [(Txt, Txt)]) -> O
     }
 }
 
-/// The path of a name: the last one that the run gives for it, or else the one that the job defines.
+/// Returns the path of a name: the last one that the run supplies, or else the one that the job defines.
 pub fn path_of<'a>(
     files: &'a [(Txt, Option<Txt>)],
     given: &'a [(Txt, Txt)],

@@ -1,4 +1,4 @@
-// The types that rows go to.
+// The types that rows are loaded into.
 ghost use Rattle.std.specs.Prelude.{◌≡◌, ◌<◌, ◌≤◌, length};
 ghost use Rattle.gq_load_check.specs.Lines as view;
 ghost use Rattle.gq_load_check.specs.Targets as spec;
@@ -8,7 +8,7 @@ use gq_graph::{Attribute, EdgeType, GraphType, Numbers, VertexType};
 use gq_schema::Catalog;
 use gq_tree::Table;
 
-/// A vertex type, by its number.
+/// Returns a vertex type by number.
 pub fn vertex_type_at(catalog: &Catalog, number: u32) -> &VertexType
     requires { number < length catalog.now.vertex_types }
     ensures { result.now ≡ spec.vertex_type_at catalog.now number }
@@ -16,7 +16,7 @@ pub fn vertex_type_at(catalog: &Catalog, number: u32) -> &VertexType
     catalog.vertex_at(number)
 }
 
-/// An edge type, by its number.
+/// Returns an edge type by number.
 pub fn edge_type_at(catalog: &Catalog, number: u32) -> &EdgeType
     requires { number < length catalog.now.edge_types }
     ensures { result.now ≡ spec.edge_type_at catalog.now number }
@@ -58,7 +58,7 @@ fn edge_target(catalog: &Catalog, graph: &GraphType, number: u32) -> Option<Targ
     }
 }
 
-/// The type of the graph that a destination names.
+/// Returns the type of the graph that a destination names.
 pub(crate) fn target_of(
     catalog: &Catalog,
     graph: &GraphType,
@@ -79,7 +79,7 @@ pub(crate) fn target_of(
     }
 }
 
-/// The attributes of a type.
+/// Returns the attributes of a type.
 pub fn attributes_of(catalog: &Catalog, target: Target) -> &[Attribute]
     requires { spec.HasTarget catalog.now target }
     ensures { result.now ≡ spec.attributes_of catalog.now target }
@@ -90,7 +90,7 @@ pub fn attributes_of(catalog: &Catalog, target: Target) -> &[Attribute]
     }
 }
 
-/// How many ids name a row: one for a vertex, and two for an edge.
+/// Returns the number of ids of a row: one for a vertex, two for an edge.
 pub fn id_count(target: Target) -> usize
     ensures value { result ≡ spec.id_count target }
     ensures few { result ≤ 2 }
@@ -101,7 +101,7 @@ pub fn id_count(target: Target) -> usize
     }
 }
 
-/// How many discriminators name a row, beside its ids.
+/// Returns the number of discriminators that identify a row besides its ids.
 pub fn key_count(catalog: &Catalog, target: Target) -> usize
     requires { spec.HasTarget catalog.now target }
     ensures value { result ≡ spec.key_count catalog.now target }
@@ -113,7 +113,7 @@ pub fn key_count(catalog: &Catalog, target: Target) -> usize
     }
 }
 
-/// How many values a row of the type has.
+/// Returns the number of values of a row of the type.
 pub fn value_count(catalog: &Catalog, target: Target) -> usize
     requires { spec.HasTarget catalog.now target }
     ensures { result ≡ spec.value_count catalog.now target }
@@ -121,7 +121,7 @@ pub fn value_count(catalog: &Catalog, target: Target) -> usize
     id_count(target) + attributes_of(catalog, target).len()
 }
 
-/// How many of them, from the first one on, are ids and discriminators.
+/// Returns the number of leading values that are ids or discriminators.
 pub(crate) fn name_count(catalog: &Catalog, target: Target) -> usize
     requires { spec.HasTarget catalog.now target }
     ensures { result ≡ spec.name_count catalog.now target }

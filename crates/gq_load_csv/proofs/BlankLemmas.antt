@@ -1,4 +1,4 @@
--- Texts without blanks: digits are trimmed as they stand.
+-- Texts without blanks: trimming leaves digits unchanged.
 use Rattle.std.proofs.Common.{◌≡◌, ℕ, ◌≤◌, List, [], ◌∷◌, ◌++◌, reverse, false, refl, ap, ◌∙◌, arith}
 use Rattle.std.specs.Str.Parse.{AllDigits}
 use Rattle.std.proofs.lemmas.List.{reverse-append, reverse-reverse}

@@ -1,4 +1,4 @@
--- Texts of a few digits: what a pass over them has read so far, and what they say in the end.
+-- Texts of 1 to 18 digits: what a pass over them has read so far, and their value in the end.
 use Rattle.std.proofs.Common.{◌≡◌, ℕ, suc, ◌+◌, ◌-◌, ◌*◌, ◌<◌, ◌≤◌, ◌^◌, List, [], ◌∷◌, length, drop, get_or, add-one, Some, pos, false, eqb, refl, sym, ap, subst, ◌∙◌, arith, w64, FitsSigned, inl, inr}
 use Rattle.std.specs.Option.{option_map}
 use Rattle.std.specs.Fmt.{decimal, signed_decimal}
@@ -22,7 +22,7 @@ use Rattle.gq_load_csv.proofs.TextLemmas.{int_read, uint_read}
 
 -- ---- a pass over digits
 
--- what was read of a text of a few digits, up to a place
+-- the state of a pass over a text of 1 to 18 digits, up to a place
 pub record SoFar (text : List ℕ) (place number : ℕ) : Type 0 where
   pub some : 0 < length text
   pub few : length text ≤ 18
@@ -33,7 +33,7 @@ pub record SoFar (text : List ℕ) (place number : ℕ) : Type 0 where
 pub at_first : (text : List ℕ) → 0 < length text → length text ≤ 18 → SoFar text 0 0
 at_first text some few = record { some = some; few = few; digits = λ d. d; value = refl; fits = omega arith }
 
--- with one digit more a number is below the next power, which is at most 10^18
+-- appending a digit keeps a number below the next power, which is at most 10^18
 below : (k n d : ℕ) → n < 10 ^ k → d < 10 → n * 10 + d < 10 ^ suc k
 below k n d low digit = omega (arith, pow-succ' 10 k)
 
@@ -67,7 +67,7 @@ all_read text i n so high low =
       fits = omega (arith, so.fits, power);
     }
 
--- ---- what they say
+-- ---- their values
 
 no_sign : (text : List ℕ) (sign : ℕ) → IsNumeral 10 text → sign < 48 → eqb (get_or text 0 0) sign ≡ false
 no_sign [] sign is low = absurd (omega (arith, is.0))
@@ -98,13 +98,13 @@ uint_short text n is =
     let low : n < 2 ^ 64 = omega (arith, is.fits) in
     uint_read ℕ text n ((subst (IsNumeral 10) (sym (plain_plus text is.numeral)) is.numeral, subst (λ x. x < 2 ^ 64) value low), value)
 
--- a numeral with a zero first, and none before other bytes, is the zero
+-- a numeral that begins with a zero, with no leading zero, is the single digit zero
 lone_zero : (text : List ℕ) → 0 < length text → has_leading_zero text ≡ false → get_or text 0 0 ≡ 48 → length text ≡ 1
 lone_zero [] some front is = absurd (omega arith)
 lone_zero (c ∷ []) some front is = refl
 lone_zero (c ∷ d ∷ ds) some front is = absurd (grind (arith, nat_tests))
 
--- without a zero before other digits it is the shortest text of its number
+-- without a leading zero it is the shortest text of its number
 pub own_short : (text : List ℕ) (n : ℕ) → IsShort text n → has_leading_zero text ≡ false → IsOwn text
 own_short text n is front =
     let low : digits_value 10 text < 2 ^ 64 = omega (arith, is.fits, is.value) in

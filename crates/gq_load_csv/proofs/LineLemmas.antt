@@ -1,4 +1,4 @@
--- Lines: what csv's machine makes of a text in which nothing but the separator and the ends of lines means anything.
+-- Lines: how csv's state machine splits a text in which only the separator and line ends are special.
 use Rattle.std.proofs.Common.{◌≡◌, ℕ, zero, suc, ◌+◌, ◌-◌, ◌<◌, ◌≤◌, List, [], ◌∷◌, ◌++◌, length, Option, Some, None, Bool, true, false, inl, inr, ◌⊎◌, refl, sym, ap, ap₂, ◌∙◌, arith, take, drop, get_or, add-one}
 use Rattle.std.specs.Option.{option_map}
 use Rattle.csv.specs.Records.{field_at}
@@ -37,13 +37,13 @@ plain_behind p zero text e = e
 plain_behind p (suc n) [] e = refl
 plain_behind p (suc n) (c ∷ rest) e = plain_behind p n rest (both (p c) (list_all p rest) e).1
 
--- ---- what a search for such bytes tells
+-- ---- searches for special bytes
 
 pub no_such : (o : Option ℕ) (P : ℕ → Type 0) (n : ℕ) → IsFirst P 0 n o → is_none o ≡ true → Nowhere P 0 n
 no_such None P n h e = h
 no_such (Some k) P n h e = absurd (cc)
 
--- where no byte passes one test, all pass another
+-- if no byte passes one test, all pass the other
 all_pass : (p test : ℕ → Bool) → ((c : ℕ) → test c ≡ false → p c ≡ true) → (text : List ℕ) → Nowhere (Passes test text) 0 (length text) → list_all p text ≡ true
 all_pass p test on [] none = refl
 all_pass p test on (c ∷ rest) none = go (cases_Bool (test c)) (all_pass p test on rest (λ k low high passes. none (suc k) (omega arith) (omega arith) passes))
@@ -126,7 +126,7 @@ lines d q (c ∷ rest) e f p = on (lines d q rest here.1)
         one_byte d q c rest f p lined (c == d) (c == 10) in
         (rw cr same, rw (quote, cr) same)
 
--- a record begins as a field does where no line ends
+-- if no line ends here, a record begins as a field does
 begun : (d : ℕ) (q : Option ℕ) (c : ℕ) (rest : List ℕ) → (c == 13) ≡ false → (c == 10) ≡ false
     → next_record (config_of d q) st.StartRecord [] [] (c ∷ rest) ≡ next_record (config_of d q) st.StartField [] [] (c ∷ rest)
 unfolding next_record
@@ -134,7 +134,7 @@ begun d q c rest cr line = rw (cr, line) refl
 
 -- ---- the records of a text
 
--- the end of a line before a text is nothing
+-- a line end before a text changes nothing
 pub end_before : (d : ℕ) (q : Option ℕ) (text : List ℕ) → records (config_of d q) (10 ∷ text) ≡ records (config_of d q) text
 end_before d q text = records_scan (config_of d q) (10 ∷ text) ∙ sym (records_scan (config_of d q) text)
 
@@ -153,11 +153,11 @@ first_line d q c rest e line =
 
 -- ---- a pass over the bytes of a line
 
--- the bytes from a place up to another
+-- the bytes from one place up to another
 abbrev pub piece : ℕ → ℕ → List ℕ → List ℕ
 piece start place text = take (place - start) (drop start text)
 
--- how far a line is read
+-- the state of a read of a line, up to a place
 pub record SoFar (separator : ℕ) (text : List ℕ) (fields : List (List ℕ)) (start place : ℕ) : Type 0 where
   pub order : start ≤ place
   pub line : line_from separator [] [] text ≡ line_from separator fields (piece start place text) (drop place text)
@@ -165,7 +165,7 @@ pub record SoFar (separator : ℕ) (text : List ℕ) (fields : List (List ℕ)) 
 pub at_first : (separator : ℕ) (text : List ℕ) → SoFar separator text [] 0 0
 at_first separator text = record { order = omega arith; line = refl }
 
--- what stands at a place
+-- the rest of a text at a place, by its first byte
 pub byte_here : (text : List ℕ) (place c : ℕ) → place < length text → get_or text place 0 ≡ c → drop place text ≡ c ∷ drop (place + 1) text
 byte_here text place c low is =
     drop-cons text place 0 low ∙ ap (λ b. b ∷ drop (suc place) text) is ∙ ap (λ n. c ∷ drop n text) (sym (add-one place))
@@ -180,7 +180,7 @@ length_behind zero xs low = omega arith
 length_behind (suc n) [] low = absurd (omega arith)
 length_behind (suc n) (x ∷ xs) low = length_behind n xs (omega arith) ∙ omega arith
 
--- one byte more
+-- extending a piece by one byte
 piece_more : (start place : ℕ) (text : List ℕ) (c : ℕ) → start ≤ place → place < length text → get_or text place 0 ≡ c → piece start (place + 1) text ≡ piece start place text ++ c ∷ []
 piece_more start place text c order low is =
     let n : ℕ = place - start in
@@ -227,7 +227,7 @@ ended separator text fields new start place c so low is other line put =
     ∙ turn separator fields (piece start place text) c (drop (place + 1) text) false true other line
     ∙ ap (λ (f : List (List ℕ)). (f, drop (place + 1) text)) (sym put)
 
--- the last line may have no end
+-- the last line may lack a line end
 pub all_read : (separator : ℕ) (text : List ℕ) (fields new : List (List ℕ)) (start place : ℕ) → SoFar separator text fields start place → length text ≤ place
     → place ≤ length text → new ≡ fields ++ drop start text ∷ [] → line_from separator [] [] text ≡ (new, drop (length text + 1) text)
 unfolding line_from
@@ -259,7 +259,7 @@ line_of : (d : ℕ) (q : Option ℕ) (text : List ℕ) → list_all (is_plain_by
 line_of d q [] e line some = absurd (omega (arith, some))
 line_of d q (c ∷ rest) e line some = first_line d q c rest e line
 
--- the records of a text, once its first line is read
+-- the records of a text after its first line is read
 pub one_read : (d : ℕ) (q : Option ℕ) (all text behind : List ℕ) (fields : List (List ℕ)) (size : ℕ) → records (config_of d q) all ≡ records (config_of d q) text
     → list_all (is_plain_byte q) text ≡ true → (get_or text 0 0 == 10) ≡ false → 0 < length text → line_from d [] [] text ≡ (fields, drop (size + 1) text) → behind ≡ drop (size + 1) text
     → records (config_of d q) all ≡ fields ∷ records (config_of d q) behind

@@ -1,5 +1,5 @@
--- Parts: a file that is cut behind the end of a line, where no quote stands before. Its records are those of the one part, and then
--- those of the other.
+-- Parts: a file that is cut after a line end, with no quote before the cut. Its records are those of the first part
+-- followed by those of the second.
 use Rattle.std.proofs.Common.{◌≡◌, ◌⊎◌, ℕ, zero, suc, ◌+◌, ◌<◌, List, [], ◌∷◌, ◌++◌, length, Option, Some, None, Bool, true, false, inl, inr, refl, sym, ap, ap₂, ◌∙◌, arith}
 use Rattle.std.specs.Prelude.{if◌then◌else◌, ◌||◌, ◌&&◌, ◌==◌, is_some, unwrap_or}
 use Rattle.csv.specs.Machine.{Read, ends_at_end, field_after, fields_after, is_end, next_record, step, in_field, start_field, start_record}
@@ -69,7 +69,7 @@ is_fresh st.StartRecord = true
 is_fresh st.AfterCr = true
 is_fresh _ = false
 
--- within a record, or between two with nothing at hand
+-- inside a record, or between two records with nothing collected yet
 abbrev Plain : State → List (List ℕ) → List ℕ → Type 0
 Plain s f p = (is_begun s ≡ true) ⊎ ((is_fresh s ≡ true) × (f ≡ []) × (p ≡ []))
 
@@ -82,7 +82,7 @@ abbrev pub HasNoQuote : Option ℕ → List ℕ → Type 0
 HasNoQuote quote [] = Unit {0}
 HasNoQuote quote (c ∷ rest) = (is_quote quote c ≡ false) × HasNoQuote quote rest
 
--- what a byte that is no quote does
+-- the effect of a byte that isn't a quote
 data Goes (fresh : Bool) (r : State × Action) : Type 0 where
   within : is_begun r.0 ≡ true → is_end r.1 ≡ false → Goes fresh r
   ends : is_fresh r.0 ≡ true → is_end r.1 ≡ true → Goes fresh r
@@ -115,13 +115,13 @@ after_cr_goes d c q none = go (c == 10) (start_record_goes d c q none)
     go true on = skips refl refl refl
     go false on = on
 
--- ---- behind the end of a line
+-- ---- after a line end
 
 abbrev Parted : ℕ → Option ℕ → List ℕ → List ℕ → Type 0
 Parted d q a b = (s : State) (f : List (List ℕ)) (p : List ℕ) → Plain s f p
     → scan (config_of d q) s f p (a ++ 10 ∷ b) ≡ scan (config_of d q) s f p (a ++ 10 ∷ []) ++ scan (config_of d q) st.StartRecord [] [] b
 
--- the bytes behind one byte are parted, and so they are with it
+-- if the text after a byte splits, so does the text with that byte
 one_byte : (d : ℕ) (q : Option ℕ) (c : ℕ) (a b : List ℕ) (fresh : Bool) (f : List (List ℕ)) (p : List ℕ) (r : State × Action) → Parted d q a b → (fresh ≡ true → (f ≡ []) × (p ≡ [])) → Goes fresh r
     → (if is_end r.1 then fields_after r.1 f p ∷ scan (config_of d q) r.0 [] [] (a ++ 10 ∷ b) else scan (config_of d q) r.0 (fields_after r.1 f p) (field_after r.1 c p) (a ++ 10 ∷ b))
     ≡ (if is_end r.1 then fields_after r.1 f p ∷ scan (config_of d q) r.0 [] [] (a ++ 10 ∷ []) else scan (config_of d q) r.0 (fields_after r.1 f p) (field_after r.1 c p) (a ++ 10 ∷ []))
@@ -172,7 +172,7 @@ scan_parts d q (c ∷ a) b line no_quote none = at_byte (scan_parts d q a b line
 
 -- ---- a file
 
--- the records of a text that is cut behind the end of a line, before which no quote stands
+-- the records of a text that is cut after a line end, with no quote before the cut
 pub records_parts : (d : ℕ) (q : Option ℕ) (a b : List ℕ) → (10 == d) ≡ false → is_quote q 10 ≡ false → HasNoQuote q a
     → records (config_of d q) (a ++ 10 ∷ b) ≡ records (config_of d q) (a ++ 10 ∷ []) ++ records (config_of d q) b
 records_parts d q a b line no_quote none =
@@ -180,7 +180,7 @@ records_parts d q a b line no_quote none =
     ∙ scan_parts d q a b line no_quote none st.StartRecord [] [] (inr (refl, refl, refl))
     ∙ sym (ap₂ (λ (xs ys : List (List (List ℕ))). xs ++ ys) (records_scan (config_of d q) (a ++ 10 ∷ [])) (records_scan (config_of d q) b))
 
--- a byte order mark that stands at the beginning, and none that a line's end cuts
+-- a byte order mark is only at the beginning, and a cut at a line end doesn't split one
 no_bom_line : (b : List ℕ) → strip_bom (10 ∷ b) ≡ 10 ∷ b
 unfolding strip_bom
 no_bom_line [] = refl
@@ -204,7 +204,7 @@ no_bom_two x y b = go ((x == 239) && (y == 187))
     go true = refl
     go false = refl
 
--- the records of a file that is cut behind the end of a line, before which no quote stands, and behind which no byte order mark does
+-- the records of a file that is cut after a line end, with no quote before the cut and no byte order mark after it
 pub file_parts : (d : ℕ) (q : Option ℕ) (a b : List ℕ) → (10 == d) ≡ false → is_quote q 10 ≡ false → HasNoQuote q a → strip_bom b ≡ b
     → records_of d q (a ++ 10 ∷ b) ≡ records_of d q (a ++ 10 ∷ []) ++ records_of d q b
 unfolding strip_bom

@@ -1,4 +1,4 @@
--- Fields of digits alone: the INTs and the ids that they are as they stand.
+-- Fields of digits only: they are INTs and ids without any conversion.
 use Rattle.std.proofs.Common.{◌≡◌, ℕ, ◌<◌, List, length, false, ℤ, pos, Option, Some, None, sym, ap, ◌∙◌, arith, IfSome, Bor}
 use Rattle.std.specs.Prelude.{◌==◌}
 use Rattle.std.specs.Option.{option_map}

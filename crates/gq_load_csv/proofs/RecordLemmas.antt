@@ -1,4 +1,4 @@
--- What a read of a record leaves.
+-- What remains of a text after a record is read.
 use Rattle.std.proofs.Common.{◌≡◌, ℕ, zero, suc, ◌+◌, ◌<◌, List, [], ◌∷◌, ◌++◌, length, Option, Some, None, Bool, true, false, refl, sym, ap, ap₂, ◌∙◌, arith, add-one, Bor}
 use Rattle.std.specs.Prelude.{if◌then◌else◌, ◌||◌, ◌&&◌, ◌==◌, not, drop, take}
 use Rattle.std.proofs.Common.{inl, inr}
@@ -14,9 +14,9 @@ use Rattle.csv.proofs.ReadFacts.{rows-more, rows-end}
 use Rattle.std.proofs.lemmas.Bool.{false≢true}
 use Rattle.gq_load_csv.specs.Unread.{left, unread, is_ready}
 
--- ---- turns enough
+-- ---- enough iterations
 
--- what a record leaves: fewer bytes, or, where none were left, nothing
+-- what a record leaves: fewer bytes, or nothing if none were left
 pub data Leaves (xs : List ℕ) (q : Read) : Type 0 where
   fewer : length q.2 < length xs → Leaves xs q
   nothing : q.1 ≡ st.StartRecord → q.2 ≡ [] → Leaves xs q
@@ -46,13 +46,13 @@ leaves cfg (c ∷ rest) s f p q e = go (is_end (step cfg s c).1) (λ h. leaves c
     go true rec h = let i : rest ≡ q.2 = ap (λ (r : Read). r.2) (some-inj h) in let l = ap length i in fewer (omega arith)
     go false rec h = deeper (rec h)
 
--- at the end of a text nothing is left, whatever the turns
+-- at the end of a text no record is left, however many iterations there are
 pub at_end : (cfg : Config) (n : ℕ) → records_from cfg n st.StartRecord [] ≡ []
 unfolding records_from next_record
 at_end cfg zero = refl
 at_end cfg (suc n) = refl
 
--- more turns than bytes are enough
+-- any number of iterations above the number of bytes gives the same records
 enough : (cfg : Config) (n m : ℕ) (s : State) (xs : List ℕ) → length xs < n → length xs < m → records_from cfg n s xs ≡ records_from cfg m s xs
 unfolding records_from
 enough cfg zero m s xs a b = absurd (omega arith)
@@ -69,7 +69,7 @@ enough cfg (suc n) (suc m) s xs a b = go (next_record cfg s [] [] xs) (λ q e. l
 
 -- ---- one record
 
--- what is left of a text, from its next record on
+-- what is left of a text, given its next record
 pub left_is : (cfg : Config) (s : State) (xs : List ℕ) (q : Read) → next_record cfg s [] [] xs ≡ Some q → left cfg s (Some xs) ≡ q.0 ∷ left cfg q.1 (Some q.2)
 unfolding records_from
 left_is cfg s xs q e = rw add-one (ap (records_next (records_from cfg (length xs))) e ∙ ap (λ rows. q.0 ∷ rows) (after (leaves cfg xs s [] [] q e)))
@@ -87,7 +87,7 @@ left_none cfg s xs e = rw add-one (ap (records_next (records_from cfg (length xs
 abbrev rest : Bor (List ℕ) → Option (List ℕ)
 rest s = Some s.now
 
--- a reader of bytes knows what is left
+-- a reader of bytes has a known rest
 known : (r : Reader (Bor (List ℕ))) → has_failed r ≡ false → (xs : List ℕ) × (source_of rest r ≡ Some xs)
 known r goes = rw goes (go (not r.bom_checked && (r.at == 0) && (r.filled == 0)))
   where
@@ -124,7 +124,7 @@ ready r is = go r.first r.has_headers r.headers refl refl refl is
     go false false (Some x) f n h is = absurd (false≢true is)
     go false true headers f n h is = absurd (false≢true is)
 
--- what a reader has left before and after a read
+-- what a reader has left, before and after a read
 pub next_is : (a b : Reader (Bor (List ℕ))) (fields : List (List ℕ)) (found : Bool)
     → (has_failed a ≡ false → ReadRecord rest a b found fields) → (has_failed a ≡ true → found ≡ false)
     → unread rest a ≡ (if found then fields ∷ unread rest b else [])

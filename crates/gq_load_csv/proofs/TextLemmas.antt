@@ -1,4 +1,4 @@
--- Which texts are numbers and truths, from what std reads of them.
+-- Which texts are numbers and truth values, in terms of what std parses.
 use Rattle.std.proofs.Common.{◌≡◌, ℕ, ◌<◌, ◌^◌, zero, suc, cond, ℤ, pos, negsuc, List, [], ◌∷◌, Some, None, Ok, Err, length, drop, Bool, true, false, eqb, inl, inr, refl, ap, sym, ◌∙◌, arith, FitsSigned, w64}
 use Rattle.std.specs.Prelude.{if◌then◌else◌, nat_lt, IsUtf8, IsAscii, ◌&&◌}
 use Rattle.std.specs.Str.{all_ascii_digits, is_utf8}
@@ -74,7 +74,7 @@ uint_unread E text e never = elim (cases_Bool (is_numeral (without_leading_plus 
 
 -- ---- a number is ASCII
 
--- a text is ASCII where its first byte is and the others are
+-- a text is ASCII if its first byte and the others are
 ascii_more : (b : ℕ) (bs : List ℕ) → b < 128 → IsAscii bs → IsAscii (b ∷ bs)
 ascii_more b bs low rest zero = low
 ascii_more b bs low rest (suc i) = rest i

@@ -1,7 +1,7 @@
--- Deciding: something is found, or nothing of the kind is there.
+-- Deciding: either something with a property is found, or nothing has it.
 use Rattle.std.specs.Prelude.{◌⊎◌}
 
--- one that has it, or none has it
+-- an item with the property, or a proof that none has it
 abbrev pub Found : {A : Type 0} → (A → Type 0) → Type 0
 Found {A} P = ((x : A) × P x) ⊎ ((x : A) → P x → ⊥)
 

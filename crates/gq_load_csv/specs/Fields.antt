@@ -1,4 +1,4 @@
--- Fields: what the bytes of a field give, as the value of an attribute or as an id. None is a field that can't be read.
+-- Fields: the value of an attribute or the id that the bytes of a field give. None means that the field can't be read.
 use Rattle.std.specs.Prelude.{◌≡◌, ℕ, ℤ, pos, Bool, true, false, ◌==◌, ◌&&◌, nat_lt, if◌then◌else◌, List, [], length, Option, Some, None, unwrap_or}
 use Rattle.std.specs.Option.{option_map}
 use Rattle.std.specs.Str.{is_utf8}
@@ -12,12 +12,12 @@ use Rattle.gq_graph.specs.Defaults.{Sort, INT, UINT, BOOL, STRING, DATETIME, OTH
 use Rattle.gq_time.specs.Reading.{Reads, trimmed}
 use Rattle.gq_load_csv.specs.Texts.{int_in, uint_in, truth_in}
 
--- a function reads texts as DATETIME, with no other seconds and no other texts
+-- a function reads each text as the seconds of the DATETIME that it shows, and reads no other texts
 abbrev pub TellsTimes : (List ℕ → Option ℤ) → Type 0
 TellsTimes read = (text : List ℕ) (seconds : ℤ)
     → (read text ≡ Some seconds → Reads text seconds) × (Reads text seconds → read text ≡ Some seconds)
 
--- what a type's values are where nothing is said: 0, false, the empty text, second 0
+-- the default values of the types: 0, false, the empty text, second 0
 abbrev pub zero_of : Sort → Value
 zero_of INT = value.Int (pos 0)
 zero_of UINT = value.UInt 0
@@ -30,7 +30,7 @@ zero_of OTHER = value.Int (pos 0)
 abbrev pub default_of : Attribute → Value
 default_of attribute = unwrap_or attribute.default (zero_of (sort_of attribute.kind))
 
--- whether there is nothing but blanks and tabs
+-- whether a field is only blanks and tabs
 abbrev pub is_blank : List ℕ → Bool
 is_blank field = length (trimmed field) == 0
 
@@ -42,7 +42,7 @@ text_value field = if is_utf8 field then Some (value.Text field) else None
 abbrev pub time_value : (List ℕ → Option ℤ) → List ℕ → Option Value
 time_value read field = if is_utf8 field then option_map value.Int (read field) else None
 
--- a field as a value of a type. Blanks and tabs round a number, a truth or a time are dropped, and a text keeps them
+-- a field as a value of a type. Blanks and tabs around a number, a truth value or a time are dropped; a text keeps them
 abbrev pub value_in : (List ℕ → Option ℤ) → Sort → List ℕ → Option Value
 value_in read INT field = option_map value.Int (int_in (trimmed field))
 value_in read UINT field = option_map value.UInt (uint_in (trimmed field))
@@ -51,13 +51,13 @@ value_in read STRING field = text_value field
 value_in read DATETIME field = time_value read field
 value_in read OTHER field = None
 
--- whether a blank field gives the attribute's default. A text is what it is
+-- whether a blank field gives the attribute's default. A text is kept unchanged
 abbrev pub may_be_blank : Sort → Bool
 may_be_blank STRING = false
 may_be_blank OTHER = false
 may_be_blank _ = true
 
--- the value of an attribute that is no discriminator
+-- the value of an attribute that isn't a discriminator
 abbrev pub field_value : (List ℕ → Option ℤ) → Attribute → List ℕ → Option Value
 field_value read attribute field =
     if may_be_blank (sort_of attribute.kind) && is_blank field then Some (default_of attribute)
@@ -67,7 +67,7 @@ field_value read attribute field =
 abbrev pub key_value : (List ℕ → Option ℤ) → Attribute → List ℕ → Option Value
 key_value read attribute field = if length field == 0 then None else value_in read (sort_of attribute.kind) field
 
--- an id as it is kept: a text that isn't empty, or the shortest text of a number
+-- an id in stored form: a text that isn't empty, or the shortest text of a number
 abbrev pub id_in : IdKind → List ℕ → Option (List ℕ)
 id_in id.Text field = if nat_lt 0 (length field) && is_utf8 field then Some field else None
 id_in id.Int field = option_map signed_decimal (int_in (trimmed field))

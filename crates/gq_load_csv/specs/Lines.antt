@@ -1,4 +1,4 @@
--- Lines: texts in which nothing but the separator and the ends of lines means anything. No public clause cites this.
+-- Lines: texts in which only the separator and line ends are special. No public clause cites this.
 use Rattle.std.specs.Prelude.{◌≡◌, ℕ, ◌==◌, ◌&&◌, not, Bool, true, false, if◌then◌else◌, is_some, unwrap_or, List, [], ◌∷◌, ◌++◌, map, Option, Some, None}
 use Rattle.std.specs.Borrow.{Bor}
 use Rattle.std.specs.List.{list_all}
@@ -14,12 +14,12 @@ use Rattle.gq_load_csv.specs.Unread.{unread, Reads}
 abbrev pub is_plain_byte : Option ℕ → ℕ → Bool
 is_plain_byte quote c = not (is_some quote && (c == unwrap_or quote 34)) && not (c == 13)
 
--- each line of a text is a record, whose fields the separator parts
+-- each line of a text is a record, and its fields are split at the separator
 pub record IsPlain (separator : ℕ) (quote : Option ℕ) (text : List ℕ) : Type 0 where
   pub line : (10 == separator) ≡ false
   pub plain : list_all (is_plain_byte quote) text ≡ true
 
--- the fields of a line, with those before, and the text behind it
+-- the fields of a line, appended to those before, and the text after the line
 unfoldable pub line_from : ℕ → List (List ℕ) → List ℕ → List ℕ → List (List ℕ) × List ℕ
 line_from separator fields field [] = (fields ++ field ∷ [], [])
 line_from separator fields field (c ∷ rest) =
@@ -35,12 +35,12 @@ abbrev pub left_in : Source → List (List (List ℕ))
 left_in (source.Any reader) = unread (λ rest. Some rest.now) reader
 left_in (source.Plain lines) = lines_left lines
 
--- what holds of a source between two reads
+-- the invariant of a source between two reads
 abbrev pub IsOpen : Source → Type 0
 IsOpen (source.Any reader) = Reads reader
 IsOpen (source.Plain lines) = IsPlain lines.separator lines.quote lines.rest.now
 
--- what pieces of a text say
+-- the bytes of pieces of a text
 abbrev pub says : List (Bor (List ℕ)) → List (List ℕ)
 says pieces = map (λ piece. piece.now) pieces
 
@@ -48,7 +48,7 @@ says pieces = map (λ piece. piece.now) pieces
 abbrev pub fields_in : Bool → List (Bor (List ℕ)) → Row → List (List ℕ)
 fields_in is_line pieces copies = if is_line then says pieces else fields_of copies
 
--- an id: a piece of a text, or one that is kept
+-- the bytes of an id: those of a borrowed piece, or its own copy
 abbrev pub id_bytes : Option (Bor (List ℕ)) → List ℕ → List ℕ
 id_bytes (Some piece) own = piece.now
 id_bytes None own = own

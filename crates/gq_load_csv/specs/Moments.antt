@@ -57,7 +57,7 @@ same_day y z m n d e year month day there =
     let R : ℕ → Type 0 = λ x. HasDay z n x in
     subst P (sym year) (subst Q (sym month) (subst R (sym day) there))
 
--- the date that a text shows, with this mark
+-- the date that a text shows, with this mark between the numbers
 date_found : (text : List ℕ) (mark : ℕ) → Found (ShowsDate text mark)
 date_found text mark = by (three_found_in text 4 mark)
   where
@@ -72,7 +72,7 @@ date_found text mark = by (three_found_in text 4 mark)
     by (inl (three, is)) = dated three is (day_or (pos three.0) three.1 three.2)
     by (inr none) = inr (λ date shows. none _ _ _ shows.0)
 
--- the same with one of the marks
+-- the same with either mark
 any_date_found : (text : List ℕ) → Found (ShowsAnyDate text)
 any_date_found text = by (date_found text 45) (date_found text 47)
   where
@@ -114,7 +114,7 @@ clock_found text = by (three_found_in text 2 58)
     by (inl (three, is)) = timed three is (both_or (below_or three.0 24) (both_or (below_or three.1 60) (below_or three.2 60)))
     by (inr none) = inr (λ time shows. none _ _ _ shows)
 
--- ---- what may stand behind a time of day
+-- ---- what may follow a time of day
 
 few_or : (text : List ℕ) → Decided (IsFewDigits text)
 few_or text = by (both_or (upto_or 1 (length text)) (upto_or (length text) 9)) (number_found text)
@@ -137,7 +137,7 @@ fraction_or (c ∷ text) = by (cases_eq c 46) (few_or text)
     by (inl is) (inl few) = inl (inr (text, few, ap (λ b. b ∷ text) is))
     by (inl is) (inr none) = inr (λ h. elim h [ inl e ↦ cc | inr f ↦ none (subst IsFewDigits (sym (parts f.0 f.2).1) f.1) ])
 
--- without a zone at its end a text is nothing, or a fraction
+-- a text that doesn't end with a zone is empty or a fraction
 no_zone : (text : List ℕ) → ((front : List ℕ) (b : ℕ) → text ≡ front ++ b ∷ [] → (b ≡ 90) ⊎ (b ≡ 122) → ⊥) → IsEnd text → (text ≡ []) ⊎ IsFraction text
 no_zone text none end = by end.is_zone
   where
@@ -201,7 +201,7 @@ with_end_found text = by (upto_or 8 (length text)) (end_or (drop 8 text)) (clock
         inl (time, record { end = drop 8 text; is_end = end; whole = sym (take-append-drop 8 text) ∙ ap (λ l. l ++ drop 8 text) is })
     by (inl long) (inl end) (inr none) = inr (λ time h. none time (has_clock text time h.end h.whole).front)
 
--- the time of day that a text behind a date shows
+-- the time of day that the text after a date shows
 pub time_found : (text : List ℕ) → Found (TellsTime text)
 time_found [] = inl (record { hour = 0; minute = 0; second = 0; subsec_nanosecond = 0; hour_in = omega arith; minute_in = omega arith; second_in = omega arith; subsec_in = omega arith }, inl (refl, refl))
 time_found (c ∷ text) = by (cases_eq c 32) (cases_eq c 84) (clock_found text) (with_end_found text)

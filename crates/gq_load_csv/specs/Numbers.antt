@@ -1,4 +1,4 @@
--- Numbers: which number a text of digits writes, and which three numbers with marks between them.
+-- Numbers: the number that a text of digits writes, and the three numbers of a text with marks between them.
 use Rattle.std.proofs.Common.{◌≡◌, ◌⊎◌, ℕ, zero, suc, ◌+◌, ◌-◌, ◌*◌, ◌<◌, ◌≤◌, ◌^◌, List, length, get_or, take, drop, refl, sym, subst, ◌∙◌, arith, inl, inr, add-one}
 use Rattle.std.proofs.lemmas.Bool.{cases_lt, cases_eq}
 use Rattle.std.proofs.lemmas.List.{take_all}
@@ -8,7 +8,7 @@ use Rattle.gq_time.proofs.DigitLemmas.{digits-zero, digits_byte, digits_step, di
 use Rattle.gq_time.proofs.PlaceLemmas.{has_three, sized, three_found}
 use Rattle.gq_load_csv.specs.Deciding.{Decided}
 
--- a digit's byte
+-- the byte of a digit
 abbrev pub IsDigit : ℕ → Type 0
 IsDigit b = (48 ≤ b) × (b ≤ 57)
 
@@ -19,12 +19,12 @@ digit_or_not b =
       | inr from ↦ elim (cases_lt 57 b) [ inl high ↦ inr (λ is. omega (arith, is.1)) | inr to ↦ inl (from, to) ]
     ]
 
--- the first bytes write a number
+-- the first `i` bytes write the number `n`
 pub record Begins (text : List ℕ) (i n : ℕ) : Type 0 where
   pub is : take i text ≡ digits i n
   pub fits : n < 10 ^ i
 
--- a byte among the first is no digit
+-- one of the first `i` bytes, at `j`, isn't a digit
 pub record Breaks (text : List ℕ) (i j : ℕ) : Type 0 where
   pub low : j < i
   pub no_digit : IsDigit (get_or text j 0) → ⊥

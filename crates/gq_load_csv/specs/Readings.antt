@@ -1,4 +1,4 @@
--- Readings: the function that reads texts as DATETIME. It gives the seconds that a text reads as, and none where it reads as none.
+-- Readings: the function that reads a text as DATETIME: returns its seconds, or None if it isn't a DATETIME.
 use Rattle.std.proofs.Common.{◌≡◌, ◌⊎◌, ℕ, ◌≤◌, Bool, true, false, List, [], ◌∷◌, length, Option, Some, None, refl, ap, subst, arith, inl, inr, ℤ, pos, neg_ℤ, ◌≤ℤ◌}
 use Rattle.std.specs.Prelude.{if◌then◌else◌}
 use Rattle.std.proofs.lemmas.Bool.{cases_eq}
@@ -66,7 +66,7 @@ tells_found text = by (moment_found text) (count_found text)
     by (inr none) (inl (s, tells)) = inl (s, inr tells)
     by (inr none) (inr never) = inr (λ s tells. elim tells [ inl m ↦ none m.0 m.1 | inr c ↦ never s c ])
 
--- the seconds that were found
+-- the seconds that were found, or None
 abbrev seconds_of : {P : ℤ → Type 0} → Found P → Option ℤ
 seconds_of (inl found) = Some found.0
 seconds_of (inr none) = None
@@ -75,7 +75,7 @@ seconds_of (inr none) = None
 pub reading : List ℕ → Option ℤ
 reading text = seconds_of (tells_found (trimmed text))
 
--- and no others
+-- it reads the seconds of each text, and no others
 pub reading_tells : TellsTimes reading
 unfolding reading
 reading_tells text s = (read (tells_found (trimmed text)), back (tells_found (trimmed text)))

@@ -15,8 +15,8 @@ use itoa::Buffer;
 use std::alloc::Global;
 use std::marker::Model;
 
-/// An id as it is kept: a piece of a file that is its own shortest text, or a text of its own, whose memory is used again. Contracts see
-/// its bytes.
+/// An id in stored form: either a borrowed piece of the file that is already the shortest text, or an owned text whose
+/// memory is reused. Contracts see its bytes.
 #[derive(Drop)]
 pub struct Id<'a> {
     piece: Option<&'a str>,
@@ -33,7 +33,7 @@ impl<'a> Model for Id<'a> {
 }
 
 impl<'a> Id<'a> {
-    /// The empty text, which is no id yet and takes no memory.
+    /// Returns the empty text, which isn't an id yet and takes no memory.
     pub fn new(alloc: Global) -> Id<'a>
         ensures { result ≡ [] }
     {
@@ -43,7 +43,7 @@ impl<'a> Id<'a> {
         }
     }
 
-    /// The text.
+    /// Returns the text.
     pub fn as_str(&self) -> &str
         ensures { result.now ≡ self.now }
     {
@@ -53,8 +53,8 @@ impl<'a> Id<'a> {
         }
     }
 
-    /// Reads the id in the field of that number of a record. False is a field that isn't there or can't be read, and then nothing is
-    /// said of the id.
+    /// Reads the id from a record's field by number. Returns false if there is no such field or it can't be read; the
+    /// id is then unspecified.
     pub fn read(
         &mut self,
         kind: IdKind,
@@ -77,7 +77,7 @@ impl<'a> Id<'a> {
     }
 }
 
-/// A field that is an id as it stands. None says nothing of the field.
+/// Returns the field if it is already an id in stored form. None says nothing about the field.
 fn own_id(kind: IdKind, field: &[u8]) -> Option<&str>
     ensures { IfSome result (λ own. spec.id_in kind field.now ≡ Some own.now) }
 {
@@ -88,7 +88,7 @@ fn own_id(kind: IdKind, field: &[u8]) -> Option<&str>
     }
 }
 
-/// The same of a text.
+/// The same for an id that is a text.
 fn whole_text(field: &[u8]) -> Option<&str>
     ensures { IfSome result (λ own. spec.id_in IdKind.Text field.now ≡ Some own.now) }
 {
@@ -101,10 +101,10 @@ fn whole_text(field: &[u8]) -> Option<&str>
     }
 }
 
-/// Reads an id from its field into `id`, as it is kept: a text, or the shortest text of a number. False is a field that
-/// can't be read, and then nothing is said of `id`.
+/// Reads an id from its field into `id`, in stored form: a text, or the shortest text of a number. Returns false if the
+/// field can't be read; `id` is then unspecified.
 ///
-/// Whatever stood in `id` goes, and its memory is used again.
+/// The old text of `id` is replaced, and its memory is reused.
 pub fn read_id(id: &mut String, kind: IdKind, field: &[u8]) -> Result<bool, OutOfMemory>
     ensures { IfOk result (λ read. spec.id_in kind field.now ≡ (if read then Some (string_bytes id.new) else None)) }
 {
@@ -145,7 +145,7 @@ pub fn read_id(id: &mut String, kind: IdKind, field: &[u8]) -> Result<bool, OutO
     }
 }
 
-/// Puts the shortest text of an INT into an empty `id`.
+/// Writes the shortest text of an INT into an empty `id`.
 fn push_int(id: &mut String, text: &[u8]) -> Result<bool, OutOfMemory>
     requires { string_bytes id.old ≡ [] }
     ensures { IfOk result (λ read. option_map signed_decimal (texts.int_in text.now) ≡ (if read then Some (string_bytes id.new) else None)) }
@@ -159,7 +159,7 @@ fn push_int(id: &mut String, text: &[u8]) -> Result<bool, OutOfMemory>
     }
 }
 
-/// Puts the shortest text of a UINT into an empty `id`.
+/// Writes the shortest text of a UINT into an empty `id`.
 fn push_uint(id: &mut String, text: &[u8]) -> Result<bool, OutOfMemory>
     requires { string_bytes id.old ≡ [] }
     ensures { IfOk result (λ read. option_map decimal (texts.uint_in text.now) ≡ (if read then Some (string_bytes id.new) else None)) }

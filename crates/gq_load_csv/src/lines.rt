@@ -9,8 +9,8 @@ ghost use Rattle.gq_load_csv.specs.Records.{config_of};
 use gq_base::OutOfMemory;
 use memchr::{memchr, memchr2};
 
-/// A text in which nothing but the separator and the ends of lines means anything. Fields are pieces of it: `csv` looks up each byte in
-/// its tables and copies it on its own, which takes four times as long.
+/// A text in which only the separator and line ends are special. Fields are borrowed pieces of it: `csv` looks up each
+/// byte in its tables and copies it one at a time, which takes four times as long.
 #[derive(Drop)]
 pub(crate) struct Lines<'a> {
     pub separator: u8,
@@ -18,7 +18,7 @@ pub(crate) struct Lines<'a> {
     pub rest: &'a [u8],
 }
 
-/// Whether a text is one of lines: it has no quote and no carriage return. One that may begin with a byte order mark isn't.
+/// Whether a text can be read by lines: it has no quote, no carriage return, and can't begin with a byte order mark.
 pub(crate) fn is_plain(separator: u8, quote: Option<u8>, text: &[u8]) -> bool
     ensures plain { result ≡ true → IsPlain separator quote text.now }
     ensures whole { result ≡ true → strip_bom text.now ≡ text.now }
@@ -54,7 +54,7 @@ fn begins_like_mark(text: &[u8]) -> bool
     }
 }
 
-/// Reads the fields of the next line that has a byte, and tells whether there was one. What stood in `fields` goes.
+/// Reads the fields of the next non-empty line into `fields`, replacing its content. Returns whether there was one.
 pub(crate) fn next_line<'a>(
     lines: &mut Lines<'a>,
     fields: &mut Vec<&'a [u8]>,
@@ -74,7 +74,7 @@ pub(crate) fn next_line<'a>(
     Ok(true)
 }
 
-/// A text without the ends of lines that it begins with.
+/// Skips the line ends at the beginning of a text.
 #[tactic(auto, using(crate::proofs::LineLemmas::end_before))]
 fn behind_ends(text: &[u8]) -> &[u8]
     ensures begins { (slice_index_or result.now 0 0 == 10) ≡ false }
@@ -89,7 +89,7 @@ fn behind_ends(text: &[u8]) -> &[u8]
     &[]
 }
 
-/// What stands behind a line of that size and its end.
+/// Returns the text after a line of that size and its line end.
 fn behind(text: &[u8], size: usize) -> &[u8]
     requires { size ≤ length text.now }
     ensures { result.now ≡ drop (size + 1) text.now }
@@ -101,7 +101,7 @@ fn behind(text: &[u8], size: usize) -> &[u8]
     }
 }
 
-/// Puts the fields of the first line last, and tells how many bytes it has without its end.
+/// Appends the fields of the first line, and returns its size in bytes without its line end.
 fn read_fields<'a>(
     separator: u8,
     text: &'a [u8],

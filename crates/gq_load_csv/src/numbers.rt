@@ -1,13 +1,13 @@
-// Texts as numbers and truths.
+// Texts as numbers and truth values.
 ghost use Rattle.std.specs.Prelude.{◌≡◌, IfSome};
 ghost use Rattle.std.specs.Str.{str_eq_ignore_ascii_case};
 ghost use Rattle.gq_load_csv.specs.Digits.{IsShort, IsOwn, has_leading_zero};
 ghost use Rattle.gq_load_csv.specs.Texts.{int_in, uint_in, truth_in};
 
-/// The most digits of a number that is read without a test of its range: any such number is an INT and a UINT.
+/// The most digits that are read without a range check: any number of at most this many digits is an INT and a UINT.
 const FEW: usize = 18;
 
-/// The INT that a text says.
+/// Parses an INT.
 pub(crate) fn int_in(text: &[u8]) -> Option<i64>
     ensures { result ≡ int_in text.now }
 {
@@ -17,7 +17,7 @@ pub(crate) fn int_in(text: &[u8]) -> Option<i64>
     }
 }
 
-/// The UINT that a text says.
+/// Parses a UINT.
 pub(crate) fn uint_in(text: &[u8]) -> Option<u64>
     ensures { result ≡ uint_in text.now }
 {
@@ -27,7 +27,7 @@ pub(crate) fn uint_in(text: &[u8]) -> Option<u64>
     }
 }
 
-/// The number of a text of 1 to 18 digits. None says nothing of the text.
+/// Returns the number of a text of 1 to 18 digits. None says nothing about the text.
 pub(crate) fn few_digits(text: &[u8]) -> Option<u64>
     ensures { IfSome result (IsShort text.now) }
 {
@@ -44,7 +44,8 @@ pub(crate) fn few_digits(text: &[u8]) -> Option<u64>
     Some(number)
 }
 
-/// A text of 1 to 18 digits that doesn't begin with a zero, or is one: the shortest text of its number. None says nothing of the text.
+/// Returns the text if it is 1 to 18 digits without a leading zero, which is the shortest text of its number. None says
+/// nothing about the text.
 pub(crate) fn own_text(text: &[u8]) -> Option<&str>
     ensures { IfSome result (λ own. (own.now ≡ text.now) × IsOwn text.now) }
 {
@@ -58,7 +59,7 @@ pub(crate) fn own_text(text: &[u8]) -> Option<&str>
     }
 }
 
-/// Whether a zero stands before other bytes.
+/// Whether a zero comes before other bytes.
 fn has_leading_zero(text: &[u8]) -> bool
     ensures { result ≡ has_leading_zero text.now }
 {
@@ -89,7 +90,7 @@ fn parsed_uint(text: &[u8]) -> Option<u64>
     }
 }
 
-/// The BOOL that a text says.
+/// Parses a BOOL.
 #[tactic(auto, unfolding(crate::specs::Texts::truth_in))]
 pub(crate) fn truth_in(text: &[u8]) -> Option<bool>
     ensures { result ≡ truth_in text.now }
@@ -103,7 +104,7 @@ pub(crate) fn truth_in(text: &[u8]) -> Option<bool>
     }
 }
 
-/// Whether a text is the word, in any case.
+/// Whether a text is the word, ignoring case.
 fn is_word(text: &[u8], word: &[u8]) -> bool
     ensures { result ≡ str_eq_ignore_ascii_case text.now word.now }
 {

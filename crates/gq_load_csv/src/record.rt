@@ -14,9 +14,9 @@ use std::marker::Model;
 /// A record of a file. Contracts see it as the list of its fields, each as its bytes.
 #[derive(Drop)]
 pub struct Record<'a> {
-    /// The fields of a line, which are pieces of the file.
+    /// The fields of a line: borrowed pieces of the file.
     pieces: Vec<&'a [u8]>,
-    /// The fields of a record that `csv` cut.
+    /// The fields of a record that `csv` split.
     copies: ByteRecord,
     is_line: bool,
 }
@@ -31,7 +31,7 @@ impl<'a> Model for Record<'a> {
 }
 
 impl<'a> Record<'a> {
-    /// A record of no fields, which takes no memory.
+    /// Returns a record without fields, which takes no memory.
     pub fn new(alloc: Global) -> Record<'a>
         ensures { result ≡ [] }
     {
@@ -42,7 +42,7 @@ impl<'a> Record<'a> {
         }
     }
 
-    /// How many fields it has.
+    /// Returns the number of fields.
     pub fn len(&self) -> usize
         ensures { result ≡ length self.now }
     {
@@ -53,7 +53,7 @@ impl<'a> Record<'a> {
         }
     }
 
-    /// The field of that number, counted from 0, if there is one.
+    /// Returns a field by number, counted from 0, if there is one.
     pub fn get(&self, number: usize) -> Option<&[u8]>
         ensures { option_map (λ s. s.now) result ≡ field_at self.now number }
     {
@@ -64,7 +64,7 @@ impl<'a> Record<'a> {
         }
     }
 
-    /// The same as a piece of the file, where it is one.
+    /// The same, borrowed from the file, if the field is a piece of it.
     pub fn lent(&self, number: usize) -> Option<&'a [u8]>
         ensures { IfSome result (λ field. field_at self.now number ≡ Some field.now) }
     {
@@ -85,7 +85,7 @@ impl<'a> Record<'a> {
         next_line(lines, &mut self.pieces)
     }
 
-    /// Reads the next record that `csv` cuts.
+    /// Reads the next record with `csv`.
     pub(crate) fn read_cut(&mut self, reader: &mut Reader<&'a [u8]>) -> Result<bool, OutOfMemory>
         requires { Reads reader.old }
         ensures reads { Reads reader.new }
@@ -100,7 +100,7 @@ impl<'a> Record<'a> {
     }
 }
 
-/// The piece of that number, if there is one.
+/// Returns a piece by number, if there is one.
 fn piece_at<'a>(pieces: &[&'a [u8]], number: usize) -> Option<&'a [u8]>
     ensures { result ≡ slice_get pieces.now number }
 {

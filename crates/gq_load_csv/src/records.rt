@@ -17,7 +17,7 @@ pub struct Records<'a> {
     source: Source<'a>,
 }
 
-/// Where records come from: a text of lines, or one that `csv` cuts.
+/// Where records come from: a text that is read by lines, or one that `csv` splits.
 #[derive(Drop)]
 pub(crate) enum Source<'a> {
     Plain(Lines<'a>),
@@ -36,7 +36,8 @@ impl<'a> Model for Records<'a> {
 }
 
 impl<'a> Records<'a> {
-    /// The records of a file of these bytes, whose fields the separator parts and, where there is one, the quote encloses.
+    /// Opens a file with these bytes: fields are split at the separator and may be enclosed in the quote, if there is
+    /// one.
     pub fn open(alloc: Global, separator: u8, quote: Option<u8>, bytes: &'a [u8]) -> Records<'a>
         ensures { result ≡ records_of separator quote bytes.now }
     {
@@ -52,8 +53,8 @@ impl<'a> Records<'a> {
         Records { source }
     }
 
-    /// Reads the next record into `row`, whose memory is used again, and tells whether there was one. After `OutOfMemory`
-    /// nothing is said of what is left.
+    /// Reads the next record into `row`, reusing its memory, and returns whether there was one. After `OutOfMemory`
+    /// the remaining records are unspecified.
     pub fn next(&mut self, row: &mut Record<'a>) -> Result<bool, OutOfMemory>
         ensures { IfOk result (λ found. self.old ≡ (if found then row.new ∷ self.new else [])) }
     {
@@ -61,7 +62,7 @@ impl<'a> Records<'a> {
     }
 }
 
-/// A reader of all records of a text.
+/// Returns a reader of all records of a text.
 fn reader_of<'a>(
     alloc: Global,
     separator: u8,

@@ -11,9 +11,9 @@ use gq_time::{read_time, trimmed};
 use gq_value::{BaseType, Txt, Value};
 use std::alloc::Global;
 
-/// The value of an attribute that is no discriminator, from its field. None is a field that can't be read.
+/// Reads the value of an attribute that isn't a discriminator. None means that the field can't be read.
 ///
-/// A field of blanks and tabs alone gives the attribute's default, but for a text. Takes memory for texts alone.
+/// A field of only blanks and tabs gives the attribute's default, unless its type is a text. Allocates only for texts.
 pub fn read_value(
     alloc: Global,
     attribute: &Attribute,
@@ -27,7 +27,7 @@ pub fn read_value(
     value_in(alloc, &attribute.kind, field)
 }
 
-/// The value of a discriminator, from its field, which can't be empty. None is a field that can't be read.
+/// Reads the value of a discriminator, whose field can't be empty. None means that the field can't be read.
 pub fn read_key(
     alloc: Global,
     attribute: &Attribute,
@@ -41,7 +41,7 @@ pub fn read_key(
     value_in(alloc, &attribute.kind, field)
 }
 
-/// The INT that a field of 1 to 18 digits gives an attribute, a discriminator or not. None says nothing of the field.
+/// Reads an INT field of 1 to 18 digits, for a discriminator or another attribute. None says nothing about the field.
 #[tactic(auto, using(gq_graph::specs::SortLaws::sort_laws))]
 pub fn read_int(attribute: &Attribute, field: &[u8]) -> Option<i64>
     ensures field { IfSome result (λ n. (read : List ℕ → Option ℤ) → spec.field_value read attribute.now field.now ≡ Some (variant.Int n)) }
@@ -56,7 +56,7 @@ pub fn read_int(attribute: &Attribute, field: &[u8]) -> Option<i64>
     }
 }
 
-/// The value that an attribute has where none is given. Takes memory for texts alone.
+/// Returns the default of an attribute. Allocates only for texts.
 pub fn default_value(alloc: Global, attribute: &Attribute) -> Result<Value, OutOfMemory>
     ensures { IfOk result (λ v. v ≡ spec.default_of attribute.now) }
 {
@@ -90,7 +90,7 @@ fn may_be_blank(kind: &BaseType) -> bool
     }
 }
 
-/// A field as a value of a type.
+/// Reads a field as a value of a type.
 #[tactic(auto, using(gq_graph::specs::SortLaws::sort_laws))]
 fn value_in(alloc: Global, kind: &BaseType, field: &[u8]) -> Result<Option<Value>, OutOfMemory>
     ensures { IfOk result (λ v. (read : List ℕ → Option ℤ) → spec.TellsTimes read → v ≡ spec.value_in read (sort_of kind.now) field.now) }

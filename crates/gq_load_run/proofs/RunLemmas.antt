@@ -1,4 +1,4 @@
--- How one LOAD, and the LOADs of a job, belong to a run.
+-- How one LOAD, and the LOADs of a job, are part of a run.
 use Rattle.std.proofs.Common.{◌≡◌, ℕ, List, Option, Some, None, Result, Ok, Err, IfOk, sym, ap, subst, ◌∙◌, slice_get}
 use Rattle.std.specs.Prelude.{IfErr}
 use Rattle.gq_graph.specs.Catalog.{Schema}
@@ -18,7 +18,7 @@ pub if_ok : {A E : Type 0} (P Q : A → Type 0) (r : Result A E) → ((a : A) �
 if_ok P Q (Ok a) more holds = more a holds
 if_ok P Q (Err e) more holds = tt
 
--- the LOAD of a number leaves what its line leaves
+-- the LOAD with a number leaves what its line leaves
 pub leaves_line : {A : Type 0} (schema : Schema) (job : Job) (store later : Store) (number : ℕ) (bytes : List ℕ) (line : LoadLine) → slice_get job.lines number ≡ Some line
     → (r : Result A StatementFault) → IfErr r (λ f. LineLeaves schema line (records_in line bytes) store f later) → IfErr r (λ f. Leaves schema job store number bytes f later)
 unfolding Leaves
@@ -26,7 +26,7 @@ leaves_line schema job store later number bytes line found (Ok a) left = tt
 leaves_line schema job store later number bytes line found (Err f) left =
     let P : Option LoadLine → Type 0 = λ o. OneLeaves schema o bytes store f later in subst P (sym found) left
 
--- the LOADs of a job whose run gives paths for its files alone
+-- the LOADs of a job, if the run supplies paths only for the job's files
 pub using_none : (known : Known) (schema : Schema) (job : Job) (store : Store) (tree : RunJobTree) (files : List File) (given paths : List Given) (effect : Effect Store)
     → files ≡ job.files → given ≡ tree.paths → paths ≡ tree.paths → None ≡ undefined_name files given → LoadsDo known schema job paths store effect
     → FoundDoes known schema store tree (Some job) effect

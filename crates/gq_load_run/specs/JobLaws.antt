@@ -1,4 +1,4 @@
--- JobLaws: over files that are told a run of a job does one thing.
+-- JobLaws: if the listing of the files is given, a run of a job has exactly one effect.
 use Rattle.std.proofs.Common.{◌≡◌, ℕ, List, [], length, Option, Some, None, sym, ◌∙◌}
 use Rattle.gq_io.specs.Listing.{Listing}
 use Rattle.gq_graph.specs.Catalog.{Schema}

@@ -1,4 +1,4 @@
--- How a job comes from one LOAD to the next, and what remains where it breaks off; and over files that are told it does one thing.
+-- How a job goes from one LOAD to the next, and what remains if it breaks off; given the listing, it has one effect.
 use Rattle.std.proofs.Common.{◌≡◌, ℕ, zero, suc, ◌+◌, ◌-◌, ◌<◌, ◌≤◌, List, [], ◌∷◌, ◌++◌, ◌⊎◌, Option, inl, inr, refl, ap, sym, ◌∙◌, subst, arith}
 use Rattle.std.proofs.Math.Nat.{eq-or-lt_of_le}
 use Rattle.gq_io.specs.Listing.{Listing}
@@ -13,7 +13,7 @@ use Rattle.gq_load_run.specs.declared.place.LoadPath.TheVariants.{At, Nowhere}
 use Rattle.gq_load_run.specs.Loads.{Loaded, Loads, Fails, report_of, Continues, AnswerLoads, PlaceLoads, LoadsMean}
 use Rattle.gq_load_run.specs.Remains.{Ends, LeadTo, BreaksOff, Remains}
 
--- ---- over files that are told a job does one thing
+-- ---- if the listing of the files is given, a job has one effect
 
 module _ {S : Type 0} (place_of : ℕ → LoadPath) (loaded_by : S → ℕ → List ℕ → Loaded S) (pairs : Listing) where
   module _ (e f : Effect S) (E F : S → List FileReport → Type 0) (rest : (t : S) (more : List FileReport) → E t more → F t more → e ≡ f) (s : S) (number : ℕ) (reports : List FileReport) where
@@ -31,7 +31,7 @@ module _ {S : Type 0} (place_of : ℕ → LoadPath) (loaded_by : S → ℕ → L
     same_place (At path) (answer, may, loads) (other, might, otherwise) =
         same_answer path answer loads (subst (λ o. AnswerLoads place_of loaded_by (Told pairs) s number path reports o F f) (might ∙ sym may) otherwise)
 
-  -- over files that are told, so many LOADs do one thing
+  -- if the listing of the files is given, `left` LOADs have one effect
   pub loads_determined : (s : S) (number left : ℕ) (reports : List FileReport) (e f : Effect S)
       → LoadsMean place_of loaded_by (Told pairs) s number left reports e → LoadsMean place_of loaded_by (Told pairs) s number left reports f → e ≡ f
   loads_determined s number zero reports e f a b = a ∙ sym b
@@ -61,7 +61,8 @@ pub none_left : (count number : ℕ) → count ≤ number → count - number ≡
 none_left count number end = omega arith
 
 module _ {S : Type 0} (place_of : ℕ → LoadPath) (loaded_by : S → ℕ → List ℕ → Loaded S) (held : Option Listing) (first : S) (count : ℕ) where
-  -- before the LOAD of this number: how what the rest means belongs to the whole job, and that the LOADs before it ended
+  -- before the LOAD with this number: the meaning of the rest gives that of the whole job, and the LOADs before it
+  -- ended
   pub record HasLoaded (number : ℕ) (s : S) (reports : List FileReport) : Type 0 where
     pub whole : (before now met : ℕ) (effect : Effect S)
         → LoadsMean place_of loaded_by (known_of held before now met) s number (count - number) reports effect
@@ -77,7 +78,7 @@ module _ {S : Type 0} (place_of : ℕ → LoadPath) (loaded_by : S → ℕ → L
       }
 
   module _ (number : ℕ) (s : S) (reports : List FileReport) (come : HasLoaded number s reports) where
-    -- and the LOAD of this number ends
+    -- and the LOAD with this number ends
     pub one_more : (t : S) (before now met : ℕ) → Ends place_of loaded_by (known_of held before now met) s number t
         → LeadTo place_of loaded_by (known_of held before now met) first (number + 1) t
     one_more t before now met ends =
@@ -115,14 +116,14 @@ module _ {S : Type 0} (place_of : ℕ → LoadPath) (loaded_by : S → ℕ → L
 -- ---- what remains
 
 module _ {S : Type 0} (place_of : ℕ → LoadPath) (loaded_by : S → ℕ → List ℕ → Loaded S) (Leaves : S → ℕ → List ℕ → StatementFault → S → Type 0) (known : Known) (first : S) (count : ℕ) where
-  -- the LOAD of this number breaks the job off
+  -- the LOAD with this number breaks the job off
   pub broken_here : (number : ℕ) (s t : S) (f : StatementFault) → number < count → LeadTo place_of loaded_by known first number s
       → BreaksOff place_of loaded_by Leaves known s number f t → Remains place_of loaded_by Leaves known first count f t
   broken_here number s t (fault.Refused r) below ended breaks = (number, s, below, ended, breaks)
   broken_here number s t fault.ReadFault below ended breaks = (number, s, below, ended, breaks)
   broken_here number s t fault.OutOfMemory below ended breaks = inl (number, s, below, ended, breaks)
 
-  -- memory is wanting between two LOADs, or behind all of them
+  -- memory runs out between two LOADs, or after all of them
   pub stands_here : (number : ℕ) (s : S) → number ≤ count → LeadTo place_of loaded_by known first number s → Remains place_of loaded_by Leaves known first count fault.OutOfMemory s
   stands_here number s low ended = by (eq-or-lt_of_le low)
     where

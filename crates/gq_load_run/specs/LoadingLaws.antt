@@ -1,4 +1,4 @@
--- LoadingLaws: what an answer of a load says, by the function of loads, and what it leaves; and its upserts leave a store one of its catalog.
+-- LoadingLaws: the answer of a load by the function of loads, and what it leaves; the store keeps to its catalog.
 use Rattle.std.proofs.Common.{◌≡◌, ℕ, zero, suc, ◌<◌, ℤ, List, [], ◌∷◌, ◌++◌, length, map, All, Option, Some, None, Bool, true, false, cond, Result, Ok, Err, refl, sym, ap, subst, ◌∙◌, arith}
 use Rattle.std.specs.Prelude.{◌-◌, nat_lt, option_and_then}
 use Rattle.std.proofs.lemmas.List.{length-map}
@@ -60,7 +60,7 @@ module _ (schema : Schema) (line : LoadLine) (records : List Fields) (before lat
   abbrev MissingLeaves : Option (List ℕ) → Type 0
   MissingLeaves missing = RefusedLeaves missing (line_steps schema line records) before later
 
-  -- where a column is missing nothing was loaded
+  -- if a column is missing, nothing was loaded
   pub missing_leaves : (name : List ℕ) → Says (Err (fault.NoColumn name)) → MissingLeaves (load.missing_of line (load.header_of line records))
   missing_leaves name says = subst MissingLeaves (sym says.missing) says.same
 
@@ -68,7 +68,7 @@ module _ (schema : Schema) (line : LoadLine) (records : List Fields) (before lat
   pub full_leaves : Says (Err fault.Full) → MissingLeaves (load.missing_of line (load.header_of line records))
   full_leaves says = subst MissingLeaves (sym says.found) says.refused
 
-  -- whatever the answer, some of the upserts were taken, from the first one on
+  -- whatever the answer, a prefix of the upserts was put
   pub says_begun : (result : Result Report LoadFault) → Says result → Begun before (line_steps schema line records) later
   says_begun (Ok report) says = done_begun before later (line_steps schema line records) says.loaded.done
   says_begun (Err (fault.NoColumn name)) says = none_begun before later (line_steps schema line records) says.same
@@ -80,7 +80,7 @@ module _ (schema : Schema) (line : LoadLine) (records : List Fields) (before lat
 same_some : {A : Type 0} (x y : A) → Some x ≡ Some y → x ≡ y
 same_some {A} x y e = cc
 
--- a destination's route: its type is there, and what it has for the ends of an edge that aren't there are their types' defaults
+-- a destination's route: its type exists, and its defaults for the ends of an edge are those of their types
 pub record IsRoute (schema : Schema) (route : Route) : Type 0 where
   pub there : HasTarget schema route.target
   pub from : route.from ≡ from_defaults schema route.target
@@ -174,19 +174,19 @@ are_routes schema header [] fit k d low = absurd (omega arith)
 are_routes schema header (into ∷ intos) fit zero d low = record { there = (fit 0 into (omega arith)).there; from = refl; to = refl }
 are_routes schema header (into ∷ intos) fit (suc k) d low = are_routes schema header intos (λ j e less. fit (suc j) e (omega arith)) k d (omega arith)
 
--- the upserts of a LOAD are of the catalog's types, and put an edge behind its ends
+-- the upserts of a LOAD have types of the catalog, and put each edge after its ends
 pub line_fits : (schema : Schema) (line : LoadLine) (records : List Fields) → AllHaveEnds schema → LineFits schema line → UpsertsFit schema (line_steps schema line records)
 line_fits schema line records ends fits =
     all_fit reading schema (load.routes_of schema line (load.header_of line records)) (load.loaded_of line records) ends
     (are_routes schema (load.header_of line records) line.destinations fits.destinations)
 
--- whatever the answer, the store stays one of the catalog
+-- whatever the answer, the store keeps to the catalog
 pub says_fits : (schema : Schema) (line : LoadLine) (records : List Fields) (before later : Store) (result : Result Report LoadFault) → AllHaveEnds schema → LineFits schema line
     → load.Loads reading schema line records before later result → StoreFits schema before → StoreFits schema later
 says_fits schema line records before later result ends fits says kept =
     begun_fits schema before later (line_steps schema line records) (line_fits schema line records ends fits) (says_begun schema line records before later result says) kept
 
--- and it has grown
+-- and only grows
 pub says_grown : (schema : Schema) (line : LoadLine) (records : List Fields) (before later : Store) (result : Result Report LoadFault)
     → load.Loads reading schema line records before later result → StoreGrown before later
 says_grown schema line records before later result says =

@@ -1,4 +1,4 @@
--- Loadings: where each LOAD of a job reads from, and what it does to the store with the bytes of its file.
+-- Loadings: the file that each LOAD of a job reads, and the effect of the file's bytes on the store.
 use Rattle.std.specs.Prelude.{◌≡◌, ℕ, List, [], Option, Some, None, slice_get}
 use Rattle.gq_graph.specs.Catalog.{Schema}
 use Rattle.gq_diagnostics.specs.declared.refusal.Refusal.TheVariants as refusal
@@ -26,7 +26,7 @@ abbrev pub path_or : List ℕ → Option (List ℕ) → LoadPath
 path_or name (Some path) = At path
 path_or name None = Nowhere name
 
--- where a name or a path leads
+-- the path of a file that is given by name or by path
 abbrev pub place_in : List File → List Given → FileName → LoadPath
 place_in files given (names.Defined name) = path_or name (path_of files given name)
 place_in files given (names.Path path) = At path
@@ -35,7 +35,7 @@ abbrev pub line_place : List File → List Given → Option LoadLine → LoadPat
 line_place files given (Some line) = place_in files given line.file
 line_place files given None = Nowhere []
 
--- where the LOAD of this number reads from, in a run that gives these paths
+-- where the LOAD with this number reads from, in a run that supplies these paths
 unfoldable pub place_of : Job → List Given → ℕ → LoadPath
 place_of job given number = line_place job.files given (slice_get job.lines number)
 
@@ -45,7 +45,7 @@ place_of job given number = line_place job.files given (slice_get job.lines numb
 abbrev pub line_steps : Schema → LoadLine → List Fields → List Step
 line_steps schema line records = all_steps reading schema (routes_of schema line (header_of line records)) (loaded_of line records)
 
--- what became of a file's records
+-- the judgement of a file's records, counted
 abbrev pub line_report : Schema → LoadLine → List Fields → Report
 line_report schema line records = report_on reading schema (routes_of schema line (header_of line records)) (loaded_of line records)
 
@@ -65,34 +65,34 @@ line_loaded schema line records store = unless_missing schema line records store
 abbrev pub no_records : Report
 no_records = record { lines = 0; loaded = 0; short = 0; unreadable = 0 }
 
--- the same for the LOAD of a number; where there is none, nothing is done
+-- the same for the LOAD with a number; if there is none, nothing is done
 abbrev pub one_loaded : Schema → Option LoadLine → List ℕ → Store → Loaded Store
 one_loaded schema (Some line) bytes store = line_loaded schema line (records_in line bytes) store
 one_loaded schema None bytes store = Loads store no_records
 
--- what the LOAD of this number does with the bytes of its file
+-- what the LOAD with this number does with the bytes of its file
 unfoldable pub loaded_by : Schema → Job → Store → ℕ → List ℕ → Loaded Store
 loaded_by schema job store number bytes = one_loaded schema (slice_get job.lines number) bytes store
 
--- ---- what is left
+-- ---- what remains
 
--- a refused LOAD leaves the store as it was, where a column has a name that the header lacks; else the upserts before the one that
--- found no room
+-- a refused LOAD leaves the store unchanged if a column has a name that the header lacks; else the upserts before the
+-- one that found no room remain
 abbrev pub RefusedLeaves : Option (List ℕ) → List Step → Store → Store → Type 0
 RefusedLeaves (Some name) steps store later = later ≡ store
 RefusedLeaves None steps store later = Refused store steps later
 
--- a LOAD of a file's records leaves this store by this fault; for OutOfMemory it has some of the upserts, from the first one on
+-- a LOAD of a file's records leaves this store by this fault; for OutOfMemory a prefix of the upserts was put
 abbrev pub LineLeaves : Schema → LoadLine → List Fields → Store → StatementFault → Store → Type 0
 LineLeaves schema line records store (fault.Refused r) later = RefusedLeaves (missing_of line (header_of line records)) (line_steps schema line records) store later
 LineLeaves schema line records store fault.ReadFault later = ⊥
 LineLeaves schema line records store fault.OutOfMemory later = Begun store (line_steps schema line records) later
 
--- the same for the LOAD of a number; where there is none, nothing fails
+-- the same for the LOAD with a number; if there is none, nothing fails
 abbrev pub OneLeaves : Schema → Option LoadLine → List ℕ → Store → StatementFault → Store → Type 0
 OneLeaves schema (Some line) bytes store f later = LineLeaves schema line (records_in line bytes) store f later
 OneLeaves schema None bytes store f later = ⊥
 
--- the LOAD of this number leaves this store by this fault
+-- the LOAD with this number leaves this store by this fault
 unfoldable pub Leaves : Schema → Job → Store → ℕ → List ℕ → StatementFault → Store → Type 0
 Leaves schema job store number bytes f later = OneLeaves schema (slice_get job.lines number) bytes store f later

@@ -21,12 +21,12 @@ abbrev pub report_of : List ℕ → Report → FileReport
 report_of path counts = record { file = path; lines = counts.lines; loaded = counts.loaded; short = counts.short; unreadable = counts.unreadable }
 
 module _ {S : Type 0} (place_of : ℕ → LoadPath) (loaded_by : S → ℕ → List ℕ → Loaded S) (known : Known) where
-  -- what comes of a LOAD of this path: its refusal, or the rest of the job behind its report
+  -- the effect after a LOAD of this path: its refusal, or the rest of the job after its report
   abbrev pub Continues : List ℕ → List FileReport → Loaded S → (S → List FileReport → Type 0) → Effect S → Type 0
   Continues path reports (Loads t counts) Rest effect = Rest t (reports ++ report_of path counts ∷ [])
   Continues path reports (Fails r) Rest effect = effect ≡ Refused (message_of r)
 
-  -- the same, by what the file answered
+  -- the same, by what the file answers
   abbrev pub AnswerLoads : S → ℕ → List ℕ → List FileReport → Answer → (S → List FileReport → Type 0) → Effect S → Type 0
   AnswerLoads s number path reports Absent Rest effect = effect ≡ Refused (message_of (refusal.MissingFile path))
   AnswerLoads s number path reports TooLong Rest effect = effect ≡ Refused (message_of (refusal.TooLarge path))
@@ -38,7 +38,7 @@ module _ {S : Type 0} (place_of : ℕ → LoadPath) (loaded_by : S → ℕ → L
   PlaceLoads s number reports (At path) Rest effect =
       (answer : Answer) × MayAnswer known path answer × AnswerLoads s number path reports answer Rest effect
 
-  -- what so many LOADs do from a state on, the first of which has this number, behind these reports
+  -- what the remaining LOADs do from a state, if the first of them has this number, after these reports
   abbrev pub LoadsMean : S → ℕ → ℕ → List FileReport → Effect S → Type 0
   LoadsMean s number zero reports effect = effect ≡ Becomes s (report_text reports ∷ [])
   LoadsMean s number (suc left) reports effect =

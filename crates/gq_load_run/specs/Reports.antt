@@ -5,7 +5,7 @@ use Rattle.gq_json.specs.declared.out.Out.TheVariants.{Text, UInt}
 use Rattle.gq_json.specs.Json.{line_text}
 use Rattle.gq_load_run.specs.declared.lines.FileReport.{FileReport}
 
--- the members of the object of one LOAD: its file, and how many records there were, were loaded, were short, and were unreadable
+-- the members of the object of a LOAD: its file, and the numbers of records in it, loaded, short and unreadable
 abbrev pub report_members : FileReport → List (List ℕ × Out)
 report_members report =
     (codes "file", Text report.file)

@@ -1,4 +1,4 @@
-// One LOAD after another.
+// Runs the LOADs of a job, one after another.
 ghost use Rattle.std.specs.Prelude.{◌≡◌, ◌≤◌, ◌<◌, ◌++◌, ◌∷◌, [], ◌+◌, ℕ, suc, List, length, All, Err, IfOk, IfErr, IsErrOf};
 ghost use Rattle.gq_io.specs.Counts.{Rose};
 ghost use Rattle.gq_diagnostics.specs.declared.refusal.Refusal.{Refusal};
@@ -28,8 +28,8 @@ use gq_schema::Catalog;
 use gq_value::Txt;
 use std::alloc::Global;
 
-/// Runs the LOADs of a job in a run that gives these paths, and gives the line of their reports. Each reads its file behind the
-/// LOADs before it.
+/// Runs the LOADs of a job in a run that supplies these paths, and returns the line of their reports. Each reads its
+/// file after the LOADs before it.
 pub(crate) fn run_loads<F: Files>(
     alloc: Global,
     catalog: &Catalog,
@@ -41,13 +41,13 @@ pub(crate) fn run_loads<F: Files>(
     requires ends { AllHaveEnds catalog.now }
     requires lines { All (LineFits catalog.now) job.now.lines }
     requires store { StoreFits catalog.now store.old }
-    // A job that runs got bytes for each file that it asked for, so that no count is needed.
+    // A job that succeeds got bytes for each file that it asked for, so that no count is needed.
     ensures done { (before now met : ℕ) → IfOk result (λ line.
         LoadsDo (known_of (F.held files.old) before now met) catalog.now job.now given.now store.old (Becomes store.new (line.items ∷ []))) }
     ensures refused { (refusal : Refusal) → result ≡ Err (StatementFault.Refused refusal) → (before : ℕ) → before ≤ F.absences files.old
         → LoadsDo (known_of (F.held files.old) before (F.absences files.new) (F.length_met files.new)) catalog.now job.now given.now store.old (Refused (message_of refusal)) }
 
-    // The LOADs that ended stay, and the one behind them leaves what it leaves by its fault: nothing is rolled back.
+    // The LOADs that ended remain, and the next one leaves what it leaves by its fault: nothing is rolled back.
     ensures left { (before : ℕ) → before ≤ F.absences files.old → IfErr result (λ fault.
         LoadsLeave (known_of (F.held files.old) before (F.absences files.new) (F.length_met files.new)) catalog.now job.now given.now store.old fault store.new) }
     ensures fits { StoreFits catalog.now store.new }
@@ -73,7 +73,7 @@ pub(crate) fn run_loads<F: Files>(
     }
 }
 
-// Reads the file of the LOAD of this number, and loads it.
+// Reads the file of the LOAD with this number, and loads it.
 #[tactic(auto, using(gq_index::proofs::KeptLemmas::store_same))]
 fn load_one<F: Files>(
     alloc: Global,

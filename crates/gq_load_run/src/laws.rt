@@ -1,4 +1,4 @@
-// What holds of runs of jobs.
+// Laws about runs of jobs.
 ghost use Rattle.std.specs.Prelude.{◌≡◌, List};
 ghost use Rattle.gq_io.specs.Listing.{Listing};
 ghost use Rattle.gq_graph.specs.Catalog.{Schema};
@@ -9,7 +9,7 @@ ghost use Rattle.gq_diagnostics.specs.Effects.{Effect};
 ghost use Rattle.gq_ddl.specs.declared.named.NamedJob.{NamedJob};
 ghost use Rattle.gq_load_run.specs.JobRuns.{JobDoes};
 
-/// Over files that are told a run of a job does one thing.
+/// If the listing of the files is given, a run of a job has exactly one effect.
 pub fn jobs_do_one_thing()
     ensures { (pairs : Listing) (schema : Schema) (jobs : List NamedJob) (store : Store) (tree : RunJobTree) (e f : Effect Store)
         → JobDoes (Told pairs) schema jobs store tree e → JobDoes (Told pairs) schema jobs store tree f → e ≡ f }

@@ -1,6 +1,6 @@
 //! Runs loading jobs: RUN LOADING JOB executes the LOADs of a job in order and prints one report.
 //!
-//! Each file is read when its turn comes, after the LOADs before it. If a LOAD fails, the store keeps what
+//! Each file is read when its LOAD begins, after the LOADs before it. If a LOAD fails, the store keeps what
 //! was loaded before.
 //!
 //! Read `specs/JobRuns.antt` first: what a run of a job means, and what it leaves if it fails.

@@ -16,7 +16,7 @@ use gq_load_check::{Job, LoadLine};
 use gq_schema::Catalog;
 use std::alloc::Global;
 
-/// Runs the LOAD of this number on the bytes of its file. LOADs are counted from 0.
+/// Runs the LOAD with this number on the bytes of its file. LOADs are counted from 0.
 #[tactic(auto, unfolding(crate::specs::Loadings::loaded_by))]
 pub(crate) fn load_numbered(
     alloc: Global,

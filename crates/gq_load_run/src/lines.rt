@@ -8,7 +8,7 @@ use gq_json::{Members, Out, Printed, json_line};
 use gq_value::Txt;
 use std::alloc::Global;
 
-/// What became of the records of a file. The header isn't counted.
+/// The report on the records of a file. The header isn't counted.
 #[derive(Debug, Drop)]
 pub struct FileReport {
     /// The path that was read.
@@ -19,7 +19,7 @@ pub struct FileReport {
     pub unreadable: u64,
 }
 
-/// The line of a loading job that has these reports, the line feed included.
+/// Returns the line that a loading job with these reports prints, including the line feed.
 pub fn report_line(alloc: Global, reports: &[FileReport]) -> Result<Vec<u8>, OutOfMemory>
     ensures { IfOk result (λ line. line.items ≡ report_text reports.now) }
 {

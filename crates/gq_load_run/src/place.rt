@@ -1,4 +1,4 @@
-// Where a LOAD reads from.
+// The file that a LOAD reads from.
 ghost use Rattle.std.specs.Prelude.{◌≡◌, ◌<◌, length, IfOk};
 ghost use Rattle.std.specs.Option.{option_copied};
 ghost use Rattle.gq_load_run.specs.Loadings as spec;
@@ -8,14 +8,14 @@ use gq_load_check::{FileName, Job, path_of};
 use gq_value::Txt;
 use std::alloc::Global;
 
-/// Where a LOAD reads from: a path, or a name for which there is none.
+/// Where a LOAD reads from: a path, or a name without a path.
 #[derive(Drop)]
 pub enum LoadPath {
     At(Txt),
     Nowhere(Txt),
 }
 
-/// Where the LOAD of this number reads from, in a run that gives these paths. LOADs are counted from 0.
+/// Returns where the LOAD with this number reads from, in a run that supplies these paths. LOADs are counted from 0.
 #[tactic(auto, unfolding(crate::specs::Loadings::place_of))]
 pub(crate) fn place(
     alloc: Global,

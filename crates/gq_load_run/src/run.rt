@@ -25,11 +25,13 @@ use gq_tree::RunJobTree;
 use gq_value::Txt;
 use std::alloc::Global;
 
-/// RUN LOADING JOB, and the line of its reports. The store gains the upserts of its LOADs, one after another.
+/// Executes RUN LOADING JOB, and returns the line of its reports. The store gains the upserts of its LOADs, one after
+/// another.
 ///
-/// Refused where no job has the name, else where the run gives a path for a name of which the job has no file, else by the first
-/// LOAD that is. After a refusal the store has the upserts of the LOADs that ended, and of the refused one those before the upsert
-/// that found no room; a missing column loads nothing. `OutOfMemory` leaves some of a LOAD's upserts, from the first one on.
+/// Refused if no job has the name, else if the run supplies a path for a name although the job has no such file, else
+/// by the first LOAD that is refused. After a refusal the store has the upserts of the LOADs that ended, and of the
+/// refused one those before the upsert that found no room; a missing column loads nothing. After `OutOfMemory` a prefix
+/// of a LOAD's upserts was put.
 #[tactic(auto, using(gq_index::proofs::KeptLemmas::store_same))]
 pub fn run_job<F: Files>(
     alloc: Global,
@@ -42,7 +44,7 @@ pub fn run_job<F: Files>(
     requires ends { AllHaveEnds catalog.now }
     requires jobs { JobsFit catalog.now jobs.now }
     requires store { StoreFits catalog.now store.old }
-    // A job that runs got bytes for each file that it asked for, so that no count is needed.
+    // A job that succeeds got bytes for each file that it asked for, so that no count is needed.
     ensures done { (before now met : ℕ) → IfOk result (λ line.
         JobDoes (known_of (F.held files.old) before now met) catalog.now jobs.now store.old tree.now (Becomes store.new (line.items ∷ []))) }
     ensures refused { (refusal : Refusal) → result ≡ Err (StatementFault.Refused refusal) → (before : ℕ) → before ≤ F.absences files.old
@@ -93,7 +95,7 @@ fn run_found<F: Files>(
     }
 }
 
-// Nothing has the name, or memory for it is wanting.
+// Returns `UnknownName`, or `OutOfMemory` if the name can't be copied.
 fn unknown_name(alloc: Global, name: &str) -> StatementFault
     ensures { Tells (Refusal.UnknownName name.now) result }
 {

@@ -1,7 +1,8 @@
-//! The program `gsql`: runs a GSQL script and prints one JSON line a statement.
+//! The program `gsql`: runs a GSQL script and prints one JSON line per statement.
 //!
-//! The one call that matters is `run` of `gq_driver`: its clauses are the promise of the whole program. Here it is given an engine
-//! for its queries, the words, the host's files and its standard output, and the program ends with the number of its answer.
+//! The one call that matters is `run` of `gq_driver`: its contract is the contract of the whole program. Here it is
+//! given an engine for its queries, the arguments, the host's files and standard output, and the program exits with the
+//! number of its status.
 #![tactic(auto)]
 
 ghost use Rattle.std.specs.Prelude.{◌≡◌, ◌≢◌};
@@ -43,7 +44,7 @@ fn read_words(rt: &HostRuntime, words: &mut Vec<String>) -> io::Result<()> {
     Ok(())
 }
 
-// Ends with this status, after a word on standard error where standard output has none.
+// Exits with this status, after a message on standard error if standard output has none.
 fn end(rt: &impl Eprint, status: Status) -> ExitCode
     ensures { exit_status result ≡ code_of status }
 {
@@ -53,7 +54,7 @@ fn end(rt: &impl Eprint, status: Status) -> ExitCode
     ExitCode::from(status.code())
 }
 
-// The run has no words: memory was wanting, or the system didn't give them.
+// The run has no arguments: memory ran out, or the system didn't supply them.
 fn end_without_words(rt: &impl Eprint, error: &io::Error) -> ExitCode
     ensures memory { error_kind error.now ≡ ErrorKind.OutOfMemory → exit_status result ≡ code_of Status.OutOfMemory }
     ensures other { error_kind error.now ≢ ErrorKind.OutOfMemory → exit_status result ≡ 6 }

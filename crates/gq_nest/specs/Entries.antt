@@ -10,7 +10,7 @@ use Rattle.gq_value.specs.Views.{val}
 use Rattle.gq_accum_laws.specs.Gather.{put, distinct}
 use Rattle.gq_accum_laws.specs.Holds.{row_cmp}
 
--- a value as a row of its own
+-- a value as a row of one
 abbrev pub key_row : Value → List Val
 key_row v = val v ∷ []
 
@@ -18,23 +18,23 @@ key_row v = val v ∷ []
 abbrev pub group_row : Vec Value → List Val
 group_row row = map val row.items
 
--- each of a list is so
+-- P holds of each of a list
 abbrev pub every : {A : Type 0} → (A → Type 0) → List A → Type 0
 every P [] = Unit {0}
 every P (x ∷ xs) = P x × every P xs
 
--- what f makes of what is there, and d where nothing is
+-- f of the value, or d if there is none
 abbrev pub at_or : {A B : Type 0} → (A → B) → B → Option A → B
 at_or f d None = d
 at_or f d (Some x) = f x
 
--- two lists are as long, and so are those in one place
+-- two lists have the same length, and R relates the items at each index
 abbrev pub Pairs : {X Y : Type 0} → (X → Y → Type 0) → List X → List Y → Type 0
 Pairs R [] [] = Unit {0}
 Pairs R (x ∷ xs) (y ∷ ys) = R x y × Pairs R xs ys
 Pairs R _ _ = ⊥
 
--- as many as before, and each has made a step, by what stands in its place
+-- the lists have the same length, and at each index the old item steps to the new one by the item of the middle list
 abbrev pub StepsEach : {X Y : Type 0} → (X → Y → X → Type 0) → List X → List Y → List X → Type 0
 StepsEach step [] [] [] = Unit {0}
 StepsEach step (x ∷ old) (y ∷ ys) (z ∷ new) = step x y z × StepsEach step old ys new
@@ -48,20 +48,20 @@ module _ {K X : Type 0} (row : K → List Val) where
   abbrev pub rows : List (K × X) → List (List Val)
   rows es = map (λ e. row e.0) es
 
-  -- what stands under a key row
+  -- the value at a key row
   abbrev pub under : List Val → List (K × X) → Option X
   under q es = lookup (is_row row q) es
 
-  -- what stands under any key row is so
+  -- P holds of the value at each key row
   abbrev pub Each : (X → Type 0) → List (K × X) → Type 0
   Each P es = (q : List Val) (x : X) → under q es ≡ Some x → P x
 
-  -- under the key row stands x now, and under the others what stood there
+  -- x is now the value at the key row, and the other key rows keep theirs
   pub record Puts (old : List (K × X)) (key : List Val) (x : X) (new : List (K × X)) : Type 0 where
     pub keys : distinct row_cmp (rows new) ≡ put row_cmp false key (distinct row_cmp (rows old))
     pub at : (q : List Val) → under q new ≡ (if is_eq (row_cmp q key) then Some x else under q old)
 
-  -- what stood under the key row, or what a new one begins with, has made a step
+  -- the value at the key row, or the initial one of a new key row, has made a step
   pub record Changes (begins : X → Type 0) (step : X → X → Type 0) (old : List (K × X)) (key : List Val) (new : List (K × X)) : Type 0 where
     pub was : X
     pub now : X
@@ -70,7 +70,7 @@ module _ {K X : Type 0} (row : K → List Val) where
     pub stepped : step was now
     pub puts : Puts old key now new
 
-  -- each is a copy of what stood there
+  -- the same key rows, with a copy of the value at each
   pub record CopiesEach (copies : X → X → Type 0) (all new : List (K × X)) : Type 0 where
     pub keys : distinct row_cmp (rows new) ≡ distinct row_cmp (rows all)
     pub none : (q : List Val) → under q all ≡ None → under q new ≡ None

@@ -35,7 +35,7 @@ abbrev pub entries_in : Content-F Content → List (Value × Content)
 entries_in (Content-F.Map o m) = m.entries
 entries_in l = []
 
--- what new keys begin with
+-- the initial content of new keys
 abbrev pub openings_in : Content-F Content → List Content
 openings_in (Content-F.Map o m) = o ∷ []
 openings_in l = []
@@ -45,7 +45,7 @@ abbrev pub groups_in : Content-F Content → List (Vec Value × List Content)
 groups_in (Content-F.Group os m) = m.entries
 groups_in l = []
 
--- what the parts of new key rows begin with
+-- the initial parts of new key rows
 abbrev pub parts_in : Content-F Content → List (List Content)
 parts_in (Content-F.Group os m) = os ∷ []
 parts_in l = []
@@ -130,19 +130,19 @@ pub record TakesTuples (old : Heap) (more : List Val) (new : Heap) : Type 0 wher
   pub each : AreKept old.capacity old.order (map val old.tuples) → AreKept old.capacity old.order (map val new.tuples)
       × (take old.capacity (sorted (heap_cmp old.order) (map val new.tuples)) ≡ take old.capacity (sorted (heap_cmp old.order) (map val old.tuples ++ more)))
 
--- what a map holds, once more
+-- a copy of what a map holds
 abbrev pub CopiesEntries : List (Value × Content) → List (Value × Content) → Type 0
 CopiesEntries = CopiesEach key_row (λ p c. Copies (out-Content p) (out-Content c))
 
--- another content merged into what stands under a key row
+-- another content merged into the one at a key row
 abbrev pub MergesAt : Content → List (Value × Content) → List Val → Content → List (Value × Content) → Type 0
 MergesAt opening old key part new = Changes key_row (λ c. Copies (out-Content opening) (out-Content c)) (λ was now. Merges (out-Content was) (out-Content part) (out-Content now)) old key new
 
--- what is held under a key row, as a content of a kind
+-- the content at a key row, as a content of a kind
 abbrev pub at_row : (k : Accum) → List Val → List (Value × Content) → Holds k
 at_row k q es = at_or (λ c. view k (out-Content c)) (fresh k) (under key_row q es)
 
--- what a merge of entries may count on
+-- what a merge of entries may assume
 pub record AreReady (k : Accum) (opening : Content) (old all : List (Value × Content)) : Type 0 where
   pub first : IsOf k (out-Content opening)
   pub opens : view k (out-Content opening) ≡ fresh k
@@ -159,7 +159,7 @@ pub record Unites (opening : Content) (old all new : List (Value × Content)) : 
 
 -- ---- groups
 
--- each part with an input of its own
+-- each part fed the input at its index
 abbrev pub FeedsEach : List Content → List Given → List Content → Type 0
 FeedsEach = StepsEach (λ c x d. Feeds (out-Content c) x (out-Content d))
 
@@ -175,7 +175,7 @@ CopyEach = Pairs (λ c d. Copies (out-Content c) (out-Content d))
 abbrev pub FeedsGroup : List Content → List (Vec Value × List Content) → List Val → List Given → List (Vec Value × List Content) → Type 0
 FeedsGroup openings old row xs new = Changes group_row (CopyEach openings) (λ was now. FeedsEach was xs now) old row new
 
--- other parts merged into what stands under a key row
+-- other parts merged into those at a key row
 abbrev pub MergesGroup : List Content → List (Vec Value × List Content) → List Val → List Content → List (Vec Value × List Content) → Type 0
 MergesGroup openings old row parts new = Changes group_row (CopyEach openings) (λ was now. MergesEach was parts now) old row new
 
@@ -183,7 +183,7 @@ MergesGroup openings old row parts new = Changes group_row (CopyEach openings) (
 abbrev pub CopiesGroups : List (Vec Value × List Content) → List (Vec Value × List Content) → Type 0
 CopiesGroups = CopiesEach group_row CopyEach
 
--- what is held under a key row, as contents of parts
+-- the parts at a key row, as contents of parts
 abbrev pub parts_at : (ps : Parts) → List Val → List (Vec Value × List Content) → HoldsEach ps
 parts_at ps q es = at_or (λ cs. view_each ps cs) (fresh_each ps) (under group_row q es)
 
@@ -191,7 +191,7 @@ parts_at ps q es = at_or (λ cs. view_each ps cs) (fresh_each ps) (under group_r
 abbrev pub HaveRoom : (ps : Parts) → HoldsEach ps → Type 0
 HaveRoom ps cs = (f : ℕ) × (f < 2 ^ 62) × FedEach ps cs f
 
--- what a merge of groups may count on
+-- what a merge of groups may assume
 pub record GroupsAreReady (ps : Parts) (openings : List Content) (old all : List (Vec Value × List Content)) : Type 0 where
   pub first : AreOf ps openings
   pub opens : view_each ps openings ≡ fresh_each ps

@@ -55,7 +55,7 @@ pub record ShowsTheSame (old new : Content) : Type 0 where
 abbrev pub AreFresh : List (List ℕ × Kind) → List Content → Type 0
 AreFresh = Pairs (λ p c. Shows (accum_of p.1) c (fresh (accum_of p.1)))
 
--- each part shows what is held in its place
+-- each part shows what is held at its index
 abbrev pub ShowEach : (ps : Parts) → List Content → HoldsEach ps → Type 0
 ShowEach no_part [] h = Unit {0}
 ShowEach (part_and name k ps) (c ∷ cs) h = Shows k c h.0 × ShowEach ps cs h.1

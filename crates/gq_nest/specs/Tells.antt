@@ -47,7 +47,7 @@ pub record Tells {A : Type 0} (c : Content) (answer : A) (f : (k : Accum) → Ho
 pub record LacksKey (c : Content) (key : List Val) : Type 0 where
   pub each : (b : Base) (k : Accum) (h : Holds (MapAccum b k)) → Shows (MapAccum b k) c h → among row_cmp key h.0 ≡ false
 
--- a map holds the key, and this stands there
+-- a map holds the key, with this content
 pub record HasKey (c : Content) (key : List Val) (part : Content) : Type 0 where
   pub each : (b : Base) (k : Accum) (h : Holds (MapAccum b k)) → Shows (MapAccum b k) c h → (among row_cmp key h.0 ≡ true) × Shows k part (h.1 key)
 

@@ -1,4 +1,4 @@
-// Contents.
+// The content of an accumulator.
 ghost use Rattle.std.specs.Prelude.{◌≡◌, true, IfOk, IsOk, OnOk, OnErr, IsErr};
 ghost use Rattle.gq_value.specs.Accums as plain;
 ghost use Rattle.gq_value.specs.AccumViews.{accum_of, given};
@@ -12,34 +12,35 @@ use crate::fresh::fresh;
 use crate::merge::merge;
 use gq_accum::Scalar;
 use gq_base::{Boxed, List, OutOfMemory};
+use gq_sorted::{SortedMap, SortedSet};
 use gq_value::{Input, Kind, Value};
 use std::alloc::Global;
-use std::collections::{BTreeMap, BTreeSet};
 
 /// The content of an accumulator of any kind.
 ///
-/// Its variants are seen so that contents may hold contents; callers use the calls below. A content that found no memory while
-/// it took an input or a part is spoiled, and says so from then on. One of a scalar kind takes no memory and is never spoiled.
+/// The variants are public because contents contain contents; callers use the methods below. A content that runs out of
+/// memory while it takes an input or another content is spoiled, and stays so. One of a scalar kind never allocates, so
+/// it is never spoiled.
 #[derive(Drop)]
 pub enum Content {
     Scalar(Scalar),
-    Set(BTreeSet<Value>),
+    Set(SortedSet<Value>),
     Bag(List<Value>),
     List(List<Value>),
     Heap(Heap),
-    /// What a new key begins with, and what stands at each key.
-    Map(Boxed<Content>, BTreeMap<Value, Content>),
-    /// What the parts of a new key row begin with, and the parts at each key row.
-    Group(Parts, BTreeMap<Vec<Value>, Parts>),
-    /// What is left of a content after `OutOfMemory`.
+    /// The initial content of a new key, and the content of each key.
+    Map(Boxed<Content>, SortedMap<Value, Content>),
+    /// The initial parts of a new key row, and the parts of each key row.
+    Group(Parts, SortedMap<Vec<Value>, Parts>),
+    /// A content that ran out of memory; what it held is lost.
     Spoiled,
 }
 
 /// The parts of a group, in order of declaration.
 pub type Parts = List<Content>;
 
-/// The first tuples of a heap, at most as many as its capacity. The last of them stands in front, and each is at most the one
-/// above it, by its place.
+/// The first tuples of a heap, at most `capacity` of them, as a binary heap whose root is the last: no tuple is ordered
+/// after its parent.
 #[derive(Drop)]
 pub struct Heap {
     pub(crate) capacity: u32,
@@ -55,7 +56,7 @@ impl Content {
         fresh(alloc, kind)
     }
 
-    /// Whether a `feed`, `merge` or `push` of it answered `OutOfMemory`. Takes no memory.
+    /// Whether an earlier `feed`, `merge` or `push` returned `OutOfMemory`. Doesn't allocate.
     #[tactic(auto, using(crate::proofs::LevelLemmas::opened))]
     pub fn spoiled(&self) -> bool
         ensures { result ≡ is_spoiled self.now }
@@ -72,13 +73,13 @@ impl Content {
         }
     }
 
-    /// Takes one more input.
+    /// Feeds one input.
     #[tactic(auto, using(crate::proofs::LevelLemmas::opened, crate::proofs::ShowSteps::takes_input))]
     pub fn feed(&mut self, alloc: Global, input: &Input) -> Result<(), OutOfMemory>
         ensures fed { OnOk result (TakesInput self.old (given input.now) self.new) }
         ensures spoiled { OnErr result (is_spoiled self.new ≡ true) }
         ensures stays { is_spoiled self.old ≡ true → IsErr result }
-        // One number, truth or average takes no memory.
+        // A number, truth or average doesn't allocate.
         ensures plain { is_plain self.old ≡ true → is_one (given input.now) ≡ true → IsOk result }
     {
         match feed(alloc, self, input) {
@@ -90,7 +91,7 @@ impl Content {
         }
     }
 
-    /// Takes all that `other`, a content of the same kind, has taken.
+    /// Merges `other`, a content of the same kind.
     #[tactic(auto, using(crate::proofs::LevelLemmas::opened, crate::proofs::ShowSteps::takes_content))]
     pub fn merge(&mut self, alloc: Global, other: &Content) -> Result<(), OutOfMemory>
         ensures merged { OnOk result (TakesContent self.old other.now self.new) }
@@ -107,7 +108,7 @@ impl Content {
         }
     }
 
-    /// Takes one more value of a list, without a copy.
+    /// Appends a value to a list, without a copy.
     #[tactic(auto, using(crate::proofs::LevelLemmas::opened, crate::proofs::ShowSteps::takes_input))]
     pub fn push(&mut self, x: Value) -> Result<(), OutOfMemory>
         ensures pushed { OnOk result (TakesInput self.old (plain.One (val x)) self.new) }
@@ -123,7 +124,7 @@ impl Content {
         }
     }
 
-    /// A content that holds the same, with memory of its own.
+    /// A deep copy.
     #[tactic(auto, using(crate::proofs::LevelLemmas::opened, crate::proofs::ShowSteps::shows_the_same))]
     pub fn duplicate(&self, alloc: Global) -> Result<Content, OutOfMemory>
         ensures same { IfOk result (λ copy. ShowsTheSame self.now copy) }

@@ -1,4 +1,4 @@
-// Copies.
+// Deep copies of contents.
 ghost use Rattle.std.specs.Prelude.{◌≡◌, IfOk};
 ghost use Rattle.gq_nest.specs.declared.content.Content.{out-Content};
 ghost use Rattle.gq_nest.specs.Forms.{Copies, CopiesEntries, CopiesGroups, CopyEach, entries_in, groups_in};
@@ -6,11 +6,11 @@ ghost use Rattle.gq_nest.specs.Forms.{Copies, CopiesEntries, CopiesGroups, CopyE
 use crate::content::{Content, Heap, Parts};
 use crate::more::{add_keys, put_entry};
 use gq_base::{Boxed, List, OutOfMemory};
+use gq_sorted::{SortedMap, SortedSet};
 use gq_value::{Value, duplicate_row};
 use std::alloc::Global;
-use std::collections::{BTreeMap, BTreeSet};
 
-/// A content that holds the same, with memory of its own.
+/// A deep copy. A spoiled content returns `OutOfMemory`.
 #[cycle(copying)]
 pub(crate) fn duplicate(alloc: Global, content: &Content) -> Result<Content, OutOfMemory>
     ensures { IfOk result (λ copy. Copies (out-Content content.now) (out-Content copy)) }
@@ -18,7 +18,7 @@ pub(crate) fn duplicate(alloc: Global, content: &Content) -> Result<Content, Out
     match content {
         Content::Scalar(scalar) => Ok(Content::Scalar(*scalar)),
         Content::Set(keys) => {
-            let mut copy = BTreeSet::new(alloc);
+            let mut copy = SortedSet::with_capacity(alloc, keys.len())?;
             add_keys(alloc, &mut copy, keys)?;
             Ok(Content::Set(copy))
         }
@@ -43,7 +43,7 @@ pub(crate) fn duplicate(alloc: Global, content: &Content) -> Result<Content, Out
     }
 }
 
-/// Contents that hold the same, in the same order.
+/// Deep copies of parts, in the same order.
 #[cycle(copying)]
 pub(crate) fn duplicate_parts(alloc: Global, parts: &[Content]) -> Result<Parts, OutOfMemory>
     ensures { IfOk result (CopyEach parts.now) }
@@ -55,20 +55,20 @@ pub(crate) fn duplicate_parts(alloc: Global, parts: &[Content]) -> Result<Parts,
     Ok(copy)
 }
 
-/// The key rows of a group, with their parts, once more.
+/// A copy of a group's key rows with their parts. Any other content returns `OutOfMemory`.
 #[cycle(copying)]
 fn duplicate_groups(
     alloc: Global,
     content: &Content,
-) -> Result<BTreeMap<Vec<Value>, Parts>, OutOfMemory>
+) -> Result<SortedMap<Vec<Value>, Parts>, OutOfMemory>
     ensures { IfOk result (λ copy. CopiesGroups (groups_in (out-Content content.now)) copy.entries) }
 {
     match content {
         Content::Group(_, groups) => {
-            let mut copy = BTreeMap::new(alloc);
+            let mut copy = SortedMap::with_capacity(alloc, groups.len())?;
             for (row, parts) in groups {
                 let parts = duplicate_parts(alloc, parts.as_slice())?;
-                put_entry(&mut copy, key_row(alloc, row.as_slice())?, parts)?;
+                put_entry(alloc, &mut copy, key_row(alloc, row.as_slice())?, parts)?;
             }
             Ok(copy)
         }
@@ -87,20 +87,20 @@ pub(crate) fn key_row(alloc: Global, row: &[Value]) -> Result<Vec<Value>, OutOfM
     Ok(copy)
 }
 
-/// The entries of a map once more.
+/// A copy of a map's entries. Any other content returns `OutOfMemory`.
 #[cycle(copying)]
 fn duplicate_entries(
     alloc: Global,
     content: &Content,
-) -> Result<BTreeMap<Value, Content>, OutOfMemory>
+) -> Result<SortedMap<Value, Content>, OutOfMemory>
     ensures { IfOk result (λ copy. CopiesEntries (entries_in (out-Content content.now)) copy.entries) }
 {
     match content {
         Content::Map(_, entries) => {
-            let mut copy = BTreeMap::new(alloc);
+            let mut copy = SortedMap::with_capacity(alloc, entries.len())?;
             for (key, part) in entries {
                 let part = duplicate(alloc, part)?;
-                put_entry(&mut copy, key.duplicate(alloc)?, part)?;
+                put_entry(alloc, &mut copy, key.duplicate(alloc)?, part)?;
             }
             Ok(copy)
         }

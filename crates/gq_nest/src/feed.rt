@@ -1,4 +1,4 @@
-// One more input.
+// Feeding one input.
 ghost use Rattle.std.specs.Prelude.{◌≡◌, ◌∷◌, [], true, map, OnOk, IsOk, IsErr};
 ghost use Rattle.gq_value.specs.Accums as plain;
 ghost use Rattle.gq_value.specs.Views.{val};
@@ -12,11 +12,11 @@ use crate::copies::{duplicate, duplicate_parts, key_row};
 use crate::more::{add_item, add_key, push_item, put_entry};
 use gq_accum::Fold;
 use gq_base::OutOfMemory;
+use gq_sorted::SortedMap;
 use gq_value::{Input, Value};
 use std::alloc::Global;
-use std::collections::BTreeMap;
 
-/// Takes one more input. An input of another form than the kind's is answered as `OutOfMemory`.
+/// Feeds one input. Returns `OutOfMemory` if the input doesn't have the form of the content's kind.
 #[cycle(feeding)]
 pub(crate) fn feed(alloc: Global, content: &mut Content, input: &Input) -> Result<(), OutOfMemory>
     ensures fed { OnOk result (Feeds (out-Content content.old) (given input.now) (out-Content content.new)) }
@@ -47,7 +47,7 @@ pub(crate) fn feed(alloc: Global, content: &mut Content, input: &Input) -> Resul
     }
 }
 
-/// Takes one value.
+/// Feeds one value, which isn't keyed.
 fn feed_one(alloc: Global, content: &mut Content, value: &Value) -> Result<(), OutOfMemory>
     ensures fed { OnOk result (Feeds (out-Content content.old) (plain.One (val value.now)) (out-Content content.new)) }
     ensures stays { is_spoiled content.old ≡ true → IsErr result }
@@ -66,12 +66,12 @@ fn feed_one(alloc: Global, content: &mut Content, value: &Value) -> Result<(), O
     }
 }
 
-/// Takes one input under a key, which begins with the opening where it is new.
+/// Feeds one input to the content at a key. A new key starts with a copy of `opening`.
 #[cycle(feeding)]
 fn feed_entry(
     alloc: Global,
     opening: &Content,
-    entries: &mut BTreeMap<Value, Content>,
+    entries: &mut SortedMap<Value, Content>,
     key: &Value,
     input: &Input,
 ) -> Result<(), OutOfMemory>
@@ -82,18 +82,18 @@ fn feed_entry(
         None => {
             let mut part = duplicate(alloc, opening)?;
             feed(alloc, &mut part, input)?;
-            put_entry(entries, key.duplicate(alloc)?, part)
+            put_entry(alloc, entries, key.duplicate(alloc)?, part)
         }
     }
 }
 
-/// Takes an input for each part under a key row, whose parts begin with the openings where it is new.
+/// Feeds one input to each part of a key row. The parts of a new key row start as copies of `openings`.
 #[cycle(feeding)]
 fn feed_group(
     alloc: Global,
     inputs: &[Input],
     openings: &[Content],
-    groups: &mut BTreeMap<Vec<Value>, Parts>,
+    groups: &mut SortedMap<Vec<Value>, Parts>,
     row: &[Value],
 ) -> Result<(), OutOfMemory>
     ensures { OnOk result (FeedsGroup openings.now groups.old.entries (map val row.now) (map given inputs.now) groups.new.entries) }
@@ -103,12 +103,12 @@ fn feed_group(
         None => {
             let mut parts = duplicate_parts(alloc, openings)?;
             feed_parts(alloc, inputs, &mut parts)?;
-            put_entry(groups, key_row(alloc, row)?, parts)
+            put_entry(alloc, groups, key_row(alloc, row)?, parts)
         }
     }
 }
 
-/// Takes an input for each part.
+/// Feeds one input to each part. Returns `OutOfMemory` if there are more or fewer inputs than parts.
 #[cycle(feeding)]
 fn feed_parts(alloc: Global, inputs: &[Input], parts: &mut Parts) -> Result<(), OutOfMemory>
     ensures { OnOk result (FeedsEach parts.old (map given inputs.now) parts.new) }
@@ -122,7 +122,7 @@ fn feed_parts(alloc: Global, inputs: &[Input], parts: &mut Parts) -> Result<(), 
     Ok(())
 }
 
-/// Takes one value more, last of a list. Another content is answered as `OutOfMemory`.
+/// Appends a value to a list. Any other content returns `OutOfMemory`.
 pub(crate) fn push(content: &mut Content, x: Value) -> Result<(), OutOfMemory>
     ensures pushed { OnOk result (Feeds (out-Content content.old) (plain.One (val x)) (out-Content content.new)) }
     ensures stays { is_spoiled content.old ≡ true → IsErr result }

@@ -1,10 +1,10 @@
-// Whether contents fit.
+// Whether the sums and averages of contents are within their types.
 ghost use Rattle.gq_accum_laws.specs.Fits.{fits as all_fit};
 ghost use Rattle.gq_nest.specs.Tells.{Tells, EachTells};
 
 use crate::content::Content;
 
-/// Whether each sum and average in it is within its type.
+/// Whether each sum and average in the content, to any depth, is within its type.
 #[cycle(fits)]
 pub(crate) fn fits(content: &Content) -> bool
     ensures { Tells content.now result all_fit }

@@ -7,13 +7,13 @@ ghost use Rattle.gq_nest.specs.Shows.{Shows, AreFresh};
 use crate::content::{Content, Heap, Parts};
 use gq_accum::Scalar;
 use gq_base::{Boxed, List, OutOfMemory};
+use gq_sorted::{SortedMap, SortedSet};
 use gq_value::{Kind, Txt};
 use std::alloc::Global;
-use std::collections::{BTreeMap, BTreeSet};
 
 #[cycle(openings)]
 #[tactic(auto, using(gq_value::proofs::AccumLemmas::accum_laws, crate::proofs::FreshSteps::fresh_scalar))]
-/// The content before any input.
+/// The content of a kind before any input.
 pub(crate) fn fresh(alloc: Global, kind: &Kind) -> Result<Content, OutOfMemory>
     ensures { IfOk result (λ c. Shows (accum_of kind.now) c (model.fresh (accum_of kind.now))) }
 {
@@ -26,7 +26,7 @@ pub(crate) fn fresh(alloc: Global, kind: &Kind) -> Result<Content, OutOfMemory>
         | Kind::BitOr
         | Kind::BitAnd
         | Kind::Avg => Ok(Content::Scalar(Scalar::fresh(kind))),
-        Kind::Set(_) => Ok(Content::Set(BTreeSet::new(alloc))),
+        Kind::Set(_) => Ok(Content::Set(SortedSet::new(alloc))),
         Kind::Bag(_) => Ok(Content::Bag(List::new(alloc))),
         Kind::List(_) => Ok(Content::List(List::new(alloc))),
         Kind::Heap(shape) => Ok(Content::Heap(Heap {
@@ -36,11 +36,11 @@ pub(crate) fn fresh(alloc: Global, kind: &Kind) -> Result<Content, OutOfMemory>
         })),
         Kind::Map(_, values) => {
             let opening = fresh(alloc, values.get())?;
-            Ok(Content::Map(Boxed::new(alloc, opening)?, BTreeMap::new(alloc)))
+            Ok(Content::Map(Boxed::new(alloc, opening)?, SortedMap::new(alloc)))
         }
         Kind::Group(shape) => Ok(Content::Group(
             fresh_parts(alloc, shape.parts.as_slice())?,
-            BTreeMap::new(alloc),
+            SortedMap::new(alloc),
         )),
     }
 }

@@ -1,4 +1,4 @@
-// Contents merged into contents.
+// Merging contents.
 ghost use Rattle.std.specs.Prelude.{◌≡◌, ◌∷◌, [], true, map, OnOk, IsOk, IsErr};
 ghost use Rattle.gq_value.specs.Views.{val};
 ghost use Rattle.gq_nest.specs.declared.content.Content.{out-Content};
@@ -10,11 +10,11 @@ use crate::copies::{duplicate, duplicate_parts, key_row};
 use crate::more::{add_items, add_keys, put_entry};
 use gq_accum::Fold;
 use gq_base::OutOfMemory;
+use gq_sorted::SortedMap;
 use gq_value::Value;
 use std::alloc::Global;
-use std::collections::BTreeMap;
 
-/// Takes all that `other` has taken. A content of another form is answered as `OutOfMemory`.
+/// Merges `other` into `content`. Returns `OutOfMemory` if `other` has another form.
 #[cycle(merging)]
 pub(crate) fn merge(
     alloc: Global,
@@ -32,7 +32,7 @@ pub(crate) fn merge(
     }
 }
 
-/// Takes all that `other` has taken, where neither has keys.
+/// Merges contents that aren't keyed.
 fn merge_flat(alloc: Global, content: &mut Content, other: &Content) -> Result<(), OutOfMemory>
     ensures merged { OnOk result (Merges (out-Content content.old) (out-Content other.now) (out-Content content.new)) }
     ensures stays { is_spoiled content.old ≡ true → IsErr result }
@@ -72,12 +72,12 @@ fn merge_flat(alloc: Global, content: &mut Content, other: &Content) -> Result<(
     }
 }
 
-/// Takes the entries of a map into those of another.
+/// Merges the entries of the map `other`.
 #[cycle(merging)]
 fn merge_entries(
     alloc: Global,
     opening: &Content,
-    entries: &mut BTreeMap<Value, Content>,
+    entries: &mut SortedMap<Value, Content>,
     other: &Content,
 ) -> Result<(), OutOfMemory>
     ensures { OnOk result (Unites opening.now entries.old.entries (entries_in (out-Content other.now)) entries.new.entries) }
@@ -93,12 +93,12 @@ fn merge_entries(
     }
 }
 
-/// Takes a content under a key, which begins with the opening where it is new.
+/// Merges a content into the one at a key. A new key starts with a copy of `opening`.
 #[cycle(merging)]
 fn merge_entry(
     alloc: Global,
     opening: &Content,
-    entries: &mut BTreeMap<Value, Content>,
+    entries: &mut SortedMap<Value, Content>,
     key: &Value,
     part: &Content,
 ) -> Result<(), OutOfMemory>
@@ -109,17 +109,17 @@ fn merge_entry(
         None => {
             let mut mine = duplicate(alloc, opening)?;
             merge(alloc, &mut mine, part)?;
-            put_entry(entries, key.duplicate(alloc)?, mine)
+            put_entry(alloc, entries, key.duplicate(alloc)?, mine)
         }
     }
 }
 
-/// Takes the key rows of a group, with their parts, into those of another.
+/// Merges the key rows, with their parts, of the group `other`.
 #[cycle(merging)]
 fn merge_groups(
     alloc: Global,
     openings: &[Content],
-    groups: &mut BTreeMap<Vec<Value>, Parts>,
+    groups: &mut SortedMap<Vec<Value>, Parts>,
     other: &Content,
 ) -> Result<(), OutOfMemory>
     ensures { OnOk result (UnitesGroups openings.now groups.old.entries (groups_in (out-Content other.now)) groups.new.entries) }
@@ -135,13 +135,13 @@ fn merge_groups(
     }
 }
 
-/// Takes parts under a key row, whose parts begin with the openings where it is new.
+/// Merges parts into those of a key row. The parts of a new key row start as copies of `openings`.
 #[cycle(merging)]
 fn merge_group(
     alloc: Global,
     parts: &[Content],
     openings: &[Content],
-    groups: &mut BTreeMap<Vec<Value>, Parts>,
+    groups: &mut SortedMap<Vec<Value>, Parts>,
     row: &[Value],
 ) -> Result<(), OutOfMemory>
     ensures { OnOk result (MergesGroup openings.now groups.old.entries (map val row.now) parts.now groups.new.entries) }
@@ -151,12 +151,12 @@ fn merge_group(
         None => {
             let mut mine = duplicate_parts(alloc, openings)?;
             merge_parts(alloc, parts, &mut mine)?;
-            put_entry(groups, key_row(alloc, row)?, mine)
+            put_entry(alloc, groups, key_row(alloc, row)?, mine)
         }
     }
 }
 
-/// Takes each of the other parts into the part at its place.
+/// Merges each part into the one at the same index. Returns `OutOfMemory` if there are more or fewer.
 #[cycle(merging)]
 fn merge_parts(alloc: Global, parts: &[Content], mine: &mut Parts) -> Result<(), OutOfMemory>
     ensures { OnOk result (MergesEach mine.old parts.now mine.new) }

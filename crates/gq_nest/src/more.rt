@@ -1,4 +1,4 @@
-// One value more, and many.
+// Adding keys, items and entries.
 ghost use Rattle.std.specs.BTreeMap.{insert_entry};
 ghost use Rattle.std.specs.Prelude.{◌≡◌, ◌++◌, ◌∷◌, [], false, map, OnOk};
 ghost use Rattle.gq_value.specs.Views.{val};
@@ -6,15 +6,15 @@ ghost use Rattle.gq_value.specs.Order.{place};
 ghost use Rattle.gq_accum_laws.specs.Gather.{put, into, distinct};
 
 use gq_base::{List, OutOfMemory};
+use gq_sorted::{SortedMap, SortedSet};
 use gq_value::Value;
 use std::alloc::Global;
-use std::collections::{BTreeMap, BTreeSet};
 
-/// Puts a copy of `key` at its place, unless it is there.
+/// Adds a copy of `key`, unless the set has it.
 #[tactic(auto, using(crate::proofs::SetSteps::set_steps))]
 pub(crate) fn add_key(
     alloc: Global,
-    keys: &mut BTreeSet<Value>,
+    keys: &mut SortedSet<Value>,
     key: &Value,
 ) -> Result<(), OutOfMemory>
     ensures { OnOk result (distinct place (map val keys.new.keys) ≡ put place false (val key.now) (distinct place (map val keys.old.keys))) }
@@ -22,13 +22,10 @@ pub(crate) fn add_key(
     if keys.contains(key) {
         return Ok(());
     }
-    match keys.insert(key.duplicate(alloc)?) {
-        Ok(_) => Ok(()),
-        Err(_) => Err(OutOfMemory),
-    }
+    keys.insert(alloc, key.duplicate(alloc)?)
 }
 
-/// Puts `item` last.
+/// Appends `item`.
 #[tactic(auto, using(gq_accum_laws::proofs::KindLaws::map_append))]
 pub(crate) fn push_item(items: &mut List<Value>, item: Value) -> Result<(), OutOfMemory>
     ensures { OnOk result (map val items.new ≡ map val items.old ++ val item ∷ []) }
@@ -36,7 +33,7 @@ pub(crate) fn push_item(items: &mut List<Value>, item: Value) -> Result<(), OutO
     items.push(item)
 }
 
-/// Puts a copy of `item` last.
+/// Appends a copy of `item`.
 #[tactic(auto, using(gq_accum_laws::proofs::KindLaws::map_append))]
 pub(crate) fn add_item(
     alloc: Global,
@@ -49,11 +46,11 @@ pub(crate) fn add_item(
     Ok(())
 }
 
-/// Puts copies of `more` into their places.
+/// Adds copies of the keys of `more`.
 pub(crate) fn add_keys(
     alloc: Global,
-    keys: &mut BTreeSet<Value>,
-    more: &BTreeSet<Value>,
+    keys: &mut SortedSet<Value>,
+    more: &SortedSet<Value>,
 ) -> Result<(), OutOfMemory>
     ensures { OnOk result (distinct place (map val keys.new.keys) ≡ into (put place false) (map val more.now.keys) (distinct place (map val keys.old.keys))) }
 {
@@ -63,7 +60,7 @@ pub(crate) fn add_keys(
     Ok(())
 }
 
-/// Puts copies of `more` last, in order.
+/// Appends copies of `more`, in order.
 pub(crate) fn add_items(
     alloc: Global,
     items: &mut List<Value>,
@@ -77,16 +74,14 @@ pub(crate) fn add_items(
     Ok(())
 }
 
-/// Puts `value` under `key`.
+/// Stores `value` at `key`.
 pub(crate) fn put_entry<K: Ord + Drop, X: Drop>(
-    entries: &mut BTreeMap<K, X>,
+    alloc: Global,
+    entries: &mut SortedMap<K, X>,
     key: K,
     value: X,
 ) -> Result<(), OutOfMemory>
     ensures { OnOk result (entries.new.entries ≡ insert_entry K.cmp entries.old.entries key value) }
 {
-    match entries.insert(key, value) {
-        Ok(_) => Ok(()),
-        Err(_) => Err(OutOfMemory),
-    }
+    entries.insert(alloc, key, value)
 }

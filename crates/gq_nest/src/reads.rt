@@ -1,4 +1,4 @@
-// What contents tell.
+// Reading contents.
 ghost use Rattle.std.specs.Prelude.{map, IfOk, MatchOption};
 ghost use Rattle.gq_value.specs.Views.{val};
 ghost use Rattle.gq_accum_laws.specs.Fits.{fits as all_fit};
@@ -16,7 +16,7 @@ use std::alloc::Global;
 pub type Keys = List<Row>;
 
 impl Content {
-    /// Puts a content of one number or truth to a value, whatever it was. Takes no memory.
+    /// Assigns a value to a content of one number or truth. Doesn't allocate.
     pub fn set(&mut self, x: &Value)
         requires { CanBeSet self.old (val x.now) }
         ensures { IsSet self.old (val x.now) self.new }
@@ -35,14 +35,14 @@ impl Content {
 
     /// Whether each sum in it is within its type, and each average has a sum within INT and a count below 2^63.
     ///
-    /// Goes through all keys. Takes no memory.
+    /// Visits all keys. Doesn't allocate.
     pub fn fits(&self) -> bool
         ensures { Tells self.now result all_fit }
     {
         fits(self)
     }
 
-    /// The value of a scalar content that fits. An average without inputs is 0 over 1. Takes no memory.
+    /// The value of a scalar content that fits. An average without inputs is 0 over 1. Doesn't allocate.
     pub fn value(&self) -> Value
         requires { IsFitting self.now }
         ensures { Tells self.now (val result) value_in }
@@ -62,7 +62,7 @@ impl Content {
         }
     }
 
-    /// How many elements or keys it has; 0 for a number, truth or average. Takes no memory.
+    /// The number of elements or keys; 0 for a number, truth or average. Doesn't allocate.
     pub fn size(&self) -> u64
         ensures { Tells self.now result size_of }
     {
@@ -78,7 +78,7 @@ impl Content {
         }
     }
 
-    /// Whether a set, bag or list has the value. A set is searched by halving, the others one by one. Takes no memory.
+    /// Whether a set, bag or list has the value. Bags and lists are searched linearly. Doesn't allocate.
     pub fn contains(&self, x: &Value) -> bool
         ensures { Tells self.now result (has_value (val x.now)) }
     {
@@ -94,7 +94,7 @@ impl Content {
         }
     }
 
-    /// What stands at a key of a map, found by halving; None where the key isn't there. Takes no memory.
+    /// The content at a key of a map, or None if the map doesn't have the key. Doesn't allocate.
     pub fn get(&self, key: &Row) -> Option<&Content>
         ensures { MatchOption result (LacksKey self.now (map val key.now)) (λ part. HasKey self.now (map val key.now) part.now) }
     {
@@ -114,8 +114,8 @@ impl Content {
         }
     }
 
-    /// The part of a group at a key row, by its place in order of declaration, from 0; None where the row isn't there. Takes no
-    /// memory.
+    /// The part `i` of a group at a key row, counted from 0 in order of declaration, or None if the group doesn't have
+    /// the key row. Doesn't allocate.
     pub fn part(&self, key: &Row, i: u32) -> Option<&Content>
         ensures { MatchOption result (LacksPart self.now (map val key.now) i) (λ part. HasPart self.now (map val key.now) i part.now) }
     {
@@ -134,7 +134,7 @@ impl Content {
         }
     }
 
-    /// Copies of all elements of a set, bag, list or heap, in order.
+    /// Copies of all elements of a set, bag, list or heap, in the order of its kind.
     pub fn elements(&self, alloc: Global) -> Result<Row, OutOfMemory>
         ensures { IfOk result (λ row. Tells self.now (map val row) elements_of) }
     {

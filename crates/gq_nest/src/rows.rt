@@ -1,4 +1,4 @@
-// Rows of copies, in the order of their content.
+// Sorted copies of elements and keys.
 ghost use Rattle.std.specs.Prelude.{◌≡◌, map, IfOk};
 ghost use Rattle.gq_value.specs.Views.{val};
 ghost use Rattle.gq_value.specs.Order.{place};
@@ -8,12 +8,12 @@ ghost use Rattle.gq_nest.specs.Entries.{group_row, key_row, rows};
 
 use crate::content::{Content, Parts};
 use gq_base::{List, OutOfMemory};
+use gq_sorted::{SortedMap, SortedSet};
 use gq_value::{Row, Value, duplicate_row};
 use std::alloc::Global;
-use std::collections::{BTreeMap, BTreeSet};
 
-/// The keys, ascending.
-pub(crate) fn keys_in_order(alloc: Global, keys: &BTreeSet<Value>) -> Result<Row, OutOfMemory>
+/// Copies of the keys, ascending.
+pub(crate) fn keys_in_order(alloc: Global, keys: &SortedSet<Value>) -> Result<Row, OutOfMemory>
     ensures { IfOk result (λ row. map val row ≡ distinct place (map val keys.now.keys)) }
 {
     let mut row = List::new(alloc);
@@ -23,7 +23,7 @@ pub(crate) fn keys_in_order(alloc: Global, keys: &BTreeSet<Value>) -> Result<Row
     Ok(row)
 }
 
-/// The items, ascending.
+/// Copies of the items, ascending.
 pub(crate) fn sorted_row(alloc: Global, items: &[Value]) -> Result<Row, OutOfMemory>
     ensures { IfOk result (λ row. map val row ≡ sorted place (map val items.now)) }
 {
@@ -32,10 +32,10 @@ pub(crate) fn sorted_row(alloc: Global, items: &[Value]) -> Result<Row, OutOfMem
     Ok(row)
 }
 
-/// The keys as rows of one value, ascending.
+/// Copies of the keys as rows of one value, ascending.
 pub(crate) fn key_rows(
     alloc: Global,
-    entries: &BTreeMap<Value, Content>,
+    entries: &SortedMap<Value, Content>,
 ) -> Result<List<Row>, OutOfMemory>
     ensures { IfOk result (λ all. map (map val) all ≡ distinct row_cmp (rows key_row entries.now.entries)) }
 {
@@ -48,10 +48,11 @@ pub(crate) fn key_rows(
     Ok(all)
 }
 
-/// The key rows of a group, ascending by the order of keys (`order` of gq_value, field by field), in which the map keeps them.
+/// Copies of a group's key rows, ascending by the order of keys (`order` of gq_value, field by field), which is the
+/// map's order.
 pub(crate) fn group_rows(
     alloc: Global,
-    groups: &BTreeMap<Vec<Value>, Parts>,
+    groups: &SortedMap<Vec<Value>, Parts>,
 ) -> Result<List<Row>, OutOfMemory>
     ensures { IfOk result (λ all. map (map val) all ≡ distinct row_cmp (rows group_row groups.now.entries)) }
 {

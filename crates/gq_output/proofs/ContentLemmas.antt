@@ -1,4 +1,4 @@
--- ContentLemmas: what contents are printed as.
+-- ContentLemmas: the printed form of contents.
 use Rattle.std.specs.Global.{Vec}
 use Rattle.std.proofs.Common.{◌≡◌, ℕ, zero, suc, ◌+◌, ◌<◌, ◌≤◌, ℤ, Bool, true, List, [], ◌∷◌, ◌++◌, drop, map, length, get_or, Option, Some, None, Bor, IfSome, Result, Ok, Err, IfOk, refl, sym, ap, ap₂, subst, ◌∙◌}
 use Rattle.std.specs.List.{slice_get}
@@ -70,7 +70,7 @@ pub print_joined : (ms ns : List (Bytes × Out)) → built_print (ms ++ ns) ≡ 
 print_joined [] ns = refl
 print_joined (m ∷ ms) ns = ap (λ ps. (m.0, built m.1) ∷ ps) (print_joined ms ns)
 
--- ---- numbers, truths and averages
+-- ---- numbers, truth values and averages
 
 average_shown : (world : World Reference) (s : ℤ) (n : ℕ) → built (out_content world AvgAccum (s, n)) ≡ plain_shown (value_in AvgAccum (s, n))
 average_shown world s zero = refl
@@ -137,12 +137,12 @@ module _ (world : World Reference) (b : Base) where
   pub list_made : (c : Content) (os : List json.Out) → Tells c os (elements_shown world b) → Tells c (out.List os) (elements_out world b)
   list_made c os t = record { each = λ k h s. ap out.List (t.each k h s) }
 
-  -- the keys that were gone through
+  -- the keys after the iteration over all of them
   pub keys_all : (m : BTreeSet Value) (done : List json.Out) (left : List Value) → left ≡ [] → done ++ map (λ v. value_shown world b (val v)) left ≡ map (λ v. value_shown world b (val v)) m.keys → IsStrictlySortedBy (on val place) m.keys
       → done ≡ map (value_shown world b) (distinct place (map val m.keys))
   keys_all m done left e inv up = row_told m.keys done (sym (append-nil done) ∙ ap (λ ys. done ++ map (λ v. value_shown world b (val v)) ys) (sym e) ∙ inv) ∙ ap (map (value_shown world b)) (sym (ascending_stays place place_linear val m.keys up))
 
--- ---- maps and groups, by what stands at each key row
+-- ---- maps and groups, by the content at each key row
 
 pub map_there : (world : World Reference) (b : Base) (k : Accum) (c : Content) (ms : List (Bytes × json.Out)) → ms ≡ map_shown world k c → out.Object ms ≡ content_shown world (MapAccum b k) c
 map_there world b k c ms e = ap out.Object (e ∙ sym (membered (map (λ e. (first_text world.graph e.0, out_content world k e.1)) (entries (view (MapAccum b k) (out-Content c))))))
@@ -199,7 +199,7 @@ module _ {K X : Type 0} (row : K → List Val) (whole : List (K × X)) where
 abbrev pub entry_shown : World Reference → Accum → Value × Content → Bytes × json.Out
 entry_shown world k e = (key_text world.graph (val e.0), content_shown world k e.1)
 
--- midway: what is there, and then the entries that are left; all of those are contents of the kind
+-- the invariant: the members so far, followed by the entries that are left; these are contents of the kind
 pub record Entries (world : World Reference) (k : Accum) (c : Content) (done : List (Bytes × json.Out)) (left : List (Value × Content)) : Type 0 where
   pub shown : every (λ e. IsShown k e.1) left
   pub goes : done ++ map (entry_shown world k) left ≡ map_shown world k c
@@ -251,7 +251,7 @@ module _ (world : World Reference) (k : Accum) (c : Content) where
 abbrev pub group_shown : World Reference → Fields → Parts → Vec Value × List Content → json.Out
 group_shown world keys ps e = out.Object (named_shown world keys (group_row e.0) ++ parts_shown world ps e.1)
 
--- midway: what is there, and then the key rows that are left; the parts of each are contents of the group's
+-- the invariant: the objects so far, followed by the key rows that are left; their parts are contents of the group's
 pub record Groups (world : World Reference) (keys : Fields) (ps : Parts) (c : Content) (done : List json.Out) (left : List (Vec Value × List Content)) : Type 0 where
   pub shown : every (λ e. AreShown ps e.1) left
   pub goes : done ++ map (group_shown world keys ps) left ≡ groups_shown world keys ps c
@@ -301,7 +301,7 @@ module _ (world : World Reference) (keys : Fields) (ps : Parts) (c : Content) wh
 
 -- ---- parts, one after the other
 
--- midway: what is there, and then the parts from a place on, which are contents of their kinds
+-- the invariant: the members so far, followed by the parts from a place on, which are contents of their kinds
 pub record PartsFrom (world : World Reference) (kinds : List (Bytes × Kind)) (cs : List Content) (whole done : List (Bytes × json.Out)) (i : ℕ) : Type 0 where
   pub shown : AreShown (part_kinds (drop i kinds)) (drop i cs)
   pub goes : done ++ parts_shown world (part_kinds (drop i kinds)) (drop i cs) ≡ whole
@@ -350,7 +350,7 @@ shown_at (k ∷ kinds) (c ∷ cs) zero kind part s e f =
     subst (λ (q : Bytes × Kind). IsShown (accum_of q.1) part) a (subst (IsShown (accum_of k.1)) b s.0)
 shown_at (k ∷ kinds) (c ∷ cs) (suc i) kind part s e f = shown_at kinds cs i kind part s.1 e f
 
--- what a slice lends at a place, if there is anything
+-- the item of a slice at a place, if there is one
 pub lent_at : {A : Type 0} (xs : List A) (i : ℕ) (o : Option (Bor A)) → IsItemAt xs i o → slice_get xs i ≡ option_copied o
 lent_at xs i None h = slice_get_past xs i h.3
 lent_at xs i (Some x) h = at_get xs i x.now h.3.0 (h.3.1 x.now)

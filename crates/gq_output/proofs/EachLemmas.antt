@@ -1,11 +1,11 @@
--- EachLemmas: what the items of a list give, one after the other.
+-- EachLemmas: the results of applying a function to the items of a list, in order.
 use Rattle.std.proofs.Common.{◌≡◌, ℕ, ◌+◌, ◌≤◌, List, [], ◌∷◌, ◌++◌, drop, map, length, Some, refl, sym, ap, ◌∙◌}
 use Rattle.std.specs.List.{slice_get}
 use Rattle.std.proofs.lemmas.List.{append_assoc, append-nil, drop_all}
 use Rattle.gq_rules_meaning.specs.Answers.{Answer, Gives, Faults, Stuck, ◌>>=◌, each}
 use Rattle.gq_output.proofs.NamedLemmas.{drop_at}
 
--- what was given before, and then this
+-- the earlier results, followed by these
 abbrev pub and_more : {F B : Type 0} → List B → Answer F (List B) → Answer F (List B)
 and_more done o = o >>= λ more. Gives (done ++ more)
 
@@ -36,7 +36,7 @@ module _ {F A B : Type 0} (f : A → Answer F B) where
       ∙ one_before (each f (drop (i + 1) xs)) done b
       ∙ ap (λ bs. and_more bs (each f (drop (i + 1) xs))) (sym is)
 
-  -- all that a list gives begins with what the item at a place does
+  -- the results from a place on begin with that of the item at the place
   pub each_begins : (xs : List A) (i : ℕ) (x : A) (done : List B) → EachFrom xs i done → slice_get xs i ≡ Some x
       → each f xs ≡ (f x >>= λ b. and_more done (each f (drop (i + 1) xs) >>= λ bs. Gives (b ∷ bs)))
   each_begins xs i x done h e = each_here xs i x done h e ∙ joined (f x)
@@ -49,7 +49,7 @@ module _ {F A B : Type 0} (f : A → Answer F B) where
   pub each_all : (xs : List A) (i : ℕ) (done : List B) → EachFrom xs i done → length xs ≤ i → each f xs ≡ Gives done
   each_all xs i done h l = h ∙ ap (λ ys. and_more done (each f ys)) (drop_all i xs l) ∙ ap Gives (append-nil done)
 
--- with something made of what each gives
+-- with a function applied to each result
 pub each_made : {F A B C : Type 0} (g : B → C) (f : A → Answer F B) (xs : List A) → each (λ x. f x >>= λ b. Gives (g b)) xs ≡ (each f xs >>= λ bs. Gives (map g bs))
 each_made g f [] = refl
 each_made {F} {A} {B} {C} g f (x ∷ xs) = ap (λ o. f x >>= (λ b. Gives (g b)) >>= λ c. o >>= λ cs. Gives (c ∷ cs)) (each_made g f xs) ∙ by (f x) (each f xs)

@@ -1,4 +1,4 @@
--- EachSteps: what items give, one after the other, and how they end.
+-- EachSteps: the results of items, in order, and how they end.
 use Rattle.std.proofs.Common.{◌≡◌, ℕ, ◌+◌, ◌<◌, ◌≤◌, List, [], ◌∷◌, ◌++◌, length, get_or, Some, sym, ap, subst}
 use Rattle.std.specs.List.{slice_get}
 use Rattle.gq_value.specs.declared.value.Wrong.{Wrong}
@@ -11,7 +11,7 @@ use Rattle.gq_eval_operand.specs.Meant.{Halts}
 use Rattle.gq_output.proofs.NamedLemmas.{at_get}
 use Rattle.gq_output.proofs.EachLemmas.{EachFrom, each_next, each_begins, each_all}
 
--- what halts stops all that comes behind it
+-- an evaluation that halts stops everything after it
 pub stops : {A B : Type 0} (o : Answer Wrong A) (f : A → Answer Wrong B) (h : Halt) → Halts o h → Halts (o >>= f) h
 stops o f (halt.Wrong w) e = ap (λ p. p >>= f) e
 stops o f halt.Stuck e = ap (λ p. p >>= f) e

@@ -56,7 +56,7 @@ module _ (world : World Reference) where
   no_value [] = refl
   no_value (f ∷ fs) = refl
 
-  -- what is put before, and then the fields from a place on
+  -- the members so far, followed by the fields from a place on
   abbrev pub NamedFrom : Fields → List Val → List (Bytes × Out) → List (Bytes × Out) → ℕ → Type 0
   NamedFrom fs vs whole done i = done ++ named_shown world (drop i fs) (drop i vs) ≡ whole
 
@@ -80,7 +80,7 @@ module _ (world : World Reference) where
   pub named_fields : (fs : Fields) (vs : List Val) (whole done : List (Bytes × Out)) (i : ℕ) → NamedFrom fs vs whole done i → length fs ≤ i → done ≡ whole
   named_fields fs vs whole done i inv l = sym (append-nil done) ∙ ap (λ ms. done ++ ms) (sym (ap (λ gs. named_shown world gs (drop i vs)) (drop_all i fs l))) ∙ inv
 
-  -- the same of values of the code
+  -- the same for values of the code
   pub row_field : (fs : Fields) (row : List Value) (whole done new : List (Bytes × Out)) (i : ℕ) (name : Bytes) (b : Base) (v : Value) → NamedFrom fs (map val row) whole done i
       → slice_get fs i ≡ Some (name, b) → slice_get row i ≡ Some v → new ≡ done ++ (name, value_shown world b (val v)) ∷ [] → NamedFrom fs (map val row) whole new (i + 1)
   row_field fs row whole done new i name b v inv e f is = named_next fs (map val row) whole done new i name b (val v) inv e (mapped_at val row i v f) is
@@ -113,7 +113,7 @@ module _ {A B : Type 0} (f : A → B) where
   pub row_all : (xs : List A) (done : List B) (i : ℕ) → done ++ map f (drop i xs) ≡ map f xs → length xs ≤ i → done ≡ map f xs
   row_all xs done i inv l = sym (append-nil done) ∙ ap (λ ys. done ++ map f ys) (sym (drop_all i xs l)) ∙ inv
 
--- values of an ordered set, by what is left of it
+-- values of an ordered set, given the rest of it
 pub kept_more : {A B : Type 0} (f : A → B) (done new whole : List B) (left rest : List A) (x : A) → left ≡ x ∷ rest → done ++ map f left ≡ whole → new ≡ done ++ f x ∷ [] → new ++ map f rest ≡ whole
 kept_more f done new whole left rest x e inv is = ap (λ ys. ys ++ map f rest) is ∙ append_assoc done (f x ∷ []) (map f rest) ∙ ap (λ ys. done ++ map f ys) (sym e) ∙ inv
 

@@ -1,4 +1,4 @@
--- SeenLemmas: what expressions are, as it is printed.
+-- SeenLemmas: the printed form of expressions.
 use Rattle.std.proofs.Common.{◌≡◌, ℕ, ◌+◌, ◌<◌, ◌≤◌, List, [], ◌∷◌, ◌++◌, map, length, get_or, refl, sym, ap, subst, ◌∙◌}
 use Rattle.gq_value.specs.declared.value.Fraction as fraction
 use Rattle.gq_value.specs.declared.value.Wrong.{Wrong}
@@ -26,7 +26,7 @@ use Rattle.gq_output.proofs.NamedLemmas.{at_get}
 use Rattle.gq_output.proofs.ContentLemmas.{listed}
 use Rattle.gq_output.proofs.EachLemmas.{EachFrom, each_first, each_next, each_all, each_made}
 
--- a list of what is given, as one value
+-- a list of results, as one value
 pub list_given : {A : Type 0} (f : A → Answer Wrong Out) (xs : List A) (os : List json.Out) → each (λ x. shown (f x)) xs ≡ Gives os → shown (each f xs >>= λ ps. Gives (OutList (outs ps))) ≡ Gives (out.List os)
 list_given f xs os h = by (each f xs) (sym (each_made built f xs) ∙ h)
   where

@@ -1,4 +1,4 @@
--- SlotLemmas: what a vertex has of each accumulator, one after the other.
+-- SlotLemmas: the members of a vertex for its accumulators, one after the other.
 use Rattle.std.proofs.Common.{◌≡◌, ℕ, zero, suc, ◌+◌, ◌-◌, ◌<◌, ◌≤◌, true, false, ℤ, List, [], ◌∷◌, ◌++◌, take, drop, map, length, get_or, Option, Some, None, Result, Ok, Err, OnOk, refl, sym, ap, ap₂, ◌∙◌, arith}
 use Rattle.std.specs.List.{slice_get, flat_map}
 use Rattle.std.specs.Option.{option_map, unwrap_or}
@@ -35,7 +35,7 @@ use Rattle.gq_output.specs.Vertices.{IsAttached, attached_shown, slot_shown, rea
 use Rattle.gq_output.proofs.ContentLemmas.{print_joined}
 use Rattle.gq_output.proofs.NamedLemmas.{at_get, drop_at, mapped_at}
 
--- ---- what an accumulator reads as is what is printed of its content
+-- ---- the value that an accumulator reads as is printed like its content
 
 average_read : (world : World Reference) (s : ℤ) (n : ℕ) → shown (out_meant world [] (read AvgAccum (s, n))) ≡ Gives (built (out_content world AvgAccum (s, n)))
 average_read world s zero = refl
@@ -57,12 +57,12 @@ read_printed world (MapAccum b k) h = refl
 read_printed world (GroupByAccum keys ps) h = refl
 read_printed world (HeapAccum b n by) h = refl
 
--- what is given
+-- the result, or a default
 abbrev given_or : {A : Type 0} → A → Answer Wrong A → A
 given_or a (Gives b) = b
 given_or a o = a
 
--- ---- the slot of a number
+-- ---- the slot with a number
 
 abbrev at_number : List (states.Slot Reference) → Option ℕ → Option (states.Slot Reference)
 at_number slots None = None
@@ -77,7 +77,7 @@ module _ (clock : Calendar) (s : Over) (n : ℕ) where
       sym (named_is ∙ ap (at_number (slots_are s.frame.accums)) (number_there (world_over clock s) s.frame.accums n refl ∙ ap (option_map (λ d. n)) e))
       ∙ named_some (world_over clock s) s.frame.accums n d refl e
 
-  -- one that isn't attached adds nothing
+  -- an accumulator that isn't attached adds nothing
   pub slot_left : (v : ℕ) (d : code.Slot) (old : List (Bytes × json.Out)) → slice_get s.frame.accums.slots.declared n ≡ Some d → d.attached ≡ false
       → old ≡ old ++ slot_shown (world_over clock s) v (slice_get (slots_are s.frame.accums) n)
   slot_left v d old e f =
@@ -88,7 +88,7 @@ module _ (clock : Calendar) (s : Over) (n : ℕ) where
   said_is : (name : Bytes) → slice_get (accum_names s.plan) n ≡ Some name → (world_over clock s).words.said (Slot (0 + n)) ≡ name
   said_is name e = ap (λ m. unwrap_or (slice_get (accum_names s.plan) m) []) (let z : 0 + n ≡ n = omega arith in z) ∙ ap (λ o. unwrap_or o []) e
 
-  -- and one that is adds its name with what it reads as
+  -- and an attached one adds its name with the value that it reads as
   pub slot_read : (v : ℕ) (name : Bytes) (o : json.Out) → IsAttached s n → slice_get (accum_names s.plan) n ≡ Some name → read_shown (world_over clock s) (slots_are s.frame.accums) n v ≡ Gives o
       → (name, o) ∷ [] ≡ slot_shown (world_over clock s) v (slice_get (slots_are s.frame.accums) n)
   slot_read v name o is named h = by (slice_get st.contents v) read_is ∙ sym there

@@ -1,4 +1,4 @@
--- StateLemmas: what items are printed as in a `BlockContext` is what they are over each state that its frame shows.
+-- StateLemmas: items are printed in a `BlockContext` as they are over each state that its frame shows.
 use Rattle.std.proofs.Common.{◌≡◌, ℕ, List, [], ◌∷◌, map, Option, Some, None, refl, sym, ap, ap₂, ◌∙◌}
 use Rattle.gq_value.specs.declared.value.Wrong.{Wrong}
 use Rattle.gq_json.specs.declared.out.Out as json

@@ -1,4 +1,4 @@
--- ValueLemmas: what a value of each variant is printed as.
+-- ValueLemmas: the printed form of each variant of a value.
 use Rattle.std.proofs.Common.{◌≡◌, ℕ, zero, suc, ◌+◌, ℤ, Bool, List, [], ◌∷◌, map, Option, Some, None, Result, Ok, Err, IfOk, refl, sym, ap, subst, ◌∙◌, arith}
 use Rattle.std.specs.List.{slice_get}
 use Rattle.std.specs.Option.{option_map}
@@ -103,7 +103,7 @@ pub ruleset value_laws = (uint_shown, truth_shown, text_shown, vertex_shown, fra
 
 -- ---- times
 
--- a number of any type but DATETIME
+-- a number of a type other than DATETIME
 pub whole_shown : (world : World Reference) (b : Base) (x : ℤ) → IsNoTime b → out.Int x ≡ value_shown world b (Int x)
 whole_shown world INT x h = refl
 whole_shown world UINT x h = refl

@@ -1,4 +1,4 @@
--- VertexLemmas: what vertices are printed as.
+-- VertexLemmas: the printed form of vertices.
 use Rattle.std.proofs.Common.{if◌then◌else◌, ◌≡◌, ℕ, ◌+◌, ◌<◌, ◌≤◌, Bool, true, false, List, [], ◌∷◌, ◌++◌, map, length, get_or, Option, Some, None, IfSome, Bor, Result, Ok, Err, IfOk, refl, sym, ap, ◌∙◌, arith}
 use Rattle.std.specs.List.{slice_get}
 use Rattle.std.specs.Option.{option_map, option_copied}
@@ -125,7 +125,7 @@ attributes_through world xs row whole done i inv l = named_fields world (attribu
 
 pub ruleset attribute_laws = (attribute_next, attributes_through)
 
--- a shown id is the first of them
+-- an id that is shown is the first of them
 id_is : (world : World Reference) (k : IdKind) (s : Bytes) → id_shown k s ≡ value_shown world (id_base k) (id_value k s)
 id_is world id.Text s = refl
 id_is world id.Int s = refl

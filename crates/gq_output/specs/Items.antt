@@ -1,4 +1,4 @@
--- Items: what items are printed as, in a `BlockContext`, as gq_json's values. It has what names and accumulators hold.
+-- Items: the output of items, as values of gq_json, in a `BlockContext`, which has the contents of names and slots.
 use Rattle.std.specs.Prelude.{ℕ, List, [], ◌∷◌, Option, Some}
 use Rattle.gq_value.specs.declared.value.Wrong.{Wrong}
 use Rattle.gq_json.specs.declared.out.Out as json

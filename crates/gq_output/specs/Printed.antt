@@ -1,4 +1,4 @@
--- Printed: what values, contents and expressions are printed as, as gq_json's values.
+-- Printed: the output of values, contents and expressions, as values of gq_json.
 use Rattle.std.specs.Prelude.{ℤ, List, [], ◌++◌, map}
 use Rattle.gq_value.specs.declared.value.Wrong.{Wrong}
 use Rattle.gq_value.specs.declared.kind.BaseType.{BaseType}
@@ -28,7 +28,7 @@ use Rattle.gq_rules_meaning.specs.States.{Slot}
 use Rattle.gq_rules_meaning.specs.Outs.{Out, out_value, out_named, first_text, out_content, out_parts}
 use Rattle.gq_plan_ir.specs.Reference.{Reference}
 
--- an answer, with what it gives as gq_json's value
+-- an answer, with its result as a value of gq_json
 abbrev pub shown : Answer Wrong Out → Answer Wrong json.Out
 shown o = o >>= λ p. Gives (built p)
 
@@ -54,7 +54,7 @@ time_shown clock x = out.Text (clock.write x)
 abbrev pub IsShown : Accum → Content → Type 0
 IsShown k c = Shows k c (view k (out-Content c))
 
--- the same of a map, whatever the type of its keys is, and of a group
+-- the same for a map, whatever the type of its keys, and for a group
 abbrev pub IsMap : Accum → Content → Type 0
 IsMap k c = (b : Base) × IsShown (MapAccum b k) c
 
@@ -67,7 +67,7 @@ AreShown ps cs = ShowEach ps cs (view_each ps cs)
 abbrev pub content_shown : World Reference → Accum → Content → json.Out
 content_shown world k c = built (out_content world k (view k (out-Content c)))
 
--- a number, a truth or an average
+-- a number, a truth value or an average
 abbrev pub plain_shown : Val → json.Out
 plain_shown (Int x) = out.Int x
 plain_shown (UInt n) = out.UInt n
@@ -92,18 +92,18 @@ elements_shown world b k h = map (value_shown world b) (elements_of k h)
 abbrev pub elements_out : World Reference → Base → (k : Accum) → Holds k → json.Out
 elements_out world b k h = out.List (elements_shown world b k h)
 
--- what a map holds, as members
+-- the entries of a map, as members
 abbrev pub map_shown : World Reference → Accum → Content → List (Bytes × json.Out)
 map_shown world k c = built_print (map (λ e. (first_text world.graph e.0, out_content world k e.1)) (entries (view (MapAccum INT k) (out-Content c))))
 
 abbrev pub parts_shown : World Reference → (ps : Parts) → List Content → List (Bytes × json.Out)
 parts_shown world ps cs = built_print (out_parts world ps (view_each ps cs))
 
--- what a group holds, as objects
+-- the key rows of a group, as objects
 abbrev pub groups_shown : World Reference → Fields → Parts → Content → List json.Out
 groups_shown world keys ps c = map (λ e. out.Object (built_print (out_named world keys e.0) ++ built_print (out_parts world ps e.1))) (entries (view (GroupByAccum keys ps) (out-Content c)))
 
--- ---- what expressions are
+-- ---- the values of expressions
 
 abbrev pub meant_shown : World Reference → List (Slot Reference) → Meant → Answer Wrong json.Out
 meant_shown world slots m = shown (out_meant world slots m)

@@ -1,4 +1,4 @@
--- Prints: when what the code prints is what was meant.
+-- Prints: when the code's output is that of the definitions.
 use Rattle.std.specs.Prelude.{◌≡◌, List, Result, Ok, Err}
 use Rattle.gq_value.specs.declared.value.Wrong.{Wrong}
 use Rattle.gq_json.specs.declared.out.Printed as json
@@ -9,13 +9,13 @@ use Rattle.gq_rules_meaning.specs.Built.{built_print}
 use Rattle.gq_eval_operand.specs.declared.halt.Halt.{Halt}
 use Rattle.gq_eval_operand.specs.Meant.{Halts}
 
--- these members are given, and the code's are theirs
+-- these members are the result, and the code's members are the same
 pub record IsPrinted (o : Answer Wrong (List (Bytes × Out))) (p : json.Printed) : Type 0 where
   pub members : List (Bytes × Out)
   pub gives : o ≡ Gives members
   pub built : p.members ≡ built_print members
 
--- what PRINT prints, or the first fault; OutOfMemory may come at any time
+-- the output of PRINT, or the first fault; OutOfMemory may occur at any time
 abbrev pub Prints : Answer Wrong (List (Bytes × Out)) → Result json.Printed Halt → Type 0
 Prints o (Ok p) = IsPrinted o p
 Prints o (Err h) = Halts o h

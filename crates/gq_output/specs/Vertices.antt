@@ -1,4 +1,4 @@
--- Vertices: what a vertex is printed as, as gq_json's values.
+-- Vertices: the output of a vertex, as values of gq_json.
 use Rattle.std.specs.Prelude.{◌≡◌, ℕ, ◌<◌, ◌≤◌, true, List, [], ◌∷◌, map, length, codes, Option, Some, None, slice_get}
 use Rattle.gq_graph.specs.declared.types.IdKind.{IdKind}
 use Rattle.gq_graph.specs.declared.types.IdKind.TheVariants as id
@@ -51,19 +51,19 @@ vertex_shown world v attributes = found (sort_of_vertex world.graph v) >>= λ so
 abbrev pub whole_shown : World Reference → List (states.Slot Reference) → ℕ → Answer Wrong json.Out
 whole_shown world slots v = shown (out_whole_vertex world slots v)
 
--- the accumulator of a number is an attached one
+-- the accumulator with a number is an attached one
 abbrev pub IsAttached : Over → ℕ → Type 0
 IsAttached s n = (d : code.Slot) × (slice_get s.frame.accums.slots.declared n ≡ Some d) × (d.attached ≡ true)
 
--- what a vertex has of an accumulator
+-- the member of a vertex for an accumulator
 abbrev pub slot_shown : World Reference → ℕ → Option (states.Slot Reference) → List (Bytes × json.Out)
 slot_shown world v None = []
 slot_shown world v (Some s) = built_print (of_content world (world.words.said s.name) s.kind s.attached (slice_get s.contents v))
 
--- and of all
+-- and for all of them
 abbrev pub attached_shown : World Reference → ℕ → List (states.Slot Reference) → List (Bytes × json.Out)
 attached_shown world v slots = built_print (out_attached world v slots)
 
--- what the accumulator of a number reads as at a vertex
+-- the value of the accumulator with a number at a vertex
 abbrev pub read_shown : World Reference → List (states.Slot Reference) → ℕ → ℕ → Answer Wrong json.Out
 read_shown world slots n v = shown (states.read_slot world slots (Slot n) v >>= out_meant world [])

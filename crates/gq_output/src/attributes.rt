@@ -1,4 +1,4 @@
-// What stands in a vertex: its attributes, and then its accumulators.
+// The members of a vertex: its attributes, and then its accumulators.
 ghost use Rattle.std.specs.Prelude.{◌≡◌, ◌<◌, ◌≤◌, ◌++◌, [], IfOk, IfSome, OnOk, Some, length, map, slice_get};
 ghost use Rattle.std.specs.List.{flat_map};
 ghost use Rattle.std.specs.Option.{option_copied};
@@ -26,7 +26,7 @@ use gq_value::{Slot, Txt};
 use gq_vertex::Vertices;
 use std::alloc::Global;
 
-/// The attributes of a vertex of a type, as members: a shown id stands first.
+/// Returns the attributes of a vertex of a type, as members; an id that is shown comes first.
 #[tactic(auto, using(crate::proofs::VertexLemmas::id_first_laws))]
 pub(crate) fn attributes(
     alloc: Global,
@@ -55,7 +55,7 @@ pub(crate) fn attributes(
     Ok(members)
 }
 
-/// The declared attributes of a vertex, behind other members.
+/// Appends the declared attributes of a vertex to other members.
 #[tactic(auto, using(crate::proofs::VertexLemmas::attribute_laws))]
 fn put_attributes(
     alloc: Global,
@@ -88,7 +88,7 @@ fn put_attributes(
     Ok(())
 }
 
-/// The attached accumulators of a vertex by their names, in order of declaration, behind other members.
+/// Appends the attached accumulators of a vertex by name, in order of declaration, to other members.
 #[tactic(auto, using(crate::proofs::SlotLemmas::attached_laws))]
 pub(crate) fn put_attached(
     alloc: Global,
@@ -105,7 +105,7 @@ pub(crate) fn put_attached(
     Ok(())
 }
 
-/// How many accumulators there are.
+/// Returns the number of accumulators.
 fn slot_count(over: &BlockContext<'_>) -> Result<u32, OutOfMemory>
     ensures { IfOk result (λ count. count ≡ length over.now.frame.accums.slots.declared) }
 {
@@ -115,7 +115,7 @@ fn slot_count(over: &BlockContext<'_>) -> Result<u32, OutOfMemory>
     }
 }
 
-/// What a vertex has of the accumulator in a slot, if it is attached, behind other members.
+/// Appends the value of the accumulator in a slot at a vertex, if it is attached, to other members.
 #[tactic(auto, using(crate::proofs::SlotLemmas::slot_laws))]
 fn put_slot(
     alloc: Global,
@@ -138,14 +138,14 @@ fn put_slot(
     }
 }
 
-/// What was declared in a slot.
+/// Returns the declaration of a slot.
 fn declared<'a>(over: &BlockContext<'a>, slot: u32) -> Option<&'a Slot>
     ensures { slice_get over.now.frame.accums.slots.declared slot ≡ option_copied result }
 {
     over.frame.accums.slots.declared.get(slot as usize)
 }
 
-/// What a vertex has of the attached accumulator in a slot, behind other members.
+/// Appends the value of the attached accumulator in a slot at a vertex to other members.
 #[tactic(auto, using(crate::proofs::SlotLemmas::slot_laws))]
 fn put_attached_slot(
     alloc: Global,
@@ -166,7 +166,7 @@ fn put_attached_slot(
     }
 }
 
-/// What the accumulator in a slot reads as at a vertex.
+/// Returns the value that the accumulator in a slot reads as at a vertex.
 fn read_slot(
     alloc: Global,
     over: &BlockContext<'_>,
@@ -181,14 +181,14 @@ fn read_slot(
     }
 }
 
-/// The name of the accumulator in a slot, if it has one.
+/// Returns the name of the accumulator in a slot, if it has one.
 fn name_of<'a>(over: &BlockContext<'a>, slot: u32) -> Option<&'a Txt>
     ensures { IfSome result (λ name. slice_get (accum_names over.now.plan) slot ≡ Some name.now) }
 {
     accum_name(over.plan.definitions.as_slice(), slot)
 }
 
-/// The name of the accumulator at a place among those of all lines.
+/// Returns the name of an accumulator by its index among those of all definitions.
 #[tactic(auto, using(crate::proofs::SlotLemmas::name_laws))]
 fn accum_name(definitions: &[Definition], slot: u32) -> Option<&Txt>
     ensures { IfSome result (λ name. slice_get (flat_map names_in definitions.now) slot ≡ Some name.now) }
@@ -203,7 +203,7 @@ fn accum_name(definitions: &[Definition], slot: u32) -> Option<&Txt>
     None
 }
 
-/// The name of the accumulator at a place of a line, if there is one.
+/// Returns the name of an accumulator by its index in a definition, if there is one.
 #[tactic(auto, using(crate::proofs::SlotLemmas::line_laws))]
 fn name_in(definition: &Definition, place: usize) -> Option<&Txt>
     ensures { slice_get (names_in definition.now) place ≡ option_copied result }
@@ -217,7 +217,7 @@ fn name_in(definition: &Definition, place: usize) -> Option<&Txt>
     }
 }
 
-/// How many accumulators a line declares.
+/// Returns the number of accumulators that a definition declares.
 #[tactic(auto, using(crate::proofs::SlotLemmas::line_laws))]
 fn name_count(definition: &Definition) -> usize
     ensures { result ≡ length (names_in definition.now) }

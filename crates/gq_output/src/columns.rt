@@ -21,7 +21,7 @@ use gq_plan_ir::Expr;
 use gq_value::Txt;
 use std::alloc::Global;
 
-/// The vertices of the set at a place, each with these columns in place of its attributes.
+/// Prints the vertices of the set at a place, each with these columns in place of its attributes.
 #[tactic(auto, using(crate::proofs::ColumnLemmas::column_laws))]
 pub(crate) fn columns(
     columns: &[(Expr, Txt)],
@@ -40,7 +40,7 @@ pub(crate) fn columns(
     }
 }
 
-/// The types and the vertices of the set at a place, if there is one.
+/// Returns the types and the vertices of the set at a place, if there is one.
 fn set_of<'a>(over: &BlockContext<'a>, place: u32) -> Option<(&'a [u32], &'a [u32])>
     ensures { IfSome result (λ set. thing_in over.now.plan.places over.now.frame.things place ≡ Some (SetOf set.0.now set.1.now)) }
 {
@@ -54,7 +54,7 @@ fn set_of<'a>(over: &BlockContext<'a>, place: u32) -> Option<(&'a [u32], &'a [u3
     }
 }
 
-/// Vertex after vertex, in the set's order.
+/// Prints the vertices, in the set's order.
 #[tactic(auto, using(crate::proofs::ColumnLemmas::vertex_laws))]
 fn vertices(
     columns: &[(Expr, Txt)],
@@ -97,7 +97,7 @@ fn member_under(
     member_seen(columns, alloc, over, &sight, vertex)
 }
 
-/// A vertex with these columns, of whatever they look at.
+/// Prints a vertex with these columns, evaluated against a context.
 #[tactic(auto, using(crate::proofs::ColumnLemmas::member_laws))]
 fn member_seen<V: Sees>(
     columns: &[(Expr, Txt)],

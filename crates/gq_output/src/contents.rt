@@ -20,13 +20,14 @@ use gq_eval_context::BlockContext;
 use gq_eval_operand::Sort;
 use gq_json::{Members, Out, Outs};
 use gq_nest::{Content, Parts};
+use gq_sorted::SortedSet;
 use gq_value::{BaseType, GroupShape, Kind, Txt, Value};
 use std::alloc::Global;
-use std::collections::BTreeSet;
 
-/// A content of a kind: a map as an object by the texts of its keys, a group as a list of objects, an average as its fraction.
+/// Prints a content of a kind: a map as an object by the texts of its keys, a group as a list of objects, an average as
+/// its fraction.
 ///
-/// What it holds is lent; a bag or heap alone is copied, to be put in order.
+/// The content is borrowed; only a bag or heap is copied, for sorting.
 #[cycle(contents)]
 #[tactic(auto, using(gq_value::proofs::AccumLemmas::accum_laws, crate::proofs::ContentLemmas::content_laws))]
 pub fn out_content(
@@ -53,7 +54,7 @@ pub fn out_content(
     }
 }
 
-/// A number, a truth or an average.
+/// Prints a number, a truth value or an average.
 #[tactic(auto, using(crate::proofs::ContentLemmas::scalar_laws))]
 fn scalar(kind: &Kind, content: &Content) -> Result<Out, OutOfMemory>
     requires shown { IsShown (accum_of kind.now) content.now }
@@ -79,7 +80,7 @@ fn plain(value: Value) -> Result<Out, OutOfMemory>
     }
 }
 
-/// A set, bag, list or heap, as a list.
+/// Prints a set, bag, list or heap, as a list.
 #[tactic(auto, using(crate::proofs::ContentLemmas::list_made))]
 fn collection(
     alloc: Global,
@@ -93,7 +94,7 @@ fn collection(
     Ok(Out::List(outs))
 }
 
-/// The elements of a set, bag, list or heap.
+/// Prints the elements of a set, bag, list or heap.
 fn elements(
     alloc: Global,
     over: &BlockContext<'_>,
@@ -111,7 +112,7 @@ fn elements(
     }
 }
 
-/// Copies of the elements, put in order.
+/// Prints copies of the elements, sorted.
 fn in_order(
     alloc: Global,
     over: &BlockContext<'_>,
@@ -124,12 +125,12 @@ fn in_order(
     values(alloc, over, sort, row.as_slice())
 }
 
-/// The elements of a set, ascending.
+/// Prints the elements of a set, ascending.
 fn keys_of(
     alloc: Global,
     over: &BlockContext<'_>,
     sort: Sort<'_>,
-    keys: &BTreeSet<Value>,
+    keys: &SortedSet<Value>,
 ) -> Result<Outs, OutOfMemory>
     ensures { IfOk result (λ outs. outs ≡ map (value_shown (world_over gregorian over.now) (sort_is sort.entry)) (distinct place (map val keys.now.keys))) }
 {
@@ -140,7 +141,7 @@ fn keys_of(
     Ok(outs)
 }
 
-/// What a map holds, as members by the texts of their keys.
+/// Prints the entries of a map, as members by the texts of their keys.
 #[cycle(contents)]
 fn entries(
     alloc: Global,
@@ -164,7 +165,7 @@ fn entries(
     }
 }
 
-/// What a group holds, as an object for each key row.
+/// Prints a group, as an object for each key row.
 #[cycle(contents)]
 fn groups(
     alloc: Global,
@@ -188,7 +189,7 @@ fn groups(
     }
 }
 
-/// The parts at a key row of a group.
+/// Returns the parts at a key row of a group.
 fn lent<'a>(shape: &GroupShape, parts: &'a Parts) -> &'a [Content]
     requires { AreShown (parts_are shape.now) parts.now }
     ensures parts { result.now ≡ parts.entry.now }
@@ -197,7 +198,7 @@ fn lent<'a>(shape: &GroupShape, parts: &'a Parts) -> &'a [Content]
     parts.as_slice()
 }
 
-/// A key row with its parts: the keys by their names, and then the parts by theirs.
+/// Prints a key row with its parts: the keys by name, and then the parts by name.
 #[cycle(contents)]
 fn group(
     alloc: Global,
@@ -215,7 +216,7 @@ fn group(
     Ok(Out::Object(members))
 }
 
-/// The keys of a row by their names, behind other members.
+/// Appends the keys of a row by name to other members.
 #[tactic(auto, using(crate::proofs::NamedLemmas::key_laws))]
 fn put_keys(
     alloc: Global,
@@ -235,7 +236,7 @@ fn put_keys(
     Ok(())
 }
 
-/// Parts by their names, behind other members.
+/// Appends parts by name to other members.
 #[cycle(contents)]
 #[tactic(auto, using(crate::proofs::ContentLemmas::part_laws))]
 fn put_parts(
@@ -260,7 +261,7 @@ fn put_parts(
     Ok(())
 }
 
-/// The name and the kind of the part at a place.
+/// Returns the name and the kind of the part at a place.
 #[tactic(auto, using(crate::proofs::ContentLemmas::kind_shown))]
 fn kind_at<'a>(
     kinds: &'a [(Txt, Kind)],

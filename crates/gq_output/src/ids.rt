@@ -1,4 +1,4 @@
-// A shown id, as an attribute.
+// An id that is shown as an attribute.
 ghost use Rattle.std.specs.Prelude.{◌≡◌, IfOk};
 ghost use Rattle.gq_output.specs.Vertices.{id_shown};
 
@@ -9,7 +9,7 @@ use gq_json::Out;
 use gq_value::Txt;
 use std::alloc::Global;
 
-/// An id of a kind, which is kept as its text: a number where it is one.
+/// Prints an id of a kind, which is stored as its text; as a number if the kind is a number.
 pub(crate) fn shown_id(alloc: Global, kind: IdKind, id: &str) -> Result<Out, OutOfMemory>
     ensures { IfOk result (λ out. out ≡ id_shown kind id.now) }
 {

@@ -18,7 +18,7 @@ use gq_plan_ir::Expr;
 use gq_value::Txt;
 use std::alloc::Global;
 
-/// What an expression is printed as, of whatever it looks at.
+/// Prints an expression, evaluated against a context.
 #[tactic(auto, using(crate::proofs::ItemLemmas::item_laws))]
 pub(crate) fn item<V: Sees>(
     expr: &Expr,
@@ -37,7 +37,7 @@ pub(crate) fn item<V: Sees>(
     }
 }
 
-/// Expressions with their keys, as members in order.
+/// Prints expressions with their keys, as members in order.
 #[tactic(auto, using(crate::proofs::ItemLemmas::member_laws))]
 pub(crate) fn members<V: Sees>(
     items: &[(Expr, Txt)],
@@ -60,7 +60,7 @@ pub(crate) fn members<V: Sees>(
     Ok(members)
 }
 
-/// The accumulators, which no content spoils.
+/// Returns the accumulators, none of whose contents is spoiled.
 pub(crate) fn accums_of<'a>(over: &BlockContext<'a>) -> &'a Accums
     ensures value { result.now ≡ over.now.frame.accums }
     ensures sound { AreSound result.now }
@@ -68,7 +68,7 @@ pub(crate) fn accums_of<'a>(over: &BlockContext<'a>) -> &'a Accums
     &over.frame.accums
 }
 
-/// A printed value under its key, behind other members.
+/// Appends a printed value under its key to other members.
 pub(crate) fn put(
     alloc: Global,
     key: &Txt,

@@ -13,7 +13,7 @@ use gq_value::{Txt, Value};
 use gq_vertex::Vertices;
 use std::alloc::Global;
 
-/// The id of a vertex.
+/// Returns the id of a vertex.
 #[tactic(auto, using(crate::proofs::KeyLemmas::id_laws))]
 pub(crate) fn id_of(alloc: Global, over: &BlockContext<'_>, vertex: u32) -> Result<Txt, OutOfMemory>
     ensures { IfOk result (λ id. id ≡ plain.id_of (world_over gregorian over.now).graph vertex) }
@@ -31,7 +31,7 @@ fn id_among(alloc: Global, vertices: &Vertices, vertex: u32) -> Result<Txt, OutO
     Txt::of(alloc, vertices.id(vertex))
 }
 
-/// The text of a key: numbers in decimal digits, a vertex as its id.
+/// Returns the text of a key: a number in decimal digits, a vertex as its id.
 #[tactic(auto, using(gq_value::specs::ViewLaws::view_laws, crate::proofs::KeyLemmas::key_laws))]
 pub(crate) fn key_text(
     alloc: Global,

@@ -1,4 +1,4 @@
-// What expressions are, as it is printed.
+// The printed form of expressions.
 ghost use Rattle.std.specs.Prelude.{◌≡◌, [], IfOk};
 ghost use Rattle.gq_value.specs.AccumViews.{accum_of};
 ghost use Rattle.gq_value.specs.Views.{val};
@@ -23,7 +23,7 @@ use gq_nest::Content;
 use gq_value::{Kind, Txt, Value};
 use std::alloc::Global;
 
-/// What an expression is: a value, an average, a collection or a set.
+/// Prints the result of an expression: a value, an average, a collection or a set.
 #[tactic(auto, using(crate::proofs::SeenLemmas::seen_laws))]
 pub fn out_seen(alloc: Global, over: &BlockContext<'_>, seen: Seen<'_>) -> Result<Out, OutOfMemory>
     requires { Sound seen }
@@ -40,7 +40,7 @@ pub fn out_seen(alloc: Global, over: &BlockContext<'_>, seen: Seen<'_>) -> Resul
     }
 }
 
-/// What an accumulator reads as: a value, an average or a collection.
+/// Prints the value that an accumulator reads as: a value, an average or a collection.
 #[tactic(auto, using(crate::proofs::SeenLemmas::seen_laws))]
 pub(crate) fn out_read(
     alloc: Global,
@@ -60,7 +60,7 @@ pub(crate) fn out_read(
     }
 }
 
-/// A value of a type. A text that was made for this is moved.
+/// Prints a value of a type. A text that was made for this is moved.
 #[tactic(auto, using(gq_value::specs::ViewLaws::view_laws, crate::proofs::ValueLemmas::value_laws))]
 fn out_operand(
     alloc: Global,
@@ -92,7 +92,7 @@ fn out_made(
     }
 }
 
-/// A collection before any input.
+/// Prints a collection before any input.
 #[tactic(auto, using(crate::proofs::SeenLemmas::opening_laws))]
 fn out_opening(alloc: Global, over: &BlockContext<'_>, kind: &Kind) -> Result<Out, OutOfMemory>
     ensures { IfOk result (λ out. out ≡ fresh_shown (world_over gregorian over.now) (accum_of kind.now)) }
@@ -101,7 +101,7 @@ fn out_opening(alloc: Global, over: &BlockContext<'_>, kind: &Kind) -> Result<Ou
     out_content(alloc, over, kind, &opening)
 }
 
-/// Whole vertices, in order.
+/// Prints whole vertices, in order.
 #[tactic(auto, using(crate::proofs::SeenLemmas::set_laws))]
 pub fn out_set(
     alloc: Global,

@@ -21,7 +21,7 @@ use gq_time::{in_range, write_time};
 use gq_value::{BaseType, Txt, Value};
 use std::alloc::Global;
 
-/// A value of a type: a vertex as its id, a DATETIME as its text, a tuple as an object.
+/// Prints a value of a type: a vertex as its id, a DATETIME as its text, a tuple as an object.
 #[cycle(values)]
 #[tactic(auto, using(gq_value::specs::ViewLaws::view_laws, crate::proofs::ValueLemmas::value_laws))]
 pub fn out_value(
@@ -43,7 +43,7 @@ pub fn out_value(
     }
 }
 
-/// A whole number with a sign, or the DATETIME of so many seconds.
+/// Prints a signed whole number, or the DATETIME with this number of seconds.
 #[tactic(auto, using(crate::proofs::ValueLemmas::whole_laws))]
 fn whole(alloc: Global, over: &BlockContext<'_>, sort: Sort<'_>, x: i64) -> Result<Out, OutOfMemory>
     ensures { IfOk result (λ out. out ≡ value_shown (world_over gregorian over.now) (sort_is sort.entry) (Int x)) }
@@ -55,7 +55,7 @@ fn whole(alloc: Global, over: &BlockContext<'_>, sort: Sort<'_>, x: i64) -> Resu
     }
 }
 
-/// The text of a DATETIME.
+/// Returns the text of a DATETIME.
 #[tactic(auto, using(crate::proofs::ValueLemmas::time_laws))]
 fn time(alloc: Global, _over: &BlockContext<'_>, seconds: i64) -> Result<Out, OutOfMemory>
     ensures { IfOk result (λ out. out ≡ time_shown gregorian seconds) }
@@ -67,7 +67,7 @@ fn time(alloc: Global, _over: &BlockContext<'_>, seconds: i64) -> Result<Out, Ou
     Ok(Out::Text(text))
 }
 
-/// The fields of a tuple, as members.
+/// Prints the fields of a tuple, as members.
 #[cycle(values)]
 #[tactic(auto, using(crate::proofs::ValueLemmas::tuple_laws))]
 fn tuple(
@@ -88,14 +88,14 @@ fn tuple(
     }
 }
 
-/// A tuple type by its number, if there is one.
+/// Returns a tuple type by number, if there is one.
 fn tuple_type<'a>(over: &'a BlockContext<'_>, number: u32) -> Option<&'a TupleType>
     ensures { slice_get over.now.tuples number ≡ option_copied result }
 {
     over.tuples.get(number as usize)
 }
 
-/// The fields of a tuple of a type, as members.
+/// Prints the fields of a tuple of a type, as members.
 #[cycle(values)]
 #[tactic(auto, using(crate::proofs::NamedLemmas::field_laws))]
 fn fields(
@@ -116,7 +116,7 @@ fn fields(
     Ok(members)
 }
 
-/// The name and the type of the field at a place.
+/// Returns the name and the type of the field at a place.
 #[tactic(auto, using(crate::proofs::NamedLemmas::field_at))]
 fn field_at(of: &TupleType, place: usize) -> Option<(&Txt, &BaseType)>
     ensures { IfSome result (λ field. slice_get (fields_in of.now) place ≡ Some (field.0.now, base_of field.1.now)) }
@@ -130,7 +130,7 @@ fn field_at(of: &TupleType, place: usize) -> Option<(&Txt, &BaseType)>
     }
 }
 
-/// A value of a type under its name, behind other members.
+/// Appends a value of a type under its name to other members.
 #[cycle(values)]
 pub(crate) fn put_value(
     alloc: Global,
@@ -146,7 +146,7 @@ pub(crate) fn put_value(
     put(alloc, name.as_str(), value, members)
 }
 
-/// A printed value under its name, behind other members.
+/// Appends a printed value under its name to other members.
 pub(crate) fn put(
     alloc: Global,
     name: &str,
@@ -159,7 +159,7 @@ pub(crate) fn put(
     members.push((name, value))
 }
 
-/// Values of one type, in order.
+/// Prints values of one type, in order.
 #[tactic(auto, using(crate::proofs::NamedLemmas::row_laws))]
 pub(crate) fn values(
     alloc: Global,

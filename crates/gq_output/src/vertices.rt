@@ -20,7 +20,7 @@ use gq_value::Txt;
 use gq_vertex::Vertices;
 use std::alloc::Global;
 
-/// A vertex with all its attributes, and then its attached accumulators in order of declaration.
+/// Prints a vertex with all its attributes, and then its attached accumulators in order of declaration.
 #[tactic(auto, using(crate::proofs::VertexLemmas::whole_laws))]
 pub fn out_whole_vertex(
     alloc: Global,
@@ -39,7 +39,7 @@ pub fn out_whole_vertex(
     }
 }
 
-/// A vertex with these members as its attributes.
+/// Prints a vertex with these members as its attributes.
 #[tactic(auto, using(crate::proofs::VertexLemmas::vertex_laws))]
 pub fn out_vertex(
     alloc: Global,
@@ -59,7 +59,7 @@ pub fn out_vertex(
     }
 }
 
-/// An object with an id, a type and attributes.
+/// Returns an object with an id, a type and attributes.
 #[tactic(auto, using(crate::proofs::VertexLemmas::three_put))]
 fn described(alloc: Global, id: Txt, kind: Txt, attributes: Members) -> Result<Out, OutOfMemory>
     ensures { IfOk result (λ out. out ≡ described id kind attributes) }
@@ -77,7 +77,7 @@ fn vertices_of<'a>(over: &BlockContext<'a>) -> &'a Vertices
     &over.graph.store.vertices
 }
 
-/// The type of a vertex, if there is one.
+/// Returns the type of a vertex, if there is one.
 fn type_of<'a>(over: &BlockContext<'a>, vertex: u32) -> Option<&'a VertexType>
     ensures { IfSome result (λ of. HasType over.now vertex of.now) }
 {

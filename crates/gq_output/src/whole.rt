@@ -27,10 +27,10 @@ use gq_plan_ir::{Expr, PrintItem};
 use gq_value::Txt;
 use std::alloc::Global;
 
-/// What one PRINT prints: an object with a member for each item, in order.
+/// Returns the output of one PRINT: an object with a member for each item, in order.
 ///
-/// Items are evaluated from left to right, and the first fault counts. An item that isn't well typed, of which nothing is promised,
-/// ends with `OutOfMemory` or as stuck.
+/// Items are evaluated from left to right, and the first fault counts. An item that isn't well typed, about which
+/// nothing is promised, ends with `OutOfMemory` or as stuck.
 pub fn print(alloc: Global, items: &[PrintItem], over: &BlockContext<'_>) -> Result<Printed, Halt>
     ensures { (s : State Reference) → Shows over.now.plan.places over.now.frame s → Prints (each (printed (world_over gregorian over.now) s) (map view_item items.now)) result }
 {
@@ -40,7 +40,7 @@ pub fn print(alloc: Global, items: &[PrintItem], over: &BlockContext<'_>) -> Res
     }
 }
 
-/// A member for each item, in order.
+/// Prints a member for each item, in order.
 #[tactic(auto, using(crate::proofs::WholeLemmas::member_laws))]
 fn members_of(items: &[PrintItem], alloc: Global, over: &BlockContext<'_>) -> Result<Members, Halt>
     ensures { Tells itself (each (keyed_shown gregorian over.now) items.now) result }
@@ -67,7 +67,7 @@ fn key_of(item: &PrintItem) -> &Txt
     }
 }
 
-/// What an item is printed as.
+/// Prints the value of an item.
 fn value_of(item: &PrintItem, alloc: Global, over: &BlockContext<'_>) -> Result<Out, Halt>
     ensures { Tells itself (value_at gregorian over.now item.now) result }
 {

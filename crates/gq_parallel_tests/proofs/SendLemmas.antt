@@ -1,5 +1,5 @@
--- SendLemmas: a seat may go to another thread, and threads may share a book and batches. The check makes what the contents' own ring of
--- types needs (`TheKnot`); the rest is search, a type at a time.
+-- SendLemmas: a seat may move to another thread, and threads may share a book and batches. The check generates what the
+-- recursive types of contents need (`TheKnot`); the rest is search, type by type.
 use denote.Param.Send.{IsSend, IsSync, sendable}
 use Rattle.std.proofs.Crossing.{crosses, send, sync}
 use Rattle.std.proofs.MapsCrossing as maps
@@ -9,6 +9,8 @@ use Rattle.gq_nest.specs.contracts.content.Content as content
 use Rattle.gq_nest.proofs.content.Content.TheLaws.TheKnot as knot
 use Rattle.gq_base.proofs.list.List.TheSendSync as list_crosses
 use Rattle.gq_base.proofs.boxed.Boxed.TheSendSync as boxed_crosses
+use Rattle.gq_sorted.proofs.map.SortedMap.TheSendSync as map_crosses
+use Rattle.gq_sorted.proofs.set.SortedSet.TheSendSync as set_crosses
 use Rattle.gq_core.specs.contracts.batches.Batches as batches
 use Rattle.gq_stripe.specs.contracts.stripe.Stripe as stripe
 use Rattle.gq_stripe.specs.contracts.book.Book as book
@@ -19,7 +21,7 @@ use Rattle.atomic_table.proofs.owned.Table.TheSendSync as table_crosses
 use Rattle.gq_stripe.specs.contracts.seat.Seat as seat
 
 content_send : IsSend content.the_row
-content_send = search (value_send, scalar_crosses.the_field_send, list_crosses.the_send, boxed_crosses.the_send, maps.crosses, crosses, knot.crosses, sendable) depth 30
+content_send = search (value_send, scalar_crosses.the_field_send, list_crosses.the_send, boxed_crosses.the_send, map_crosses.the_send, set_crosses.the_send, maps.crosses, crosses, knot.crosses, sendable) depth 30
 
 stripe_send : IsSend stripe.the_row
 stripe_send = search (sendable, content_send, list_crosses.the_send) depth 20

@@ -33,18 +33,18 @@ sum_fits kinds n t x is fits = record {
   takes = ap₂ suits (accum_of-Sum number.Int) (given-One (value.Int x) ∙ ap One (val-Int x)) ∙ within_int x fits;
 }
 
--- batches fit with one number more for a sum
+-- batches with one more number for a sum fit
 pub one_number_fits : (plan : Plan) (old new : List Batch) (target : ℕ) (x y : ℤ) → FitsSigned w64 x → y ≡ x → slice_get plan.layout target ≡ Some (kind.Sum number.Int)
     → FitBatches plan old → contributions old < 2 ^ 35 → Gains old new target (input.One (value.Int y)) → FitBatches plan new × (contributions new ≤ contributions old + 1)
 one_number_fits plan old new target x y fits same is fit few gains =
     one_more_fits plan old new target (input.One (value.Int x)) fit few (subst (λ (z : ℤ). Gains old new target (input.One (value.Int z))) same gains) (sum_fits plan.layout plan.stripes target x is fits)
 
--- the one target of a book of a sum has a content at the end
+-- the only target of a book of a sum has a content at the end
 pub first_content : (plan : Plan) (puts : List Put) (partials : Partials) → plan.layout ≡ replicate 1 (kind.Sum number.Int) → HasContents plan puts partials
     → (content : Content) × (content_at partials 0 ≡ Some content)
 first_content plan puts partials is has = let h = has.each 0 (kind.Sum number.Int) (ap (λ (kinds : List Kind). slice_get kinds 0) is) in (h.0, h.1)
 
--- what holds of a call that succeeded
+-- a consequence of the contract of a call that succeeded
 pub on_ok : {T E : Type 0} {P Q : Type 0} (r : Result T E) → OnOk r P → (P → Q) → OnOk r Q
 on_ok (Ok t) h f = f h
 on_ok (Err e) h f = tt

@@ -1,4 +1,4 @@
-//! Tests of what threads share: the state machine of workers, atomic words, and striped tables.
+//! Tests of data that threads share: the state machine of workers, atomic words, and striped tables.
 //!
 //! They are a separate crate, so that the libraries aren't proved a second time with their tests.
 //!

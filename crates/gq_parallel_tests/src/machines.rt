@@ -7,7 +7,7 @@ use gq_value::{Input, Txt, Value};
 use std::alloc::Global;
 use std::test::Fail;
 
-// A text to each of the targets 0, 1 and 2.
+// Returns inputs with one text for each of the targets 0, 1 and 2.
 fn three_inputs(alloc: Global) -> Result<Contributions, OutOfMemory> {
     let mut inputs = List::new(alloc);
     for target in 0..3 {
@@ -16,7 +16,7 @@ fn three_inputs(alloc: Global) -> Result<Contributions, OutOfMemory> {
     Ok(inputs)
 }
 
-// Whether each event is enabled or not, as it is wanted.
+// Whether each event is enabled or not, as expected.
 fn goes_as(
     alloc: Global,
     core: &mut Core,

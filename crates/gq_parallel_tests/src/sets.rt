@@ -1,4 +1,4 @@
-// A book of one set, which takes memory at each put.
+// A book with a single set, which takes memory at each put.
 ghost use Rattle.std.specs.Prelude.{◌≡◌, Some, IfOk, slice_get, [], ◌∷◌};
 ghost use Rattle.gq_value.specs.declared.kind.Kind.TheVariants.{Set};
 ghost use Rattle.gq_value.specs.declared.kind.BaseType.TheVariants.{Int};
@@ -13,7 +13,7 @@ use std::alloc::Global;
 use std::sync::Wait;
 use std::test::Fail;
 
-// A book of one set and two chunks.
+// Opens a book with a single set and two chunks.
 fn set_book(alloc: Global) -> Result<(Book, Seat), OutOfMemory>
     ensures idle { IfOk result (λ r. IsIdle r.0 r.1) }
     ensures layout { IfOk result (λ r. (plan_of r.0).layout ≡ Set Int ∷ []) }
@@ -24,7 +24,7 @@ fn set_book(alloc: Global) -> Result<(Book, Seat), OutOfMemory>
     Book::open(alloc, &layout, 2, 1, 1)
 }
 
-// The batches of one chunk for the set: a number.
+// Returns the batches of one chunk for the set: one number.
 fn one_number(alloc: Global, book: &Book, x: i64) -> Result<Batches, OutOfMemory>
     requires layout { (plan_of book.now).layout ≡ Set Int ∷ [] }
     requires stripes { (plan_of book.now).stripes ≡ 1 }
@@ -36,7 +36,7 @@ fn one_number(alloc: Global, book: &Book, x: i64) -> Result<Batches, OutOfMemory
     Ok(batches)
 }
 
-// Whether each of two puts found memory, and whether the book could be closed then.
+// Returns whether each of two puts found memory, and whether the book could be closed then.
 fn puts_at_a_set<R: Wait>(
     rt: &R,
     alloc: Global,

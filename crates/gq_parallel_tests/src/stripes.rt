@@ -14,7 +14,7 @@ use std::alloc::Global;
 use std::sync::Wait;
 use std::test::Fail;
 
-// A book of sums.
+// Opens a book of sums.
 pub(crate) fn sums(
     alloc: Global,
     targets: u32,
@@ -35,7 +35,7 @@ pub(crate) fn sums(
     Book::open(alloc, &layout, chunks, stripes, seats)
 }
 
-// Adds a number to what a sum is to be fed.
+// Adds a number to the inputs of a sum.
 pub(crate) fn add(
     book: &Book,
     batches: &mut Batches,
@@ -52,7 +52,7 @@ pub(crate) fn add(
     batches.add(target, Input::One(Value::Int(x)))
 }
 
-// Draws a chunk and puts its batches. None where there is no chunk, else whether the put found memory.
+// Draws a chunk and puts its batches. Returns None if there is no chunk, else whether the put found memory.
 pub(crate) fn put_next<R: Wait>(
     rt: &R,
     book: &Book,
@@ -68,7 +68,7 @@ pub(crate) fn put_next<R: Wait>(
     Some(book.put(rt, seat, chunk, batches).is_ok())
 }
 
-// The sum at a target of a closed book.
+// Returns the sum at a target of a closed book.
 pub(crate) fn sum_at(partials: &Partials, target: u64) -> Option<i128>
     requires { (content : _) × (content_at partials.now target ≡ Some content) }
 {
@@ -78,7 +78,7 @@ pub(crate) fn sum_at(partials: &Partials, target: u64) -> Option<i128>
     }
 }
 
-// The batches of one chunk for the sum of a book of one: these two numbers.
+// Returns the batches of one chunk for the sum of a book with one sum: these two numbers.
 fn two_numbers(alloc: Global, book: &Book, one: i64, other: i64) -> Result<Batches, OutOfMemory>
     requires layout { (plan_of book.now).layout ≡ replicate 1 (Sum Int) }
     requires stripes { (plan_of book.now).stripes ≡ 1 }
@@ -90,7 +90,7 @@ fn two_numbers(alloc: Global, book: &Book, one: i64, other: i64) -> Result<Batch
     Ok(batches)
 }
 
-// Why a book of two chunks can't be closed after the first put.
+// Returns why a book with two chunks can't be closed after the first put.
 fn fault_after_one_put<R: Wait>(rt: &R, alloc: Global) -> Result<Option<CloseFault>, OutOfMemory> {
     let (book, mut seat) = sums(alloc, 1, 2, 1, 1)?;
     let batches = two_numbers(alloc, &book, 4, 5)?;
@@ -105,7 +105,7 @@ fn a_missing_put_is_counted(rt: HostRuntime) -> Result<(), Fail> {
     Ok(())
 }
 
-// The sum of a book of two chunks: 4 and 5 are put for the first, 3 and -4 for the second.
+// Returns the sum of a book with two chunks: 4 and 5 are put for the first, 3 and -4 for the second.
 fn sum_of_two_chunks<R: Wait>(rt: &R, alloc: Global) -> Result<Option<i128>, CloseFault> {
     let (book, mut seat) = sums(alloc, 1, 2, 1, 1)?;
     let batches = two_numbers(alloc, &book, 4, 5)?;

@@ -13,7 +13,7 @@ use std::sync::Wait;
 use std::test::Fail;
 use std::thread::{Threads, join};
 
-// One to each of the sums of a book of three.
+// Returns batches with a one for each of the sums of a book with three.
 fn one_to_each(alloc: Global, book: &Book) -> Result<Batches, OutOfMemory>
     requires layout { (plan_of book.now).layout ≡ replicate 3 (Sum Int) }
     requires stripes { (plan_of book.now).stripes ≡ 3 }
@@ -26,7 +26,7 @@ fn one_to_each(alloc: Global, book: &Book) -> Result<Batches, OutOfMemory>
     Ok(batches)
 }
 
-// One thread's part: puts the same batches for each chunk that it draws, until there is none.
+// One thread's part: puts the same batches for each chunk that it draws, until there are no more chunks.
 fn fill<R: Wait>(rt: &R, book: &Book, mut seat: Seat, batches: &Batches) -> Seat
     requires own { IsIdle book.now seat }
     requires fit { FitBatches (plan_of book.now) batches.now }
@@ -65,7 +65,7 @@ fn fill_by_two<R: Threads + Wait + Sync>(
     )
 }
 
-// The three sums of a closed book.
+// Returns the three sums of a closed book.
 fn three_sums(partials: &Partials) -> [Option<i128>; 3]
     requires { (t : ℕ) → t < 3 → (content : _) × (content_at partials.now t ≡ Some content) }
 {
@@ -76,7 +76,7 @@ fn three_sums(partials: &Partials) -> [Option<i128>; 3]
     ]
 }
 
-// The sums of a book of three and of 100 chunks, with one to each for each chunk.
+// Returns the sums of a book with three sums and 100 chunks, with a one for each sum from each chunk.
 fn sums_by_two<R: Threads + Wait + Sync>(
     rt: &R,
     alloc: Global,

@@ -8,7 +8,7 @@ use std::thread::{Threads, join};
 
 const INPUTS: u64 = 10_000;
 
-// One thread's part: the numbers from `first` on, each to all four words.
+// One thread's part: feeds the numbers from `first` on, each to all four words.
 fn feed_all(words: &Words, mut seat: WordSeat, first: u64) -> WordSeat
     requires own { IsSeatOf words.now seat }
     requires ops { map (λ o. o.0) (openings_of words.now) ≡ Op.Max ∷ Op.Min ∷ Op.Or ∷ Op.And ∷ [] }

@@ -1,4 +1,4 @@
--- ExactReads: what a parser that reads a grammar finds is told by the grammar alone.
+-- ExactReads: the grammar alone determines what a parser for it finds.
 use Rattle.std.proofs.Common.{ℕ, ◌-◌, List, length, Some, None, arith}
 use Rattle.gq_grammar.specs.Lexemes.{Terminal}
 use Rattle.gq_grammar.specs.Languages.{Language}

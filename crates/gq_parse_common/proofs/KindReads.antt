@@ -1,4 +1,4 @@
--- KindReads: Kinds are read as the grammar says, a lemma for each production.
+-- KindReads: kinds are read as the grammar says, a lemma for each production.
 use Rattle.std.proofs.Common.{ℕ, zero, suc, ◌≤◌, List, [], ◌∷◌, ◌++◌, true, false, refl}
 use Rattle.gq_tree.specs.declared.query.BaseTree.TheVariants as base
 use Rattle.gq_tree.specs.declared.kind.Elem.TheVariants as elem
@@ -25,13 +25,13 @@ use Rattle.gq_parse_common.proofs.Steps.{more, after_more, expression_reads}
 use Rattle.gq_parse_common.specs.Kinds as d
 use Rattle.gq_parse_common.proofs.Steps.{after_apart}
 
--- with what kinds of values of one type begin
+-- the words with which kinds that hold values of one type begin
 abbrev pub flat_words : List Terminal
 flat_words =
     word "SumAccum" ∷ word "MinAccum" ∷ word "MaxAccum" ∷ word "SetAccum" ∷ word "BagAccum" ∷ word "ListAccum" ∷ word "OrAccum" ∷ word "AndAccum"
     ∷ word "BitwiseOrAccum" ∷ word "BitwiseAndAccum" ∷ word "AvgAccum" ∷ []
 
--- with what kinds begin
+-- the words with which kinds begin
 abbrev pub kind_words : List Terminal
 kind_words =
     word "SumAccum" ∷ word "MinAccum" ∷ word "MaxAccum" ∷ word "SetAccum" ∷ word "BagAccum" ∷ word "ListAccum" ∷ word "OrAccum" ∷ word "AndAccum"

@@ -1,4 +1,4 @@
--- LevelLemmas: one level of kinds more.
+-- LevelLemmas: one more level of kinds.
 use Rattle.std.proofs.Common.{◌≡◌, ℕ, suc, ◌-◌, ◌<◌, Option, Some, None, Result, Ok, Err, IfOk, ap, subst, arith}
 use Rattle.gq_tree.specs.declared.kind.KindTree.{KindTree}
 use Rattle.gq_grammar.specs.Lexemes.{Lexemes}

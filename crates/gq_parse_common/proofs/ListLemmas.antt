@@ -1,4 +1,4 @@
--- ListLemmas: a sign and what a function that is given finds behind it, and a first item before others.
+-- ListLemmas: a sign and what a function parameter finds after it, and a first item before others.
 use Rattle.std.proofs.Common.{◌≡◌, ℕ, ◌≤◌, List, ◌∷◌, length, Option, Some, None, Result, Ok, Err, IfOk, ap, ◌∙◌, subst, arith}
 use Rattle.std.specs.Borrow.{Bor}
 use Rattle.std.specs.Option.{option_map}
@@ -10,7 +10,7 @@ use Rattle.gq_grammar.specs.Series.{chain, one_and_all}
 use Rattle.gq_grammar.specs.Signs.{second}
 use Rattle.gq_parse_common.specs.Readers.{Finds}
 
--- what a call of the function that is given found
+-- what a call of the function parameter found
 pub given : {A : Type 0} (p : Parser A) {post : Global → Bor Lexemes → ℕ → Result (Option (A × ℕ)) OutOfMemory → Type 0} → Finds p post → {alloc : Global} {source : Bor Lexemes} {at : ℕ} {r : Result (Option (A × ℕ)) OutOfMemory} → post alloc source at r → at ≤ length source.now → IfOk r (Found p source.now at)
 given p f {alloc} {source} {at} {r} h le = f alloc source at r le h
 

@@ -1,4 +1,4 @@
--- LiteralReads: Literals are read as the grammar says, a lemma for each production.
+-- LiteralReads: literals are read as the grammar says, a lemma for each production.
 use Rattle.std.proofs.Common.{ℕ, [], ◌∷◌, true, false, refl}
 use Rattle.gq_tree.specs.declared.schema.Literal.TheVariants as literal
 use Rattle.gq_grammar.specs.Literals.{number_of}

@@ -1,4 +1,4 @@
--- Steps: expressions in productions, and what stands behind a first lexeme.
+-- Steps: expressions in productions, and what follows a first lexeme.
 use Rattle.std.proofs.Common.{◌≡◌, ℕ, suc, ◌≤◌, List, [], ◌∷◌, ◌++◌, length, true, Option, Some, None, Result, Ok, Err, IfOk, inl, inr, ⊎_elim, refl, sym, ap, ◌∙◌, subst, arith, append_assoc, length-drop, drop, ◌-◌}
 use Rattle.gq_tree.specs.declared.expr.Node.{Node}
 use Rattle.gq_grammar.specs.Expressions.{Derives}
@@ -20,12 +20,12 @@ use Rattle.gq_parse_common.specs.Expression.{expression}
 pub more : (n : ℕ) → n ≤ suc n
 more n = omega arith
 
--- behind one lexeme there is one less
+-- after one lexeme there is one less
 pub after_more : {A : Type 0} {n m : ℕ} {D D' : Language A} {p : Parser A} {fs cs : List Terminal} (k : Terminal) → n ≤ suc m → Reads m D D' p fs cs → Reads n (After k D) (After k D') (after k p) (k ∷ []) cs
 unfolding After after
 after_more {n = n} k nm r = made_reads second (then_reads (one_reads n k) r nm refl)
 
--- what is said of a parser at a list is said of one that finds the same there
+-- what holds of a parser at a list holds of one that finds the same there
 pub goes_as : {A : Type 0} (p q : Parser A) (cs : List Terminal) (a : A) (l y : Lexemes) → q l ≡ p l → Goes p cs a l y → Goes q cs a l y
 goes_as p q cs a l y e g = ⊎_elim
     (λ exact. inl (e ∙ exact))
@@ -45,7 +45,7 @@ expression_reads n = record {
   whole = λ t x y d le. goes_as (expr (length (x ++ y))) expression goes t (x ++ y) y (expression_at (x ++ y)) ((expr_reads (length (x ++ y))).whole t x y d (omega arith));
 }
 
--- an expression that was found with levels enough
+-- an expression that was found with enough levels
 pub expression_found : (all : Lexemes) (at : ℕ) (o : Option (Node × ℕ)) → Found (expr (length all - at)) all at o → Found expression all at o
 unfolding expression
 expression_found all at None f = subst (λ n. expr n (drop at all) ≡ None) (fits all at) f
@@ -57,7 +57,7 @@ expression_found all at (Some x) f = (subst (λ n. expr n (drop at all) ≡ Some
     fits : (all : Lexemes) (at : ℕ) → length all - at ≡ length (drop at all)
     fits all at = omega (arith, length-drop at all)
 
--- ---- what stands behind a first lexeme
+-- ---- what follows a first lexeme
 
 pub behind_first : {A : Type 0} (k : Terminal) (D : Language A) (a : A) (x : Lexemes) → After k D a x → (t : Lexeme) × (v : Lexemes) × (x ≡ t ∷ v) × D a v
 unfolding After One
@@ -65,7 +65,7 @@ behind_first k D a x s =
     let d = s.1 in
     (d.3.0, d.1, d.2 ∙ ap (λ z. z ++ d.1) d.3.1, subst (λ b. D b d.1) (sym s.2) d.4)
 
--- where another follows the first lexeme, nothing is found
+-- if another lexeme follows the first, nothing is found
 pub after_apart : {A B : Type 0} {n m : ℕ} {D D' : Language A} {E E' : Language B} {p : Parser A} {q : Parser B} {fs cs hs : List Terminal} (k j : Terminal) (gs : List Terminal) → Reads n D D' p fs cs → Reads m E E' q gs hs → disjoint fs gs ≡ true → (b : B) (x y : Lexemes) → After j E b x → after k p (x ++ y) ≡ None
 after_apart {E = E} {p = p} k j gs r g apart b x y s =
     let w = behind_first j E b x s in
@@ -76,7 +76,7 @@ ended_at {n = n} {p = p} k E r apart free None u v y none end =
     ap (λ z. p ((z ++ v) ++ y)) none ∙ opens_none (k ∷ []) r apart (v ++ y) (starts_on (k ∷ []) v y ((one_reads n k).begins tt v end))
 ended_at {p = p} k E r apart free (Some b) u v y some end = ap p (append_assoc u v y) ∙ free b u (v ++ y) some
 
--- nothing is found where E, or the end, stands
+-- nothing is found at the start of E, or at the end
 pub end_none : {A B : Type 0} {n : ℕ} {D D' : Language A} {p : Parser A} {fs cs : List Terminal} (k : Terminal) (E : Language B) → Reads n D D' p fs cs → disjoint fs (k ∷ []) ≡ true → ((b : B) (x y : Lexemes) → E b x → p (x ++ y) ≡ None) → (o : Option B) (x y : Lexemes) → Ended k (Maybe E) o x → p (x ++ y) ≡ None
 unfolding Ended
 end_none {p = p} k E r apart free o x y s = ap (λ z. p (z ++ y)) s.1.2 ∙ ended_at k E r apart free s.0.0 s.1.0 s.1.1 y s.1.3 s.1.4

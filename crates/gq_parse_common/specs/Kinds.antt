@@ -1,4 +1,5 @@
--- Kinds: what each function of the reader of kinds computes, a definition for each production. `kinds_are_exact` says that it is the grammar.
+-- Kinds: what each function of the reader of kinds computes, a definition for each production.
+-- `kinds_are_exact` states that it is the grammar.
 use Rattle.std.specs.Prelude.{ℕ, zero, suc, List, None, Bool, true, false}
 use Rattle.gq_tree.specs.declared.expr.Node.{Node}
 use Rattle.gq_tree.specs.declared.query.BaseTree.{BaseTree}
@@ -89,7 +90,7 @@ group_kind_parser k =
 unfoldable pub kind_in_parser : Parser KindTree → Parser KindTree
 kind_in_parser k = flat_kind_parser or heap_kind_parser or map_kind_parser k or group_kind_parser k
 
--- of at most so many levels
+-- with a bounded number of levels
 unfoldable pub kind_parser : ℕ → Parser KindTree
 kind_parser zero l = None
 kind_parser (suc n) l = kind_in_parser (kind_parser n) l

@@ -1,4 +1,5 @@
--- Literals: what each function of the reader of literals computes, a definition for each production. `literals_are_exact` says that it is the grammar.
+-- Literals: what each function of the reader of literals computes, a definition for each production.
+-- `literals_are_exact` states that it is the grammar.
 use Rattle.std.specs.Prelude.{ℕ, List, true, false}
 use Rattle.gq_tree.specs.declared.schema.Literal.{Literal}
 use Rattle.gq_tree.specs.declared.schema.Literal.TheVariants as literal

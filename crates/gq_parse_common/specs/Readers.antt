@@ -1,4 +1,4 @@
--- Readers: a function value that reads one thing, as the readers of lists are given it.
+-- Readers: a function value that reads one item, as it is passed to the readers of lists.
 use Rattle.std.specs.Prelude.{ℕ, ◌≤◌, length, Option, Result, IfOk}
 use Rattle.std.specs.Borrow.{Bor}
 use Rattle.std.specs.declared.alloc.Global.{Global}
@@ -14,6 +14,6 @@ Callable pre = (alloc : Global) (source : Bor Lexemes) (at : ℕ) → at ≤ len
 abbrev pub Finds : {A : Type 0} → Parser A → (Global → Bor Lexemes → ℕ → Result (Option (A × ℕ)) OutOfMemory → Type 0) → Type 0
 Finds p post = (alloc : Global) (source : Bor Lexemes) (at : ℕ) (r : Result (Option (_ × ℕ)) OutOfMemory) → at ≤ length source.now → post alloc source at r → IfOk r (Found p source.now at)
 
--- there is a parser that it finds as
+-- there is a parser for what it finds
 abbrev pub Reads : {A : Type 0} → (Global → Bor Lexemes → ℕ → Result (Option (A × ℕ)) OutOfMemory → Type 0) → Type 0
 Reads {A} post = (p : Parser A) × Finds p post

@@ -1,4 +1,4 @@
-// Accumulators with their opening values.
+// Accumulators with their initial values.
 ghost use Rattle.std.specs.Prelude.{◌≤◌, length, IfOk, Some};
 ghost use Rattle.gq_grammar.specs.Lexemes as lexemes;
 ghost use Rattle.gq_grammar.specs.Parsers.{Found, maybe};

@@ -1,4 +1,4 @@
-// The lines before the statements of a body.
+// The definitions before the statements of a body.
 ghost use Rattle.std.specs.Prelude.{◌≤◌, length, IfOk};
 ghost use Rattle.gq_grammar.specs.Kinds.{accums_of};
 ghost use Rattle.gq_grammar.specs.Lexemes as lexemes;

@@ -1,4 +1,4 @@
-// Heaps, and what orders them.
+// Heaps and their order.
 ghost use Rattle.std.specs.Prelude.{◌≤◌, length, IfOk};
 ghost use Rattle.gq_grammar.specs.Lexemes as lexemes;
 ghost use Rattle.gq_grammar.specs.Parsers.{Found};

@@ -1,4 +1,4 @@
-// The kind of an accumulator, to a number of levels.
+// Accumulator kinds, with a bounded number of levels.
 ghost use Rattle.std.specs.Prelude.{◌≤◌, length, IfOk};
 ghost use Rattle.gq_grammar.specs.Parsers.{Found};
 ghost use Rattle.gq_parse_common.specs.Kinds.{kind_parser};
@@ -9,9 +9,9 @@ use gq_grammar::Source;
 use gq_tree::KindTree;
 use std::alloc::Global;
 
-/// The kind of an accumulator, of at most so many levels, and the place after it.
+/// Reads an accumulator kind of at most `levels` levels, and returns the place after it.
 ///
-/// Each level takes some frames of the stack.
+/// Each level uses some stack frames.
 pub fn kind(alloc: Global, source: &Source<'_>, levels: usize, at: usize) -> Read<KindTree>
     requires { at ≤ length source.now }
     ensures { IfOk result (Found (kind_parser levels) source.now at) }

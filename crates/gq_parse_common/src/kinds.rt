@@ -1,4 +1,4 @@
-// Kinds that hold others.
+// Kinds that contain others.
 ghost use Rattle.std.specs.Prelude.{◌≤◌, length, IfOk, Some};
 ghost use Rattle.gq_grammar.specs.Lexemes as lexemes;
 ghost use Rattle.gq_grammar.specs.Parsers.{Found, many, after};
@@ -18,21 +18,21 @@ use gq_tree::{EntryTree, KindTree};
 use gq_value::Txt;
 use std::alloc::Global;
 
-/// Reads a kind that may hold others.
+/// Reads a kind that may contain others.
 #[derive(Drop)]
 pub struct Kinds<'s, 'a, F> {
     pub alloc: Global,
     pub source: &'s Source<'a>,
 
-    /// How deep kinds may still stand in one another.
+    /// How many levels kinds may still nest.
     pub levels: usize,
 
-    /// Reads a kind that stands within.
+    /// Reads a nested kind.
     pub inner: F,
 }
 
 impl<'s, 'a, F: Fn(Global, &Source<'_>, usize, usize) -> Read<KindTree>> Kinds<'s, 'a, F> {
-    // A kind that stands within.
+    // Reads a nested kind.
     fn inner(&self, at: usize) -> Read<KindTree>
         requires nests { Nests self.now.source.now self.now.levels (F.pre self.now.inner) (F.post self.now.inner) }
         requires at { at ≤ length self.now.source.now }
@@ -148,7 +148,7 @@ impl<'s, 'a, F: Fn(Global, &Source<'_>, usize, usize) -> Read<KindTree>> Kinds<'
         Ok(Some((KindTree::Group(List::from_vec(keys), parts), at)))
     }
 
-    /// A kind that holds others of one level less.
+    /// Reads a kind whose nested kinds have one level less.
     #[tactic(auto, unfolding(crate::specs::Kinds::kind_in_parser))]
     pub fn kind_in(&self, at: usize) -> Read<KindTree>
         requires nests { Nests self.now.source.now self.now.levels (F.pre self.now.inner) (F.post self.now.inner) }

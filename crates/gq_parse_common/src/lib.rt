@@ -1,12 +1,12 @@
 //! The parsers that all other parsers share: single tokens, literals, lists, types, accumulator kinds and
 //! declarations.
 //!
-//! Each parser returns what it read and the position after it, or None where its production doesn't match.
+//! Each parser returns what it read and the position after it, or None if its production doesn't match.
 //! Lists are read by loops, in linear time. Only `kind` is recursive: it passes itself to the parsers of
 //! nested kinds, one level deeper.
 //!
 //! Read `Literals.antt` and `Kinds.antt` of `gq_grammar` first: they are the grammar. `specs/Literals.antt`
-//! and `specs/Kinds.antt` say what each function computes, and `specs/Exact.antt` when that is what the
+//! and `specs/Kinds.antt` define what each function computes, and `specs/Exact.antt` when that is what the
 //! grammar derives. `src/words.rt` reads single tokens and expressions, `src/lists.rt` lists, `src/kind.rt`
 //! kinds, `src/definitions.rt` the declarations.
 #![tactic(auto)]

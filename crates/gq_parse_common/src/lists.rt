@@ -1,4 +1,4 @@
-// Items in a row, each read by a function that is given.
+// Lists of items, each read by a function parameter.
 ghost use Rattle.std.specs.Prelude.{◌≡◌, ◌≤◌, length, IfOk, Some};
 ghost use Rattle.gq_grammar.specs.Literals as literals;
 ghost use Rattle.gq_grammar.specs.Lexemes.{Lexemes, sign};
@@ -12,7 +12,7 @@ use gq_expr_read::Read;
 use gq_grammar::Source;
 use std::alloc::Global;
 
-/// The items, or none where they are left out.
+/// The items; none if they are left out.
 pub fn listed<T: Drop>(alloc: Global, items: Option<List<T>>) -> List<T>
     ensures { result ≡ literals.listed items }
 {
@@ -22,7 +22,7 @@ pub fn listed<T: Drop>(alloc: Global, items: Option<List<T>>) -> List<T>
     }
 }
 
-/// The items from `from` on until none follows, and the place after them.
+/// Reads items from `from` on until none follows, and returns the place after them.
 pub fn run<T: Drop, F: Fn(Global, &Source<'_>, usize) -> Read<T>>(
     alloc: Global,
     source: &Source<'_>,
@@ -48,7 +48,7 @@ pub fn run<T: Drop, F: Fn(Global, &Source<'_>, usize) -> Read<T>>(
     Ok((found, at))
 }
 
-// A comma and an item.
+// Reads a comma and an item.
 fn next_item<T: Drop, F: Fn(Global, &Source<'_>, usize) -> Read<T>>(
     alloc: Global,
     source: &Source<'_>,
@@ -89,7 +89,7 @@ fn more_items<T: Drop, F: Fn(Global, &Source<'_>, usize) -> Read<T>>(
     Ok((found, at))
 }
 
-/// The items with commas between them, one at least, and the place after them.
+/// Reads one or more items separated by commas, and returns the place after them.
 pub fn list<T: Drop, F: Fn(Global, &Source<'_>, usize) -> Read<T>>(
     alloc: Global,
     source: &Source<'_>,

@@ -1,4 +1,4 @@
-// Literals, names, and what statements are often put together from.
+// Literals, names, and other common parts of statements.
 ghost use Rattle.std.specs.Prelude.{◌≤◌, length, IfOk};
 ghost use Rattle.gq_grammar.specs.Literals.{number_of};
 ghost use Rattle.gq_grammar.specs.Parsers.{Found, token, both, made, maybe, one};

@@ -1,6 +1,6 @@
-// What readers say often.
+// Macros for readers.
 
-/// What was read, or the end of the reader that asks: it answers None, or what stands behind `else`.
+/// Unwraps what was read, or returns from the enclosing reader: with None, or with what follows `else`.
 #[macro_export]
 macro_rules! need {
     ($read:expr) => {
@@ -17,7 +17,7 @@ macro_rules! need {
     };
 }
 
-/// The value beside the first of these words that stands at the place, with the place after it, as the answer of a reader.
+/// The result of a reader: the value paired with the first of these words that is at the place, and the place after it.
 #[macro_export]
 macro_rules! of_words {
     ($source:expr, $at:expr; $($word:literal => $value:expr),+ $(,)?) => {{
@@ -29,7 +29,7 @@ macro_rules! of_words {
     }};
 }
 
-/// The first of these readings that isn't None.
+/// The first of these results that isn't None.
 #[macro_export]
 macro_rules! first_of {
     ($last:expr) => { Ok($last) };

@@ -21,7 +21,7 @@ pub fn name(alloc: Global, source: &Source<'_>, at: usize) -> Read<Txt>
     }
 }
 
-/// What the text at `at` says, and the place after it.
+/// The value of the text at `at`, and the place after it.
 pub fn text(alloc: Global, source: &Source<'_>, at: usize) -> Read<Txt>
     requires { at ≤ length source.now }
     ensures { IfOk result (Found (token lexemes.Text lexemes.said) source.now at) }
@@ -56,7 +56,7 @@ pub fn attached(alloc: Global, source: &Source<'_>, at: usize) -> Read<Txt>
 
 /// The longest expression from `at` on, and the place after it.
 ///
-/// Each level of parentheses takes some frames of the stack.
+/// Each level of parentheses uses some stack frames.
 pub fn expression(alloc: Global, source: &Source<'_>, at: usize) -> Read<Node>
     requires { at ≤ length source.now }
     ensures { IfOk result (Found spec.expression source.now at) }

@@ -1,4 +1,4 @@
--- JobReads: Jobs are read as the grammar says, a lemma for each production.
+-- JobReads: jobs are read as the grammar says, a lemma for each production.
 use Rattle.std.proofs.Common.{ℕ, [], ◌∷◌, refl}
 use Rattle.gq_tree.specs.declared.job.FileTree.TheVariants as file
 use Rattle.gq_tree.specs.declared.job.Table.TheVariants as table

@@ -1,4 +1,4 @@
--- SchemaReads: Schema are read as the grammar says, a lemma for each production.
+-- SchemaReads: declarations are read as the grammar says, a lemma for each production.
 use Rattle.std.proofs.Common.{◌≡◌, ℕ, List, [], ◌∷◌, ◌++◌, Some, None, refl, ap, ◌∙◌}
 use Rattle.gq_graph.specs.declared.types.IdKind.TheVariants as id_kind
 use Rattle.gq_tree.specs.declared.schema.AttributeKind.TheVariants as kind
@@ -98,7 +98,7 @@ unfolding g.LastAttributes d.last_attributes_parser is_reserved
 last_attributes_reads n =
     ended_takes (sign ")") (attributes_reads n) refl
 
--- behind the comma and the name of an attribute its type stands
+-- after the comma and the name of an attribute comes its type
 attribute_second : (n : ℕ) (a : AttributeTree) (x : Lexemes) → g.AttributeOf a x → (t : Lexeme) × (v : Lexemes) × (x ≡ t ∷ v) × Starts (word "INT" ∷ word "UINT" ∷ word "BOOL" ∷ word "STRING" ∷ word "DATETIME" ∷ []) v
 unfolding g.AttributeOf
 attribute_second n a x s =

@@ -1,4 +1,5 @@
--- Jobs: what each function of the reader of jobs computes, a definition for each production. `declarations_are_exact` says that it is the grammar.
+-- Jobs: what each function of the reader of jobs computes, a definition for each production.
+-- `declarations_are_exact` states that it is the grammar.
 use Rattle.std.specs.Prelude.{ℕ, List}
 use Rattle.gq_tree.specs.declared.job.FileTree.{FileTree}
 use Rattle.gq_tree.specs.declared.job.FileTree.TheVariants as file

@@ -1,4 +1,5 @@
--- Schema: what each function of the reader of schema computes, a definition for each production. `declarations_are_exact` says that it is the grammar.
+-- Schema: what each function of the reader of declarations computes, a definition for each production.
+-- `declarations_are_exact` states that it is the grammar.
 use Rattle.std.specs.Prelude.{ℕ, List, Option, Some, None}
 use Rattle.gq_graph.specs.declared.types.IdKind.{IdKind}
 use Rattle.gq_graph.specs.declared.types.IdKind.TheVariants as id_kind

@@ -1,4 +1,4 @@
-// Where the lines of a file go.
+// The destinations of the lines of a file.
 ghost use Rattle.std.specs.Prelude.{◌≤◌, length, IfOk};
 ghost use Rattle.gq_tree.specs.declared.job.Column.TheVariants as column;
 ghost use Rattle.gq_grammar.specs.Lexemes as lexemes;

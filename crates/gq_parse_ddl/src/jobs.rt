@@ -1,4 +1,4 @@
-// Loading jobs, and their runs.
+// Loading jobs, and RUN LOADING JOB.
 ghost use Rattle.std.specs.Prelude.{◌≤◌, length, IfOk, Some};
 ghost use Rattle.gq_grammar.specs.Lexemes as lexemes;
 ghost use Rattle.gq_grammar.specs.Parsers.{Found, many, maybe};

@@ -1,4 +1,4 @@
--- ItemLemmas: what was read, closed by a sign; and loops that put it into a list.
+-- ItemLemmas: what was read, followed by a sign; and loops that append it to a list.
 use Rattle.std.proofs.Common.{◌≡◌, ℕ, ◌+◌, ◌-◌, ◌<◌, List, [], ◌∷◌, ◌++◌, drop, Option, Some, None, Result, Ok, Err, IfOk, refl, sym, ap, ◌∙◌, subst, arith}
 use Rattle.std.specs.Option.{option_map}
 use Rattle.gq_base.specs.declared.memory.OutOfMemory.{OutOfMemory}
@@ -9,7 +9,7 @@ use Rattle.gq_grammar.specs.Parsers.{Parser, Found, and_then, both, made, maybe_
 use Rattle.gq_grammar.proofs.LoopLemmas.{Turns, turns_found, turns_none}
 use Rattle.gq_parse_query.specs.Items.{EndsWithin, Keeps}
 
--- ---- closed by a sign
+-- ---- followed by a sign
 
 pub ends_within : {A : Type 0} (p : Parser A) (all : Lexemes) (at : ℕ) (read : Result (Option (A × ℕ)) OutOfMemory) → IfOk read (Found p all at) → EndsWithin all read
 ends_within p all at (Err e) f = tt
@@ -34,7 +34,7 @@ ended_some : {A : Type 0} (k : Terminal) (p : Parser A) (all : Lexemes) (at : �
 unfolding ended
 ended_some k p all at x next f e = (ap (closing k) f.0 ∙ ap (closed_by x.0) e.0, omega (arith, f.1, e.1), e.2)
 
--- what is known of an outcome, once it is known
+-- what is known of a result, once it is read
 outcome : {A : Type 0} (p : Parser A) (all : Lexemes) (at : ℕ) (read : Result (Option (A × ℕ)) OutOfMemory) (o o2 : Option (A × ℕ)) → read ≡ Ok o → o ≡ o2 → IfOk read (Found p all at) → Found p all at o2
 outcome p all at read o o2 was is f = subst (Found p all at) is (subst (λ r. IfOk r (Found p all at)) was f)
 
@@ -48,7 +48,7 @@ pub is_closed : {A : Type 0} (k : Terminal) (p : Parser A) (all : Lexemes) (at :
     → Found (ended k p) all at (Some (x.0, next))
 is_closed k p all at read o x s next was is e some f = ended_some k p all at x next (outcome p all at read o (Some x) was is f) (subst (λ s. Found (one k) all x.1 (option_map (λ next. (tt, next)) s)) some e)
 
--- ---- a mark, and a first one with others, or nothing
+-- ---- a mark, and a first item with others, or nothing
 
 abbrev pub marked_of : {A : Type 0} → Unit {0} × Option (A × List A) → List A
 marked_of x = series x.1
@@ -74,7 +74,7 @@ pub marked_series : {A : Type 0} (k : Terminal) (p : Parser A) (q : Parser (List
 marked_series k p q all at next end o list is f g =
     (ap (marked p q) f.0 ∙ series_or_not (both p q (drop next all)) (drop next all) ∙ ap listed_of g.0 ∙ ap (λ z. Some (z, drop end all)) (sym is), omega (arith, f.1, g.1), g.2)
 
--- ---- put into a list
+-- ---- appended to a list
 
 none_some : {X : Type 0} {x : X} → None ≡ Some x → ⊥
 none_some h = cc

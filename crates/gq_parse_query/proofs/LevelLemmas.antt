@@ -1,4 +1,4 @@
--- LevelLemmas: one level of statements more, and levels enough for what there is.
+-- LevelLemmas: one more level of statements, and enough levels for the lexemes that remain.
 use Rattle.std.proofs.Common.{◌≡◌, ℕ, suc, ◌-◌, ◌<◌, length, drop, Option, Some, None, Result, Ok, Err, IfOk, ap, subst, arith, length-drop}
 use Rattle.gq_tree.specs.declared.body.Stmt.{Stmt}
 use Rattle.gq_grammar.specs.Lexemes.{Lexemes}

@@ -1,4 +1,5 @@
--- Past: a name with what no expression goes on with is read past an expression that is this name.
+-- Past: a name followed by what can't continue an expression is read further than the expression that is just this
+-- name.
 use Rattle.std.proofs.Common.{◌≡◌, ℕ, zero, suc, List, [], ◌∷◌, ◌++◌, length, Bool, true, false, Option, Some, None, inl, inr, ⊎_elim, refl, sym, ap, ◌∙◌, subst, arith, append-nil}
 use Rattle.gq_tree.specs.declared.expr.Node.{Node}
 use Rattle.gq_grammar.specs.Shapes.{named, post_of, neg_of, mul_of, sum_of, cmp_of, not_of, and_of, or_of}
@@ -16,7 +17,7 @@ use Rattle.gq_expr_read.proofs.Productions.{goes}
 use Rattle.gq_parse_common.specs.Expression.{expression}
 use Rattle.gq_parse_common.proofs.Steps.{expression_reads}
 
--- ---- a name alone is an expression
+-- ---- a single name is an expression
 
 alone : {A B C : Type 0} (f : A × List B → C) (D : Language A) (E : Language B) (x : Lexemes) → (a : A) × D a x → (c : C) × Made f (D then Many E) c x
 alone f D E x w = (f (w.0, []), ((w.0, []), (x, [], sym (append-nil x), w.1, refl), refl))
@@ -43,7 +44,7 @@ name_alone t h =
     let whole : (a : Node) × Expr E a x = alone or_of (And E) (After (word "OR") (And E)) x both_of in
     (whole.0, (suc zero, whole.1))
 
--- so an expression that begins with a name goes on as expressions do
+-- so an expression that begins with a name may continue as expressions do
 pub ends_at_name : (gs : List Terminal) → disjoint goes gs ≡ true → (a : Node) (t : Lexeme) (v : Lexemes) → is_of Name t ≡ true → Derives a (t ∷ v) → Starts gs v → ⊥
 ends_at_name gs apart a t v h d s =
     let n : ℕ = length ((t ∷ v) ++ []) in
@@ -55,7 +56,7 @@ ends_at_name gs apart a t v h d s =
     (λ on. clash goes gs apart v on.0 s)
     g
 
--- ---- a name, and what q reads behind it
+-- ---- a name, and what q reads after it
 
 token_true : (t : Lexeme) (l : Lexemes) (b : Bool) (c : List ℕ) (m : Lexemes) → token_at spelling t l b ≡ Some (c, m) → (b ≡ true) × (l ≡ m)
 token_true t l true c m h = let i : ◌≡◌ {A = List ℕ × Lexemes} (spelling t, l) (c, m) = some_inj h in (refl, ap (λ z. z.1) i)
@@ -73,7 +74,7 @@ behind_name f q t l b r h =
     let k = name_first t l w.0.0 p.0 p.1 in
     (w.0.1, k.0, subst (λ z. q z ≡ Some (w.0.1, r)) (sym k.1) p.2)
 
--- where D goes on behind a first name as q doesn't begin, q begins where D ends
+-- if D can't continue after a first name with what q begins with, q begins where D ends
 pub past_name : {A B C : Type 0} {n m : ℕ} {D D' : Language A} {E E' : Language B} {p : Parser A} {q : Parser B} {fs cs hs : List Terminal} (gs : List Terminal) (f : List ℕ × B → C) → Reads n D D' p fs cs → Reads m E E' q gs hs
     → ((a : A) (t : Lexeme) (v : Lexemes) → is_of Name t ≡ true → D a (t ∷ v) → Starts gs v → ⊥)
     → (a : A) (x y : Lexemes) (b : C) (r : Lexemes) → D a x → made f (both (token Name spelling) q) (x ++ y) ≡ Some (b, r) → Starts gs y × ((z : Lexemes) × (y ≡ z ++ r))

@@ -1,4 +1,4 @@
--- PrintLemmas: a value with its key, from what was found of each.
+-- PrintLemmas: a value with its key, given what was found of each.
 use Rattle.std.proofs.Common.{◌≡◌, ℕ, List, drop, Option, Some, None, refl, ap, ◌∙◌, arith}
 use Rattle.gq_tree.specs.declared.expr.Node.{Node}
 use Rattle.gq_tree.specs.declared.body.Label.{Label}

@@ -30,7 +30,7 @@ unfolding g.Labelled d.labelled_parser
 labelled_reads n =
     widen firsts (word "AS" ∷ goes) refl refl (made_reads labelled (tail_reads (kept_reads (expression_reads n)) (maybe_takes (as_name_reads n)) refl))
 
--- ---- what a name begins goes on with no "[", also with AS behind it
+-- ---- what begins with a name can't continue with "[", not even after AS
 
 no_bracket_behind : (o : Option (List ℕ)) (v : Lexemes) → Maybe g.AsName o v → Starts (sign "[" ∷ []) v → ⊥
 no_bracket_behind None v m s = subst (Starts (sign "[" ∷ [])) m s
@@ -63,7 +63,7 @@ named_columns_reads : (n : ℕ) → Reads n g.NamedColumns g.NamedColumns d.name
 unfolding g.NamedColumns d.named_columns_parser
 named_columns_reads n = tail_reads (item_columns_reads n) (maybe_takes (as_name_reads n)) refl
 
--- with what an item goes on
+-- the terminals that may continue an item
 abbrev pub item_goes : List Terminal
 item_goes = sign "[" ∷ word "AS" ∷ goes
 

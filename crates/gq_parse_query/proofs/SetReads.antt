@@ -1,4 +1,4 @@
--- SetReads: Vertex sets and assignments are read as the grammar says, a lemma for each production.
+-- SetReads: vertex sets and assignments are read as the grammar says, a lemma for each production.
 use Rattle.std.proofs.Common.{ℕ, List, [], ◌∷◌, ◌++◌, refl}
 use Rattle.gq_tree.specs.declared.body.SeedTree.TheVariants as seed
 use Rattle.gq_tree.specs.declared.body.SetTermTree.TheVariants as term
@@ -28,11 +28,11 @@ use Rattle.gq_parse_select.proofs.SelectReads.{select_reads, select_goes}
 use Rattle.gq_parse_select.specs.Bodies as d
 use Rattle.gq_parse_query.proofs.Past.{ends_at_name, past_name}
 
--- what stands between sets
+-- the words between sets
 abbrev pub set_words : List Terminal
 set_words = word "UNION" ∷ word "INTERSECT" ∷ word "MINUS" ∷ []
 
--- with what the right side of an assignment goes on
+-- the terminals that may continue the right side of an assignment
 abbrev pub right_goes : List Terminal
 right_goes = set_words ++ select_goes
 
@@ -80,7 +80,7 @@ module _ (n : ℕ) where
   unfolding g.NameChain d.name_chain_parser
   name_chain_reads = made_reads name_chain (then_reads (token_reads n Name spelling) operands_reads (more n) refl)
 
-  -- a chain that begins with a name is read past the expression that this name is
+  -- a chain that begins with a name is read further than the expression that is just this name
   name_chain_or_value_reads : Reads n (Made right.Sets g.NameChain ∣ Made right.Value Derives) (Made right.Sets g.NameChain ∣ Made right.Value Derives) (made right.Sets d.name_chain_parser or made right.Value expression) firsts (set_words ++ goes)
   unfolding d.name_chain_parser
   name_chain_or_value_reads =

@@ -25,19 +25,19 @@ use Rattle.gq_parse_select.specs.Bodies as d
 use Rattle.gq_parse_query.proofs.SetReads.{right_goes, assign_reads, local_reads, global_reads}
 use Rattle.gq_parse_query.proofs.PrintReads.{print_reads}
 
--- with what statements other than IF begin
+-- the terminals with which statements other than IF begin
 abbrev pub plain_firsts : List Terminal
 plain_firsts =
     word "INT" ∷ word "UINT" ∷ word "BOOL" ∷ word "STRING" ∷ word "VERTEX" ∷ Name ∷ Global ∷ word "PRINT" ∷ word "WHILE" ∷ word "FOREACH" ∷ []
 
--- with what statements begin, and with what they go on
+-- the terminals with which statements begin, and those that may continue them
 abbrev pub stmt_firsts : List Terminal
 stmt_firsts = word "IF" ∷ plain_firsts
 
 abbrev pub stmt_goes : List Terminal
 stmt_goes = sign "," ∷ sign "=" ∷ sign "[" ∷ word "AS" ∷ right_goes
 
--- ---- what holds no statements
+-- ---- statements that contain no statements
 
 module _ (n : ℕ) where
   limit_reads : Reads n g.Limit g.Limit d.limit_parser (word "LIMIT" ∷ []) goes
@@ -54,7 +54,7 @@ module _ (n : ℕ) where
   unfolding g.OverOf d.over_parser is_reserved
   over_reads = widen (firsts ++ (word "RANGE" ∷ [])) goes refl refl (either_reads (made_reads over.Elements (expression_reads n)) range_reads refl)
 
--- ---- what holds statements, which have one token less
+-- ---- statements that contain statements, which have one token less
 
 module _ (m : ℕ) (S S' : Language Stmt) (s : Parser Stmt) (r : Reads m S S' s stmt_firsts stmt_goes) where
   stmts_takes : Takes m (g.Stmts S) (g.Stmts S') (d.stmts_parser s) stmt_firsts stmt_firsts
@@ -106,7 +106,7 @@ module _ (m : ℕ) (S S' : Language Stmt) (s : Parser Stmt) (r : Reads m S S' s 
   unfolding g.IfEnd d.if_end_parser is_reserved
   if_end_reads = ended_takes (word "END") (maybe_takes else_reads) refl
 
-  -- ---- behind ELSE stand other statements or END: the chain of IF ends there
+  -- ---- after ELSE come other statements or END: the chain of IF ends there
 
   else_or_end : (b : Option (Stmt × List Stmt)) (v w : Lexemes) → Maybe (Ended (sign ";") (g.PlainStmt S) then g.Stmts S) b v → One (word "END") tt w → Starts (word "END" ∷ plain_firsts) (v ++ w)
   else_or_end None v w none end =
@@ -149,7 +149,7 @@ module _ (m : ℕ) (S S' : Language Stmt) (s : Parser Stmt) (r : Reads m S S' s 
   unfolding g.StmtIn d.stmt_in_parser is_reserved
   stmt_in_reads n nm = widen stmt_firsts stmt_goes refl refl (either_reads (plain_reads n nm) (if_reads n nm) refl)
 
--- ---- the knot: what is read is derived in n levels; what is derived in k levels is read, in no more than n tokens
+-- ---- the recursion: what is read is derived in n levels; what is derived in k levels is read, in at most n tokens
 
 no_tokens : (x y : Lexemes) → length (x ++ y) ≤ zero → Starts stmt_firsts x → ⊥
 no_tokens [] y le s = s

@@ -1,15 +1,15 @@
--- Items: what was read, whatever it is, as functions see it that close it by a sign or put it into a list.
+-- Items: what was read, of any type, as seen by functions that read a sign after it or append it to a list.
 use Rattle.std.specs.Prelude.{◌≡◌, ℕ, ◌≤◌, List, [], ◌∷◌, ◌++◌, length, Option, Some, None, Result, Ok, Err}
 use Rattle.gq_base.specs.declared.memory.OutOfMemory.{OutOfMemory}
 use Rattle.gq_grammar.specs.Lexemes.{Lexemes}
 
--- it ends among the lexemes, where it is there
+-- it ends among the lexemes, if something was read
 abbrev pub EndsWithin : {A : Type 0} → Lexemes → Result (Option (A × ℕ)) OutOfMemory → Type 0
 EndsWithin all (Err fault) = Unit {0}
 EndsWithin all (Ok None) = Unit {0}
 EndsWithin all (Ok (Some read)) = read.1 ≤ length all
 
--- the list has what was read at its end, where it is there, and `next` is the place after that
+-- what was read is appended to the list, if something was read, and `next` is the place after it
 abbrev pub Keeps : {A : Type 0} → List A → List A → Result (Option (A × ℕ)) OutOfMemory → Option ℕ → Type 0
 Keeps before after (Err fault) next = ⊥
 Keeps before after (Ok None) next = (after ≡ before) × (next ≡ None)

@@ -1,4 +1,4 @@
--- StmtNests: a function value that reads statements one level deeper, as the functions of the reader require of theirs.
+-- StmtNests: a function value that reads statements one level deeper, as the reader's functions require it.
 use Rattle.std.specs.Prelude.{ℕ, ◌≤◌, length, Option, Result, IfOk}
 use Rattle.std.specs.Borrow.{Bor}
 use Rattle.std.specs.declared.alloc.Global.{Global}
@@ -8,7 +8,7 @@ use Rattle.gq_grammar.specs.Lexemes.{Lexemes}
 use Rattle.gq_grammar.specs.Parsers.{Found}
 use Rattle.gq_parse_select.specs.Bodies.{nested_parser}
 
--- it reads statements of so many levels, from any place
+-- it reads statements of at most `levels` levels, from any place
 pub record Nests (all : Lexemes) (levels : ℕ) (pre : Global → Bor Lexemes → ℕ → ℕ → Type 0)
     (post : Global → Bor Lexemes → ℕ → ℕ → Result (Option (Stmt × ℕ)) OutOfMemory → Type 0) : Type 0 where
   pub callable : (alloc : Global) (source : Bor Lexemes) (at : ℕ) → at ≤ length source.now → pre alloc source levels at

@@ -1,4 +1,4 @@
-// Statements that hold others: WHILE, FOREACH, and chains of IF.
+// Statements that contain others: WHILE, FOREACH, and chains of IF.
 ghost use Rattle.std.specs.Prelude.{◌≤◌, length, IfOk, Some};
 ghost use Rattle.gq_grammar.specs.Lexemes as lexemes;
 ghost use Rattle.gq_grammar.specs.Parsers.{Found, token, both, made, many, maybe, after};
@@ -19,24 +19,24 @@ use gq_tree::{Node, OverTree, Stmt};
 use gq_value::Txt;
 use std::alloc::Global;
 
-// A condition, and the statements behind it.
+// A condition, and the statements after it.
 type Branch = (Node, List<Stmt>);
 
-/// Reads a statement that may hold others.
+/// Reads a statement that may contain others.
 #[derive(Drop)]
 pub struct Blocks<'s, 'a, F> {
     pub alloc: Global,
     pub source: &'s Source<'a>,
 
-    /// How deep statements may still stand in one another.
+    /// How many levels statements may still nest.
     pub levels: usize,
 
-    /// Reads a statement that stands within.
+    /// Reads a nested statement.
     pub inner: F,
 }
 
 impl<'s, 'a, F: Fn(Global, &Source<'_>, usize, usize) -> Read<Stmt>> Blocks<'s, 'a, F> {
-    // A statement that stands within.
+    // Reads a nested statement.
     fn inner(&self, at: usize) -> Read<Stmt>
         requires nests { Nests self.now.source.now self.now.levels (F.pre self.now.inner) (F.post self.now.inner) }
         requires at { at ≤ length self.now.source.now }
@@ -54,7 +54,7 @@ impl<'s, 'a, F: Fn(Global, &Source<'_>, usize, usize) -> Read<Stmt>> Blocks<'s, 
         closed(self.source, self.inner(at), ";")
     }
 
-    // { Stmt ";" }, as they are found
+    // { Stmt ";" }, as a vector
     #[tactic(auto, using(gq_grammar::proofs::LoopLemmas::loops, crate::proofs::ItemLemmas::kept))]
     fn more(&self, from: usize) -> Result<(Vec<Stmt>, usize), OutOfMemory>
         requires nests { Nests self.now.source.now self.now.levels (F.pre self.now.inner) (F.post self.now.inner) }
@@ -218,7 +218,7 @@ impl<'s, 'a, F: Fn(Global, &Source<'_>, usize, usize) -> Read<Stmt>> Blocks<'s, 
         Ok((found, at))
     }
 
-    // Stmt ";", where the statement is no IF
+    // Stmt ";", if the statement isn't IF
     fn first_plain(&self, at: usize) -> Read<Stmt>
         requires nests { Nests self.now.source.now self.now.levels (F.pre self.now.inner) (F.post self.now.inner) }
         requires at { at ≤ length self.now.source.now }
@@ -227,7 +227,7 @@ impl<'s, 'a, F: Fn(Global, &Source<'_>, usize, usize) -> Read<Stmt>> Blocks<'s, 
         closed(self.source, self.plain(at), ";")
     }
 
-    // Stmt ";" { Stmt ";" }, where the first statement is no IF
+    // Stmt ";" { Stmt ";" }, if the first statement isn't IF
     fn plain_and_more(&self, at: usize) -> Read<List<Stmt>>
         requires nests { Nests self.now.source.now self.now.levels (F.pre self.now.inner) (F.post self.now.inner) }
         requires at { at ≤ length self.now.source.now }
@@ -239,7 +239,7 @@ impl<'s, 'a, F: Fn(Global, &Source<'_>, usize, usize) -> Read<Stmt>> Blocks<'s, 
         }
     }
 
-    // [ Stmt ";" { Stmt ";" } ], where the first statement is no IF
+    // [ Stmt ";" { Stmt ";" } ], if the first statement isn't IF
     fn some_plain_and_more(&self, at: usize) -> Result<(Option<List<Stmt>>, usize), OutOfMemory>
         requires nests { Nests self.now.source.now self.now.levels (F.pre self.now.inner) (F.post self.now.inner) }
         requires at { at ≤ length self.now.source.now }
@@ -249,7 +249,7 @@ impl<'s, 'a, F: Fn(Global, &Source<'_>, usize, usize) -> Read<Stmt>> Blocks<'s, 
         Ok((Some(statements), end))
     }
 
-    // ELSE { Stmt ";" }, where the first statement is no IF
+    // ELSE { Stmt ";" }, if the first statement isn't IF
     #[tactic(auto, unfolding(gq_parse_select::specs::Bodies::else_parser))]
     fn else_branch(&self, at: usize) -> Read<List<Stmt>>
         requires nests { Nests self.now.source.now self.now.levels (F.pre self.now.inner) (F.post self.now.inner) }
@@ -324,7 +324,7 @@ impl<'s, 'a, F: Fn(Global, &Source<'_>, usize, usize) -> Read<Stmt>> Blocks<'s, 
         }
     }
 
-    /// A statement that holds others of one level less.
+    /// Reads a statement whose nested statements have one level less.
     #[tactic(auto, unfolding(gq_parse_select::specs::Bodies::stmt_in_parser))]
     pub fn statement_in(&self, at: usize) -> Read<Stmt>
         requires nests { Nests self.now.source.now self.now.levels (F.pre self.now.inner) (F.post self.now.inner) }

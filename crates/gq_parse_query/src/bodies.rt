@@ -87,7 +87,7 @@ fn body_parts(
 
 /// `Body = "{" { Def ";" } { Stmt ";" } "}"`.
 ///
-/// Each level of statements and of parentheses takes some frames of the stack.
+/// Each level of statements and of parentheses uses some stack frames.
 #[tactic(auto, unfolding(gq_parse_select::specs::Bodies::body_parser, gq_grammar::specs::Parsers::after))]
 pub fn body(alloc: Global, source: &Source<'_>, at: usize) -> Read<Body>
     requires { at ≤ length source.now }

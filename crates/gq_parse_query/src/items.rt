@@ -1,4 +1,5 @@
-// What was read, closed by a sign or put into a list, whatever it is. Statements are large, and pass through here as they are.
+// What was read, of any type, followed by a sign or appended to a list. Statements are large, and are passed through
+// here unchanged.
 ghost use Rattle.std.specs.Prelude.{ℕ, IfOk};
 ghost use Rattle.gq_grammar.specs.Lexemes.{Sign};
 ghost use Rattle.gq_grammar.specs.Parsers.{Parser, Found};
@@ -10,7 +11,7 @@ use gq_expr_read::Read;
 use gq_grammar::Source;
 use gq_parse_common::need;
 
-/// What was read, where the sign stands behind it, with the place after the sign.
+/// Returns what was read, if the sign follows it, with the place after the sign.
 pub fn closed<T: Drop>(source: &Source<'_>, read: Read<T>, sign: &str) -> Read<T>
     requires { EndsWithin source.now read }
     ensures { (p : Parser T) (at : ℕ) → IfOk read (Found p source.now at) → IfOk result (Found (ended (Sign sign.now) p) source.now at) }
@@ -24,7 +25,7 @@ pub fn closed<T: Drop>(source: &Source<'_>, read: Read<T>, sign: &str) -> Read<T
     }
 }
 
-/// Puts what was read at the end of the list, and tells where it ended.
+/// Appends what was read to the list, and returns where it ended.
 pub fn keep<T: Drop>(found: &mut Vec<T>, read: Read<T>) -> Result<Option<usize>, OutOfMemory>
     ensures { IfOk result (Keeps found.old.items found.new.items read) }
 {

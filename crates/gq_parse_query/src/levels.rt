@@ -1,4 +1,4 @@
-// A statement, to a number of levels and of any.
+// Statements, with a bounded number of levels and with any number.
 ghost use Rattle.std.specs.Prelude.{◌≤◌, length, IfOk};
 ghost use Rattle.gq_grammar.specs.Parsers.{Found};
 ghost use Rattle.gq_parse_select.specs.Bodies.{nested_parser, statement_parser};
@@ -9,7 +9,7 @@ use gq_grammar::Source;
 use gq_tree::Stmt;
 use std::alloc::Global;
 
-// A statement of at most so many levels, and the place after it.
+// Reads a statement of at most `levels` levels, and returns the place after it.
 fn nested(alloc: Global, source: &Source<'_>, levels: usize, at: usize) -> Read<Stmt>
     requires { at ≤ length source.now }
     ensures { IfOk result (Found (nested_parser levels) source.now at) }
@@ -26,9 +26,9 @@ fn nested(alloc: Global, source: &Source<'_>, levels: usize, at: usize) -> Read<
     .statement_in(at)
 }
 
-/// The longest statement from `at` on, without its `;`, and the place after it.
+/// Reads the longest statement from `at` on, without its `;`, and returns the place after it.
 ///
-/// Each level of statements and of parentheses takes some frames of the stack.
+/// Each level of statements and of parentheses uses some stack frames.
 pub fn statement(alloc: Global, source: &Source<'_>, at: usize) -> Read<Stmt>
     requires { at ≤ length source.now }
     ensures { IfOk result (Found statement_parser source.now at) }

@@ -1,12 +1,12 @@
 //! Parses the body of a query: its declarations and its statements, with IF, WHILE, FOREACH and PRINT.
 //!
 //! Each function is one production of the grammar. Only `nested` is recursive: it passes itself to the
-//! parsers of statements that hold statements, one level deeper. SELECT and assignments are parsed by
+//! parsers of statements that contain statements, one level deeper. SELECT and assignments are parsed by
 //! `gq_parse_select`.
 //!
-//! Read `Bodies.antt` of `gq_grammar` first, then `Bodies.antt` of `gq_parse_select`, which says what each
-//! function computes, and `specs/StmtNests.antt`, which says what the recursion requires. `src/bodies.rt`
-//! reads whole bodies, `src/levels.rt` one statement, `src/blocks.rt` statements that hold others, and
+//! Read `Bodies.antt` of `gq_grammar` first, then `Bodies.antt` of `gq_parse_select`, which defines what each
+//! function computes, and `specs/StmtNests.antt`, which states what the recursion requires. `src/bodies.rt`
+//! reads whole bodies, `src/levels.rt` one statement, `src/blocks.rt` statements that contain others, and
 //! `src/prints.rt` PRINT.
 #![tactic(auto)]
 

@@ -1,4 +1,4 @@
-// What FOREACH goes over, and the LIMIT of WHILE.
+// The operand of FOREACH, and the LIMIT of WHILE.
 ghost use Rattle.std.specs.Prelude.{◌≤◌, length, IfOk, Some};
 ghost use Rattle.gq_grammar.specs.Lexemes as lexemes;
 ghost use Rattle.gq_grammar.specs.Parsers.{Found, after, both, maybe};

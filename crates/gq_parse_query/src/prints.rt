@@ -1,4 +1,4 @@
-// PRINT, with the texts of what is printed.
+// PRINT, with the texts of the printed values.
 ghost use Rattle.std.specs.Prelude.{◌≤◌, length, IfOk, Some};
 ghost use Rattle.gq_grammar.specs.Bodies.{columns_item};
 ghost use Rattle.gq_grammar.specs.Lexemes as lexemes;
@@ -38,7 +38,7 @@ fn some_name(
     Ok((Some(name), end))
 }
 
-// Expr [ AS Name ]. The text of the value is joined only where it is the key
+// Expr [ AS Name ]. The text of the value is joined only if it is the key
 #[tactic(auto, using(crate::proofs::PrintLemmas::labels))]
 fn labelled(alloc: Global, source: &Source<'_>, at: usize) -> Read<(Node, Label)>
     requires { at ≤ length source.now }

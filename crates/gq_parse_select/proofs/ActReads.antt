@@ -22,7 +22,7 @@ use Rattle.gq_parse_common.proofs.Steps.{more, after_more, after_apart, end_none
 use Rattle.gq_parse_select.specs.Acts as d
 use Rattle.gq_parse_select.proofs.InputReads.{list_goes, no_tokens, change_reads}
 
--- with what acts begin
+-- the terminals with which acts begin
 abbrev pub act_firsts : List Terminal
 act_firsts = Name ∷ Global ∷ word "IF" ∷ []
 
@@ -31,7 +31,7 @@ unfolding g.PlainAct d.plain_act_parser is_reserved
 plain_act_reads n =
     widen (Name ∷ Global ∷ []) goes refl refl (either_reads (made_reads attached_act (then_reads (token_reads n Name spelling) (after_reads (sign ".") (then_reads (token_reads n Attached spelling) (change_reads n) (more n) refl)) (more n) refl)) (made_reads global_act (then_reads (token_reads n Global spelling) (change_reads n) (more n) refl)) refl)
 
--- ---- acts, over those one level deeper, which have one token less
+-- ---- acts, over acts one level deeper, which have one token less
 
 module _ (m : ℕ) (A A' : Language ActTree) (a : Parser ActTree) (r : Reads m A A' a act_firsts goes) where
   act_branch_reads : Reads m (g.ActBranch A) (g.ActBranch A') (d.act_branch_parser a) firsts list_goes
@@ -56,7 +56,7 @@ module _ (m : ℕ) (A A' : Language ActTree) (a : Parser ActTree) (r : Reads m A
   unfolding g.ActsEnd d.acts_end_parser is_reserved
   acts_end_reads = ended_takes (word "END") (maybe_takes else_acts_reads) refl
 
-  -- where the last acts or the end stand, no other IF of the chain is found
+  -- at the start of the last acts or of the end, no other IF of the chain is found
   act_branches_reads : Reads m (g.ActBranches A) (g.ActBranches A') (d.act_branches_parser a) (word "ELSE" ∷ word "END" ∷ []) []
   unfolding g.ActBranches d.act_branches_parser g.ActsEnd g.ElseActs is_reserved
   act_branches_reads =
@@ -71,7 +71,7 @@ module _ (m : ℕ) (A A' : Language ActTree) (a : Parser ActTree) (r : Reads m A
   act_in_reads n nm =
       widen act_firsts goes refl refl (either_reads (plain_act_reads n) (made_reads if_act (then_reads (if_acts_reads n nm) act_branches_reads nm refl)) refl)
 
--- ---- the knot: what is read is derived in n levels; what is derived in k levels is read, in no more than n tokens
+-- ---- the recursion: what is read is derived in n levels; what is derived in k levels is read, in at most n tokens
 
 nested_begins : (k : ℕ) (r : Reads zero (g.NestedAct k) (g.NestedAct zero) (d.nested_act_parser zero) act_firsts goes) (t : ActTree) (x : Lexemes) → g.NestedAct (suc k) t x → Starts act_firsts x
 unfolding g.NestedAct

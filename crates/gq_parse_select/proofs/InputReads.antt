@@ -28,13 +28,13 @@ use Rattle.gq_parse_common.proofs.KindReads.{value_reads}
 use Rattle.gq_parse_select.specs.Acts as d
 use Rattle.gq_parse_select.proofs.Missing.{none_made, none_second, expression_none}
 
--- with what a list of expressions goes on
+-- the terminals that may continue a list of expressions
 abbrev pub list_goes : List Terminal
 list_goes = sign "," ∷ goes
 
--- ---- where keys are found, no expression stands
+-- ---- where keys are found, there is no expression
 
--- behind the first key a comma or an arrow stands
+-- after the first key comes a comma or an arrow
 abbrev arrows : List Terminal
 arrows = sign "," ∷ sign "->" ∷ []
 
@@ -117,7 +117,7 @@ keyed_free i a x y s = ⊎_elim
     (λ some. absurd (no_expression a x y s (keyed_is i (x ++ y) some.0.0 some.0.1 some.1)))
     (or_cases (d.keyed_input_parser i (x ++ y)))
 
--- ---- inputs, over those one level deeper, which have one token less
+-- ---- inputs, over inputs one level deeper, which have one token less
 
 module _ (n m : ℕ) (nm : n ≤ suc m) (I I' : Language InputTree) (i : Parser InputTree) (r : Reads m I I' i firsts goes) where
   keyed_input_reads : Reads n (g.KeyedInput I) (g.KeyedInput I') (d.keyed_input_parser i) (sign "(" ∷ []) []
@@ -129,7 +129,7 @@ module _ (n m : ℕ) (nm : n ≤ suc m) (I I' : Language InputTree) (i : Parser 
   unfolding g.InputIn d.input_in_parser
   input_in_reads = widen firsts goes refl refl (apart_reads keyed_input_reads (made_reads input.One (expression_reads n)) (λ a x y s le. keyed_free i s.0 x y s.1))
 
--- ---- the knot: what is read is derived in n levels; what is derived in k levels is read, in no more than n tokens
+-- ---- the recursion: what is read is derived in n levels; what is derived in k levels is read, in at most n tokens
 
 pub no_tokens : (fs : List Terminal) (x y : Lexemes) → length (x ++ y) ≤ zero → Starts fs x → ⊥
 no_tokens fs [] y le s = s

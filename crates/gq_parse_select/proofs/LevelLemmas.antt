@@ -1,4 +1,4 @@
--- LevelLemmas: one level more of inputs and of acts, and levels enough for what there is.
+-- LevelLemmas: one more level of inputs and of acts, and enough levels for the lexemes that remain.
 use Rattle.std.proofs.Common.{◌≡◌, ℕ, suc, ◌-◌, ◌<◌, length, drop, Option, Some, None, Result, Ok, Err, IfOk, ap, subst, arith, length-drop, refl}
 use Rattle.gq_tree.specs.declared.select.InputTree.{InputTree}
 use Rattle.gq_tree.specs.declared.select.ActTree.{ActTree}

@@ -1,4 +1,5 @@
--- Missing: where a part finds nothing, the whole finds nothing; and an expression isn't found at a parenthesis behind which no expression ends.
+-- Missing: if a part finds nothing, the whole finds nothing; and no expression is found at a parenthesis that isn't
+-- closed after an expression.
 use Rattle.std.proofs.Common.{◌≡◌, ℕ, zero, suc, List, [], ◌∷◌, length, true, false, Some, None, refl, ap, ◌∙◌}
 use Rattle.gq_tree.specs.declared.expr.Node.{Node}
 use Rattle.gq_tree.specs.declared.expr.Node.TheVariants as node
@@ -37,7 +38,7 @@ none_lead p q l e f = none_second (many p) q l [] l (many_is p l ∙ no_items p 
 abbrev paren : List Terminal
 paren = sign "(" ∷ []
 
--- ---- at a parenthesis that holds no expression, each production finds nothing
+-- ---- at a parenthesis that isn't closed after an expression, each production finds nothing
 
 module _ (e : Parser Node) (l : Lexemes) (s : Starts paren l) (held : enclosed e l ≡ None) where
   prim_none : d.prim e l ≡ None
@@ -94,7 +95,7 @@ module _ (e : Parser Node) (l : Lexemes) (s : Starts paren l) (held : enclosed e
   unfolding d.disjunction
   disjunction_none = none_made or_of (both (d.conjunction e) (many (after (word "OR") (d.conjunction e)))) l (none_both (d.conjunction e) (many (after (word "OR") (d.conjunction e))) l conjunction_none)
 
--- no expression of one level more is found
+-- no expression of one more level is found
 pub expression_none : (n : ℕ) (l : Lexemes) → Starts (sign "(" ∷ []) l → enclosed (d.expr n) l ≡ None → d.expr (suc n) l ≡ None
 unfolding d.expr
 expression_none n l s held = disjunction_none (d.expr n) l s held

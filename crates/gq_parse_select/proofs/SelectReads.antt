@@ -21,7 +21,7 @@ use Rattle.gq_parse_select.proofs.InputReads.{list_goes}
 use Rattle.gq_parse_select.proofs.ActReads.{acts_reads}
 use Rattle.gq_parse_select.proofs.WalkReads.{walk_goes, alias_reads, walk_reads}
 
--- with what SELECT may go on, up to each of its parts
+-- the terminals that may continue SELECT, up to each of its parts
 abbrev filtered_goes : List Terminal
 filtered_goes = word "WHERE" ∷ walk_goes ++ list_goes
 

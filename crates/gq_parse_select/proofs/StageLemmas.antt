@@ -1,4 +1,4 @@
--- StageLemmas: what was read first, beside what was read behind it.
+-- StageLemmas: what was read first, paired with what was read after it.
 use Rattle.std.proofs.Common.{◌≡◌, ℕ, List, ◌∷◌, drop, Option, Some, None, Result, Ok, IfOk, refl, sym, ap, ◌∙◌, subst, arith}
 use Rattle.gq_base.specs.declared.memory.OutOfMemory.{OutOfMemory}
 use Rattle.gq_grammar.specs.Lexemes.{Lexemes}
@@ -24,7 +24,7 @@ some_pair p q all at next a r o x was is f s = found_pair p q all at next x.1 a 
 pub pair_beside : {A B : Type 0} (p : Parser A) (q : Parser B) (all : Lexemes) (at next : ℕ) (a : A) (r : Result (B × ℕ) OutOfMemory) (x : B × ℕ) → r ≡ Ok x → Found p all at (Some (a, next)) → IfOk r (λ read. Found q all next (Some read)) → Found (both p q) all at (Some ((a, x.0), x.1))
 pair_beside p q all at next a r x was f s = found_pair p q all at next x.1 a x.0 f (subst (λ r. IfOk r (λ read. Found q all next (Some read))) was s)
 
--- ---- a first one, and others
+-- ---- a first item, and others
 
 abbrev all_of : {A : Type 0} → Option ((A × List A) × Lexemes) → Option (List A × Lexemes)
 all_of o = and_then o (λ a r. Some (one_and_all a, r))
@@ -34,7 +34,7 @@ chain_of p q all at next end a others list is f g =
     let w = found_pair p q all at next end a others f g in
     (ap all_of w.0 ∙ ap (λ z. Some (z, drop end all)) (sym is), w.1, w.2)
 
--- ---- a first one and others beside what is behind them all, as the first beside all that is behind it
+-- ---- (a first item and others) paired with what follows them, as the first paired with all that follows it
 
 abbrev pub grouped_of : {A B C : Type 0} → (List A → B → C) → A × (List A × B) → C
 grouped_of f x = f (x.0 ∷ x.1.0) x.1.1

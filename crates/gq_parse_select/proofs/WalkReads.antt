@@ -26,11 +26,11 @@ use Rattle.gq_parse_common.proofs.Steps.{more}
 use Rattle.gq_parse_select.specs.Selects as d
 use Rattle.gq_parse_select.proofs.Missing.{none_both, none_second, none_made}
 
--- with what types begin
+-- the terminals with which types begin
 abbrev type_firsts : List Terminal
 type_firsts = word "ANY" ∷ word "_" ∷ Name ∷ sign "(" ∷ []
 
--- with what a hop or a path goes on
+-- the terminals that may continue a hop or a path
 abbrev pub walk_goes : List Terminal
 walk_goes = sign "-" ∷ sign ":" ∷ sign "|" ∷ type_firsts
 
@@ -93,7 +93,7 @@ module _ (n : ℕ) where
       widen (sign "-" ∷ []) walk_goes refl refl
       (made_reads steps_of (tail_reads step_reads (maybe_takes (tail_reads step_reads (maybe_takes step_reads) refl)) refl))
 
--- ---- where a hop stands, no path is found
+-- ---- at a hop, no path is found
 
 after_swap : {A B : Type 0} (k : Terminal) (D : Language A) (E : Language B) (a : A) (b : B) → ((v : Lexemes) → D a v → E b v) → (x : Lexemes) → After k D a x → After k E b x
 unfolding After
@@ -101,7 +101,7 @@ after_swap k D E a b f x s =
     let u = s.1 in
     ((s.0.0, b), (u.0, u.1, u.2, u.3, f u.1 (subst (λ c. D c u.1) (sym s.2) u.4)), refl)
 
--- a name is a way, either way
+-- a single name is a direction, both ways
 name_way : (a : List ℕ) (v : Lexemes) → Token Name spelling a v → g.WayOf (way.Both, a) v
 unfolding g.WayOf
 name_way a v s = inl ((a, None), (v, [], sym (append-nil v), s, refl), refl)
@@ -119,7 +119,7 @@ names_are_ways names x s =
     let w = more_ways s.0.1 u.1 u.4 in
     ((way.Both, s.0.0) ∷ w.0, (((way.Both, s.0.0), w.0), (u.0, u.1, u.2, name_way s.0.0 u.0 u.3, w.1), refl))
 
--- with what stands within the parentheses where no way does
+-- the terminals within the parentheses with which no direction begins
 abbrev no_ways : List Terminal
 no_ways = sign ":" ∷ sign ")" ∷ word "ANY" ∷ word "_" ∷ sign "(" ∷ []
 
@@ -150,7 +150,7 @@ within (Some t) alias u v x e some s = ⊎_elim
     (λ w. inr ((w.0, alias), (u, v, e, w.1, s)))
     (types_or_ways t u some)
 
--- what is behind the first lexeme is P, or may as well be E
+-- what follows the first lexeme is P, or may as well be E
 after_cases : {A B : Type 0} (k : Terminal) (D : Language A) (E : Language B) (P : Lexemes → Type 0) (a : A) → ((v : Lexemes) → D a v → P v ⊎ ((b : B) × E b v)) → (x : Lexemes) → After k D a x
     → ((t : Lexeme) × (v : Lexemes) × (x ≡ t ∷ v) × P v) ⊎ ((b : B) × After k E b x)
 unfolding After One
@@ -161,7 +161,7 @@ after_cases k D E P a f x s =
     (λ c. inr (c.0, ((s.0.0, c.0), (u.0, u.1, u.2, u.3, c.1), refl)))
     (f u.1 (subst (λ c. D c u.1) (sym s.2) u.4))
 
--- a lexeme, behind which no way stands
+-- a lexeme that no direction follows
 abbrev NoWays : Lexemes → Type 0
 NoWays v = (t : Lexeme) × (w : Lexemes) × (v ≡ t ∷ w) × Starts no_ways w
 
@@ -173,7 +173,7 @@ no_edges x y t v e n =
     (after_none (sign "(") ways_within n.0 (n.1 ++ y)
     (none_both (chain (sign "|") d.way_parser) d.edge_alias_parser (n.1 ++ y) (opens_none no_ways (ways_reads 0) refl (n.1 ++ y) (starts_on no_ways n.1 y n.3))))
 
--- the edges of a hop are those of a step, or no step's
+-- the edges of a hop are those of a step, or no step reads them
 edges_or_none : (b : Option TypesTree × Option (List ℕ)) (x y : Lexemes) → g.HopEdges b x → (d.step_edges_parser (x ++ y) ≡ None) ⊎ ((c : List (Way × List ℕ) × Option (List ℕ)) × g.StepEdges c x)
 unfolding g.HopEdges g.StepEdges
 edges_or_none b x y s = ⊎_elim
@@ -190,7 +190,7 @@ no_start (t ∷ z) h = cc
 edges_found : (c : List (Way × List ℕ) × Option (List ℕ)) (u z : Lexemes) → g.StepEdges c u → d.step_edges_parser (u ++ z) ≡ Some (c, z)
 edges_found c u z s = ⊎_elim (λ e. e) (λ on. absurd (no_start z on.0)) ((step_edges_reads (length (u ++ z))).whole c u z s (omega arith))
 
--- edges, and an arrow behind them
+-- edges, followed by an arrow
 record Arrow (l : Lexemes) : Type 0 where
   edges : Option TypesTree × Option (List ℕ)
   text : Lexemes

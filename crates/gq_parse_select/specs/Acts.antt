@@ -1,4 +1,5 @@
--- Acts: what each function of the reader of inputs and acts computes, a definition for each production. `blocks_are_exact` says that it is the grammar.
+-- Acts: what each function of the reader of inputs and acts computes, a definition for each production.
+-- `blocks_are_exact` states that it is the grammar.
 use Rattle.std.specs.Prelude.{ℕ, zero, suc, List, Option, None, length}
 use Rattle.gq_tree.specs.declared.expr.Node.{Node}
 use Rattle.gq_tree.specs.declared.select.InputTree.{InputTree}
@@ -21,16 +22,16 @@ inputs_parser i = after (sign "->") (chain (sign ",") i)
 unfoldable pub keyed_input_parser : Parser InputTree → Parser InputTree
 keyed_input_parser i = made keyed_of (enclosed (both (chain (sign ",") expression) (inputs_parser i)))
 
--- what stands in parentheses is tried with keys first
+-- for an opening parenthesis, keys are tried first
 unfoldable pub input_in_parser : Parser InputTree → Parser InputTree
 input_in_parser i = keyed_input_parser i or made input.One expression
 
--- of at most so many levels
+-- with a bounded number of levels
 unfoldable pub nested_input_parser : ℕ → Parser InputTree
 nested_input_parser zero l = None
 nested_input_parser (suc n) l = input_in_parser (nested_input_parser n) l
 
--- levels enough for what there is
+-- with enough levels for the lexemes that remain
 unfoldable pub input_parser : Parser InputTree
 input_parser l = nested_input_parser (length l) l
 
@@ -65,12 +66,12 @@ act_branches_parser a = both (many (after (word "ELSE") (if_acts_parser a))) (ac
 unfoldable pub act_in_parser : Parser ActTree → Parser ActTree
 act_in_parser a = plain_act_parser or made if_act (both (if_acts_parser a) (act_branches_parser a))
 
--- of at most so many levels
+-- with a bounded number of levels
 unfoldable pub nested_act_parser : ℕ → Parser ActTree
 nested_act_parser zero l = None
 nested_act_parser (suc n) l = act_in_parser (nested_act_parser n) l
 
--- levels enough for what there is
+-- with enough levels for the lexemes that remain
 unfoldable pub act_parser : Parser ActTree
 act_parser l = nested_act_parser (length l) l
 

@@ -1,4 +1,5 @@
--- Bodies: what each function of the reader of bodies computes, a definition for each production. `bodies_are_exact` says that it is the grammar.
+-- Bodies: what each function of the reader of bodies computes, a definition for each production.
+-- `bodies_are_exact` states that it is the grammar.
 use Rattle.std.specs.Prelude.{ℕ, zero, suc, List, Option, None, length}
 use Rattle.gq_tree.specs.declared.expr.Node.{Node}
 use Rattle.gq_tree.specs.declared.body.SeedTree.{SeedTree}
@@ -101,7 +102,7 @@ item_parser = made columns_item (both (token Name spelling) named_columns_parser
 unfoldable pub print_parser : Parser Stmt
 print_parser = made stmt.Print (after (word "PRINT") (chain (sign ",") item_parser))
 
--- ---- statements that hold statements, which s reads
+-- ---- statements that contain statements, which s reads
 
 unfoldable pub stmts_parser : Parser Stmt → Parser (List Stmt)
 stmts_parser s = many (ended (sign ";") s)
@@ -150,12 +151,12 @@ if_parser s = made if_of (both (if_branch_parser s) (branches_parser s))
 unfoldable pub stmt_in_parser : Parser Stmt → Parser Stmt
 stmt_in_parser s = plain_parser s or if_parser s
 
--- of at most so many levels
+-- with a bounded number of levels
 unfoldable pub nested_parser : ℕ → Parser Stmt
 nested_parser zero l = None
 nested_parser (suc n) l = stmt_in_parser (nested_parser n) l
 
--- levels enough for what there is
+-- with enough levels for the lexemes that remain
 unfoldable pub statement_parser : Parser Stmt
 statement_parser l = nested_parser (length l) l
 

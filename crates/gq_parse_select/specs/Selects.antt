@@ -1,4 +1,5 @@
--- Selects: what each function of the reader of SELECT computes, a definition for each production. `blocks_are_exact` says that it is the grammar.
+-- Selects: what each function of the reader of SELECT computes, a definition for each production.
+-- `blocks_are_exact` states that it is the grammar.
 use Rattle.std.specs.Prelude.{ℕ, List, Option, Bool}
 use Rattle.gq_tree.specs.declared.expr.Node.{Node}
 use Rattle.gq_tree.specs.declared.select.ActTree.{ActTree}
@@ -56,7 +57,7 @@ path_parser = made steps_of (both step_parser (maybe (both step_parser (maybe st
 unfoldable pub walk_parser : Parser PatternTree
 walk_parser = made walk.Path path_parser or made walk.Hop hop_parser
 
--- ---- the parts of SELECT, each with what stands before it
+-- ---- the parts of SELECT, each with the parts before it
 
 unfoldable pub from_parser : Parser FromTree
 from_parser = both (after (word "SELECT") (both (token Name spelling) (after (word "FROM") (token Name spelling)))) (maybe alias_parser)

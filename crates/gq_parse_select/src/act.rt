@@ -1,4 +1,4 @@
-// Acts, of so many levels and of any.
+// Acts, with a bounded number of levels and with any number.
 ghost use Rattle.std.specs.Prelude.{◌≤◌, length, IfOk};
 ghost use Rattle.gq_grammar.specs.Parsers.{Found};
 ghost use Rattle.gq_parse_select.specs.Acts.{nested_act_parser, act_parser, acts_parser};
@@ -11,7 +11,7 @@ use gq_parse_common::list;
 use gq_tree::ActTree;
 use std::alloc::Global;
 
-// An act of at most so many levels.
+// Reads an act of at most `levels` levels.
 fn nested_act(alloc: Global, source: &Source<'_>, levels: usize, at: usize) -> Read<ActTree>
     requires { at ≤ length source.now }
     ensures { IfOk result (Found (nested_act_parser levels) source.now at) }
@@ -28,7 +28,7 @@ fn nested_act(alloc: Global, source: &Source<'_>, levels: usize, at: usize) -> R
     .act_in(at)
 }
 
-// An act, of any number of levels.
+// Reads an act of any number of levels.
 fn act(alloc: Global, source: &Source<'_>, at: usize) -> Read<ActTree>
     requires { at ≤ length source.now }
     ensures { IfOk result (Found act_parser source.now at) }
@@ -38,7 +38,7 @@ fn act(alloc: Global, source: &Source<'_>, at: usize) -> Read<ActTree>
 
 /// `Acts = ActTree { "," ActTree }`.
 ///
-/// Each IF within an IF takes some frames of the stack, and so does each level of parentheses.
+/// Each IF within an IF uses some stack frames, and so does each level of parentheses.
 #[tactic(auto, unfolding(crate::specs::Acts::acts_parser))]
 pub fn acts(alloc: Global, source: &Source<'_>, at: usize) -> Read<List<ActTree>>
     requires { at ≤ length source.now }

@@ -22,7 +22,7 @@ use gq_tree::{BaseTree, ChangeTree, Node, RightTree, SetTypesTree, Stmt};
 use gq_value::Txt;
 use std::alloc::Global;
 
-// New variables, each with its value where one is given.
+// New variables, each with its value, if one is given.
 type NewNames = List<(Txt, Option<Node>)>;
 
 // Name SetOp SetTerm { SetOp SetTerm } | Expr

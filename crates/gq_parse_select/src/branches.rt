@@ -1,4 +1,4 @@
-// Acts, which may hold others.
+// Acts, which may contain others.
 ghost use Rattle.std.specs.Prelude.{◌≤◌, length, IfOk, Some};
 ghost use Rattle.gq_grammar.specs.Lexemes as lexemes;
 ghost use Rattle.gq_grammar.specs.Parsers.{Found, both, made, maybe, many, after};
@@ -16,24 +16,24 @@ use gq_parse_common::{expression, first_of, need};
 use gq_tree::{ActTree, Node};
 use std::alloc::Global;
 
-// A condition, and the acts behind it.
+// A condition, and the acts after it.
 type Branch = (Node, List<ActTree>);
 
-/// Reads an act that may hold others.
+/// Reads an act that may contain others.
 #[derive(Drop)]
 pub struct Acts<'s, 'a, F> {
     pub alloc: Global,
     pub source: &'s Source<'a>,
 
-    /// How deep acts may still stand in one another.
+    /// How many levels acts may still nest.
     pub levels: usize,
 
-    /// Reads an act that stands within.
+    /// Reads a nested act.
     pub inner: F,
 }
 
 impl<'s, 'a, F: Fn(Global, &Source<'_>, usize, usize) -> Read<ActTree>> Acts<'s, 'a, F> {
-    // An act that stands within.
+    // Reads a nested act.
     fn inner(&self, at: usize) -> Read<ActTree>
         requires nests { ActNests self.now.source.now self.now.levels (F.pre self.now.inner) (F.post self.now.inner) }
         requires at { at ≤ length self.now.source.now }
@@ -154,7 +154,7 @@ impl<'s, 'a, F: Fn(Global, &Source<'_>, usize, usize) -> Read<ActTree>> Acts<'s,
         Ok((found, at))
     }
 
-    // Acts, where the first act is no IF
+    // Acts, if the first act isn't IF
     #[tactic(auto, unfolding(crate::specs::Acts::last_acts_parser))]
     fn last_acts(&self, at: usize) -> Read<List<ActTree>>
         requires nests { ActNests self.now.source.now self.now.levels (F.pre self.now.inner) (F.post self.now.inner) }
@@ -167,7 +167,7 @@ impl<'s, 'a, F: Fn(Global, &Source<'_>, usize, usize) -> Read<ActTree>> Acts<'s,
         }
     }
 
-    // ELSE Acts, where the first act is no IF
+    // ELSE Acts, if the first act isn't IF
     #[tactic(auto, unfolding(crate::specs::Acts::else_acts_parser, gq_grammar::specs::Parsers::after))]
     fn else_acts(&self, at: usize) -> Read<List<ActTree>>
         requires nests { ActNests self.now.source.now self.now.levels (F.pre self.now.inner) (F.post self.now.inner) }
@@ -237,7 +237,7 @@ impl<'s, 'a, F: Fn(Global, &Source<'_>, usize, usize) -> Read<ActTree>> Acts<'s,
         }
     }
 
-    /// An act that holds others of one level less.
+    /// Reads an act whose nested acts have one level less.
     #[tactic(auto, unfolding(crate::specs::Acts::act_in_parser))]
     pub fn act_in(&self, at: usize) -> Read<ActTree>
         requires nests { ActNests self.now.source.now self.now.levels (F.pre self.now.inner) (F.post self.now.inner) }

@@ -1,4 +1,4 @@
-// What happens to an accumulator.
+// Changes of accumulators.
 ghost use Rattle.std.specs.Prelude.{◌≤◌, length, IfOk};
 ghost use Rattle.gq_grammar.specs.Acts.{attached_act, global_act};
 ghost use Rattle.gq_grammar.specs.Lexemes as lexemes;
@@ -24,9 +24,9 @@ fn fed(alloc: Global, source: &Source<'_>, at: usize) -> Read<InputTree>
     input(alloc, source, at)
 }
 
-/// `"+=" In | "=" Expr`: what stands behind the name of an accumulator that changes.
+/// `"+=" In | "=" Expr`: what follows the name of an accumulator that changes.
 ///
-/// Each level of parentheses takes some frames of the stack.
+/// Each level of parentheses uses some stack frames.
 #[tactic(auto, unfolding(crate::specs::Acts::change_parser))]
 pub fn change(alloc: Global, source: &Source<'_>, at: usize) -> Read<ChangeTree>
     requires { at ≤ length source.now }

@@ -14,7 +14,7 @@ use gq_tree::{HopTree, TypesTree};
 use gq_value::Txt;
 use std::alloc::Global;
 
-// The edges of a hop, and where they lead.
+// `EdgesTree`: the edge types of a hop, and their alias. `TargetsTree`: those with the types to which they lead.
 type EdgesTree = (Option<TypesTree>, Option<Txt>);
 
 type TargetsTree = (EdgesTree, Option<TypesTree>);

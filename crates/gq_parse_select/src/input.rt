@@ -1,4 +1,4 @@
-// InputReader, of so many levels and of any.
+// Inputs, with a bounded number of levels and with any number.
 ghost use Rattle.std.specs.Prelude.{◌≤◌, length, IfOk};
 ghost use Rattle.gq_grammar.specs.Parsers.{Found};
 ghost use Rattle.gq_parse_select.specs.Acts.{nested_input_parser, input_parser};
@@ -9,7 +9,7 @@ use gq_grammar::Source;
 use gq_tree::InputTree;
 use std::alloc::Global;
 
-// An input of at most so many levels.
+// Reads an input of at most `levels` levels.
 fn nested_input(alloc: Global, source: &Source<'_>, levels: usize, at: usize) -> Read<InputTree>
     requires { at ≤ length source.now }
     ensures { IfOk result (Found (nested_input_parser levels) source.now at) }
@@ -28,7 +28,7 @@ fn nested_input(alloc: Global, source: &Source<'_>, levels: usize, at: usize) ->
 
 /// `In = Expr | "(" Expr { "," Expr } "->" In { "," In } ")"`.
 ///
-/// Each level of parentheses takes some frames of the stack.
+/// Each level of parentheses uses some stack frames.
 pub fn input(alloc: Global, source: &Source<'_>, at: usize) -> Read<InputTree>
     requires { at ≤ length source.now }
     ensures { IfOk result (Found input_parser source.now at) }

@@ -1,4 +1,4 @@
-// What accumulators are fed with.
+// Inputs of accumulators.
 ghost use Rattle.std.specs.Prelude.{◌≤◌, length, IfOk, Some};
 ghost use Rattle.gq_grammar.specs.Lexemes as lexemes;
 ghost use Rattle.gq_grammar.specs.Parsers.{Found, both, many, after};
@@ -15,7 +15,7 @@ use gq_parse_common::{expression, list, need};
 use gq_tree::{InputTree, Node};
 use std::alloc::Global;
 
-// A key.
+// Reads a key.
 fn key(alloc: Global, source: &Source<'_>, at: usize) -> Read<Node>
     requires { at ≤ length source.now }
     ensures { IfOk result (Found part.expression source.now at) }
@@ -31,21 +31,21 @@ fn keys(alloc: Global, source: &Source<'_>, at: usize) -> Read<List<Node>>
     list(alloc, source, at, key)
 }
 
-/// Reads an input that may hold others.
+/// Reads an input that may contain others.
 #[derive(Drop)]
 pub struct InputReader<'s, 'a, F> {
     pub alloc: Global,
     pub source: &'s Source<'a>,
 
-    /// How deep inputs may still stand in one another.
+    /// How many levels inputs may still nest.
     pub levels: usize,
 
-    /// Reads an input that stands within.
+    /// Reads a nested input.
     pub inner: F,
 }
 
 impl<'s, 'a, F: Fn(Global, &Source<'_>, usize, usize) -> Read<InputTree>> InputReader<'s, 'a, F> {
-    // An input that stands within.
+    // Reads a nested input.
     fn inner(&self, at: usize) -> Read<InputTree>
         requires nests { InputNests self.now.source.now self.now.levels (F.pre self.now.inner) (F.post self.now.inner) }
         requires at { at ≤ length self.now.source.now }
@@ -135,7 +135,7 @@ impl<'s, 'a, F: Fn(Global, &Source<'_>, usize, usize) -> Read<InputTree>> InputR
         Ok(Some((InputTree::Keyed(keys, inputs), at)))
     }
 
-    /// An input that holds others of one level less.
+    /// Reads an input whose nested inputs have one level less.
     #[tactic(auto, unfolding(crate::specs::Acts::input_in_parser))]
     pub fn input_in(&self, at: usize) -> Read<InputTree>
         requires nests { InputNests self.now.source.now self.now.levels (F.pre self.now.inner) (F.post self.now.inner) }

@@ -1,7 +1,7 @@
 //! Parses SELECT, its patterns, the statements of ACCUM and POST-ACCUM, vertex sets and assignments.
 //!
 //! Each function is one production of the grammar. Only `nested_input` and `nested_act` are recursive: they
-//! pass themselves to the parsers of inputs and statements that hold others, one level deeper.
+//! pass themselves to the parsers of inputs and statements that contain others, one level deeper.
 //!
 //! Read `Acts.antt` and `Selects.antt` of `gq_grammar` first, then `specs/Selects.antt`, `specs/Acts.antt`
 //! and `specs/Bodies.antt`: what each function computes. `src/selects.rt` reads SELECT, `src/patterns.rt`,

@@ -1,4 +1,4 @@
-// The parts of SELECT that may be left out.
+// The optional parts of SELECT.
 ghost use Rattle.std.specs.Prelude.{◌≤◌, length, IfOk, Some};
 ghost use Rattle.gq_grammar.specs.Lexemes as lexemes;
 ghost use Rattle.gq_grammar.specs.Parsers.{Found, maybe, after};
@@ -45,7 +45,7 @@ pub fn some_walk(
     Ok((Some(walk), end))
 }
 
-// A word, and an expression.
+// Reads a word and an expression.
 #[tactic(auto, unfolding(gq_grammar::specs::Parsers::after))]
 fn after_word(alloc: Global, source: &Source<'_>, at: usize, word: &str) -> Read<Node>
     requires { at ≤ length source.now }
@@ -97,7 +97,7 @@ pub fn limit(
     Ok((Some(limit), end))
 }
 
-// A word, and acts.
+// Reads a word and acts.
 #[tactic(auto, unfolding(gq_grammar::specs::Parsers::after))]
 fn acts_after(alloc: Global, source: &Source<'_>, at: usize, word: &str) -> Read<List<ActTree>>
     requires { at ≤ length source.now }

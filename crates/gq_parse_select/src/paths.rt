@@ -16,7 +16,8 @@ use gq_tree::{StepTree, TypesTree, Way};
 use gq_value::Txt;
 use std::alloc::Global;
 
-// The edges of a step, and where they lead.
+// `EdgesTree`: the edge types of a step with their directions, and their alias. `TargetsTree`: those with the types to
+// which they lead.
 type EdgesTree = (List<(Way, Txt)>, Option<Txt>);
 
 type TargetsTree = (EdgesTree, TypesTree);

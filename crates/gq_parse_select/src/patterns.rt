@@ -1,4 +1,4 @@
-// What patterns are put together from.
+// Common parts of patterns.
 ghost use Rattle.std.specs.Prelude.{◌≤◌, length, IfOk, Some};
 ghost use Rattle.gq_tree.specs.declared.select.TypesTree.TheVariants as tree;
 ghost use Rattle.gq_grammar.specs.Lexemes as lexemes;

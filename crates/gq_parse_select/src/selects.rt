@@ -15,7 +15,7 @@ use gq_tree::{ActTree, Node, PatternTree, SelectTree};
 use gq_value::Txt;
 use std::alloc::Global;
 
-// SELECT up to each of its parts, nested as the productions are: a function for each part owns nothing at its exits.
+// SELECT up to each of its parts, nested like the productions: a function for each part owns nothing at its exits.
 type FromTree = ((Txt, Txt), Option<Txt>);
 
 type WalkTree = (FromTree, Option<PatternTree>);
@@ -158,7 +158,7 @@ fn limited(alloc: Global, source: &Source<'_>, at: usize) -> Read<LimitedTree>
 /// `Select = SELECT Name FROM Name [ ":" Name ] [ Hop | Path ] [ WHERE Expr ] [ ACCUM Acts ] [ Post Acts ] [ HAVING Expr ]
 /// [ ORDER BY Expr [ ASC | DESC ] { "," Expr [ ASC | DESC ] } ] [ LIMIT Expr ]`, with `Post = POST "-" ACCUM | POST_ACCUM`.
 ///
-/// Each IF within an IF takes some frames of the stack, and so does each level of parentheses.
+/// Each IF within an IF uses some stack frames, and so does each level of parentheses.
 #[tactic(auto, unfolding(crate::specs::Selects::select_parser))]
 pub fn select(alloc: Global, source: &Source<'_>, at: usize) -> Read<SelectTree>
     requires { at ≤ length source.now }

@@ -1,5 +1,5 @@
-// What was read, beside what was read behind it, whatever the two are. Trees are large, and pass through here as they are: a
-// function that owns one where it may end has to drop it there.
+// What was read, paired with what was read after it, of any types. Trees are large, and are passed through here
+// unchanged: a function that owns one has to drop it at each of its exits.
 ghost use Rattle.std.specs.Prelude.{ℕ, List, IfOk, Some};
 ghost use Rattle.gq_grammar.specs.Lexemes.{Lexemes};
 ghost use Rattle.gq_grammar.specs.Parsers.{Parser, Found, both, made};
@@ -8,7 +8,7 @@ ghost use Rattle.gq_grammar.specs.Series.{one_and_all};
 use gq_base::{List, OutOfMemory};
 use gq_expr_read::Read;
 
-/// The first beside the second, where the second is there.
+/// The first paired with the second, if the second was read.
 pub fn paired<A: Drop, B: Drop>(first: A, second: Read<B>) -> Read<(A, B)>
     ensures { (p : Parser A) (q : Parser B) (all : Lexemes) (at next : ℕ) → Found p all at (Some (first, next)) → IfOk second (Found q all next) → IfOk result (Found (both p q) all at) }
 {
@@ -18,7 +18,7 @@ pub fn paired<A: Drop, B: Drop>(first: A, second: Read<B>) -> Read<(A, B)>
     }
 }
 
-/// The first beside the second, which is always there.
+/// The first paired with the second, which is always read.
 pub fn beside<A: Drop, B: Drop>(first: A, second: Result<(B, usize), OutOfMemory>) -> Read<(A, B)>
     ensures { (p : Parser A) (q : Parser B) (all : Lexemes) (at next : ℕ) → Found p all at (Some (first, next)) → IfOk second (λ read. Found q all next (Some read)) → IfOk result (Found (both p q) all at) }
 {
@@ -26,7 +26,7 @@ pub fn beside<A: Drop, B: Drop>(first: A, second: Result<(B, usize), OutOfMemory
     Ok(Some(((first, second), at)))
 }
 
-/// The first, and the others behind it.
+/// The first, followed by the others.
 pub fn chained<T: Drop>(first: T, others: Result<(Vec<T>, usize), OutOfMemory>) -> Read<List<T>>
     ensures { (p : Parser T) (q : Parser (List T)) (all : Lexemes) (at next : ℕ) → Found p all at (Some (first, next)) → IfOk others (λ read. Found q all next (Some (read.0.items, read.1))) → IfOk result (Found (made one_and_all (both p q)) all at) }
 {

@@ -1,4 +1,4 @@
--- FailLemmas: rules that give nothing, and accumulators that aren't planned.
+-- FailLemmas: rules that fail, and accumulators that aren't planned.
 use Rattle.std.proofs.Common.{◌≡◌, ◌≢◌, Bool, true, Option, Some, None, Result, Ok, Err}
 use Rattle.std.specs.Prelude.{is_some}
 use Rattle.gq_tree.specs.Tree.{Tree}
@@ -19,7 +19,7 @@ use Rattle.gq_plan.specs.Unplanned.{Fails, NoAccum}
 pub failed : {A : Type 0} (j : Judged A) (e : TypingFault) → j ≡ Err e → Fails j
 failed j e is = record { none = λ a h. cc (is, h) }
 
--- a rule that doesn't let something pass
+-- a rule that refuses
 pub refused : {A B : Type 0} (view : B → A) (j : Judged A) (r : Result B CheckFault) (e : CheckFault) → r ≡ Err e → Judges view j r → e ≢ check.OutOfMemory → Fails j
 refused view j (Ok b) e is h other = absurd (cc is)
 refused view j (Err f) e is h other = failed j _ (h (λ m. other (cc (is, m))))

@@ -1,4 +1,4 @@
--- FieldLemmas: fields as they come, and their names.
+-- FieldLemmas: fields in order, and their names.
 use Rattle.std.proofs.Common.{◌≡◌, ◌+◌, ◌<◌, ◌≤◌, ℕ, Bool, true, false, List, [], ◌∷◌, ◌++◌, length, get_or, drop, map, Ok, Err, arith, refl, sym, ap, subst}
 use Rattle.std.specs.Prelude.{not, nat_lt}
 use Rattle.std.proofs.lemmas.Bool.{ltb-true}
@@ -54,12 +54,12 @@ pub ruleset name_laws = (name_twice, too_many)
 
 -- ---- fields that aren't written
 
--- what came before, with what fails
+-- if the rest fails, so does it after the earlier fields
 after_fails : {A : Type 0} (done : List A) (j : Judged (List A)) → Fails j → Fails (after done j)
 after_fails done (Ok rest) never = absurd (never.none rest refl)
 after_fails done (Err e) never = failed (after done (Err e)) e refl
 
--- the rest fails, and so do all
+-- if the rest fails, so do all
 module _ (s : Scope Bytes) (names : List Bytes) (trees : List (tree.BaseTree × Bytes)) (k : ℕ) (t : tree.BaseTree × Bytes) (done : Fields) (low : k < length trees) (is : t ≡ get_or trees k t)
     (so_far : fields_written s 16 [] (view_fields trees) ≡ after done (fields_written s 16 names (view_fields (drop k trees)))) where
   rest_fails : Fails (fields_written s 16 names (view_fields (t ∷ drop (k + 1) trees))) → Fails (fields_written s 16 [] (view_fields trees))

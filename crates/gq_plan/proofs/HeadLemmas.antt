@@ -28,7 +28,7 @@ use Rattle.gq_plan.proofs.ScopeLemmas.{fields_here, kind_here}
 
 -- ---- accumulators
 
--- what is planned of the rest is planned of all, behind what is done; and in each plan of all stands one of the rest
+-- a plan of the rest gives a plan of all, after what is done; and each plan of all contains one of the rest
 pub record AccumsGo (sorts : Sorts) (n : Named) (start : Heads) (all : List (Bool × Bytes × Option (Tree Bytes))) (done : List code.Accum) (rest : List (Bool × Bytes × Option (Tree Bytes))) (now : Heads) : Type 0 where
   pub go : (others : List code.Accum) (end : Heads) → AccumsPlanned sorts n now rest others end → AccumsPlanned sorts n start all (done ++ others) end
   pub back : (bs : List code.Accum) (end : Heads) → AccumsPlanned sorts n start all bs end → (others : List code.Accum) × AccumsPlanned sorts n now rest others end
@@ -36,7 +36,7 @@ pub record AccumsGo (sorts : Sorts) (n : Named) (start : Heads) (all : List (Boo
 pub accums_begin : (sorts : Sorts) (n : Named) (start : Heads) (all : List (Bool × Bytes × Option (Tree Bytes))) → AccumsGo sorts n start all [] all start
 accums_begin sorts n start all = record { go = λ others end p. p; back = λ bs end p. (bs, p) }
 
--- the one at hand, and the rest
+-- the current one, and the rest
 module _ (sorts : Sorts) (n : Named) (start : Heads) (trees : List AccumTree) (done : List code.Accum) (k : ℕ) (now : Heads) (t : AccumTree) (low : k < length trees) (is : t ≡ get_or trees k t)
     (so_far : AccumsGo sorts n start (map view_accum trees) done (map view_accum (drop k trees)) now) where
   accum_here : (bs : List code.Accum) (end : Heads) → AccumsPlanned sorts n start (map view_accum trees) bs end → AccumRead sorts n now (view_accum t) (map view_accum (drop (k + 1) trees)) end
@@ -88,12 +88,12 @@ pub ruleset kind_laws = (kind_planned, kind_fails, accums_lack)
 
 -- ---- definitions
 
--- what is planned of the rest is planned of all, behind what is done; and in each plan of all stands one of the rest
+-- a plan of the rest gives a plan of all, after what is done; and each plan of all contains one of the rest
 pub record DefinitionsGo (sorts : Sorts) (n : Named) (start : Heads) (all : List (Definition Bytes (KindTree Bytes))) (done : List definition_code.Definition) (rest : List (Definition Bytes (KindTree Bytes))) (now : Heads) : Type 0 where
   pub go : (others : List definition_code.Definition) (end : Heads) → DefinitionsPlanned sorts n now rest others end → DefinitionsPlanned sorts n start all (done ++ others) end
   pub back : (es : List definition_code.Definition) (end : Heads) → DefinitionsPlanned sorts n start all es end → DeclaredOnce (tuple_names start.tuples) all → RestRead sorts n now rest end
 
--- so far, with the scope then
+-- the same so far, with the current scope
 pub record DefinitionsSoFar (n : Named) (s t : Held) (before tuples : TupleTypes) (first slots : Named) (trees : List definition_tree.DefinitionTree) (k : ℕ) (done : List definition_code.Definition) : Type 0 where
   pub scoped : IsScoped (sorts_in s) tuples t
   pub goes : DefinitionsGo (sorts_in s) n (heads_of before first) (map view_definition trees) done (map view_definition (drop k trees)) (heads_of tuples slots)
@@ -111,11 +111,11 @@ joined sorts n h i j (Accums k all) rest (definition.Tuple gs m) others one more
 joined sorts n h i j (Accums k all) rest (definition.Accums kind bs) others one more =
     (one.0, (one.1.0, (one.1.1.0, subst (λ (l : Heads). DefinitionsPlanned sorts n l rest others j) (sym one.1.1.1) more)))
 
--- the scope at hand has its own types
+-- the current scope has its own types
 pub scope_here : (s t : Held) (tuples : TupleTypes) → IsScoped (sorts_in s) tuples t → IsScoped (sorts_in t) tuples t
 scope_here s t tuples h = subst (λ z. IsScoped z tuples t) (sym h.sorts_are) h
 
--- in each plan of all stands one of the definition at hand and the rest
+-- each plan of all contains one of the current definition and one of the rest
 module _ (n : Named) (s t : Held) (before tuples : TupleTypes) (first slots : Named) (trees : List definition_tree.DefinitionTree) (k : ℕ) (done : List definition_code.Definition) (d : definition_tree.DefinitionTree)
     (low : k < length trees) (is : d ≡ get_or trees k d) (so_far : DefinitionsSoFar n s t before tuples first slots trees k done) where
   definition_here : (es : List definition_code.Definition) (end : Heads) → DefinitionsPlanned (sorts_in s) n (heads_of before first) (map view_definition trees) es end → DeclaredOnce (tuple_names before) (map view_definition trees)

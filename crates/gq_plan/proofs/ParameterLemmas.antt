@@ -1,4 +1,4 @@
--- ParameterLemmas: parameters that are planned from the last one on.
+-- ParameterLemmas: parameters, which are planned in reverse order.
 use Rattle.std.proofs.Common.{◌≡◌, ◌+◌, ◌<◌, ◌≤◌, ℕ, zero, suc, List, [], ◌∷◌, ◌++◌, length, get_or, drop, map, reverse, Some, None, arith, sym, ap, subst, ◌∙◌}
 use Rattle.std.proofs.lemmas.List.{drop_all, reverse-append}
 use Rattle.gq_tree.specs.declared.query.ParameterTree.{ParameterTree}
@@ -17,7 +17,7 @@ use Rattle.gq_rules_meaning.proofs.AnswerLaws.{some_inj}
 use Rattle.gq_plan.specs.Unplanned.{NoParameters}
 use Rattle.gq_plan.proofs.PlaceLemmas.{left_at}
 
--- those from the nth on are planned, the last one first, and are in view
+-- the parameters from the nth on are planned, the last one first, and are in view
 pub record PlannedFrom (sorts : Sorts) (trees : List ParameterTree) (n : ℕ) (done : List code.Parameter) (m : Named) : Type 0 where
   pub few : n ≤ length trees
   pub planned : ParametersPlanned sorts (map view_parameter (drop n trees)) (reverse done) m

@@ -1,4 +1,4 @@
--- PlaceLemmas: what is left of a list from a place on.
+-- PlaceLemmas: the suffix of a list from a place on.
 use Rattle.std.proofs.Common.{◌≡◌, ◌+◌, ◌<◌, ℕ, List, [], ◌∷◌, ◌++◌, length, get_or, drop, refl, sym, ap, ◌∙◌}
 use Rattle.std.proofs.lemmas.List.{drop_more}
 

@@ -41,7 +41,7 @@ use Rattle.gq_plan.specs.Unplanned.{NoParameters, NoDefinitions, NoPlan}
 use Rattle.gq_plan.proofs.ParameterLemmas.{parameters_same}
 use Rattle.gq_plan.proofs.TupleLemmas.{definitions_same}
 
--- with these numbers for those of the query's graph
+-- with these vertex and edge types in place of those of the query's graph
 abbrev with_own : Graph → List ℕ → List ℕ → Graph
 with_own g vertices edges = record g { sorts = record (g.sorts) { own_vertices = vertices; own_edges = edges } }
 
@@ -77,13 +77,13 @@ safe_law schema own q p planned = record {
       (never_stuck (graph_of schema own vertices edges) clock store q t typed arguments fit turns);
 }
 
--- ---- where nothing is declared in the scope
+-- ---- a scope without declarations
 
 pub sorts_are : (s : Held) (schema : Schema) (graph : Option ℕ) → s.schema ≡ schema → s.graph ≡ graph → sorts_in s ≡ sorts_of schema (graph_in schema graph)
 unfolding sorts_in
 sorts_are s schema graph e h = ap (λ z. sorts_of z (graph_in z s.graph)) e ∙ ap (λ g. sorts_of schema (graph_in schema g)) h
 
--- ---- the parts of a plan, as they come
+-- ---- the parts of a plan, in order
 
 pub plan_made : (s t : Held) (q : Query Bytes) (p : Plan) (names behind : Named) (before tuples : TupleTypes) (first slots : Named)
     → before ≡ [] → first ≡ no_names → IsScoped (sorts_in s) tuples t → p.with_paths ≡ q.with_paths → ParametersPlanned (sorts_in s) q.parameters p.parameters names
@@ -104,7 +104,7 @@ plan_made s t q p names behind before tuples first slots none nothing scoped wit
   edges = edges;
 }
 
--- what stands at the places is told apart
+-- adding the types of the places
 pub with_places : (sorts : Sorts) (q : Query Bytes) (p : Plan) (places : List held.PlaceType) → IsPlanned sorts q p → IsPlanned sorts q (record p { places = places })
 with_places sorts q p places is = record {
   names = is.names;
@@ -145,7 +145,7 @@ without_statements sorts q parameters names definitions tuples slots planned dec
       cc (at, is.statements);
 }
 
--- the same, as the parts of a plan come
+-- the same, in terms of the parts of a plan
 pub lacks_definitions : (s : Held) (q : Query Bytes) (parameters : List code.Parameter) (names : Named) (before : TupleTypes) (first : Named) → before ≡ [] → first ≡ no_names → ParametersPlanned (sorts_in s) q.parameters parameters names
     → NoDefinitions (sorts_in s) names (heads_of before first) q.definitions → NoPlan (sorts_in s) q
 lacks_definitions s q parameters names before first none nothing planned never =
@@ -162,7 +162,7 @@ lacks_statements s t q parameters names definitions before tuples first slots no
     (subst (λ m. DefinitionsPlanned (sorts_in s) names (heads_of before m) q.definitions definitions (heads_of tuples slots)) nothing declared))
     (subst (λ z. resolved_stmts (globals_of z tuples slots) names q.statements ≡ None) scoped.sorts_are lacks)
 
--- a new scope shows no name
+-- a new scope has no visible name
 none_new : (s : Held) (schema : Schema) (graph : Option ℕ) → s ≡ record { schema = schema; graph = graph; names = []; place = InStatement; with_paths = false } → (x : Bytes) → is_some (entry (scope_in s) x) ≡ false
 unfolding scope_in setting_in
 none_new s schema graph is x = ap (λ (h : Held). is_some (entry (scope_in h) x)) is

@@ -1,4 +1,4 @@
--- ScopeLemmas: what a scope has of types, as tuple types come into it.
+-- ScopeLemmas: the types of a scope, as tuple types are added to it.
 use Rattle.std.proofs.Common.{◌≡◌, Bool, true, false, List, [], ◌∷◌, ◌++◌, Option, Some, Ok, refl, sym, ap, ◌∙◌, subst}
 use Rattle.std.specs.Prelude.{◌||◌, if◌then◌else◌, bytes_eq, is_some}
 use Rattle.std.proofs.lemmas.List.{map_push}
@@ -32,7 +32,7 @@ sorts_stay s names = refl
 
 -- ---- names that are free
 
--- neither among these nor the one behind them
+-- neither among these names nor the one after them
 not_taken : (names : List Bytes) (x y : Bytes) → is_taken (names ++ x ∷ []) y ≡ false → (is_taken names y ≡ false) × (bytes_eq x y ≡ false)
 not_taken names x y h = go (is_taken names y) (bytes_eq x y) (sym (list_any-append (λ z. bytes_eq z y) names (x ∷ [])) ∙ h)
   where
@@ -57,7 +57,7 @@ free_more s tuples x fields was y h =
     let u = not_taken (tuple_names tuples) x y (ap (λ l. is_taken l y) (sym (map_push (λ (t : Bytes × List (Bytes × BaseType)). t.0) tuples (x, fields))) ∙ h) in
     ap (λ (e : Option typing.Entry). is_some e) (entry_more s x y fields) ∙ (ap (λ (b : Bool). is_some (if b then Some typing.TupleName else typing.entry (scope_in s) y)) u.1 ∙ was y u.0)
 
--- a name that is visible is that of a tuple type
+-- a visible name is that of a tuple type
 pub taken_here : (s : Held) (tuples : TupleTypes) (x : Bytes) → IsScoped (sorts_in s) tuples s → is_some (typing.entry (scope_in s) x) ≡ true → is_taken (tuple_names tuples) x ≡ true
 taken_here s tuples x scoped there = go (is_taken (tuple_names tuples) x) (scoped.free x)
   where
@@ -65,7 +65,7 @@ taken_here s tuples x scoped there = go (is_taken (tuple_names tuples) x) (scope
     go true h = refl
     go false h = let none = h refl in absurd (cc (none, there))
 
--- a tuple type more
+-- with one more tuple type
 pub scope_more : (s t : Held) (tuples more : TupleTypes) (x : Bytes) (fields : List (Bytes × BaseType)) → IsScoped (sorts_in s) tuples s
     → t ≡ record s { names = s.names ++ (x, entry.TupleType fields) ∷ [] } → more ≡ tuples ++ (x, fields) ∷ [] → IsScoped (sorts_in s) more t
 scope_more s t tuples more x fields was new is =
@@ -77,7 +77,7 @@ scope_more s t tuples more x fields was new is =
 
 pub ruleset scope_laws = (scope_more, taken_here)
 
--- ---- the setting, and what is judged in it
+-- ---- the setting, and the judgements in it
 
 pub setting_is : (sorts : Sorts) (tuples : TupleTypes) (s : Held) → IsScoped sorts tuples s → setting_in s ≡ setting_of sorts tuples
 unfolding setting_in

@@ -28,7 +28,7 @@ use Rattle.gq_plan.specs.Heading.{IsScoped, heads_of, resolved_field}
 use Rattle.gq_plan.specs.Unplanned.{Fails, NoAccums, NoDefinition, DeclaredOnce, tuple_names, is_taken}
 use Rattle.gq_plan.proofs.ScopeLemmas.{scope_is}
 
--- ---- fields that are written stand for one list of the code's
+-- ---- the written fields correspond to one list of the code's fields
 
 abbrev is_tuple : Base → Bool
 is_tuple (TUPLE n bs) = true
@@ -143,7 +143,7 @@ module _ (sorts : Sorts) (n : Named) where
   read_accum h a rest [] i p = absurd p
   read_accum h a rest (b ∷ others) i p = record { accum = b; planned = p.0; others = others; are = p.1 }
 
-  -- ---- what is declared then follows from the definitions
+  -- ---- the declarations are then determined by the definitions
 
   pub accums_same : (accums : List (Bool × Bytes × Option (Tree Bytes))) (h i j : Heads) (bs cs : List accum_code.Accum) → AccumsPlanned sorts n h accums bs i → AccumsPlanned sorts n h accums cs j → i ≡ j
   accums_same [] h i j [] [] p q = sym p ∙ q
@@ -154,7 +154,7 @@ module _ (sorts : Sorts) (n : Named) where
       let v = read_accum h a rest cs j q in
       accums_same rest (with_accum h a.1 a.0) i j u.others v.others u.are v.are
 
-  -- accumulators leave the tuple types as they are
+  -- accumulators don't change the tuple types
   pub accums_tuples : (accums : List (Bool × Bytes × Option (Tree Bytes))) (h i : Heads) (bs : List accum_code.Accum) → AccumsPlanned sorts n h accums bs i → h.tuples ≡ i.tuples
   accums_tuples [] h i [] p = ap (λ (k : Heads). k.tuples) p
   accums_tuples [] h i (b ∷ bs) p = absurd p
@@ -173,7 +173,7 @@ module _ (sorts : Sorts) (n : Named) where
       let same : v.behind ≡ u.behind = accums_same accums h v.behind u.behind v.bs u.bs v.planned u.planned in
       definitions_same rest u.behind i j u.others v.others u.are (subst (λ l. DefinitionsPlanned sorts n l rest v.others j) same v.are)
 
-  -- ---- the rest behind one definition
+  -- ---- the rest after one definition
 
   pub record RestRead (h : Heads) (ds : List (Definition Bytes (KindTree Bytes))) (i : Heads) : Type 0 where
     pub others : List definition_code.Definition

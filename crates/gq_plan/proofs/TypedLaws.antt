@@ -87,7 +87,7 @@ typed_once sorts q t e =
     let v = then_ok (through_judged (typing_definition kind_written) u.0 q.definitions) _ t u.2 in
     once_from [] q.definitions u.0 v.0 (record { same = same_after q.parameters before u.0 (λ x y. refl) u.1; there = λ x h. absurd (cc h) }) v.1
 
--- what has no plan isn't typed
+-- a query without a plan isn't typed
 pub not_typed : (sorts : Sorts) (q : Query Bytes) → NoPlan sorts q → NotTyped sorts q
 not_typed sorts q never = record { none = λ t typed. let has = query_law sorts q t typed in never.none has.plan has.is (typed_once sorts q t typed) }
 

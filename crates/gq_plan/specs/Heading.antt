@@ -1,4 +1,4 @@
--- Heading: what is declared so far, as the code has it.
+-- Heading: the declarations so far, as the code stores them.
 use Rattle.std.specs.Prelude.{◌≡◌, false, is_some, Option, Some}
 use Rattle.gq_scope.specs.Named.{Named}
 use Rattle.gq_rules_typing.specs.Statements.{Bytes, BaseTree}
@@ -23,6 +23,6 @@ pub record IsScoped (sorts : Sorts) (tuples : TupleTypes) (s : Held) : Type 0 wh
   pub tuples_are : tuple_types s.names ≡ tuples
   pub free : (x : Bytes) → is_taken (tuple_names tuples) x ≡ false → is_some (entry (scope_in s) x) ≡ false
 
--- a field as the plan has it
+-- a field as the plan stores it
 abbrev pub resolved_field : Globals → BaseTree Bytes × Bytes → Option (Declared × Bytes)
 resolved_field g f = resolved_base g f.0 >>= λ b. Some (b, f.1)

@@ -1,4 +1,4 @@
--- Noted: what a plan holds at a place is what the checker says of the name that came into view there.
+-- Noted: the plan's type of a place is the type that the checker gives the name that came into view there.
 use Rattle.std.specs.Prelude.{◌≡◌, List, [], ◌∷◌, ◌++◌, Option, Some}
 use Rattle.gq_rules_typing.specs.Scopes.{Entry}
 use Rattle.gq_plan_ir.specs.declared.plan.PlaceType.{PlaceType}
@@ -7,7 +7,7 @@ use Rattle.gq_plan_ir.specs.Belonging.{entry_of}
 abbrev pub IsHeld : Entry → PlaceType → Type 0
 IsHeld e h = entry_of h ≡ e
 
--- one place more, for a name that is in view
+-- one more place, for a name that is in view
 pub record Notes (found : Option Entry) (old new : List PlaceType) : Type 0 where
   pub held : PlaceType
   pub is : found ≡ Some (entry_of held)

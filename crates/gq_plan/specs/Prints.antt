@@ -1,4 +1,4 @@
--- Prints: what a plan prints, and what its query prints.
+-- Prints: the output of a plan, and that of its query.
 use Rattle.std.specs.Prelude.{◌≡◌, ℕ, List, [], Option, Some}
 use Rattle.gq_value.specs.Val.{Val}
 use Rattle.gq_graph.specs.Catalog.{Schema}
@@ -15,11 +15,12 @@ use Rattle.gq_plan_ir.specs.Belonging.{world_of}
 use Rattle.gq_plan_ir.specs.PlanView.{view_plan, accum_names}
 use Rattle.gq_plan_laws.specs.PlannedLaws.{IsPlanned}
 
--- what a plan reads of a catalog and a store: it has the types of its graph
+-- the graph that a plan reads of a catalog and a store: it has the types of the plan's graph
 abbrev pub graph_for : Schema → Plan → List VertexRow → List EdgeRow → Graph
 graph_for schema p vertices edges = graph_of schema (Some (record { name = []; vertices = p.vertices; edges = p.edges })) vertices edges
 
--- over any store, with any calendar, any arguments and any number of turns, the plan gives what the query gives for its graph
+-- over any store, with any calendar, any arguments and any limit on turns, the plan prints what the query prints for
+-- its graph
 pub record PrintsAs (schema : Schema) (own : Option GraphType) (q : Query Bytes) (p : Plan) : Type 0 where
   pub same_graph : (vertices : List VertexRow) (edges : List EdgeRow) → graph_for schema p vertices edges ≡ graph_of schema own vertices edges
   pub same : (vertices : List VertexRow) (edges : List EdgeRow) (clock : Calendar) (arguments : List Val) (turns : ℕ)

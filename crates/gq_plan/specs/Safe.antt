@@ -22,8 +22,8 @@ use Rattle.gq_plan_ir.specs.PlanView.{view_plan, accum_names}
 use Rattle.gq_plan_laws.specs.PlannedLaws.{IsPlanned}
 use Rattle.gq_plan.specs.Prints.{graph_for}
 
--- where the query is typed: over any store whose rows are of their types whatever tuple types are declared, with arguments of the
--- parameters' types, the plan prints something or ends with a fault
+-- if the query is typed: over any store whose rows fit their types whatever tuple types are declared, with arguments of
+-- the parameters' types, the plan prints something or ends with a fault
 pub record NeverStuck (schema : Schema) (own : Option GraphType) (q : Query Bytes) (p : Plan) : Type 0 where
   pub safe : (t : Scope Bytes) → typing_query (sorts_of schema own) q ≡ Ok t
       → (vertices : List VertexRow) (edges : List EdgeRow) (clock : Calendar)

@@ -1,4 +1,4 @@
--- Unplanned: where no plan can be made.
+-- Unplanned: when no plan can be made.
 use Rattle.std.specs.Prelude.{◌≡◌, Bool, false, List, [], ◌∷◌, ◌++◌, map, Option, Ok}
 use Rattle.std.specs.Str.{bytes_eq}
 use Rattle.std.specs.List.{list_any}
@@ -17,11 +17,11 @@ use Rattle.gq_plan_expr.specs.Found.{TupleTypes}
 use Rattle.gq_plan_laws.specs.Planned.{Heads, AccumPlanned, AccumsPlanned, DefinitionsPlanned}
 use Rattle.gq_plan_laws.specs.PlannedLaws.{ParametersPlanned, IsPlanned}
 
--- a query that typing doesn't let pass
+-- a query that the typing rules refuse
 pub record NotTyped (sorts : Sorts) (q : Query Bytes) : Type 0 where
   pub none : (t : Scope Bytes) → typing_query sorts q ≡ Ok t → ⊥
 
--- ---- tuple types, each of which a query declares once
+-- ---- tuple types, each of which is declared once in a query
 
 abbrev pub tuple_names : TupleTypes → List Bytes
 tuple_names ts = map (λ t. t.0) ts
@@ -29,7 +29,7 @@ tuple_names ts = map (λ t. t.0) ts
 abbrev pub is_taken : List Bytes → Bytes → Bool
 is_taken names x = list_any (λ y. bytes_eq y x) names
 
--- where these names are taken
+-- the same, with these names already taken
 abbrev pub DeclaredOnce : List Bytes → List (Definition Bytes (KindTree Bytes)) → Type 0
 DeclaredOnce names [] = Unit {0}
 DeclaredOnce names (TupleType fs x ∷ ds) = (is_taken names x ≡ false) × DeclaredOnce (names ++ x ∷ []) ds
@@ -37,7 +37,7 @@ DeclaredOnce names (Accums k accums ∷ ds) = DeclaredOnce names ds
 
 -- ---- what has no plan
 
--- a rule that gives nothing
+-- a rule that never succeeds
 pub record Fails {A : Type 0} (j : Judged A) : Type 0 where
   pub none : (a : A) → j ≡ Ok a → ⊥
 
@@ -54,10 +54,10 @@ module _ (sorts : Sorts) (n : Named) (h : Heads) where
   pub record NoDefinitions (ds : List (Definition Bytes (KindTree Bytes))) : Type 0 where
     pub none : (es : List definition_code.Definition) (i : Heads) → DefinitionsPlanned sorts n h ds es i → DeclaredOnce (tuple_names h.tuples) ds → ⊥
 
-  -- a definition, whatever comes behind it
+  -- a definition, whatever comes after it
   pub record NoDefinition (d : Definition Bytes (KindTree Bytes)) : Type 0 where
     pub none : (rest : List (Definition Bytes (KindTree Bytes))) → NoDefinitions (d ∷ rest)
 
--- a query whose tuple types are each declared once
+-- a query each of whose tuple types is declared once
 pub record NoPlan (sorts : Sorts) (q : Query Bytes) : Type 0 where
   pub none : (p : Plan) → IsPlanned sorts q p → DeclaredOnce [] q.definitions → ⊥

@@ -1,4 +1,4 @@
-// Accumulators with what they open with.
+// Accumulators with their initial values.
 ghost use Rattle.std.specs.Prelude.{◌≡◌, ◌≢◌, IfOk, IfErr, Ok, [], map};
 ghost use Rattle.gq_value.specs.AccumViews.{accum_of};
 ghost use Rattle.gq_scope.specs.Named.{with_name};
@@ -23,7 +23,7 @@ use gq_tree::{AccumTree, KindTree};
 use gq_value::{Kind, Txt};
 use std::alloc::Global;
 
-/// `OutOfMemory`, or that a rule doesn't let something pass.
+/// Returns `OutOfMemory`, or `Unknown` if a rule refuses something.
 pub(crate) fn fault_of(refusal: &CheckFault) -> PlanFault
     ensures { result ≢ fault.OutOfMemory → refusal.now ≢ check.OutOfMemory }
 {
@@ -37,7 +37,7 @@ pub(crate) fn fault_of(refusal: &CheckFault) -> PlanFault
     }
 }
 
-/// The kind of accumulators.
+/// Returns the kind of accumulators.
 #[tactic(auto, using(crate::proofs::FailLemmas::fail_laws))]
 pub(crate) fn kind(alloc: Global, scope: &Scope<'_>, tree: &KindTree) -> Result<Kind, PlanFault>
     ensures planned { IfOk result (λ kind. kind_meant (scope_in scope.now) [] (view_kind tree.now) ≡ Ok (accum_of kind)) }
@@ -49,7 +49,7 @@ pub(crate) fn kind(alloc: Global, scope: &Scope<'_>, tree: &KindTree) -> Result<
     }
 }
 
-/// An accumulator; its opening sees what is declared before it.
+/// Plans an accumulator; its initial value sees what is declared before it.
 #[tactic(auto, using(crate::proofs::FailLemmas::accum_laws), unfolding(gq_plan_expr::specs::Names::globals_in))]
 fn accum(
     alloc: Global,
@@ -79,7 +79,7 @@ fn accum(
     })
 }
 
-/// Accumulators of one kind, one after the other.
+/// Plans accumulators of one kind, in order.
 #[tactic(auto, using(crate::proofs::HeadLemmas::accum_laws))]
 pub(crate) fn accums(
     alloc: Global,

@@ -10,7 +10,7 @@ use gq_scope::Scope;
 use gq_tree::{PatternTree, SelectTree, StepTree};
 use std::alloc::Global;
 
-/// Notes the aliases of a SELECT: the source's, that of the edges, that of the targets. They end with it.
+/// Notes the aliases of a SELECT: of the source, of the edges and of the targets. They end with it.
 pub(crate) fn aliases(
     alloc: Global,
     scope: &mut Scope<'_>,
@@ -28,7 +28,7 @@ pub(crate) fn aliases(
     Ok(())
 }
 
-/// The aliases of a SELECT come into view.
+/// Brings the aliases of a SELECT into view.
 fn come_into_view(
     alloc: Global,
     scope: &mut Scope<'_>,
@@ -56,7 +56,7 @@ fn note_if(
     }
 }
 
-/// The edge alias: that of a hop, or of the last step of a path.
+/// Returns the edge alias: that of a hop, or of the last step of a path.
 fn edge_alias(tree: &Option<PatternTree>) -> Option<&str> {
     match tree {
         None => None,

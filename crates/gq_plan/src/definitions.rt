@@ -1,4 +1,4 @@
-// Definitions, one after the other: each sees what is declared before it.
+// Definitions, in order: each sees what is declared before it.
 ghost use Rattle.std.specs.Prelude.{◌≡◌, ◌≢◌, IfOk, IfErr, [], ◌∷◌, map};
 ghost use Rattle.gq_rules_typing.specs.Statements.{Accums};
 ghost use Rattle.gq_rules_typing.specs.StatementViews.{view_accum, view_definition, view_kind};
@@ -17,7 +17,7 @@ use gq_scope::{Places, Scope};
 use gq_tree::{AccumTree, KindTree};
 use std::alloc::Global;
 
-/// Accumulators of a kind.
+/// Plans accumulators of a kind.
 #[tactic(auto, using(crate::proofs::HeadLemmas::kind_laws))]
 fn of_kind(
     alloc: Global,
@@ -79,7 +79,8 @@ fn definition(
     }
 }
 
-/// The definitions of a query. The scope and `tuples` have its tuple types then, and `slots` its accumulators.
+/// Plans the definitions of a query. Their tuple types are added to the scope and to `tuples`, and their accumulators
+/// to `slots`.
 #[tactic(auto, using(crate::proofs::HeadLemmas::definition_laws))]
 pub(crate) fn definitions(
     alloc: Global,

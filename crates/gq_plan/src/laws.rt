@@ -1,13 +1,13 @@
-// What is true of plans.
+// Laws about plans.
 ghost use Rattle.gq_plan.specs.Prints.{PrintLaw};
 ghost use Rattle.gq_plan.specs.Safe.{SafeLaw};
 
-/// Does nothing. Its contract is a law: a plan that is made of a query prints what the query prints, or ends with its fault.
+/// Does nothing. Its contract is a law: a plan of a query prints what the query prints, or ends with its fault.
 pub fn a_plan_prints_what_its_query_prints()
     ensures { PrintLaw }
 {}
 
-/// Does nothing. Its contract is a law: a plan that is made of a typed query is never stuck, over a store and arguments that fit.
+/// Does nothing. Its contract is a law: a plan of a typed query never gets stuck, over a store and arguments that fit.
 pub fn a_plan_of_a_typed_query_is_never_stuck()
     ensures { SafeLaw }
 {}

@@ -10,7 +10,7 @@
 //! `CatalogNames` of `gq_plan_expr`, and `src/notes.rt` notes types.
 #![tactic(auto)]
 
-/// What a rule of the checker gives. There is no memory for a query that isn't well typed.
+/// The result of a rule of the checker. The query is already checked; a failure here is internal, and is `OutOfMemory`.
 macro_rules! passed {
     ($answer:expr) => {
         match $answer {

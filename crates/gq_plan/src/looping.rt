@@ -6,7 +6,7 @@ use gq_type::{number, number_of_both, type_of};
 use gq_value::BaseType;
 use std::alloc::Global;
 
-/// The type of an element, or of both ends of a range.
+/// Returns the type of an element, or of both ends of a range.
 pub(crate) fn variable_type(
     alloc: Global,
     scope: &Scope<'_>,
@@ -28,7 +28,7 @@ pub(crate) fn variable_type(
     }
 }
 
-/// The type of an element, of a collection in an order of its own.
+/// Returns the type of the elements of a collection that has an order.
 fn element_of(typed: Typed<'_>) -> Option<Base<'_>> {
     match typed {
         Typed::Whole(kind) => element_type(kind),

@@ -1,4 +1,4 @@
-// Names that are new.
+// New names.
 ghost use Rattle.std.specs.Prelude.{◌≡◌, ◌≢◌, IfOk, IfErr, None, is_some, true};
 ghost use Rattle.gq_scope.specs.Named.{seen_at, with_name};
 ghost use Rattle.gq_plan_expr.specs.declared.fault.PlanFault.TheVariants as fault;
@@ -6,7 +6,7 @@ ghost use Rattle.gq_plan_expr.specs.declared.fault.PlanFault.TheVariants as faul
 use gq_plan_expr::PlanFault;
 use gq_scope::Places;
 
-/// An accumulator is declared, if its name isn't yet. Its slot.
+/// Declares an accumulator, if its name is new, and returns its slot.
 pub(crate) fn add_slot(slots: &mut Places, name: &str, attached: bool) -> Result<u32, PlanFault>
     ensures new { IfOk result (λ _. seen_at slots.old name.now ≡ None) }
     ensures slot { IfOk result (λ slot. slot ≡ slots.old.next) }

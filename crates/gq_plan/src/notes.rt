@@ -1,4 +1,4 @@
-// Types noted.
+// Notes the types of places.
 ghost use Rattle.std.specs.Prelude.{◌≡◌, IfOk, OnOk};
 ghost use Rattle.gq_rules_typing.specs.Scopes as typing;
 ghost use Rattle.gq_scope.specs.Held.{entry_of, scope_in};
@@ -10,7 +10,7 @@ use gq_plan_ir::PlaceType;
 use gq_scope::{Entry, Scope};
 use std::alloc::Global;
 
-/// Notes what a name stands for that is in view.
+/// Notes what a name in view refers to.
 pub(crate) fn note(
     alloc: Global,
     scope: &Scope<'_>,
@@ -25,7 +25,7 @@ pub(crate) fn note(
     }
 }
 
-/// What stands at the place of a name. An accumulator and a tuple type have none.
+/// Returns the content of a name's place. An accumulator and a tuple type have no place.
 fn held_of(alloc: Global, entry: &Entry) -> Result<PlaceType, OutOfMemory>
     ensures { IfOk result (IsHeld (entry_of entry.now)) }
 {

@@ -1,4 +1,4 @@
-// Parameters. They take places from the last one on.
+// Parameters. They take places in reverse order.
 ghost use Rattle.std.specs.Prelude.{◌≡◌, ◌≢◌, IfOk, IfErr, [], map, reverse};
 ghost use Rattle.gq_rules_typing.specs.StatementViews.{view_base, view_parameter};
 ghost use Rattle.gq_scope.specs.Held.{sorts_in};
@@ -17,7 +17,7 @@ use gq_scope::{Places, Scope};
 use gq_tree::BaseTree;
 use std::alloc::Global;
 
-/// In the other order.
+/// Reverses the parameters.
 fn turned(alloc: Global, parameters: &[Parameter]) -> Result<List<Parameter>, OutOfMemory>
     ensures { IfOk result (λ list. list ≡ reverse parameters.now) }
 {
@@ -25,7 +25,7 @@ fn turned(alloc: Global, parameters: &[Parameter]) -> Result<List<Parameter>, Ou
     Ok(List::from_vec(list))
 }
 
-/// The type of a parameter, before anything else is declared.
+/// Returns the type of a parameter, before anything else is declared.
 #[tactic(auto, unfolding(gq_plan_expr::specs::Names::globals_in))]
 fn base(alloc: Global, scope: &Scope<'_>, tree: &BaseTree) -> Result<Declared, PlanFault>
     ensures { Answers (resolved_base (globals_of (sorts_in scope.now) [] no_names) (view_base tree.now)) result }
@@ -39,7 +39,7 @@ fn base(alloc: Global, scope: &Scope<'_>, tree: &BaseTree) -> Result<Declared, P
     plan_base(&found, tree)
 }
 
-/// The parameters of a query, which come into view.
+/// Plans the parameters of a query, which come into view.
 #[tactic(auto, using(crate::proofs::ParameterLemmas::parameter_laws))]
 pub(crate) fn parameters(
     alloc: Global,

@@ -1,4 +1,4 @@
-// Whole queries.
+// The places of whole queries.
 ghost use Rattle.std.specs.Prelude.{◌≡◌, ◌<◌, IfOk, OnOk, length, true};
 ghost use Rattle.std.specs.Option.{ForSome};
 ghost use Rattle.gq_rules_typing.specs.Scopes as typing;
@@ -16,10 +16,10 @@ use gq_scope::{Scope, allows_paths};
 use gq_tree::{ParameterTree, QueryTree};
 use std::alloc::Global;
 
-/// What stands at each place of the frame of a query's plan, made for a graph of the catalog: first its parameters, from the last one on,
-/// then each name in the order in which it comes into view, at a place of its own.
+/// Returns the type of each place of the frame of a query's plan, for a graph of the catalog: first its parameters, in
+/// reverse order, then each name in the order in which it comes into view, at its own place.
 ///
-/// There is no memory for a query that isn't well typed, and for a graph that isn't there.
+/// Returns `OutOfMemory` for a query that isn't well typed, and for a graph that doesn't exist.
 pub fn places_of<'q>(
     alloc: Global,
     catalog: &'q Catalog,
@@ -42,7 +42,7 @@ pub fn places_of<'q>(
     Ok(held)
 }
 
-/// Whether a query is for no graph, or for one of the catalog.
+/// Whether a query has no graph, or one of the catalog.
 fn is_there(catalog: &Catalog, graph: Option<u32>) -> bool
     ensures { result ≡ true → ForSome graph (λ g. g < length catalog.now.graphs) }
 {
@@ -52,7 +52,7 @@ fn is_there(catalog: &Catalog, graph: Option<u32>) -> bool
     }
 }
 
-/// Parameters, of which the last one has the first place, and definitions, which have none.
+/// Notes parameters, in reverse order, and definitions, which have no places.
 fn heads(
     alloc: Global,
     scope: &mut Scope<'_>,
@@ -70,7 +70,7 @@ fn heads(
     Ok(())
 }
 
-/// Notes parameters from the last one on.
+/// Notes parameters in reverse order.
 fn note_all(
     alloc: Global,
     scope: &Scope<'_>,

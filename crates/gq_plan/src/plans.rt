@@ -24,9 +24,9 @@ use gq_scope::{Places, Scope, allows_paths};
 use gq_tree::QueryTree;
 use std::alloc::Global;
 
-/// The plan of a query, where nothing is declared yet, and without what stands at its places.
+/// Plans a query in a scope without declarations, except for the types of its places.
 ///
-/// Unknown where something stands for nothing: then no plan can be made.
+/// Returns `Unknown` if something isn't found: then no plan can be made.
 #[tactic(auto, using(crate::proofs::PrintLaws::plan_laws))]
 fn planned(alloc: Global, scope: &mut Scope<'_>, query: &QueryTree) -> Result<Plan, PlanFault>
     requires { IsScoped (sorts_in scope.old) [] scope.old }
@@ -62,7 +62,7 @@ fn planned(alloc: Global, scope: &mut Scope<'_>, query: &QueryTree) -> Result<Pl
     })
 }
 
-/// Whether the catalog has a graph of this number.
+/// Whether the catalog has a graph with this number.
 fn has_graph(catalog: &Catalog, graph: Option<u32>) -> bool
     ensures there { result ≡ true → ForSome graph (λ g. g < length catalog.now.graphs) }
     ensures lacking { result ≡ false → ForSome graph (λ g. g < length catalog.now.graphs) → ⊥ }
@@ -73,11 +73,11 @@ fn has_graph(catalog: &Catalog, graph: Option<u32>) -> bool
     }
 }
 
-/// The plan of a query for a graph of the catalog, by the graph's number; the query was taken by `check` of gq_check. It takes some frames of
-/// the stack for each level of the query's trees.
+/// Plans a query for a graph of the catalog, given by number; the query was accepted by `check` of gq_check. It takes
+/// some stack frames for each level of the query's trees.
 ///
-/// Unknown comes for a graph that isn't there and for a query that isn't well typed, and for no other. OutOfMemory may come for such a query
-/// too.
+/// Returns `Unknown` only for a graph that doesn't exist or a query that isn't well typed. Such a query may also give
+/// `OutOfMemory`.
 #[tactic(auto, using(crate::proofs::PrintLaws::plan_laws, crate::proofs::TypedLaws::typed_laws))]
 pub fn plan(
     alloc: Global,

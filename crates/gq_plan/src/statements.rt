@@ -1,4 +1,4 @@
-// Statements, one after another. What a body declares ends with it.
+// Statements, in order. What a body declares ends with it.
 ghost use Rattle.std.specs.Prelude.{◌≡◌, OnOk};
 ghost use Rattle.gq_rules_typing.specs.Scopes as typing;
 ghost use Rattle.gq_check_from.specs.Faults.{Grows};
@@ -16,7 +16,7 @@ use gq_tree::{BaseTree, Node, OverTree, RightTree, SetTypesTree, Stmt};
 use gq_value::{BaseType, Txt};
 use std::alloc::Global;
 
-/// Notes what statements declare; it stays in view.
+/// Notes what statements declare, which stays in view.
 #[cycle(statements)]
 #[tactic(auto, using(gq_check_from::proofs::GrowLemmas::grow_laws))]
 pub(crate) fn statements<'q>(
@@ -34,7 +34,7 @@ pub(crate) fn statements<'q>(
     Ok(())
 }
 
-/// Notes what a statement declares. What its bodies declare ends with each.
+/// Notes what a statement declares. What each of its bodies declares ends with the body.
 #[cycle(statements)]
 #[tactic(auto, using(gq_check_from::proofs::GrowLemmas::grow_laws))]
 fn statement<'q>(
@@ -68,7 +68,7 @@ fn statement<'q>(
     }
 }
 
-/// A body, whose names end with it.
+/// Notes what a body declares; its names end with it.
 #[cycle(statements)]
 #[tactic(auto, using(gq_check_from::proofs::GrowLemmas::grow_laws))]
 fn body<'q>(
@@ -86,7 +86,7 @@ fn body<'q>(
     Ok(())
 }
 
-/// FOREACH, whose variable ends with its body.
+/// Notes what a FOREACH declares; its variable ends with its body.
 #[cycle(statements)]
 #[tactic(auto, using(gq_check_from::proofs::GrowLemmas::grow_laws))]
 fn foreach<'q>(
@@ -120,7 +120,7 @@ fn loop_variable(
     declare(alloc, scope, name, base, held)
 }
 
-/// Locals of one type.
+/// Notes locals of one type.
 #[tactic(auto, using(gq_check_from::proofs::GrowLemmas::grow_laws))]
 fn locals(
     alloc: Global,
@@ -139,7 +139,7 @@ fn locals(
     Ok(())
 }
 
-/// A variable of a type comes into view.
+/// Brings a variable of a type into view.
 fn declare(
     alloc: Global,
     scope: &mut Scope<'_>,
@@ -154,7 +154,8 @@ fn declare(
     note(alloc, scope, name, held)
 }
 
-/// An assignment: first the aliases of a SELECT, then the name, if it comes into view by it.
+/// Notes what an assignment declares: first the aliases of a SELECT, then the name, if the assignment brings it into
+/// view.
 fn assign<'q>(
     alloc: Global,
     scope: &mut Scope<'q>,

@@ -28,7 +28,7 @@ use std::alloc::Global;
 
 // ---- the fields of the plan
 
-/// A field as the plan has it.
+/// Plans a field.
 fn planned_field(
     alloc: Global,
     found: &CatalogNames<'_>,
@@ -59,7 +59,7 @@ fn planned_fields(
 
 // ---- the fields with their types
 
-/// A type that a field is declared with.
+/// Returns the type that a field is declared with.
 #[tactic(auto, using(crate::proofs::FailLemmas::fail_laws))]
 fn field_type(alloc: Global, scope: &Scope<'_>, tree: &BaseTree) -> Result<BaseType, PlanFault>
     ensures typed { IfOk result (λ base. typing.base_written (scope_in scope.now) (view_base tree.now) ≡ Ok (base_of base)) }
@@ -71,7 +71,7 @@ fn field_type(alloc: Global, scope: &Scope<'_>, tree: &BaseTree) -> Result<BaseT
     }
 }
 
-/// Whether one of these has the name.
+/// Whether one of these fields has the name.
 fn stands_in(fields: &[(Txt, BaseType)], name: &str) -> bool
     ensures { result ≡ kinds.stands_in (map (λ f. f.0) fields.now) name.now }
 {
@@ -83,7 +83,7 @@ fn stands_in(fields: &[(Txt, BaseType)], name: &str) -> bool
     false
 }
 
-/// One name more that the type doesn't have yet, of 16 at most.
+/// Checks that a name is new among the fields of the type, which has at most 16.
 #[tactic(auto, using(crate::proofs::FieldLemmas::name_laws))]
 fn own_name(fields: &[(Txt, BaseType)], name: &str) -> Result<(), PlanFault>
     ensures own { IfOk result (λ _. kinds.own_name 16 (map (λ f. f.0) fields.now) name.now ≡ Ok (map (λ f. f.0) fields.now ++ name.now ∷ [])) }
@@ -98,7 +98,7 @@ fn own_name(fields: &[(Txt, BaseType)], name: &str) -> Result<(), PlanFault>
     Ok(())
 }
 
-/// The fields of a tuple type, with their types.
+/// Returns the fields of a tuple type, with their types.
 #[tactic(auto, using(gq_type::proofs::ArgumentLemmas::all_laws, crate::proofs::FieldLemmas::field_laws, crate::proofs::FieldLemmas::fail_laws))]
 fn typed_fields(
     alloc: Global,
@@ -118,7 +118,7 @@ fn typed_fields(
     Ok(fields)
 }
 
-/// A copy.
+/// Returns a copy.
 fn copied(alloc: Global, fields: &[(Txt, BaseType)]) -> Result<List<(Txt, BaseType)>, OutOfMemory>
     ensures { IfOk result (λ list. list ≡ fields.now) }
 {
@@ -133,7 +133,7 @@ fn copied(alloc: Global, fields: &[(Txt, BaseType)]) -> Result<List<(Txt, BaseTy
 
 // ---- tuple types
 
-/// A tuple type comes into the scope and among these.
+/// Adds a tuple type to the scope and to `tuples`.
 #[tactic(auto, using(crate::proofs::ScopeLemmas::scope_laws))]
 fn declare(
     alloc: Global,
@@ -157,7 +157,7 @@ fn declare(
     Ok(())
 }
 
-/// A tuple type. Its number is its place.
+/// Plans a tuple type. Its number is its index.
 #[tactic(auto, using(crate::proofs::HeadLemmas::tuple_laws))]
 pub(crate) fn tuple_type(
     alloc: Global,

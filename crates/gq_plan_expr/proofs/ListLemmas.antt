@@ -2,7 +2,7 @@
 use Rattle.std.proofs.Common.{◌≡◌, List, [], ◌∷◌, ◌++◌, Option, Some, None, refl, ap}
 use Rattle.gq_plan_expr.specs.Resolved.{◌>>=◌}
 
--- what came before, with what is left
+-- the items already planned, followed by the rest
 abbrev pub after : {A : Type 0} → List A → Option (List A) → Option (List A)
 after done o = o >>= λ rest. Some (done ++ rest)
 

@@ -17,7 +17,7 @@ called_method k ts es method.Contains = refl
 called_method k ts es method.ContainsKey = refl
 called_method k ts es method.Get = refl
 
--- with several arguments `outdegree` is none
+-- `outdegree` with several arguments has no plan
 pub degree_many : (k : Known) (nodes : List Node) → 1 < length nodes → degree k (views nodes) ≡ None
 degree_many k [] h = absurd (omega (arith, h))
 degree_many k (a ∷ []) h = absurd (omega (arith, h))

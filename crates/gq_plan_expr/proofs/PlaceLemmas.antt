@@ -1,4 +1,4 @@
--- PlaceLemmas: the place of a name among names.
+-- PlaceLemmas: the index of a name in a list of names.
 use Rattle.std.proofs.Common.{◌≡◌, ◌+◌, ℕ, suc, Bool, true, false, cond, List, [], ◌∷◌, arith, Some, refl, sym, ap, ◌∙◌}
 use Rattle.std.specs.Option.{option_map}
 use Rattle.std.specs.Str.{bytes_eq}
@@ -14,7 +14,7 @@ place_from names name = position_from-zero (bytes_eq name) names
 
 pub ruleset place_laws = (place_from)
 
--- ---- behind a first name
+-- ---- after a first name
 
 later : (name : Bytes) (i : ℕ) (names : List Bytes) → position_from (bytes_eq name) (suc i) names ≡ option_map suc (position_from (bytes_eq name) i names)
 later name i [] = refl

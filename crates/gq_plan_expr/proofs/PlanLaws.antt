@@ -1,4 +1,4 @@
--- PlanLaws: the expression of a plan is the query's with references for names.
+-- PlanLaws: the expression of a plan is the query's with references in place of names.
 use Rattle.std.proofs.Common.{◌≡◌, List, Option, Some, None, refl, sym, ap, ◌∙◌}
 use Rattle.gq_tree.specs.declared.expr.AddSign.{AddSign}
 use Rattle.gq_tree.specs.declared.expr.MulSign.{MulSign}
@@ -30,7 +30,7 @@ module _ (k : Known) where
   abbrev r : Renaming Bytes Reference
   r = references k
 
-  -- what the expression is, and what its parts are
+  -- the view of an expression, from those of its parts
   by_view : (e d : Expr) (t : Tree Reference) → ◌≡◌ {A = Option Expr} (Some d) (Some e) → view d ≡ t → view e ≡ t
   by_view e d t h g = ap view (sym (some_inj h)) ∙ g
 

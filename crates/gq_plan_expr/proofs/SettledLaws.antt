@@ -1,4 +1,4 @@
--- SettledLaws: what the expression of a plan keeps at hand is what it follows from.
+-- SettledLaws: the precomputed data in the expression of a plan is consistent with what it was derived from.
 use Rattle.std.proofs.Common.{◌≡◌, ℕ, Bool, true, List, map, Option, Some, None, refl, sym, ap, ◌∙◌}
 use Rattle.std.specs.Prelude.{◌&&◌}
 use Rattle.gq_tree.specs.declared.expr.AddSign.{AddSign}

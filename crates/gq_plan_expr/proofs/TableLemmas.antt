@@ -1,4 +1,4 @@
--- TableLemmas: the table of vertex types, made by their numbers; and the names of a tuple type's fields.
+-- TableLemmas: the table of vertex types, built by number; and the field names of a tuple type.
 use Rattle.std.proofs.Common.{◌≡◌, ◌+◌, ◌<◌, ◌≤◌, ℕ, suc, List, [], ◌∷◌, ◌++◌, length, get_or, map, drop, Option, Some, refl, sym, ap, ◌∙◌, add-one}
 use Rattle.std.specs.Prelude.{slice_get}
 use Rattle.std.proofs.lemmas.List.{drop_all}
@@ -30,13 +30,13 @@ vertices_end f types n done all end so_far = so_far ∙ (ap (λ ts. done ++ plac
 
 pub ruleset table_laws = (vertex_next, vertices_end)
 
--- ---- the names of a tuple type's fields
+-- ---- the field names of a tuple type
 
 names_plain : (fields : List (Bytes × BaseType)) → map (λ (f : Bytes × BaseType). f.0) fields ≡ names_of (plain_fields fields)
 names_plain [] = refl
 names_plain (f ∷ fields) = ap (λ l. f.0 ∷ l) (names_plain fields)
 
--- a tuple type's place is that among the names
+-- a tuple type's index is that among the names
 pub tuple_next : (f : Bytes) (ts : TupleTypes) (n : ℕ) (t : Bytes × List (Bytes × BaseType)) (place : Option ℕ) (done all : List (Option ℕ)) → n < length ts → t ≡ get_or ts n t
     → place ≡ place_of (map (λ (g : Bytes × BaseType). g.0) t.1) f → all ≡ done ++ map (in_tuple f) (drop n ts) → all ≡ (done ++ place ∷ []) ++ map (in_tuple f) (drop (n + 1) ts)
 tuple_next f ts n t place done all low is at so_far =

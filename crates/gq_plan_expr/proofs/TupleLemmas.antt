@@ -1,4 +1,4 @@
--- TupleLemmas: the first tuple type of a name, by its place, and functions of the language.
+-- TupleLemmas: the first tuple type with a name, by its index, and built-in functions.
 use Rattle.std.proofs.Common.{◌≡◌, ◌+◌, ◌<◌, ◌≤◌, ℕ, suc, true, false, cond, List, length, get_or, drop, arith, Option, Some, None, refl, sym, ap, ◌∙◌}
 use Rattle.std.specs.Option.{option_map}
 use Rattle.std.specs.Str.{bytes_eq}
@@ -29,7 +29,7 @@ tuple_missing f ts n end so_far = ap (λ o. or_language o f) (so_far ∙ ap (tup
 
 pub ruleset tuple_laws = (tuple_passed, tuple_met, tuple_missing)
 
--- ---- functions of the language
+-- ---- built-in functions
 
 builtin_own : (b : Builtin) → own_function (builtin_is b) ≡ Some (function.Own b)
 builtin_own builtin.Abs = refl

@@ -21,7 +21,7 @@ use Rattle.gq_plan_expr.specs.Resolved as plans
 use Rattle.gq_plan_expr.specs.Resolved.{degree, called, resolved, resolved_part, resolved_all, resolved_parts, resolved_factors, resolved_terms}
 use Rattle.gq_plan_expr.specs.Laws.{TypedLaw}
 
--- something is there
+-- there is a value
 abbrev Has : {A : Type 0} → Option A → Type 0
 Has {A = A} o = (a : A) × (o ≡ Some a)
 
@@ -32,7 +32,7 @@ with_both : {A B C : Type 0} (o : Option A) (p : Option B) (f : A → B → C) �
 with_both o p f h g = (f h.0 g.0, ap (λ o. plans.◌>>=◌ o (λ a. plans.◌>>=◌ p (λ b. Some (f a b)))) h.1 ∙ ap (λ p. plans.◌>>=◌ p (λ b. Some (f h.0 b))) g.1)
 
 module _ (names : Names Bytes) (k : Known) (knows : KnowsAll names k) where
-  -- before a dot a name may be an edge or a set too
+  -- before a dot a name may also be an edge or a set
   dot_has : (t : Tree Bytes) → ((ty : Typed) → typing names t ≡ Ok ty → Has (resolved k t)) → (ty : Typed) → before_dot names t (typing names t) ≡ Ok ty → Has (resolved k t)
   dot_has (Name x) f ty h = with_one (k.place x) expr.Name (knows.named x ty h)
   dot_has (Number n) f ty h = f ty h

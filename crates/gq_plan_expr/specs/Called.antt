@@ -1,4 +1,4 @@
--- Called: the methods of the code as those of typing.
+-- Called: the methods of the code as methods of the typing rules.
 use Rattle.gq_rules_typing.specs.Words as words
 use Rattle.gq_plan_ir.specs.ExprView.{method_of}
 use Rattle.gq_plan_expr.specs.declared.methods.Called.{Called}

@@ -1,4 +1,4 @@
--- Found: what is found for the names that a query may use wherever it stands, in the types that it sees, with its tuple types and the
+-- Found: what the names of a query resolve to anywhere in it, given the types that it sees, its tuple types and the
 -- slots of its accumulators so far.
 use Rattle.std.specs.Prelude.{ℕ, suc, if◌then◌else◌, List, [], ◌∷◌, map, Option, Some, None, bytes_eq, codes}
 use Rattle.gq_value.specs.declared.kind.BaseType.{BaseType}
@@ -18,7 +18,7 @@ use Rattle.gq_plan_ir.specs.declared.expr.Function.TheVariants as function
 use Rattle.gq_plan_ir.specs.Settled.{counted_types}
 use Rattle.gq_plan_expr.specs.Globals.{Globals}
 
--- the tuple types of a query, each with its fields, by their places
+-- the tuple types of a query, each with its fields, by index
 abbrev pub TupleTypes : Type 0
 TupleTypes = List (Bytes × List (Bytes × BaseType))
 
@@ -30,7 +30,7 @@ plain_tuples ts = map (λ t. (t.0, plain_fields t.1)) ts
 
 -- ---- fields
 
--- where the field of a name stands in a type
+-- the index of the field with this name in a type
 abbrev pub in_vertex : Bytes → VertexSort → Option ℕ
 in_vertex f s = place_of (names_of s.fields) f
 
@@ -40,7 +40,7 @@ in_edge f s = place_of (names_of s.fields) f
 abbrev pub in_tuple : Bytes → Bytes × List (Bytes × BaseType) → Option ℕ
 in_tuple f t = place_of (names_of (plain_fields t.1)) f
 
--- and in every type
+-- and in all types
 abbrev pub places_of : Sorts → TupleTypes → Bytes → FieldPlaces
 places_of sorts ts f = record {
   name = f;
@@ -57,7 +57,7 @@ field_at sorts ts f = if bytes_eq (codes "type") f then field.Type else field.Na
 abbrev pub field_types : List (Bytes × BaseType) → List BaseType
 field_types fields = map (λ f. f.1) fields
 
--- the first tuple type of a name; the first one of all has the number n
+-- the first tuple type with a name; the first one of the list has the number n
 abbrev pub tuple_from : Bytes → ℕ → TupleTypes → Option Function
 tuple_from f n [] = None
 tuple_from f n (t ∷ ts) = if bytes_eq t.0 f then Some (function.Tuple n (field_types t.1)) else tuple_from f (suc n) ts
@@ -70,7 +70,7 @@ part_of_time words.Hour = function.Own (builtin.Part unit.Hour)
 part_of_time words.Minute = function.Own (builtin.Part unit.Minute)
 part_of_time words.Second = function.Own (builtin.Part unit.Second)
 
--- a function of the language
+-- a built-in function
 abbrev pub own_function : words.Function → Option Function
 own_function (words.Makes n fields) = None
 own_function words.Abs = Some (function.Own builtin.Abs)
@@ -89,7 +89,7 @@ own_if (Some g) = own_function g
 abbrev pub language : Bytes → Option Function
 language f = own_if (under bytes_eq f functions)
 
--- a tuple type goes before a function of its name
+-- a tuple type takes precedence over a function of the same name
 abbrev pub or_language : Option Function → Bytes → Option Function
 or_language (Some g) f = Some g
 or_language None f = language f

@@ -1,4 +1,4 @@
--- Globals: what is found for the names that a query may use wherever it stands, and with the names in view for all names.
+-- Globals: what the names of a query resolve to anywhere in it, and, with the names in view, what all names resolve to.
 use Rattle.std.specs.Prelude.{ℕ, Bool, List, Option}
 use Rattle.gq_scope.specs.Named.{Named, place_at, is_marked}
 use Rattle.gq_rules_typing.specs.Statements.{Bytes}
@@ -15,8 +15,8 @@ pub record Globals : Type 0 where
   pub vertex_type : Bytes → Option ℕ
   pub edge_type : Bytes → Option ℕ
 
--- for a SELECT, beside what is found for an expression: whether a visible name is a set; the vertex and the edge types of the graph, by
--- their names
+-- for a SELECT, besides what an expression needs: whether a visible name is a set; the vertex and edge types of the
+-- graph, by name
 pub record Sees : Type 0 where
   pub is_set : Bytes → Bool
   pub vertex_type : Bytes → Option ℕ

@@ -1,4 +1,4 @@
--- Known: what is found for the names of a query where an expression stands, and the references that stand for them.
+-- Known: what the names of a query resolve to at the position of an expression, and the references that replace them.
 use Rattle.std.specs.Prelude.{◌≡◌, ℕ, true, List, Option, Some, None, Ok, bytes_eq}
 use Rattle.gq_value.specs.Accums.{Accum}
 use Rattle.gq_rules_typing.specs.Statements.{Bytes}
@@ -13,12 +13,12 @@ use Rattle.gq_plan_ir.specs.ExprView.{field_of, function_of}
 use Rattle.gq_plan_ir.specs.Renamed.{Renaming}
 use Rattle.gq_plan_ir.specs.Settled.{counted_types, are_counted, is_field, is_function}
 
--- the method of a name
+-- the method with this name
 unfoldable pub method_at : Bytes → Option words.Method
 method_at m = under bytes_eq m methods
 
--- the place of a variable, a set or an alias; the slot of an accumulator; where a field stands; a function or a tuple type; the edge
--- types that `outdegree` counts
+-- the place of a variable, a set or an alias; the slot of an accumulator; the places of a field; a function or a tuple
+-- type; the edge types that `outdegree` counts
 pub record Known : Type 0 where
   pub place : Bytes → Option ℕ
   pub slot : Bytes → Option ℕ
@@ -26,7 +26,7 @@ pub record Known : Type 0 where
   pub function : Bytes → Option Function
   pub counted : Option Bytes → Option (List ℕ)
 
--- ---- the references; `type` alone is never looked for, so it stands where nothing is found
+-- ---- the references; `type` alone is never looked up, so it replaces a name that isn't found
 
 abbrev pub or_nothing : {A : Type 0} → (A → Reference) → Option A → Reference
 or_nothing f None = TypeName
@@ -41,14 +41,14 @@ references k = record {
   function = λ f. or_nothing function_of (k.function f);
 }
 
--- ---- what is found is what it follows from: the tables of a field, the types of a tuple's fields, the types that are counted
+-- ---- the results are consistent: the tables of a field, the types of a tuple's fields, the types that are counted
 
 pub record IsRight (setting : Setting Reference) (k : Known) : Type 0 where
   pub field : (f : Bytes) → is_field setting (k.field f) ≡ true
   pub function : (f : Bytes) (g : Function) → k.function f ≡ Some g → is_function setting g ≡ true
   pub counted : (e : Option Bytes) (types : List ℕ) → k.counted e ≡ Some types → are_counted types (counted_types setting.sorts e) ≡ true
 
--- ---- what a well typed expression may name is found
+-- ---- every name that a well typed expression may use is found
 
 pub record KnowsAll (names : Names Bytes) (k : Known) : Type 0 where
   pub named : (x : Bytes) (ty : Typed) → names.named x ≡ Ok ty → (n : ℕ) × (k.place x ≡ Some n)

@@ -1,4 +1,4 @@
--- Resolved: the expression of a plan, from the expression with names; none where something stands for nothing.
+-- Resolved: the expression of a plan, from the expression with names; None if something isn't found.
 use Rattle.std.specs.Prelude.{◌≡◌, ◌≢◌, ℕ, List, [], ◌∷◌, Option, Some, None, Result, Ok, Err}
 use Rattle.gq_tree.specs.declared.expr.AddSign.{AddSign}
 use Rattle.gq_tree.specs.declared.expr.MulSign.{MulSign}
@@ -16,12 +16,12 @@ use Rattle.gq_plan_expr.specs.declared.fault.PlanFault.TheVariants as fault
 use Rattle.gq_plan_expr.specs.Known.{Known, method_at}
 
 infixl 10 ◌>>=◌
--- and then, with what is found
+-- continues with the value, if there is one
 abbrev pub ◌>>=◌ : {A B : Type 0} → Option A → (A → Option B) → Option B
 None >>= f = None
 (Some a) >>= f = f a
 
--- of all edge types, or of the one of a text
+-- `outdegree` of all edge types, or of the one that a text names
 abbrev pub degree_of_all : Known → Option code.Behind
 degree_of_all k = k.counted None >>= λ types. Some (behind.Degree None types)
 
@@ -34,7 +34,7 @@ degree k no_tree = degree_of_all k
 degree k (tree t no_tree) = degree_of k (text_in t)
 degree k (tree t (tree u ts)) = None
 
--- a method with its arguments, once they are resolved
+-- a method with its arguments, after they are resolved
 abbrev pub called : Known → Trees (List ℕ) → Option (List Expr) → words.Method → Option code.Behind
 called k ts es words.Size = es >>= λ arguments. Some (behind.Method method.Size arguments)
 called k ts es words.Contains = es >>= λ arguments. Some (behind.Method method.Contains arguments)
@@ -42,7 +42,7 @@ called k ts es words.ContainsKey = es >>= λ arguments. Some (behind.Method meth
 called k ts es words.Get = es >>= λ arguments. Some (behind.Method method.Get arguments)
 called k ts es words.Outdegree = degree k ts
 
--- ---- what stands behind a first operand, once it is resolved
+-- ---- what follows a first operand, after it is resolved
 
 abbrev pub posted : Expr → Option (List code.Behind) → Option Expr
 posted e bs = bs >>= λ parts. Some (expr.Post e parts)
@@ -103,7 +103,7 @@ abbrev mutual
   resolved_terms k no_term = Some []
   resolved_terms k (term sign t ts) = resolved k t >>= λ e. resolved_terms k ts >>= λ us. Some ((sign, e) ∷ us)
 
--- an answer is what is resolved, or nothing is; OutOfMemory may come at any time
+-- the answer is what is resolved, or Unknown if nothing is; OutOfMemory may occur at any time
 abbrev pub Answers : {A : Type 0} → Option A → Result A PlanFault → Type 0
 Answers o (Ok a) = o ≡ Some a
 Answers o (Err e) = e ≢ fault.OutOfMemory → o ≡ None

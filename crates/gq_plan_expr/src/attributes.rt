@@ -1,4 +1,4 @@
-// Where a field stands in one type.
+// The place of a field in one type.
 ghost use Rattle.std.specs.Prelude.{◌≡◌, IfOk, map, suc};
 ghost use Rattle.std.specs.Option.{option_map};
 ghost use Rattle.gq_rules_typing.specs.Sorts.{names_of, attribute_fields, with_id};
@@ -7,7 +7,7 @@ ghost use Rattle.gq_rules_typing.specs.Words.{place_of};
 use gq_base::OutOfMemory;
 use gq_graph::{Attribute, IdShape};
 
-/// The place of an attribute. OutOfMemory comes too where there are some four thousand million attributes.
+/// Returns the place of an attribute. Returns `OutOfMemory` past 2^32 - 1 attributes.
 #[tactic(auto, using(crate::proofs::PlaceLemmas::place_laws))]
 pub(crate) fn attribute_place(
     attributes: &[Attribute],
@@ -26,7 +26,7 @@ pub(crate) fn attribute_place(
     Ok(None)
 }
 
-/// The place of an attribute of a vertex, where a shown id is the first.
+/// Returns the place of an attribute of a vertex; an id that is shown comes first.
 #[tactic(auto, using(crate::proofs::PlaceLemmas::id_laws))]
 pub(crate) fn vertex_place(
     id: &IdShape,
@@ -47,7 +47,7 @@ pub(crate) fn vertex_place(
     }
 }
 
-/// One place further.
+/// Returns the next place.
 fn behind(place: Option<u32>) -> Result<Option<u32>, OutOfMemory>
     ensures { IfOk result (λ next. next ≡ option_map suc place) }
 {

@@ -18,10 +18,11 @@ use gq_tree::{AddSign, CmpSign, MulSign, Node, Part};
 use gq_value::Txt;
 use std::alloc::Global;
 
-/// The expression of a plan for the tree of an expression, where `names` says what each name stands for. It takes some frames of the
-/// stack for each level of the tree, and none for the length of a chain.
+/// Plans an expression, given its tree; `names` resolves its names. It takes some stack frames for each level of the
+/// tree, and none for the length of a chain.
 ///
-/// Unknown where something stands for nothing, which no well typed query has. OutOfMemory may come at any time.
+/// Returns `Unknown` if something isn't found, which doesn't happen in a well typed query. `OutOfMemory` may occur at
+/// any time.
 pub fn plan_expr(alloc: Global, names: &NameResolver<'_>, node: &Node) -> Result<Expr, PlanFault>
     ensures { Answers (resolved (known_of names.now) (view node.now)) result }
 {
@@ -245,7 +246,7 @@ fn method(
     }
 }
 
-/// `outdegree()`, or of an edge type that is named by a text.
+/// Plans `outdegree()`, or `outdegree` of an edge type that a text names.
 fn outdegree(
     alloc: Global,
     names: &NameResolver<'_>,

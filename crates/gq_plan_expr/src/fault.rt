@@ -5,7 +5,8 @@ use thiserror::Error;
 /// Why an expression has no plan.
 #[derive(Clone, Copy, Debug, PartialEq, Eq, Error)]
 pub enum PlanFault {
-    /// Something stands for nothing, or `outdegree` has other arguments than a text. In a well typed query it never comes.
+    /// Something isn't found, or `outdegree` has arguments other than a text. This doesn't happen in a well typed
+    /// query.
     #[error("unknown name")]
     Unknown,
     #[error("out of memory")]

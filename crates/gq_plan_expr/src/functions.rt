@@ -9,7 +9,7 @@ use gq_rules_typing::builtin_named;
 use gq_value::{BaseType, Fields, Txt};
 use std::alloc::Global;
 
-/// The language's own function of a name.
+/// Returns the built-in function with a name.
 fn own_function(name: &str) -> Option<Function>
     ensures { result ≡ language name.now }
 {
@@ -19,7 +19,7 @@ fn own_function(name: &str) -> Option<Function>
     }
 }
 
-/// The types of a tuple type's fields.
+/// Returns the types of a tuple type's fields.
 #[tactic(auto, using(crate::proofs::RowLemmas::row_laws))]
 fn types_of(alloc: Global, fields: &[(Txt, BaseType)]) -> Result<Fields, OutOfMemory>
     ensures { IfOk result (λ types. types ≡ field_types fields.now) }
@@ -32,7 +32,7 @@ fn types_of(alloc: Global, fields: &[(Txt, BaseType)]) -> Result<Fields, OutOfMe
     Ok(types)
 }
 
-/// The tuple type, or else the function, of a name. OutOfMemory comes too where there are some four thousand million tuple types.
+/// Returns the tuple type, or else the function, with a name. Returns `OutOfMemory` past 2^32 - 1 tuple types.
 #[tactic(auto, using(crate::proofs::TupleLemmas::tuple_laws))]
 pub(crate) fn function_of(
     alloc: Global,

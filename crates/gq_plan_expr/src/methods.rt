@@ -13,7 +13,7 @@ pub(crate) enum Called {
     Outdegree,
 }
 
-/// The method of a name.
+/// Returns the method with a name.
 #[tactic(auto, unfolding(crate::specs::Known::method_at))]
 pub(crate) fn method_named(name: &str) -> Option<Called>
     ensures { option_map called_is result ≡ method_at name.now }

@@ -1,4 +1,4 @@
-// What names stand for: wherever a query stands, and with the names in view.
+// Name resolution: for names that are the same anywhere in a query, and with the names in view.
 ghost use Rattle.std.specs.Prelude.{◌≡◌, IfOk};
 ghost use Rattle.std.specs.Option.{option_copied};
 ghost use Rattle.gq_scope.specs.Held.{sorts_in};
@@ -18,11 +18,11 @@ use std::alloc::Global;
 /// A tuple type with its fields.
 pub type NamedTupleType = (Txt, List<(Txt, BaseType)>);
 
-/// What names stand for wherever they stand: the types of a graph, the tuple types of a query by their places, and the slots of its
-/// accumulators.
+/// Resolves names that mean the same anywhere in a query: the types of a graph, the tuple types of a query by index,
+/// and the slots of its accumulators.
 #[derive(Drop)]
 pub struct CatalogNames<'a> {
-    /// It says which types the graph has.
+    /// The types of the graph.
     pub scope: &'a Scope<'a>,
     pub tuples: &'a [NamedTupleType],
     pub slots: &'a Places,
@@ -30,28 +30,28 @@ pub struct CatalogNames<'a> {
 
 #[tactic(auto, unfolding(crate::specs::Names::globals_in))]
 impl<'a> CatalogNames<'a> {
-    /// The slot of an accumulator, by its name with its `@` or `@@`.
+    /// Returns the slot of an accumulator, by its name with `@` or `@@`.
     pub fn slot(&self, name: &str) -> Option<u32>
         ensures { result ≡ (globals_in self.now).slot name.now }
     {
         self.slots.place(name)
     }
 
-    /// Where the field of a name stands in each type.
+    /// Returns the place of the field with this name in each type.
     pub fn field(&self, alloc: Global, name: &str) -> Result<Field, OutOfMemory>
         ensures { IfOk result (λ field. field ≡ (globals_in self.now).field name.now) }
     {
         field_of(alloc, self.scope, self.tuples, name)
     }
 
-    /// The function or the tuple type of a name.
+    /// Returns the function or the tuple type with a name.
     pub fn function(&self, alloc: Global, name: &str) -> Result<Option<Function>, OutOfMemory>
         ensures { IfOk result (λ function. function ≡ (globals_in self.now).function name.now) }
     {
         function_of(alloc, self.tuples, name)
     }
 
-    /// The edge types that `outdegree` counts: those of the graph, or the one of a name.
+    /// Returns the edge types that `outdegree` counts: those of the graph, or the one with this name.
     pub fn counted(
         &self,
         alloc: Global,
@@ -62,7 +62,7 @@ impl<'a> CatalogNames<'a> {
         counted(alloc, self.scope, edge)
     }
 
-    /// The graph's vertex type of a name.
+    /// Returns the graph's vertex type with a name.
     #[tactic(auto, unfolding(crate::specs::Names::globals_in, gq_scope::specs::Held::setting_in))]
     pub fn vertex_type(&self, name: &str) -> Option<u32>
         ensures { result ≡ (globals_in self.now).vertex_type name.now }
@@ -70,7 +70,7 @@ impl<'a> CatalogNames<'a> {
         self.scope.vertex_type(name)
     }
 
-    /// The graph's edge type of a name.
+    /// Returns the graph's edge type with a name.
     #[tactic(auto, unfolding(crate::specs::Names::globals_in, gq_scope::specs::Held::setting_in))]
     pub fn edge_type(&self, name: &str) -> Option<u32>
         ensures { result ≡ (globals_in self.now).edge_type name.now }
@@ -79,7 +79,7 @@ impl<'a> CatalogNames<'a> {
     }
 }
 
-/// What all names stand for, where some are in view.
+/// Resolves all names, including those in view.
 #[derive(Drop)]
 pub struct NameResolver<'a> {
     pub globals: &'a CatalogNames<'a>,
@@ -88,35 +88,35 @@ pub struct NameResolver<'a> {
 
 #[tactic(auto, unfolding(crate::specs::Names::known_of))]
 impl<'a> NameResolver<'a> {
-    /// The place of a variable, a set or an alias.
+    /// Returns the place of a variable, a set or an alias.
     pub fn place(&self, name: &str) -> Option<u32>
         ensures { result ≡ (known_of self.now).place name.now }
     {
         self.places.place(name)
     }
 
-    /// The slot of an accumulator, by its name with its `@` or `@@`.
+    /// Returns the slot of an accumulator, by its name with `@` or `@@`.
     pub fn slot(&self, name: &str) -> Option<u32>
         ensures { result ≡ (known_of self.now).slot name.now }
     {
         self.globals.slot(name)
     }
 
-    /// Where the field of a name stands in each type.
+    /// Returns the place of the field with this name in each type.
     pub fn field(&self, alloc: Global, name: &str) -> Result<Field, OutOfMemory>
         ensures { IfOk result (λ field. field ≡ (known_of self.now).field name.now) }
     {
         self.globals.field(alloc, name)
     }
 
-    /// The function or the tuple type of a name.
+    /// Returns the function or the tuple type with a name.
     pub fn function(&self, alloc: Global, name: &str) -> Result<Option<Function>, OutOfMemory>
         ensures { IfOk result (λ function. function ≡ (known_of self.now).function name.now) }
     {
         self.globals.function(alloc, name)
     }
 
-    /// The edge types that `outdegree` counts: those of the graph, or the one of a name.
+    /// Returns the edge types that `outdegree` counts: those of the graph, or the one with this name.
     pub fn counted(
         &self,
         alloc: Global,
@@ -135,7 +135,7 @@ impl<'a> NameResolver<'a> {
         self.places.is_marked(name)
     }
 
-    /// The graph's vertex type of a name.
+    /// Returns the graph's vertex type with a name.
     #[tactic(auto, unfolding(crate::specs::Names::sees_of))]
     pub fn vertex_type(&self, name: &str) -> Option<u32>
         ensures { result ≡ (sees_of self.now).vertex_type name.now }
@@ -143,7 +143,7 @@ impl<'a> NameResolver<'a> {
         self.globals.vertex_type(name)
     }
 
-    /// The graph's edge type of a name.
+    /// Returns the graph's edge type with a name.
     #[tactic(auto, unfolding(crate::specs::Names::sees_of))]
     pub fn edge_type(&self, name: &str) -> Option<u32>
         ensures { result ≡ (sees_of self.now).edge_type name.now }
@@ -152,7 +152,7 @@ impl<'a> NameResolver<'a> {
     }
 }
 
-/// Where the field of a name stands in each type.
+/// Returns the place of the field with this name in each type.
 fn field_of(
     alloc: Global,
     scope: &Scope<'_>,
@@ -189,7 +189,7 @@ fn places_of(
     })
 }
 
-/// The edge types that `outdegree` counts.
+/// Returns the edge types that `outdegree` counts.
 #[tactic(auto, unfolding(gq_scope::specs::Held::setting_in))]
 fn counted(
     alloc: Global,

@@ -1,4 +1,4 @@
-// Where a field stands in each type.
+// The place of a field in each type.
 ghost use Rattle.std.specs.Prelude.{◌≡◌, IfOk, map};
 ghost use Rattle.gq_rules_typing.specs.Sorts.{VertexSort, EdgeSort, vertex_sort, edge_sort};
 ghost use Rattle.gq_plan_expr.specs.Found.{in_vertex, in_edge, in_tuple};
@@ -11,7 +11,7 @@ use gq_schema::Catalog;
 use gq_scope::field_place;
 use std::alloc::Global;
 
-/// In each vertex type of the catalog.
+/// Returns the place in each vertex type of the catalog.
 #[tactic(auto, using(crate::proofs::TableLemmas::table_laws))]
 pub(crate) fn in_vertices(
     alloc: Global,
@@ -30,7 +30,7 @@ pub(crate) fn in_vertices(
     Ok(places)
 }
 
-/// In each edge type of the catalog.
+/// Returns the place in each edge type of the catalog.
 #[tactic(auto, using(crate::proofs::RowLemmas::row_laws))]
 pub(crate) fn in_edges(
     alloc: Global,
@@ -47,7 +47,7 @@ pub(crate) fn in_edges(
     Ok(places)
 }
 
-/// In each tuple type of the query.
+/// Returns the place in each tuple type of the query.
 #[tactic(auto, using(crate::proofs::RowLemmas::row_laws))]
 pub(crate) fn in_tuples(
     alloc: Global,

@@ -1,5 +1,5 @@
--- CrossingLemmas: threads may share blocks and plans. The check makes what a ring of types needs (`TheKnot`); the rest is search, a type at
--- a time. An enum or a struct that stands as a field of another has a lemma for that (`the_field`).
+-- CrossingLemmas: threads may share blocks and plans. The checker makes what a cycle of types needs (`TheKnot`); the
+-- rest is search, one type at a time. An enum or a struct that is a field of another has a lemma (`the_field`).
 use denote.Param.Send.{IsSync, sendable}
 use Rattle.std.proofs.Crossing.{crosses}
 use Rattle.gq_base.proofs.list.List.TheSendSync as list_crosses

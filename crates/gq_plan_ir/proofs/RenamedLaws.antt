@@ -1,4 +1,4 @@
--- RenamedLaws: an expression means under new names what it meant under the old ones, where the same is seen.
+-- RenamedLaws: an expression means under new names what it meant under the old ones, if the same is seen.
 use Rattle.std.proofs.Common.{◌≡◌, Bool, true, false, List, [], ◌∷◌, Option, refl, ap, ◌∙◌}
 use Rattle.gq_rules_meaning.specs.Tree.{Tree, Behind, Trees, Parts, Factors, Terms, Number, Text, Truth, Global, Name, Call, Post, Neg, Mul, Sum, Cmp, Not, And, Or, Field, Method, Attached, Before, no_tree, tree, no_part, part, no_factor, factor, no_term, term}
 use Rattle.gq_value.specs.Accums.{Base}
@@ -8,7 +8,7 @@ use Rattle.gq_rules_meaning.specs.Calls.{method_wants, method_of, function_wants
 use Rattle.gq_rules_meaning.specs.Expressions.{Look, meaning, arguments, meaning_parts, meaning_part, meaning_factors, meaning_terms, meaning_all, meaning_any, product, summed, compared, minus, nots, wanted}
 use Rattle.gq_plan_ir.specs.Renamed.{Renaming, renamed, renamed_part, renamed_trees, renamed_parts, renamed_factors, renamed_terms, SeesAlike, RenamedLaw}
 
--- two ways to go on that agree on what is given
+-- two continuations that agree on the given values
 pub then_same : {F A B : Type 0} (o p : Answer F A) (f g : A → Answer F B) → o ≡ p → ((a : A) → f a ≡ g a) → (o >>= f) ≡ (p >>= g)
 then_same {F = F} {A = A} o p f g e h = ap (λ o. o >>= f) e ∙ agree p
   where

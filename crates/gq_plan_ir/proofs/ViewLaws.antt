@@ -129,7 +129,7 @@ pub view_act-Global : (a : ℕ) (c : Change) → view_act (act.Global a c) ≡ p
 unfolding view_act
 view_act-Global a c = ap view_act (sym (act.rolls-Global a c)) ∙ fold-roll-Act (plain.Act Reference) act_step (Act-F.Global a c)
 
--- IF with what its branches are
+-- IF, given the views of its branches
 abbrev pub view_choices : List (Expr × List Act) → Option (List Act) → plain.Choices Reference
 view_choices branches others = choices_of (map {A = Expr × List (plain.Act Reference)} (λ b. (view b.0, b.1)) (map {A = Expr × List Act} (λ b. (b.0, map view_act b.1)) branches)) (option_map (map view_act) others)
 
@@ -150,7 +150,7 @@ pub view_step-Global : (slot : ℕ) (c : Change) → view_step (step.Global slot
 unfolding view_step
 view_step-Global slot c = ap view_step (sym (step.rolls-Global slot c)) ∙ fold-roll-Step (plain_stmt.Stmt Reference) step_step (Step-F.Global slot c)
 
--- IF with what its branches are
+-- IF, given the views of its branches
 abbrev pub view_branches : List (Expr × List Step) → Option (List Step) → plain_stmt.Branches Reference
 view_branches branches others = branches_of (map {A = Expr × List (plain_stmt.Stmt Reference)} (λ b. (view b.0, b.1)) (map {A = Expr × List Step} (λ b. (b.0, map view_step b.1)) branches)) (option_map (map view_step) others)
 

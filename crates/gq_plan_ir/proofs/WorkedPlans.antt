@@ -1,4 +1,4 @@
--- WorkedPlans: a query beside its plan: the plan is typed, and it prints what the query prints.
+-- WorkedPlans: queries with their plans: the plan is typed, and it prints what the query prints.
 use Rattle.std.proofs.Common.{◌≡◌, ℕ, true, false, List, [], ◌∷◌, pos, Some, None, refl}
 use Rattle.std.specs.Prelude.{codes, is_ok}
 use Rattle.gq_rules_meaning.specs.AddSign.TheVariants as add
@@ -49,7 +49,7 @@ persons = record {
 
 -- ---- SumAccum<INT> @n = 1; S = {person.*}; T = SELECT t FROM S:s -(knows:e)-> person:t ACCUM t.@n += s.@n + e.w; PRINT S[S.@n AS n], S AS all;
 
--- what the names of it stand for
+-- what its names denote
 record Uses (N : Type 0) : Type 0 where
   S : N
   T : N

@@ -1,4 +1,4 @@
--- Alike: when a run with references is where the run with names is: names and accumulators hold the same, each under its reference.
+-- Alike: when a run with references is in the state of the run with names: names and accumulators hold the same.
 use Rattle.std.specs.Prelude.{◌≡◌, ℕ, true, false, List, [], ◌∷◌, map, Some, slice_get}
 use Rattle.gq_value.specs.Accums.{Parts}
 use Rattle.gq_rules_typing.specs.Sorts.{Fields, VertexSort, EdgeSort, names_of}
@@ -14,14 +14,14 @@ use Rattle.gq_rules_meaning.specs.Runs.{Running}
 use Rattle.gq_rules_meaning.specs.StateFits.{AllOf}
 use Rattle.gq_plan_ir.specs.Naming.{Visible, View, Fixed}
 
--- the same fault, or what is given on both sides is related
+-- the same fault, or related results on both sides
 abbrev pub AnswersAlike : {F A B : Type 0} → (A → B → Type 0) → Answer F A → Answer F B → Type 0
 AnswersAlike R (Gives a) (Gives b) = R a b
 AnswersAlike R (Faults e) (Faults f) = e ≡ f
 AnswersAlike R Stuck Stuck = Unit {0}
 AnswersAlike R o p = ⊥
 
--- a run over a graph: what stands for names, and the tuple types on both sides
+-- a run over a graph: what names denote, and the tuple types on both sides
 pub record Sides (M N : Type 0) : Type 0 where
   pub fixed : Fixed M N
   pub graph : Graph
@@ -37,8 +37,8 @@ abbrev pub new_world : {M N : Type 0} → Sides M N → World N
 new_world s = record { words = s.fixed.references; tuples = s.tuples; graph = s.graph; calendar = s.calendar }
 
 module _ {M N : Type 0} (s : Sides M N) where
-  -- names that are the same are equal; what stands for a name is the field, method, function or type that the name is; and
-  -- neither nothing nor a vertex type is looked for as a variable
+  -- names that are the same are equal; each name denotes the field, method, function or type that it names; and
+  -- neither nothing nor a vertex type is looked up as a variable
   pub record WordsAlike : Type 0 where
     pub same : (x y : M) → s.fixed.names.same x y ≡ true → x ≡ y
     pub nothing : (r : N) → s.fixed.references.same r s.fixed.nothing ≡ false
@@ -59,7 +59,7 @@ module _ {M N : Type 0} (s : Sides M N) where
 
   -- ---- names
 
-  -- the same stands under a visible name and under its reference
+  -- a visible name and its reference hold the same
   pub record NameAlike (v : Visible M N) (a : M × Thing) (b : N × Thing) : Type 0 where
     pub name : a.0 ≡ v.name
     pub reference : b.0 ≡ v.reference
@@ -80,7 +80,7 @@ module _ {M N : Type 0} (s : Sides M N) where
   abbrev pub new_slots : List (Slot M) → List (Slot N)
   new_slots slots = map new_slot slots
 
-  -- an accumulator's reference is looked for as its name is, and said as its name is
+  -- an accumulator's reference is looked up and printed as its name is
   pub record AccumIs (slot : Slot M) : Type 0 where
     pub same : (a : M) → s.fixed.references.same (s.fixed.accum slot.name) (s.fixed.accum a) ≡ s.fixed.names.same slot.name a
     pub said : s.fixed.references.said (s.fixed.accum slot.name) ≡ s.fixed.names.said slot.name

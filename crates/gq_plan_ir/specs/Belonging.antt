@@ -1,4 +1,4 @@
--- Belonging: when a plan, a graph, and what names and accumulators hold belong together.
+-- Belonging: when a plan, a graph, and the contents of names and accumulators belong together.
 use Rattle.std.specs.Prelude.{◌≡◌, ℕ, Bool, true, List, [], ◌∷◌, ◌++◌, map, Ok, Option, Some, None, slice_get}
 use Rattle.gq_value.specs.Accums.{Accum}
 use Rattle.gq_value.specs.AccumViews.{base_of, accum_of}
@@ -26,7 +26,7 @@ use Rattle.gq_plan_ir.specs.PlanView.{view_plan, accum_names}
 use Rattle.gq_plan_ir.specs.Settled.{is_settled_plan}
 use Rattle.gq_plan_ir.specs.PlanKinds.{is_kind}
 
--- a plan has its kinds at hand; each is judged as the one that a query declares
+-- a plan has its kinds already; each is judged as the one that a query declares
 abbrev pub kind_judged : Scope Reference → Bytes → Accum → Judged Accum
 kind_judged s name kind = unless (BadKind name) (is_kind s.setting 8 kind) >> Ok kind
 
@@ -46,7 +46,7 @@ pub record IsTyped (sorts : Sorts) (p : Plan) : Type 0 where
   pub vertices : p.vertices ≡ sorts.own_vertices
   pub edges : p.edges ≡ sorts.own_edges
 
--- ---- what the plan says of names and accumulators
+-- ---- the types of names and accumulators in the plan
 
 abbrev pub entry_of : PlaceType → Entry
 entry_of (held.Variable b) = Variable (base_of b)
@@ -67,12 +67,12 @@ declared_slots (definition.Accums kind accums ∷ ds) = map (λ (a : code.Accum)
 abbrev pub slot_of : states.Slot Reference → Reference × Bool × Accum
 slot_of s = (s.name, s.attached, s.kind)
 
--- where these names are visible: the rows of the graph have their types, and names and accumulators hold what is of theirs
+-- when these names are visible: the rows of the graph have their types, and names and accumulators hold such values
 pub record BelongTogether (p : Plan) (g : Graph) (clock : Calendar) (s : Scope Reference) (state : State Reference) : Type 0 where
   pub plan : IsTyped g.sorts p
   pub tuples : s.setting.tuples ≡ plan.scope.setting.tuples
   pub places : HasPlaces p s
-  -- each accumulator of the plan is visible, and it alone has contents
+  -- each accumulator of the plan is visible, and nothing else has contents
   pub accums : (a : Reference) (k : Accum) (attached : Bool) → entry plan.scope a ≡ Some (Accumulator k attached) → entry s a ≡ Some (Accumulator k attached)
   pub slots : map slot_of state.slots ≡ declared_slots p.definitions
   pub frame : StateFits (world_of (accum_names p) s.setting.tuples g clock) s state

@@ -39,7 +39,7 @@ abbrev pub quoted : Option (List ℕ) → Trees Reference
 quoted None = no_tree
 quoted (Some e) = tree (Text e) no_tree
 
--- ---- one layer, where what is within has been viewed
+-- ---- one layer, given the views of what is within
 
 abbrev pub expr_step : Expr-F (Behind Reference) (Tree Reference) → Tree Reference
 expr_step (Expr-F.Number n) = Number n

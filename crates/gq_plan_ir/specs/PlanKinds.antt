@@ -14,7 +14,7 @@ use Rattle.gq_rules_meaning.specs.FieldTypes.{tuple_fields}
 use Rattle.gq_rules_meaning.specs.KindTypes.{is_key, stands_in}
 use Rattle.gq_plan_ir.specs.Reference.{Reference}
 
--- no name stands twice
+-- no name occurs twice
 abbrev pub each_once : List Bytes → Bool
 each_once [] = true
 each_once (n ∷ ns) = not (stands_in ns n) && each_once ns
@@ -34,7 +34,7 @@ module _ (setting : Setting Reference) where
   is_heap b capacity by = false
 
   abbrev mutual
-    -- with so many levels left; maps and groups hold no ListAccum
+    -- with `levels` levels left; maps and groups hold no ListAccum
     pub is_kind : ℕ → Accum → Bool
     is_kind levels (SetAccum b) = nat_lt 0 levels && is_base b
     is_kind levels (BagAccum b) = nat_lt 0 levels && is_base b

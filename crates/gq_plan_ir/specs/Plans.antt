@@ -1,4 +1,4 @@
--- Declared: when declarations with references stand for declarations with names, one after the other, and a whole plan for a query.
+-- Declared: when declarations with references represent declarations with names, one by one, and a whole plan a query.
 use Rattle.std.specs.Prelude.{◌≡◌, Bool, false, List, [], ◌∷◌, ◌++◌, map, Option, Ok}
 use Rattle.std.specs.Option.{option_map}
 use Rattle.gq_tree.specs.Tree.{Tree}
@@ -20,7 +20,7 @@ use Rattle.gq_plan_ir.specs.RenamedStatements.{renamed_base}
 use Rattle.gq_plan_ir.specs.StandsFor.{AllStand}
 use Rattle.gq_plan_ir.specs.Alike.{Sides, old_world, WordsAlike}
 
--- what a run begins with: the words of names and of references, a graph and the calendar
+-- the start of a run: the words of names and of references, a graph and the calendar
 pub record Ground (M N : Type 0) : Type 0 where
   pub names : Words M
   pub references : Words N
@@ -35,7 +35,7 @@ module _ {M N : Type 0} (ground : Ground M N) where
   abbrev pub new_ground : World N
   new_ground = record { words = ground.references; tuples = []; graph = ground.graph; calendar = ground.calendar }
 
-  -- what is declared so far, and what stands for each name then
+  -- the declarations so far, and the reference of each name then
   pub record Declared : Type 0 where
     pub named_tuples : List (M × Fields)
     pub tuples : List (N × Fields)
@@ -54,18 +54,18 @@ module _ {M N : Type 0} (ground : Ground M N) where
   abbrev pub sides : Declared → Sides M N
   sides d = record { fixed = fixed_in d; graph = ground.graph; calendar = ground.calendar; named_tuples = d.named_tuples; tuples = d.tuples }
 
-  -- an accumulator's reference stands for its name, is looked for as the name is, and said as the name is
+  -- an accumulator's reference represents its name, and is looked up and printed as the name is
   pub record AccumTold (d : Declared) (a : M × N) : Type 0 where
     pub is : d.accum a.0 ≡ a.1
     pub same : (b : M) → ground.references.same a.1 (d.accum b) ≡ ground.names.same a.0 b
     pub said : ground.references.said a.1 ≡ ground.names.said a.0
 
-  -- what stands for names is what they are
+  -- the references of names denote what the names denote
   pub record IsSound (d : Declared) : Type 0 where
     pub words : WordsAlike (sides d)
     pub accums : AllOf (AccumTold d) d.accums
 
-  -- one accumulator more, or one tuple type more
+  -- one more accumulator, or one more tuple type
   pub record WithAccum (d : Declared) (a : M) (b : N) (e : Declared) : Type 0 where
     pub sound : IsSound e
     pub named_tuples : e.named_tuples ≡ d.named_tuples
@@ -85,12 +85,12 @@ module _ {M N : Type 0} (ground : Ground M N) where
   ParametersStand d (p ∷ ps) (q ∷ qs) = (q.base ≡ renamed_base d.vertex_type p.base) × ParametersStand d ps qs
   ParametersStand d ps qs = ⊥
 
-  -- what is visible then
+  -- the names that are visible then
   abbrev pub parameters_view : Declared → List (Parameter M) → List (Parameter N) → View M N
   parameters_view d (p ∷ ps) (q ∷ qs) = with_name (fixed_in d) (parameters_view d ps qs) p.name q.name false
   parameters_view d ps qs = []
 
-  -- ---- declarations, and what holds behind them
+  -- ---- declarations, and what holds after them
 
   module _ {K : Type 0} (kinds : World M → K → Answer Wrong Accum) (view : View M N) where
     -- each sees those before it
@@ -110,7 +110,7 @@ module _ {M N : Type 0} (ground : Ground M N) where
 
   -- ---- queries
 
-  -- a plan with references, and its kinds at hand, stands for a query with names
+  -- a plan with references, which has its kinds already, represents a query with names
   pub record QueryStands {K : Type 0} (kinds : World M → K → Answer Wrong Accum) (q : QueryOver M K) (p : QueryOver N Accum) : Type 0 where
     pub declared : Declared
     pub sound : IsSound declared

@@ -1,4 +1,4 @@
--- Reference: what stands for a name in a plan: places, slots, and types, fields and functions by number.
+-- Reference: the representation of a name in a plan: places, slots, and types, fields and functions by number.
 use Rattle.std.specs.Prelude.{ℕ}
 use Rattle.gq_rules_meaning.specs.Words.{Function, Method}
 use Rattle.gq_plan_ir.specs.declared.expr.FieldPlaces.{FieldPlaces}
@@ -10,9 +10,9 @@ pub data Reference : Type 0 where
   Slot : ℕ → Reference
   -- types by their numbers
   VertexType EdgeType TupleType : ℕ → Reference
-  -- the name of a type, behind a dot
+  -- the name of a type, after a dot
   TypeName : Reference
-  -- a field: where it stands in each type
+  -- a field: its place in each type
   FieldAt : FieldPlaces → Reference
   Calls : Function → Reference
   Does : Method → Reference

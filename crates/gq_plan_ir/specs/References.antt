@@ -1,4 +1,4 @@
--- References: what the references of a plan stand for. A query has names in their place.
+-- References: the meaning of the references of a plan. A query has names in their place.
 use Rattle.std.specs.Prelude.{ℕ, ◌==◌, Bool, true, false, List, [], Option, Some, None, slice_get, codes, unwrap_or}
 use Rattle.gq_rules_meaning.specs.TypingStatements.{Bytes}
 use Rattle.gq_rules_meaning.specs.Sorts.{Sorts}
@@ -6,14 +6,14 @@ use Rattle.gq_rules_meaning.specs.Words.{Owner, OfVertexType, OfEdgeType, OfTupl
 use Rattle.gq_plan_ir.specs.declared.expr.FieldPlaces.{FieldPlaces}
 use Rattle.gq_plan_ir.specs.Reference.{Reference, Place, Slot, VertexType, EdgeType, TupleType, TypeName, FieldAt, Calls, Does}
 
--- what is looked for: variables, accumulators, tuple types
+-- the references that are looked up: variables, accumulators, tuple types
 abbrev pub same : Reference → Reference → Bool
 same (Place n) (Place m) = n == m
 same (Slot n) (Slot m) = n == m
 same (TupleType n) (TupleType m) = n == m
 same r q = false
 
--- accumulators alone are told by name, where a vertex prints them
+-- only accumulators have a name, as a vertex prints them
 abbrev pub told : List Bytes → Reference → Bytes
 told names (Slot n) = unwrap_or (slice_get names n) []
 told names r = []
@@ -22,7 +22,7 @@ abbrev pub is_type : Reference → Bool
 is_type TypeName = true
 is_type r = false
 
--- what a table says of a type; past its end the name says it
+-- the entry of a type in a table; past its end the field is looked up by name
 abbrev pub in_table : List (Option ℕ) → ℕ → List Bytes → Bytes → Option ℕ
 in_table table t names name = of_entry (slice_get table t)
   where
@@ -37,13 +37,13 @@ place_in c (OfEdgeType t) names = in_table c.edges t names c.name
 place_in c (OfTupleType t) names = in_table c.tuples t names c.name
 place_in c OfParts names = place_of names c.name
 
--- of tuples and group rows `type` is a field as any other
+-- for tuples and group rows `type` is a field like any other
 abbrev pub field : Owner → List Bytes → Reference → Option ℕ
 field owner names (FieldAt c) = place_in c owner names
 field owner names TypeName = place_of names (codes "type")
 field owner names r = None
 
--- a tuple type is looked for among those of the query
+-- a tuple type is looked up among those of the query
 abbrev pub function : Reference → Option Function
 function (Calls (Makes n fields)) = None
 function (Calls f) = Some f

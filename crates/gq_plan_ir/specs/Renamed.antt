@@ -53,7 +53,7 @@ abbrev mutual
   renamed_terms r no_term = no_term
   renamed_terms r (term sign t ts) = term sign (renamed r t) (renamed_terms r ts)
 
--- what is seen under the new names is what was seen under the old ones
+-- the new names show what the old ones showed
 pub record SeesAlike {M N : Type 0} (r : Renaming M N) (old : Look M) (new : Look N) : Type 0 where
   pub named : (x : M) → new.named (r.name x) ≡ old.named x
   pub global : (a : M) → new.global (r.accum a) ≡ old.global a

@@ -1,4 +1,4 @@
--- RenamedStatements: the same parts of statements with other names, where no new name comes into view.
+-- RenamedStatements: the same parts of statements with other names, if no new name comes into view.
 use Rattle.std.specs.Prelude.{map}
 use Rattle.gq_rules_typing.specs.Statements.{BaseTree, Ints, UInts, Bools, Strings, AnyVertex, VertexOf, Seed, AllOf, AllVertices, OneVertex, ContentOf, SetTerm, SetNamed, Seeds, SetTypes, AnyType, TypeOf, Item, Printed, Whole, Selection, Over, Elements, Range}
 use Rattle.gq_plan_ir.specs.Renamed.{Renaming, renamed}

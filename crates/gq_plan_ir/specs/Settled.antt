@@ -1,5 +1,5 @@
--- Settled: what a plan keeps at hand is what it follows from: where a field stands from its name, the types of a tuple's fields from
--- the tuple type's number, the edge types that `outdegree` counts from what stands in its parentheses. And tuple types and slots are
+-- Settled: the data stored in a plan follow from it: a field's place from its name, the types of a tuple's fields from
+-- the tuple type's number, the edge types that `outdegree` counts from its argument. And tuple types and slots are
 -- numbered in order of declaration.
 use Rattle.std.specs.Prelude.{ℕ, ◌==◌, Bool, true, false, ◌&&◌, List, [], ◌∷◌, ◌++◌, map, length, Option, Some, None}
 use Rattle.std.specs.List.{list_all, range_with_len}
@@ -53,7 +53,7 @@ same_numbers [] [] = true
 same_numbers (n ∷ ns) (m ∷ ms) = (n == m) && same_numbers ns ms
 same_numbers ns ms = false
 
--- nothing in the parentheses is every edge type of the graph
+-- empty parentheses mean every edge type of the graph
 abbrev pub counted_types : Sorts → Option (List ℕ) → Option (List ℕ)
 counted_types sorts None = Some sorts.own_edges
 counted_types sorts (Some e) = one (edge_quoted sorts e)
@@ -81,7 +81,7 @@ slot_numbers (definition.Tuple fields n ∷ ds) = slot_numbers ds
 slot_numbers (definition.Accums kind accums ∷ ds) = map (λ (a : code.Accum). a.slot) accums ++ slot_numbers ds
 
 module _ (setting : Setting Reference) where
-  -- the tables of a field say of each type of the graph, and of each tuple type, what its name says
+  -- the tables of a field agree with its name for each type of the graph and each tuple type
   abbrev pub is_field : Field → Bool
   is_field field.Type = true
   is_field (field.Named c) =
@@ -96,7 +96,7 @@ module _ (setting : Setting Reference) where
   is_function (function.Tuple n fields) = same_bases (bases (map base_of fields)) (bases (bases_of (tuple_fields setting n)))
   is_function f = true
 
-  -- ---- one layer, where what is within has been judged
+  -- ---- one layer, given the judgements of what is within
 
   abbrev pub expr_step : Expr-F Bool Bool → Bool
   expr_step (Expr-F.Call f arguments) = is_function f && all arguments

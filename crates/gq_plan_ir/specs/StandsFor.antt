@@ -1,5 +1,5 @@
--- StandsFor: when statements with references stand for statements with names. Where no name comes into view, they are the same with
--- each name's reference in its place; a name that comes into view has a reference of its own.
+-- StandsFor: when statements with references represent statements with names. If no name comes into view, they are the
+-- same with each name's reference in its place; a name that comes into view has a reference of its own.
 use Rattle.std.specs.Prelude.{◌≡◌, Bool, true, false, List, [], ◌∷◌, map, Option, Some, None}
 use Rattle.std.specs.Option.{option_map}
 use Rattle.gq_tree.specs.Tree.{Tree, Name}
@@ -56,7 +56,7 @@ module _ {M N : Type 0} (fixed : Fixed M N) where
   is_set_right view (Expression (Name y)) = is_set_at fixed view y
   is_set_right view (Expression t) = false
 
-  -- a name that is assigned is visible, and stays what it is; or a set comes into view under it
+  -- a name that is assigned is visible, and keeps its entry; or a set comes into view under it
   abbrev pub TargetStands : View M N → M → N → Bool → Type 0
   TargetStands view x r set = of_visible (visible_at fixed view x)
     where
@@ -73,7 +73,7 @@ module _ {M N : Type 0} (fixed : Fixed M N) where
 
   -- ---- locals
 
-  -- each comes into view behind its own value
+  -- each comes into view after its own value
   abbrev pub LocalsStand : View M N → List (M × Option (Tree M)) → List (N × Option (Tree N)) → Type 0
   LocalsStand view [] [] = Unit {0}
   LocalsStand view (x ∷ xs) (y ∷ ys) = IsNew fixed view x.0 y.0 × (y.1 ≡ option_map (renamed (inside fixed view)) x.1) × LocalsStand (with_name fixed view x.0 y.0 false) xs ys
@@ -85,7 +85,7 @@ module _ {M N : Type 0} (fixed : Fixed M N) where
 
   -- ---- statements
 
-  -- what is visible behind a statement; the names of a body end with it
+  -- the names visible after a statement; the names of a body end with it
   abbrev pub behind : View M N → Stmt M → Stmt N → View M N
   behind view (Local b xs) (Local c ys) = with_locals view xs ys
   behind view (Assign x types right) (Assign r others other) = with_target view x r

@@ -3,7 +3,7 @@ use crate::expr::Expr;
 use gq_base::List;
 use gq_tree::Way;
 
-/// What `+=` feeds an accumulator.
+/// The input that `+=` feeds to an accumulator.
 #[cycle(feed)]
 #[derive(Drop)]
 pub enum Feed {
@@ -13,7 +13,7 @@ pub enum Feed {
     Keyed(List<Expr>, List<Feed>),
 }
 
-/// What happens to an accumulator.
+/// A change of an accumulator.
 #[derive(Drop)]
 pub enum Change {
     /// `+=`.
@@ -33,14 +33,14 @@ pub enum Act {
     /// A change of the global accumulator in a slot.
     Global(u32, Change),
 
-    /// IF and each ELSE IF with its condition, and what stands behind ELSE.
+    /// IF and each ELSE IF with its condition, and the acts after ELSE.
     If(List<(Expr, List<Act>)>, Option<List<Act>>),
 }
 
 /// The types at a place of a pattern, by their numbers.
 #[derive(Drop)]
 pub enum Types {
-    /// Every type that may stand there.
+    /// Every type that may occur there.
     Every,
     These(List<u32>),
 }
@@ -63,7 +63,7 @@ pub struct PathStep {
     pub target_alias: Option<u32>,
 }
 
-/// What stands behind the source.
+/// The pattern after the source.
 #[derive(Drop)]
 pub enum Walk {
     Nowhere,
@@ -73,7 +73,7 @@ pub enum Walk {
     Path(List<PathStep>),
 }
 
-/// Where a SELECT begins.
+/// The source of a SELECT.
 #[derive(Clone, Copy, Debug, PartialEq, Eq)]
 pub enum SelectSource {
     /// The set variable at a place.
@@ -83,7 +83,7 @@ pub enum SelectSource {
     Type(u32),
 }
 
-/// SELECT. Without ACCUM or POST-ACCUM there is no act, without ORDER BY no value.
+/// SELECT. Without ACCUM or POST-ACCUM there are no acts, without ORDER BY no values.
 #[derive(Drop)]
 pub struct Block {
     /// The place of the selected alias.

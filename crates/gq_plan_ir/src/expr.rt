@@ -19,22 +19,22 @@ pub enum Expr {
     Name(u32),
     Call(Function, List<Expr>),
 
-    /// What stands before the first dot, and the part behind each dot; there is one at least.
+    /// The operand before the first dot, and the part after each dot; there is at least one.
     Post(Boxed<Expr>, List<Behind>),
 
-    /// So many minus signs, one at least, before an operand.
+    /// One or more minus signs before an operand.
     Neg(usize, Boxed<Expr>),
     Mul(Boxed<Expr>, List<(MulSign, Expr)>),
     Sum(Boxed<Expr>, List<(AddSign, Expr)>),
     Cmp(Boxed<Expr>, CmpSign, Boxed<Expr>),
 
-    /// So many NOTs, one at least, before an operand.
+    /// One or more NOTs before an operand.
     Not(usize, Boxed<Expr>),
     And(Boxed<Expr>, List<Expr>),
     Or(Boxed<Expr>, List<Expr>),
 }
 
-/// What stands behind a dot.
+/// The part after a dot.
 #[cycle(expr)]
 #[derive(Drop)]
 pub enum Behind {
@@ -47,7 +47,7 @@ pub enum Behind {
     /// The accumulator of a vertex.
     Attached(u32),
 
-    /// What the accumulator of a vertex held before the block.
+    /// The value of a vertex's accumulator before the block.
     Before(u32),
 }
 
@@ -59,8 +59,8 @@ pub enum Field {
     Named(FieldPlaces),
 }
 
-/// Where the attribute or the field of one name stands among those of each type, by the type's number. A type past the end of its
-/// table is looked at by the name.
+/// The place of the attribute or the field of one name among those of each type, by the type's number. For a type past
+/// the end of its table, the field is looked up by name.
 #[derive(Drop)]
 pub struct FieldPlaces {
     /// A group's part is found by it.
@@ -79,7 +79,7 @@ pub enum Method {
     Get,
 }
 
-/// What a call stands for: a tuple type by its number with the types of its fields, or a function of the language's own.
+/// What a call denotes: a tuple type by its number with the types of its fields, or a function of the language.
 #[derive(Drop)]
 pub enum Function {
     Tuple(u32, Fields),

@@ -1,10 +1,10 @@
 //! The intermediate representation of plans: queries whose names are resolved to numbers.
 //!
 //! A plan has the form of a query's tree, with a reference in the place of each name, so the definitions of
-//! `gq_rules_meaning` give its meaning too. It also keeps what execution needs at hand, such as the position
+//! `gq_rules_meaning` give its meaning too. It also stores what execution would otherwise look up, such as the position
 //! of a field.
 //!
-//! Read `specs/Reference.antt` and `specs/References.antt` first: what a reference is and what it denotes.
+//! Read `specs/Reference.antt` and `specs/References.antt` first (references and what they denote).
 //! `specs/ExprView.antt`, `specs/BlockView.antt` and `specs/PlanView.antt` map plans to plain data.
 //! `specs/StandsFor.antt` and `specs/Plans.antt` define when a plan represents a query. The types are in
 //! `src/expr.rt`, `src/block.rt`, `src/step.rt` and `src/plan.rt`.

@@ -27,7 +27,7 @@ pub struct Parameter {
     pub place: u32,
 }
 
-/// An accumulator: its slot, and what it opens with.
+/// An accumulator: its slot, and its initial value.
 #[derive(Drop)]
 pub struct Accum {
     pub attached: bool,
@@ -46,7 +46,7 @@ pub enum Definition {
     Accums(Kind, List<Accum>),
 }
 
-/// What stands at a place of the frame.
+/// The type of a place of the frame.
 #[derive(Drop)]
 pub enum PlaceType {
     /// A value of a type.
@@ -58,7 +58,7 @@ pub enum PlaceType {
     EdgeAlias(Numbers),
 }
 
-/// A query with numbers for names. It is made for a catalog and a graph, and made anew where the catalog has grown.
+/// A query with numbers for names. It is made for a catalog and a graph, and rebuilt if the catalog has grown.
 #[derive(Drop)]
 pub struct Plan {
     pub parameters: List<Parameter>,
@@ -68,7 +68,7 @@ pub struct Plan {
     pub definitions: List<Definition>,
     pub steps: List<Step>,
 
-    /// What stands at each place of the frame.
+    /// The type of each place of the frame.
     pub places: List<PlaceType>,
 
     /// The vertex and the edge types of its graph, by their numbers.

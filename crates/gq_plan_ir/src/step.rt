@@ -43,7 +43,7 @@ pub enum SetTypes {
     Of(u32),
 }
 
-/// What is assigned.
+/// The right side of an assignment.
 #[derive(Drop)]
 pub enum Right {
     Select(Block),
@@ -51,14 +51,14 @@ pub enum Right {
     Value(Expr),
 }
 
-/// What FOREACH goes over.
+/// What FOREACH iterates over.
 #[derive(Drop)]
 pub enum Over {
     Elements(Expr),
     Range(Expr, Expr),
 }
 
-/// What PRINT prints, with its key.
+/// An item of PRINT, with its key.
 #[derive(Drop)]
 pub enum PrintItem {
     Value(Expr, Txt),
@@ -71,14 +71,14 @@ pub enum PrintItem {
 #[cycle(step)]
 #[derive(Drop)]
 pub enum Step {
-    /// New variables, each with its value where one is given.
+    /// New variables, each with its value if one is given.
     Local(Declared, List<(u32, Option<Expr>)>),
     Assign(u32, Option<SetTypes>, Right),
 
     /// A change of the global accumulator in a slot.
     Global(u32, Change),
 
-    /// IF and each ELSE IF with its condition, and what stands behind ELSE.
+    /// IF and each ELSE IF with its condition, and the statements after ELSE.
     If(List<(Expr, List<Step>)>, Option<List<Step>>),
 
     /// WHILE: the condition, the LIMIT and the body.

@@ -1,4 +1,4 @@
--- AnswerLaws: answers that go on alike.
+-- AnswerLaws: answers that continue alike.
 use Rattle.std.proofs.Common.{◌≡◌, List, [], ◌∷◌, map, refl, sym, ap, ◌∙◌, subst}
 use Rattle.gq_rules_meaning.specs.Answers.{Answer, Gives, Faults, Stuck, ◌>>=◌, blaming, each, through}
 use Rattle.gq_plan_ir.specs.Alike.{AnswersAlike}
@@ -15,7 +15,7 @@ alike_then R S (Faults e) Stuck f g h k = absurd h
 alike_then R S Stuck (Gives b) f g h k = absurd h
 alike_then R S Stuck (Faults d) f g h k = absurd h
 
--- what is given is the same on both sides
+-- the given values are the same on both sides
 pub alike_same : {F A C D : Type 0} (S : C → D → Type 0) (o p : Answer F A) (f : A → Answer F C) (g : A → Answer F D)
     → p ≡ o → ((a : A) → AnswersAlike S (f a) (g a)) → AnswersAlike S (o >>= f) (p >>= g)
 alike_same S o p f g e k = subst (λ p. AnswersAlike S (o >>= f) (p >>= g)) (sym e) (go o)
@@ -47,7 +47,7 @@ alike_with R S (Faults e) Stuck h k = absurd h
 alike_with R S Stuck (Gives b) h k = absurd h
 alike_with R S Stuck (Faults d) h k = absurd h
 
--- equal answers, where what is given is one thing
+-- equal answers, if the given values are equal
 pub alike_is : {F A : Type 0} (o p : Answer F A) → AnswersAlike (λ (a b : A). b ≡ a) o p → p ≡ o
 alike_is (Gives a) (Gives b) h = ap Gives h
 alike_is (Faults e) (Faults d) h = ap Faults (sym h)
@@ -73,7 +73,7 @@ pub each_same : {F A C : Type 0} (f g : A → Answer F C) → ((a : A) → g a �
 each_same f g k [] = refl
 each_same f g k (a ∷ as') = ap (λ o. o >>= λ b. each g as' >>= λ bs. Gives (b ∷ bs)) (k a) ∙ ap (λ q. f a >>= λ b. q >>= λ bs. Gives (b ∷ bs)) (each_same f g k as')
 
--- through items, with what is related
+-- through items, with related states
 pub through_alike : {F A B S T : Type 0} (R : S → T → Type 0) (h : A → B) (f : S → A → Answer F S) (g : T → B → Answer F T)
     → ((s : S) (t : T) (a : A) → R s t → AnswersAlike R (f s a) (g t (h a))) → (as' : List A) (s : S) (t : T) → R s t → AnswersAlike R (through f s as') (through g t (map h as'))
 through_alike R h f g k [] s t r = r
@@ -84,7 +84,7 @@ pub through_each : {F A S T : Type 0} (R : S → T → Type 0) (f : S → A → 
 through_each R f g k [] s t r = r
 through_each R f g k (a ∷ as') s t r = alike_then R R (f s a) (g t a) _ _ (k s t a r) (λ p q e. through_each R f g k as' p q e)
 
--- through items that are named anew, with what is one thing
+-- through renamed items, with the same state
 pub through_same : {F A B S : Type 0} (h : A → B) (f : S → A → Answer F S) (g : S → B → Answer F S) → ((s : S) (a : A) → g s (h a) ≡ f s a) → (as' : List A) (s : S) → through g s (map h as') ≡ through f s as'
 through_same h f g k [] s = refl
 through_same {S = S} h f g k (a ∷ as') s = ap (λ o. o >>= λ t. through g t (map h as')) (k s a) ∙ go (f s a) (through_same h f g k as')

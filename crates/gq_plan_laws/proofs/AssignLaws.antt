@@ -40,7 +40,7 @@ module _ {M N : Type 0} (s : Sides M N) (w : WordsAlike s) where
       go true = refl
       go false = refl
 
-  -- a fact on the state with the accumulators named anew
+  -- a fact on the state with the accumulators renamed
   pub on_state : (P : State N → Type 0) (old : State M) (new : State N) → SlotsAlike s old.slots new.slots → P (new_state s w (λ x. s.fixed.nothing) new.names old) → P new
   on_state P old new h p = subst (λ ts. P (record { names = new.names; slots = ts })) (sym h.is) p
 

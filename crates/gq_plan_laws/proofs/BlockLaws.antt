@@ -1,4 +1,4 @@
--- BlockLaws: by references a block goes through the same candidates, has the same matches, and feeds accumulators the same.
+-- BlockLaws: by references a block has the same candidates and the same matches, and feeds accumulators the same.
 use Rattle.std.proofs.Common.{◌≡◌, ℕ, suc, Bool, true, false, List, [], ◌∷◌, ◌++◌, Option, Some, None, refl, sym, ap, ◌∙◌, subst}
 use Rattle.std.specs.Prelude.{if◌then◌else◌}
 use Rattle.std.specs.Option.{option_map}
@@ -27,7 +27,7 @@ use Rattle.gq_plan_laws.proofs.SightLaws.{number_alike, slot_alike, sees_alike}
 use Rattle.gq_plan_laws.proofs.WalkLaws.{edge_alias_alike, target_alias_alike, ends_alike, candidates_alike}
 use Rattle.gq_plan_laws.proofs.InputLaws.{truth_alike, passes_alike, input_alike}
 
--- what is found under another form goes on as it did
+-- an option mapped to another form continues as it did
 pub found_map : {F A B C : Type 0} (h : A → B) (f : A → Answer F C) (g : B → Answer F C) (o : Option A) (p : Option B) → p ≡ option_map h o → ((a : A) → g (h a) ≡ f a) → (found p >>= g) ≡ (found o >>= f)
 found_map {F = F} {A = A} h f g o p e k = ap (λ p. found {F = F} p >>= g) e ∙ go o
   where
@@ -36,7 +36,7 @@ found_map {F = F} {A = A} h f g o p e k = ap (λ p. found {F = F} p >>= g) e ∙
     go (Some a) = k a
 
 module _ {M N : Type 0} (s : Sides M N) (w : WordsAlike s) (f : M → N) where
-  -- ---- where a SELECT begins, and its candidates
+  -- ---- the source of a SELECT, and its candidates
 
   abbrev pub ToldIf : Option M → Type 0
   ToldIf None = Unit {0}
@@ -82,7 +82,7 @@ module _ {M N : Type 0} (s : Sides M N) (w : WordsAlike s) (f : M → N) where
   vertex_looks m true v as' bs t k = named_looks as' bs m.target (Some (a_vertex m.target_types v)) t.target k
   vertex_looks m false v as' bs t k = named_looks as' bs m.source (Some (a_vertex m.source_types v)) t.source k
 
-  -- ---- what one match gives
+  -- ---- the contributions of one match
 
   abbrev pub new_state : List (N × Thing) → State M → State N
   new_state bs old = record { names = bs; slots = new_slots s old.slots }

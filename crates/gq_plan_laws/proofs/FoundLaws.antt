@@ -1,4 +1,4 @@
--- FoundLaws: references stand for what names do, where they are what is found for names.
+-- FoundLaws: references represent names, if they are the ones found for the names.
 use Rattle.std.proofs.Common.{◌≡◌, ◌≢◌, ℕ, zero, suc, ◌≤◌, Bool, true, false, List, [], ◌∷◌, map, arith, eq-eqb, ne_eqb, Option, Some, None, refl, sym, ap, ◌∙◌, subst}
 use Rattle.std.proofs.lemmas.Slice.Eq.{bytes_eq-Decides}
 use Rattle.std.specs.Prelude.{◌==◌, ◌&&◌, if◌then◌else◌, bytes_eq, codes, slice_get}
@@ -148,7 +148,7 @@ module _ (g : Graph) (clock : Calendar) (ts : TupleTypes) (accums : List Bytes) 
       go true = refl
       go false = refl
 
-  -- a field of an owner with these names, where the tables say what the name says
+  -- a field of an owner with these names, if the tables agree with the name
   field_is : (owner : words.Owner) (names : List Bytes) (f : Bytes) → references.place_in (places_of g.sorts ts f) owner names ≡ place_of names f → references.field owner names (field_of (field_at g.sorts ts f)) ≡ place_of names f
   field_is owner names f table = go (bytes_eq (codes "type") f) refl
     where
@@ -164,7 +164,7 @@ module _ (g : Graph) (clock : Calendar) (ts : TupleTypes) (accums : List Bytes) 
   abbrev old_words : Words Bytes
   old_words = by_name g.sorts
 
-  -- what is no tuple type is a function of the language
+  -- a name that isn't a tuple type is a function of the language
   no_tuple : (r : Reference) → ((n : ℕ) → same (TupleType n) r ≡ false) → (i : ℕ) (us : TupleTypes) → function_from plan_words r i (numbered i us) ≡ references.function r
   no_tuple r h i [] = refl
   no_tuple r h i (t ∷ us) = ap (λ q. if q then Some (words.Makes i (bases_of (plain_fields t.1))) else function_from plan_words r (suc i) (numbered (suc i) us)) (h i) ∙ no_tuple r h (suc i) us
@@ -210,7 +210,7 @@ module _ (g : Graph) (clock : Calendar) (ts : TupleTypes) (accums : List Bytes) 
           let other : i ≢ n = omega (arith, u.above) in
           (omega (arith, u.above), ap (λ q. if q then Some (words.Makes i (bases_of (plain_fields t.1))) else function_from plan_words (TupleType n) (suc i) (numbered (suc i) us)) (ne_eqb i n other) ∙ u.found)
 
-  -- where no tuple type has the name
+  -- if no tuple type has the name
   tuple_none : (f : Bytes) (i : ℕ) (us : TupleTypes) → tuple_from f i us ≡ None → function_from old_words f i (plain_tuples us) ≡ under bytes_eq f functions
   tuple_none f i [] e = refl
   tuple_none f i (t ∷ us) e = go (bytes_eq t.0 f) e (tuple_none f (suc i) us)
@@ -220,7 +220,7 @@ module _ (g : Graph) (clock : Calendar) (ts : TupleTypes) (accums : List Bytes) 
       go true d r = cc
       go false d r = r d
 
-  -- what is found among tuple types is one
+  -- a name found among tuple types is one
   record IsTuple (h : Function) : Type 0 where
     pub number : ℕ
     pub types : List BaseType

@@ -1,4 +1,4 @@
--- FoundLemmas: what typing knows under a name is found for it, by the types of a graph and a query's tuple types.
+-- FoundLemmas: the meaning of a name in typing is found for it, by the types of a graph and a query's tuple types.
 use Rattle.std.proofs.Common.{◌≡◌, ℕ, suc, Bool, true, false, List, [], ◌∷◌, Option, Some, None, refl, ap, subst, ◌∙◌}
 use Rattle.std.specs.Prelude.{if◌then◌else◌, bytes_eq}
 use Rattle.gq_scope.specs.Named.{Named}

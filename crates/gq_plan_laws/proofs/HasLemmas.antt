@@ -1,4 +1,4 @@
--- HasLemmas: what is there, and lists and expressions that are planned where typing lets them pass.
+-- HasLemmas: options that have a value, and lists and expressions that have a plan if they are well typed.
 use Rattle.std.proofs.Common.{◌≡◌, ℕ, Bool, true, List, [], ◌∷◌, Option, Some, None, Ok, refl, ap, ◌∙◌}
 use Rattle.gq_tree.specs.Tree.{Tree, Trees, no_tree, tree}
 use Rattle.gq_value.specs.Accums.{Base, Accum}
@@ -18,7 +18,7 @@ use Rattle.gq_plan_expr.specs.Resolved.{resolved, resolved_all}
 use Rattle.gq_plan_expr.proofs.TypedLaws.{typed_law}
 use Rattle.gq_plan_select.specs.Resolved.{if_there, each_resolved, resolved_types, resolved_input, resolved_inputs}
 
--- ---- what is there
+-- ---- options that have a value
 
 abbrev pub Has : {A : Type 0} → Option A → Type 0
 Has {A = A} o = (a : A) × (o ≡ Some a)
@@ -110,7 +110,7 @@ module _ (names : Names Bytes) (k : Known) (knows : KnowsAll names k) where
         let u = after_ok (typing_input names (Some j) x) (typing_inputs names ks xs) q h in
         has_then (resolved_input k x) (λ f. plans.◌>>=◌ (resolved_inputs k xs) (λ fs. Some (f ∷ fs))) (input_has (Some j) x u.0.0 u.0.1) (λ f i. has_one (resolved_inputs k xs) (λ fs. f ∷ fs) (inputs_have ks xs q u.1))
 
--- what may be left out
+-- optional parts
 pub optional_has : {A : Type 0} (k : Known) (rule : Tree Bytes → Judged A) → ((t : Tree Bytes) (a : A) → rule t ≡ Ok a → Has (resolved k t)) → (o : Option (Tree Bytes)) (q : Bool) → optional rule o ≡ Ok q → Has (if_there (resolved k) o)
 optional_has k rule one None q h = (None, refl)
 optional_has k rule one (Some t) q h = let u = after_ok (rule t) (Ok true) q h in has_one (resolved k t) Some (one t u.0.0 u.0.1)

@@ -1,4 +1,4 @@
--- NameLaws: what is looked for under a reference is what is looked for under its name.
+-- NameLaws: a look-up by a reference finds what the look-up by its name finds.
 use Rattle.std.proofs.Common.{◌≡◌, Bool, true, false, List, [], ◌∷◌, Option, Some, refl, sym, ap, ◌∙◌}
 use Rattle.std.specs.Prelude.{if◌then◌else◌, is_some}
 use Rattle.gq_rules_typing.specs.Words.{under}
@@ -23,7 +23,7 @@ module _ {M N : Type 0} (s : Sides M N) (w : WordsAlike s) where
   abbrev like : N → N → Bool
   like = s.fixed.references.same
 
-  -- looked for by the references that f gives, this is found where the name is
+  -- a look-up by the references that f gives finds this one exactly if the look-up by name does
   abbrev pub Told : (M → N) → N → M → Type 0
   Told f r x = (y : M) → like r (f y) ≡ same x y
 
@@ -39,7 +39,7 @@ module _ {M N : Type 0} (s : Sides M N) (w : WordsAlike s) where
       go true r = h.0
       go false r = r
 
-  -- the reference where one more is visible
+  -- the reference if one more name is visible
   with_first : (v : Visible M N) (view : View M N) (y : M) (q : Bool) → same v.name y ≡ q → reference_at s.fixed (v ∷ view) y ≡ (if q then v.reference else reference_at s.fixed view y)
   with_first v view y true e = ap (λ b. reference_or_nothing s.fixed (if b then Some v else visible_at s.fixed view y)) e
   with_first v view y false e = ap (λ b. reference_or_nothing s.fixed (if b then Some v else visible_at s.fixed view y)) e
@@ -62,7 +62,7 @@ module _ {M N : Type 0} (s : Sides M N) (w : WordsAlike s) where
           tail_at true e = h.0.1.0 ∙ sym (sym (ap (same u.name) (w.same v.name y e)) ∙ h.0.0)
           tail_at false e = h.1 y
 
-  -- ---- what names hold
+  -- ---- the contents of names
 
   -- the same is found by name and by the references that f gives
   abbrev pub LooksAlike : (M → N) → List (M × Thing) → List (N × Thing) → Type 0
@@ -83,7 +83,7 @@ module _ {M N : Type 0} (s : Sides M N) (w : WordsAlike s) where
   pub looks_new : (f : M → N) (as' : List (M × Thing)) (bs : List (N × Thing)) (x : M) (r : N) (thing : Thing) → Told f r x → LooksAlike f as' bs → LooksAlike f ((x, thing) ∷ as') ((r, thing) ∷ bs)
   looks_new f as' bs x r thing t h y = ap (λ q. if q then Some thing else under like (f y) bs) (t y) ∙ ap (λ o. if same x y then Some thing else o) (h y)
 
-  -- what is there is visible
+  -- a name that is found is visible
   pub found_visible : (view : View M N) (as' : List (M × Thing)) (bs : List (N × Thing)) → NamesAlike s view as' bs → (x : M) → is_some (visible_at s.fixed view x) ≡ is_some (under same x as')
   found_visible [] [] [] h x = refl
   found_visible (v ∷ view) (a ∷ as') (b ∷ bs) h x = ap (λ n. is_some (if same n x then Some v else visible_at s.fixed view x)) (sym h.0.name) ∙ go (same a.0 x) (found_visible view as' bs h.1 x)

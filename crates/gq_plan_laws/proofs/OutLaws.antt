@@ -1,4 +1,4 @@
--- OutLaws: values and contents are printed alike, whatever stands for names.
+-- OutLaws: values and contents are printed alike, whatever represents names.
 use Rattle.std.proofs.Common.{◌≡◌, ℕ, Bool, true, false, List, [], ◌∷◌, ◌++◌, map, Option, Some, None, refl, ap, ◌∙◌}
 use Rattle.std.specs.Prelude.{slice_get}
 use Rattle.gq_value.specs.Val.{Val, Vals, Int, UInt, Truth, Text, Vertex, Tuple, Fraction, more, none}

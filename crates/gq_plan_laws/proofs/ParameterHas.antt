@@ -1,4 +1,4 @@
--- ParameterHas: parameters that are planned, from the last one on.
+-- ParameterHas: parameters that have a plan, from the last one on.
 use Rattle.std.proofs.Common.{◌≡◌, ℕ, Bool, true, false, List, [], ◌∷◌, Option, Some, None, Ok, refl, sym, ap, subst, ◌∙◌}
 use Rattle.std.specs.Prelude.{if◌then◌else◌, bytes_eq}
 use Rattle.gq_value.specs.Accums.{Base}
@@ -87,7 +87,7 @@ parameters_have sorts (p ∷ ps) s t z h =
           told_more (bytes_eq p.name x) (s.setting.words.same p.name x) (same x) r.names.next (seen_at r.names x) (entry s x) (entry t x) a.0 (λ q. subst (λ y. entry s y ≡ None) (same_bytes p.name x q) new) (r.told x);
     }
 
--- where nothing was visible before, as much is shown
+-- if nothing was visible before, as much is shown
 pub told_shown : (slot : Option ℕ) (o : Option NameBinding) (e : Option Entry) → IsTold o None e → IsShown slot o e
 told_shown slot o e (true, h) = subst (IsShown slot o) (sym h.1.0.1) h.0
 told_shown slot o e (false, h) = subst (IsShown slot o) (sym h.1) h.0

@@ -1,4 +1,4 @@
--- QueryLaws: a plan that is made of a query stands for it.
+-- QueryLaws: a plan that is made of a query represents it.
 use Rattle.std.proofs.Common.{◌≡◌, ◌+◌, ℕ, suc, Bool, false, List, [], ◌∷◌, ◌++◌, length, map, arith, Option, Some, None, refl, sym, ap, ◌∙◌, subst}
 use Rattle.std.specs.Prelude.{slice_get}
 use Rattle.std.specs.Option.{option_map}
@@ -82,7 +82,7 @@ module _ (g : Graph) (clock : Calendar) (accums : List Bytes) where
   abbrev D : TupleTypes → Named → Declared G
   D ts slots = declared_of g clock accums ts slots
 
-  -- what is declared, and the names of its accumulators so far
+  -- the declarations, and the names of their accumulators so far
   record At (h : Heads) (done more : List Bytes) : Type 0 where
     pub slots : SlotsAre accums h.slots
     pub count : length done ≡ h.slots.next

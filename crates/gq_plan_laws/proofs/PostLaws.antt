@@ -83,7 +83,7 @@ module _ {M N : Type 0} (s : Sides M N) (w : WordsAlike s) (f : M → N) where
     abbrev new_written : List (Slot M) → List Contribution → Written N
     new_written slots xs = record { slots = new_slots s slots; to_globals = xs }
 
-    -- what is written is that of slots and inputs
+    -- a write is one of slots and inputs
     from_written : (P : Written N → Type 0) (old : Written M) (new : Written N) → WrittenAlike old new → P (new_written old.slots old.to_globals) → P new
     from_written P old new h p = subst (λ ts. P (record { slots = ts; to_globals = new.to_globals })) (sym h.slots.is) (subst (λ xs. P (record { slots = new_slots s old.slots; to_globals = xs })) (sym h.to_globals) p)
 

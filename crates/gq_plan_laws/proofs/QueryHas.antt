@@ -1,4 +1,4 @@
--- QueryHas: definitions that are planned where typing lets them pass, and whole queries.
+-- QueryHas: definitions that have a plan if they are well typed, and whole queries.
 use Rattle.std.proofs.Common.{◌≡◌, ℕ, Bool, true, false, List, [], ◌∷◌, ◌++◌, length, Option, Some, None, Ok, refl, sym, ap, subst, ◌∙◌}
 use Rattle.std.specs.Prelude.{if◌then◌else◌, bytes_eq, filter, nat_lt}
 use Rattle.gq_tree.specs.Tree.{Tree}
@@ -40,7 +40,7 @@ use Rattle.gq_plan_laws.proofs.KindLemmas.{fields_back, kind_back, kind_fine}
 use Rattle.gq_plan_laws.proofs.ParameterHas.{written_has, parameters_have, parameters_shown}
 use Rattle.gq_plan_laws.proofs.StepHas.{statements_law}
 
--- what is declared so far is found
+-- the declarations so far are found
 record Defined (sorts : Sorts) (n : Named) (s : Scope Bytes) (h : Heads) : Type 0 where
   setting : s.setting ≡ setting_of sorts h.tuples
   shows : Shows (globals_of sorts h.tuples h.slots) s n

@@ -1,4 +1,4 @@
--- QueryLaws: declarations that stand for others open the same accumulators, and a plan prints what its query prints.
+-- QueryLaws: declarations that represent others open the same accumulators, and a plan prints what its query prints.
 use Rattle.std.proofs.Common.{◌≡◌, ℕ, Bool, true, false, List, [], ◌∷◌, ◌++◌, map, Option, Some, None, Ok, refl, sym, ap, ◌∙◌, subst}
 use Rattle.std.specs.Option.{option_map}
 use Rattle.gq_tree.specs.Tree.{Tree}
@@ -56,7 +56,7 @@ module _ {M N : Type 0} (ground : Ground M N) where
   one_more (a ∷ accums) [] new slot r h = absurd h
   one_more (a ∷ accums) (t ∷ old) [] slot r h = absurd h
 
-  -- they hold the same where each reference is told
+  -- they hold the same if each accumulator's reference represents its name
   slots_alike : (d : Declared ground) (accums : List (M × N)) (old : List (Slot M)) (new : List (Slot N)) → AllOf (AccumTold ground d) accums → SlotsStand accums old new → SlotsAlike (sides ground d) old new
   slots_alike d [] [] [] t h = record { is = refl; accums = tt }
   slots_alike d (a ∷ accums) (x ∷ old) (y ∷ new) t h =
@@ -146,7 +146,7 @@ module _ {M N : Type 0} (ground : Ground M N) where
   names_in d e (v ∷ view) (a ∷ as') [] h = absurd h
 
   module _ {K : Type 0} (kinds : World M → K → Answer Wrong Accum) (view : View M N) where
-    -- behind some declarations: where the rest holds
+    -- after some declarations, if the rest holds
     record Behind (Then : Declared ground → Type 0) (world : World M) (other : World N) (old : State M) (new : State N) : Type 0 where
       declared : Declared ground
       sound : IsSound ground declared
@@ -198,7 +198,7 @@ module _ {M N : Type 0} (ground : Ground M N) where
     accums_alike Then k [] (b ∷ others) d i di st world other e g old new n h = absurd st
     accums_alike Then k (a ∷ accums) [] d i di st world other e g old new n h = absurd st
 
-    -- behind some declarations, with the tuple types
+    -- after some declarations, with the tuple types
     abbrev DefinedAlike : (Declared ground → Type 0) → Defining M → Defining N → Type 0
     DefinedAlike Then a b = Behind Then (with_tuples a.tuples (old_ground ground)) (with_tuples b.tuples (new_ground ground)) a.state b.state
 

@@ -1,4 +1,4 @@
--- RunLaws: statements that stand for others do what they do.
+-- RunLaws: statements that represent others do the same.
 use Rattle.std.proofs.Common.{◌≡◌, ℕ, zero, suc, Bool, true, false, List, [], ◌∷◌, ◌++◌, map, Option, Some, None, refl, sym, ap, ◌∙◌, subst}
 use Rattle.std.specs.Prelude.{is_some}
 use Rattle.std.specs.Option.{option_map}
@@ -40,7 +40,7 @@ use Rattle.gq_plan_laws.proofs.SelectLaws.{SelectSeen, select_seen}
 use Rattle.gq_plan_laws.proofs.AssignLaws.{on_state, set_assigned_alike, expression_alike, sets_assigned_alike}
 
 module _ {M N : Type 0} (s : Sides M N) (w : WordsAlike s) where
-  -- ---- what is seen
+  -- ---- the context
 
   pub sees_alike : (view : View M N) → AreDistinct s.fixed view → (old : State M) (new : State N) → StatesAlike s view old new → SeesAlike (inside s.fixed view) (seen (old_world s) old) (seen (new_world s) new)
   sees_alike view d old new h =
@@ -164,7 +164,7 @@ module _ {M N : Type 0} (s : Sides M N) (w : WordsAlike s) where
   locals_alike view d b [] (y ∷ ys) old new h st = absurd st
   locals_alike view d b (x ∷ xs) [] old new h st = absurd st
 
-  -- ---- views behind statements
+  -- ---- views after statements
 
   -- more may be visible
   abbrev Extends : View M N → View M N → Type 0
@@ -234,7 +234,7 @@ module _ {M N : Type 0} (s : Sides M N) (w : WordsAlike s) where
 
   -- ---- bodies
 
-  -- a run from what is visible to what is visible then
+  -- a run from one view to the view after it
   abbrev Carries : View M N → View M N → Body M → Body N → Type 0
   Carries view more body other = (r : Running M) (q : Running N) → RunsAlike s view r q → AnswersAlike (RunsAlike s more) (body r) (other q)
 
@@ -306,7 +306,7 @@ module _ {M N : Type 0} (s : Sides M N) (w : WordsAlike s) where
       go None = refl
       go (Some t) = ap (λ o. o >>= λ n. Gives (Some (count_of n))) (number_alike (inside s.fixed view) _ _ (sees_alike view d old new h) t)
 
-  -- a state that is behind another
+  -- a state that comes after another
   behind_alike : (view more : View M N) (r : Running M) (q : Running N) → RunsAlike s view r q → (o : Answer Fault (State M)) (p : Answer Fault (State N)) → AnswersAlike (StatesAlike s more) o p
       → AnswersAlike (RunsAlike s more) (o >>= λ a. Gives (with_state a r)) (p >>= λ a. Gives (with_state a q))
   behind_alike view more r q h o p k = alike_then (StatesAlike s more) (RunsAlike s more) _ _ _ _ k (λ a b i. record { state = i; turns = h.turns; printed = h.printed })

@@ -1,4 +1,4 @@
--- SelectHas: acts, walks and SELECTs that are planned where typing lets them pass.
+-- SelectHas: acts, walks and SELECTs that have a plan if they are well typed.
 use Rattle.std.proofs.Common.{◌≡◌, ℕ, Bool, true, false, List, [], ◌∷◌, Option, Some, None, Ok, Err, refl, sym, ap, subst, ◌∙◌}
 use Rattle.std.specs.Prelude.{not, is_some, ◌||◌, if◌then◌else◌, bytes_eq}
 use Rattle.gq_tree.specs.Tree.{Tree}
@@ -124,7 +124,7 @@ SourceAt t o false = Has t
 abbrev IsSource : Option ℕ → Option NameBinding → Type 0
 IsSource t o = SourceAt t o (marked_in o)
 
--- with so many names more
+-- with more names
 record Joined (g : Globals) (t : Scope Bytes) (n m : Named) : Type 0 where
   shows : Shows g t m
   kept : (x : Bytes) → Has (place_at n x) → Has (place_at m x)
@@ -363,7 +363,7 @@ from_has k s q a b c d =
 whole_has : (k : Known) (s : Sees) (q : Select Bytes) → Has (resolved_from k s q) → Has (resolved_clauses k q) → Has (resolved_tail k q) → Has (resolved_select k s q)
 whole_has k s q a b c = has_then (resolved_from k s q) _ a (λ w e. has_then (resolved_clauses k q) _ b (λ x f. has_one (resolved_tail k q) (λ t. block_of w x t) c))
 
--- the block of a SELECT, behind which as much is in view as before
+-- the block of a SELECT, after which the same names are in view as before
 pub record BlockHas (g : Globals) (n : Named) (q : Select Bytes) : Type 0 where
   pub inside : Named
   pub block : Block

@@ -45,7 +45,7 @@ module _ {M N : Type 0} (s : Sides M N) (w : WordsAlike s) where
   alias_told f view None (Some r) e n t = absurd n
   alias_told f view (Some x) None e n t = absurd n
 
-  -- an alias is no set, and hides none
+  -- an alias isn't a set, and hides none
   alias_no_set : (view : View M N) (x : Option M) (r : Option N) → AliasIsNew s.fixed view x r → (n : M) → is_set_at s.fixed (with_alias s.fixed view x r) n ≡ is_set_at s.fixed view n
   alias_no_set view None None a n = refl
   alias_no_set view (Some x) (Some r) a n = go (same x n) refl
@@ -61,9 +61,9 @@ module _ {M N : Type 0} (s : Sides M N) (w : WordsAlike s) where
   alias_no_set view None (Some r) a n = absurd a
   alias_no_set view (Some x) None a n = absurd a
 
-  -- ---- where a SELECT begins
+  -- ---- the source of a SELECT
 
-  -- a vertex type is no name
+  -- a vertex type isn't a name
   type_unseen : (n : M) (bs : List (N × Thing)) → under like (s.fixed.vertex_type n) bs ≡ None
   type_unseen n [] = refl
   type_unseen n (b ∷ bs) = ap (λ q. if q then Some b.1 else under like (s.fixed.vertex_type n) bs) (w.no_variable b.0 n) ∙ type_unseen n bs
@@ -102,7 +102,7 @@ module _ {M N : Type 0} (s : Sides M N) (w : WordsAlike s) where
       go true e = ap (new_thing (f n)) (k n) ∙ is_a_set (under same n as') e
       go false e = ap (new_thing (s.fixed.vertex_type n)) (type_unseen n bs) ∙ ap of_type (w.vertex_type n) ∙ sym (is_no_set (under same n as') e)
 
-  -- ---- what a SELECT needs
+  -- ---- the conditions of a SELECT
 
   pub record SelectSeen (view : View M N) (q : Select M) (p : Select N) (as' : List (M × Thing)) (bs : List (N × Thing)) : Type 0 where
     pub looks : LooksAlike s w (reference_at s.fixed (with_aliases s.fixed view q p)) as' bs

@@ -1,4 +1,4 @@
--- SetLaws: set expressions by references hold the same vertices, and what is assigned is the same.
+-- SetLaws: set expressions by references hold the same vertices, and the assigned values are the same.
 use Rattle.std.proofs.Common.{◌≡◌, ℕ, List, [], ◌∷◌, map, Option, Some, None, refl, ap}
 use Rattle.std.specs.Option.{option_map}
 use Rattle.gq_tree.specs.declared.body.SetOp.{SetOp}

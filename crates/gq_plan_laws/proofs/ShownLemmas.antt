@@ -1,4 +1,4 @@
--- ShownLemmas: what a scope shows is found, and names that come into view.
+-- ShownLemmas: the names that a scope shows are found, and names that come into view.
 use Rattle.std.proofs.Common.{◌≡◌, ℕ, Bool, true, false, List, Option, Some, None, Ok, Err, refl, sym, ap, subst}
 use Rattle.std.specs.Prelude.{not, is_some, if◌then◌else◌, bytes_eq}
 use Rattle.std.specs.Option.{option_map}
@@ -39,7 +39,7 @@ none_if (Some a) h = cc
 pub entry_none : (s : Scope Bytes) (x : Bytes) (q : Bool) → new_name s x ≡ Ok q → entry s x ≡ None
 entry_none s x q h = none_if (entry s x) (unless_ok (NameTwice (said s x)) (not (is_some (entry s x))) q h)
 
--- a set alone is marked
+-- only a set is marked
 pub set_is_marked : (slot : Option ℕ) (o : Option NameBinding) (e : Option Entry) → IsShown slot o e → marked_in o ≡ is_set e
 set_is_marked slot o (Some (Variable b)) h = ap marked_in h.1
 set_is_marked slot o (Some (SetVariable types)) h = ap marked_in h.1
@@ -49,7 +49,7 @@ set_is_marked slot o (Some (Accumulator k attached)) h = ap marked_in h.0
 set_is_marked slot o (Some TupleName) h = ap marked_in h
 set_is_marked slot o None h = ap marked_in h
 
--- what may come into view with a mark
+-- an entry that may come into view with a mark
 abbrev pub Marks : Bool → Entry → Type 0
 Marks marked (Variable b) = marked ≡ false
 Marks marked (SetVariable types) = marked ≡ true
@@ -72,7 +72,7 @@ one_more slot false false h seen o e p new old = old
 one_more slot true false h seen o e p new old = absurd (cc h)
 one_more slot false true h seen o e p new old = absurd (cc h)
 
--- ---- where a scope is shown
+-- ---- when a scope is shown
 
 module _ (g : Globals) (s : Scope Bytes) (n : Named) (shows : Shows g s n) where
   pub slot_has : (attached : Bool) (a : Bytes) (kind : Accum) → declared_kind s attached a ≡ Ok kind → Has (g.slot a)
@@ -178,6 +178,6 @@ module _ (g : Globals) (s : Scope Bytes) (n : Named) (shows : Shows g s n) where
         (marked_shown (g.slot y) marked e n.next h) (shows.names y);
   }
 
-  -- where as much is in view
+  -- if the same names are in view
   pub shows_same : (m : Named) → m.visible ≡ n.visible → Shows g s m
   shows_same m e = record { words = shows.words; names = λ x. subst (λ v. IsShown (g.slot x) (found_in v x) (entry s x)) (sym e) (shows.names x) }

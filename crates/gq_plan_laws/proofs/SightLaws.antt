@@ -57,7 +57,7 @@ module _ {M N : Type 0} (s : Sides M N) (w : WordsAlike s) where
       go : (o p : Option ℕ) → p ≡ o → at_new p ≡ option_map (new_slot s) (at_old o)
       go o p e = ap at_new e ∙ same_place o
 
-  -- what an accumulator reads as, where it is there
+  -- the value of an accumulator, if it exists
   abbrev read_in : {N : Type 0} → ℕ → Option (Slot N) → Outcome
   read_in v o = found o >>= λ t. found (slice_get t.contents v) >>= λ c. Gives (read t.kind c)
 
@@ -70,7 +70,7 @@ module _ {M N : Type 0} (s : Sides M N) (w : WordsAlike s) where
 
   -- ---- fields
 
-  -- what is found goes on alike, where that is known of it
+  -- an option continues alike, if that is known of its value
   pub found_same : {F A B : Type 0} (o : Option A) (f g : A → Answer F B) → ((a : A) → o ≡ Some a → f a ≡ g a) → (found o >>= f) ≡ (found o >>= g)
   found_same None f g h = refl
   found_same (Some a) f g h = h a refl

@@ -1,4 +1,4 @@
--- SoundLaws: what is declared so far stands for what names are.
+-- SoundLaws: the declarations so far represent the meaning of names.
 use Rattle.std.proofs.Common.{◌≡◌, ℕ, Bool, true, false, List, [], ◌∷◌, ◌++◌, length, eq-eqb, ne_eqb, Option, Some, None, refl, sym, ap, ◌∙◌}
 use Rattle.std.proofs.lemmas.Slice.Eq.{bytes_eq-Decides}
 use Rattle.std.specs.Prelude.{if◌then◌else◌, bytes_eq, slice_get, unwrap_or}
@@ -40,7 +40,7 @@ module _ (accums : List Bytes) where
   abbrev Told : Bytes × NameBinding → Type 0
   Told e = slice_get accums e.1.place ≡ Some e.0
 
-  -- a name that is found is told at its slot
+  -- the slot of a name that is found has that name
   told_at : (es : List (Bytes × NameBinding)) (x : Bytes) (s : NameBinding) → found_in es x ≡ Some s → AllOf Told es → slice_get accums s.place ≡ Some x
   told_at [] x s h u = cc
   told_at (e ∷ es) x s h u = go (bytes_eq e.0 x) refl h (told_at es x s)
@@ -101,7 +101,7 @@ module _ (accums : List Bytes) where
           go true d = let u : None ≡ Some e.1 = sym none ∙ (ap (seen_at slots) ((bytes_eq-Decides x e.0).0 d) ∙ found) in absurd (cc u)
           go false d = found
 
-  -- the names of slots stand in order
+  -- the names of slots are in order
   pub slice_at : (done : List Bytes) (x : Bytes) (more : List Bytes) → slice_get (done ++ x ∷ more) (length done) ≡ Some x
   slice_at [] x more = refl
   slice_at (d ∷ done) x more = slice_at done x more

@@ -1,4 +1,4 @@
--- StepHas: statements that are planned where typing lets them pass.
+-- StepHas: statements that have a plan if they are well typed.
 use Rattle.std.proofs.Common.{◌≡◌, ℕ, Bool, true, false, List, [], ◌∷◌, Option, Some, None, Ok, Err, refl, sym, ap, subst, ◌∙◌}
 use Rattle.std.specs.Prelude.{if◌then◌else◌, is_some}
 use Rattle.gq_tree.specs.Tree.{Tree, Name}
@@ -94,7 +94,7 @@ module _ (g : Globals) (s : Scope Bytes) (n : Named) (shows : Shows g s n) where
   change_has kind (Adds x) q h = has_one (resolved_input k x) change.Feed (input_has (here s) k (knows g s n shows InStatement) (Some kind) x q h)
   change_has kind (Puts t) q h = let u = then_ok (settable kind) _ q h in has_one (resolved k t) change.Set (converting_has (here s) k (knows g s n shows InStatement) u.0 t q u.2)
 
-  -- ---- what FOREACH goes over, and what is printed
+  -- ---- the values of FOREACH, and the items of PRINT
 
   over_has : (o : Over Bytes) (b : Base) → variable_type (here s) o ≡ Ok b → Has (resolved_over k o)
   over_has (Elements t) b h = let u = then_ok (typing (here s) t) element_of b h in has_one (resolved k t) over.Elements (tree_has (here s) k (knows g s n shows InStatement) t u.0 u.1)
@@ -137,9 +137,9 @@ module _ (g : Globals) (s : Scope Bytes) (n : Named) (shows : Shows g s n) where
       has_then (place_at n x) _ (set_place g s n shows x v.0.0 v.0.1) (λ p e. has_one (each_resolved (resolved_keyed k) items) (λ columns. item.Columns p columns key)
       (through_has (resolved_keyed k) (typing_item (names_at s (InSelection x))) (keyed_has x) items [] u.0.0 v.1))
 
-  -- ---- what is assigned
+  -- ---- the right side of an assignment
 
-  -- as much is in view behind it
+  -- the same names are in view after it
   pub record RightHas (r : Right Bytes) : Type 0 where
     pub behind : Named
     pub planned : code.Right
@@ -177,14 +177,14 @@ module _ (g : Globals) (s : Scope Bytes) (n : Named) (shows : Shows g s n) where
 refused : {A : Type 0} {e : TypingFault} {t : A} → ◌≡◌ {A = Judged A} (Err e) (Ok t) → ⊥
 refused h = cc
 
--- where statements go on
+-- the state in which statements continue
 record GoesOn (g : Globals) (t : Scope Bytes) (o : Option (Behind Step)) : Type 0 where
   behind : Named
   step : Step
   is : o ≡ Some (behind, step)
   shows : Shows g t behind
 
--- the place of what is assigned
+-- the place of the assigned name
 record TargetHas (g : Globals) (t : Scope Bytes) (m : Named) (x : Bytes) (set : Bool) : Type 0 where
   behind : Named
   place : ℕ
@@ -192,7 +192,7 @@ record TargetHas (g : Globals) (t : Scope Bytes) (m : Named) (x : Bytes) (set : 
   shows : Shows g t behind
 
 module _ (g : Globals) (s : Scope Bytes) (n : Named) (shows : Shows g s n) where
-  -- a name that is in view stays what it is
+  -- a name that is in view keeps its entry
   old_target : (m : Named) → Shows g s m → (x : Bytes) (set : Bool) → InView (seen_at m x) set → TargetHas g s m x set
   old_target m here x set v = record {
     behind = m;
@@ -220,14 +220,14 @@ module _ (g : Globals) (s : Scope Bytes) (n : Named) (shows : Shows g s n) where
     shows = w.shows;
   }
 
-  -- behind the right side as much is in view
+  -- after the right side the same names are in view
   behind_right : (r : Right Bytes) (h : RightHas g s n shows r) → Shows g s h.behind
   behind_right r h = shows_same g s n shows h.behind h.same
 
   seen_behind : (r : Right Bytes) (h : RightHas g s n shows r) (x : Bytes) (e : Option Entry) → IsShown (g.slot x) (seen_at n x) e → IsShown (g.slot x) (seen_at h.behind x) e
   seen_behind r h x e d = subst (λ v. IsShown (g.slot x) (seen_at (record { visible = v; next = h.behind.next }) x) e) (sym h.same) d
 
-  -- without types behind the name
+  -- without types after the name
   assign_has : (x : Bytes) (r : Right Bytes) (t : Scope Bytes) (e : Option Entry) (o : Option (Judged (List ℕ))) → IsShown (g.slot x) (seen_at n x) e → RightFits g s n shows r o → typing_assign s x r e o ≡ Ok t → GoesOn g t (resolved_assign g n x None r)
   assign_has x r t (Some (SetVariable fixed)) (Some set) d f h =
       let u = after_ok (set >>= kept_within s x fixed) (Ok s) t h in
@@ -307,7 +307,7 @@ locals_have g b (x ∷ xs) s t n shows h =
 
 -- ---- statements
 
--- what stands behind ELSE
+-- the statements after ELSE
 record BodyHas (n : Named) (o : Option (Behind (List Step))) : Type 0 where
   behind : Named
   planned : List Step

@@ -23,7 +23,7 @@ module _ {M N : Type 0} (s : Sides M N) (w : WordsAlike s) where
   abbrev References : Type 0
   References = List (N × Thing)
 
-  -- ---- what is looked for
+  -- ---- look-ups
 
   pub seen : (view : View M N) (as' : Names) (bs : References) → AreDistinct s.fixed view → NamesAlike s view as' bs → LooksAlike s w (reference_at s.fixed view) as' bs
   seen view as' bs d h = looks s w (reference_at s.fixed view) view as' bs (all_told s w view d) h
@@ -77,7 +77,7 @@ module _ {M N : Type 0} (s : Sides M N) (w : WordsAlike s) where
   changed_alike (v ∷ view) [] bs x u thing e t i h = absurd h
   changed_alike (v ∷ view) (a ∷ as') [] x u thing e t i h = absurd h
 
-  -- what is there under a reference is what is there under its name, where it is visible
+  -- a visible name and its reference have the same thing
   pub at_target : (view : View M N) (as' : Names) (bs : References) (x : M) (r : N) (q : Bool) → AreDistinct s.fixed view → NamesAlike s view as' bs → TargetStands s.fixed view x r q → under like r bs ≡ under same x as'
   at_target view as' bs x r q d h t = go (visible_at s.fixed view x) refl t
     where
@@ -158,7 +158,7 @@ module _ {M N : Type 0} (s : Sides M N) (w : WordsAlike s) where
   length_both [] view = omega arith
   length_both (v ∷ added) view = let r = length_both added view in omega (arith, r)
 
-  -- behind a body only what was visible before it is
+  -- after a body only the names that were visible before it are visible
   pub ended_alike : (added view : View M N) (before as' : Names) (old bs : References) → NamesAlike s view before old → NamesAlike s (added ++ view) as' bs
       → NamesAlike s view (drop (length as' - length before) as') (drop (length bs - length old) bs)
   ended_alike added view before as' old bs h g =

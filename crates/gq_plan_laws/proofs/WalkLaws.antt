@@ -1,4 +1,4 @@
--- WalkLaws: by references a walk goes along the same types to the same types.
+-- WalkLaws: by references a walk takes the same edge types to the same vertex types.
 use Rattle.std.proofs.Common.{◌≡◌, ℕ, List, [], ◌∷◌, map, Option, Some, None, refl, ap, ◌∙◌}
 use Rattle.std.specs.Prelude.{filter_map}
 use Rattle.std.specs.Option.{option_map}

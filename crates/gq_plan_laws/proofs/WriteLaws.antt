@@ -26,7 +26,7 @@ module _ {M N : Type 0} (s : Sides M N) (w : WordsAlike s) where
   changed_are g v zero (t ∷ slots) h = (record { same = h.0.same; said = h.0.said }, h.1)
   changed_are g v (suc n) (t ∷ slots) h = (h.0, changed_are g v n slots h.1)
 
-  -- what is found under another form goes on alike
+  -- an option mapped to another form continues alike
   found_alike : {F A B C D : Type 0} (R : C → D → Type 0) (h : A → B) (f : A → Answer F C) (g : B → Answer F D) (o : Option A) (p : Option B) → p ≡ option_map h o → ((a : A) → AnswersAlike R (f a) (g (h a))) → AnswersAlike R (found o >>= f) (found p >>= g)
   found_alike {F = F} {A = A} R h f g o p e k = subst (λ p. AnswersAlike R (found o >>= f) (found {F = F} p >>= g)) (sym e) (go o)
     where

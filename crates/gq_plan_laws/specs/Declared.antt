@@ -1,4 +1,4 @@
--- Declared: what is declared so far in a query, and what stands for each name then.
+-- Declared: the declarations so far in a query, and the reference of each name then.
 use Rattle.std.specs.Prelude.{◌≡◌, List, [], ◌∷◌, ◌++◌, Some, slice_get}
 use Rattle.gq_scope.specs.declared.places.NameBinding.{NameBinding}
 use Rattle.gq_scope.specs.Named.{Named, seen_at}

@@ -1,4 +1,4 @@
--- Laws: what is found for names is what they are.
+-- Laws: the references found for names denote what the names denote.
 use Rattle.std.specs.Prelude.{List}
 use Rattle.gq_scope.specs.Named.{Named}
 use Rattle.gq_rules_typing.specs.Statements.{Bytes}
@@ -8,6 +8,6 @@ use Rattle.gq_plan_ir.specs.Alike.{WordsAlike}
 use Rattle.gq_plan_expr.specs.Found.{TupleTypes}
 use Rattle.gq_plan_laws.specs.Sides.{sides_of}
 
--- references stand for what names do
+-- references represent names
 abbrev pub FoundLaw : Type 0
 FoundLaw = (g : Graph) (clock : Calendar) (ts : TupleTypes) (accums : List Bytes) (slots : Named) → WordsAlike (sides_of g clock ts accums slots)

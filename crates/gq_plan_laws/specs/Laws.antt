@@ -1,4 +1,4 @@
--- Laws: what typing lets pass has a plan.
+-- Laws: well-typed statements and queries have a plan.
 use Rattle.std.specs.Prelude.{◌≡◌, List, Some, Ok}
 use Rattle.gq_scope.specs.Named.{Named}
 use Rattle.gq_rules_typing.specs.Statements.{Bytes, Stmts, Query}
@@ -13,7 +13,7 @@ use Rattle.gq_plan_stmt.specs.Steps.{resolved_stmts}
 use Rattle.gq_plan_laws.specs.PlannedLaws.{IsPlanned}
 use Rattle.gq_plan_laws.specs.Shown.{Shows}
 
--- the statements of the plan, with the names in view behind them
+-- the statements of the plan, with the names in view after them
 pub record Planned (g : Globals) (n : Named) (body : Stmts Bytes) (t : Scope Bytes) : Type 0 where
   pub behind : Named
   pub steps : List Step

@@ -1,4 +1,4 @@
--- Planned: when the definitions of a plan are those of a query: each sees what is declared before it.
+-- Planned: when the definitions of a plan are those of a query: each sees the declarations before it.
 use Rattle.std.specs.Prelude.{◌≡◌, ℕ, Bool, List, [], ◌∷◌, ◌++◌, length, Option, Some, None, Ok}
 use Rattle.gq_tree.specs.Tree.{Tree}
 use Rattle.gq_value.specs.declared.kind.BaseType.{BaseType}
@@ -19,7 +19,7 @@ use Rattle.gq_plan_expr.specs.Globals.{known_in}
 use Rattle.gq_plan_stmt.specs.Parts.{resolved_base}
 use Rattle.gq_plan_expr.specs.Found.{TupleTypes, plain_fields, plain_tuples, globals_of}
 
--- what is declared so far: tuple types and accumulators
+-- the declarations so far: tuple types and accumulators
 pub record Heads : Type 0 where
   pub tuples : TupleTypes
   pub slots : Named
@@ -34,7 +34,7 @@ abbrev pub with_tuple : Heads → Bytes → List (Bytes × BaseType) → Heads
 with_tuple h name fields = record { tuples = h.tuples ++ (name, fields) ∷ []; slots = h.slots }
 
 module _ (sorts : Sorts) (n : Named) where
-  -- an accumulator: its slot is the next one, and its opening sees what is declared before it
+  -- an accumulator: its slot is the next one, and its opening sees the declarations before it
   pub record AccumPlanned (h : Heads) (a : Bool × Bytes × Option (Tree Bytes)) (b : code.Accum) : Type 0 where
     pub attached : b.attached ≡ a.0
     pub slot : b.slot ≡ h.slots.next

@@ -1,4 +1,4 @@
--- Laws: when a plan is made of a query, and the law that it then stands for it.
+-- Laws: when a plan is made of a query, and the law that it then represents it.
 use Rattle.std.specs.Prelude.{◌≡◌, List, [], ◌∷◌, Some}
 use Rattle.gq_scope.specs.Named.{Named}
 use Rattle.gq_rules_typing.specs.Statements.{Bytes, KindTree, Parameter, QueryOver}
@@ -41,6 +41,6 @@ pub record IsPlanned (sorts : Sorts) (q : QueryOver Bytes (KindTree Bytes)) (p :
   pub vertices : p.vertices ≡ sorts.own_vertices
   pub edges : p.edges ≡ sorts.own_edges
 
--- it stands for the query over every graph of these types, so that it prints what the query prints
+-- it represents the query over every graph of these types, so that it prints what the query prints
 abbrev pub PlanLaw : Type 0
 PlanLaw = (g : Graph) (clock : Calendar) (q : QueryOver Bytes (KindTree Bytes)) (p : Plan) → IsPlanned g.sorts q p → QueryStands (ground_of g clock (accum_names p)) kind_of q (view_plan p)

@@ -1,4 +1,4 @@
--- Shown: when visible names with their places, and what is found for other names, are those of a scope.
+-- Shown: when visible names with their places, and the references found for other names, are those of a scope.
 use Rattle.std.specs.Prelude.{◌≡◌, ℕ, Bool, true, false, List, Option, Some, None, bytes_eq}
 use Rattle.gq_scope.specs.declared.places.NameBinding.{NameBinding}
 use Rattle.gq_scope.specs.Named.{Named, seen_at}
@@ -14,7 +14,7 @@ use Rattle.gq_plan_expr.specs.Globals.{Globals}
 abbrev pub InView : Option NameBinding → Bool → Type 0
 InView o marked = (place : ℕ) × (o ≡ Some (record { place = place; marked = marked }))
 
--- what a name is: variables, sets and aliases have places, and a set is marked; an accumulator has a slot
+-- the binding of a name: variables, sets and aliases have places, and a set is marked; an accumulator has a slot
 abbrev pub IsShown : Option ℕ → Option NameBinding → Option Entry → Type 0
 IsShown slot o (Some (Variable b)) = InView o false
 IsShown slot o (Some (SetVariable types)) = InView o true
@@ -24,7 +24,7 @@ IsShown slot o (Some (Accumulator k attached)) = (o ≡ None) × ((n : ℕ) × (
 IsShown slot o (Some TupleName) = o ≡ None
 IsShown slot o None = o ≡ None
 
--- what typing knows under a name is found for it
+-- the meaning of a name in typing is found for it
 pub record FindsWords (g : Globals) (setting : Setting Bytes) : Type 0 where
   pub same : (a b : Bytes) → setting.words.same a b ≡ bytes_eq a b
   pub function : (f : Bytes) (w : words.Function) → function_named setting f ≡ Some w → (h : Function) × (g.function f ≡ Some h)

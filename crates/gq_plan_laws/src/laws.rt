@@ -1,7 +1,8 @@
-// What is true of typed statements and queries.
+// Laws of typed statements and queries.
 ghost use Rattle.gq_plan_laws.specs.Laws.{StatementsLaw, QueryLaw};
 
-/// Does nothing. Its contract is a law: statements that typing lets pass have a plan, behind which names are shown as typing has them.
+/// Does nothing. Its contract is a law: well-typed statements have a plan, after which names are shown as typing has
+/// them.
 pub fn typed_statements_have_a_plan()
     ensures { StatementsLaw }
 {}

@@ -3,10 +3,10 @@
 //! Nothing here runs: each function states a law in its contract. The laws reduce the correctness of planning
 //! to name resolution: `gq_plan` has to show only that its plan is made of the query (`IsPlanned`).
 //!
-//! Read `specs/Found.antt` of `gq_plan_expr` first, what a name resolves to, then `specs/PlannedLaws.antt`
-//! (`IsPlanned`) with `specs/Planned.antt`. `specs/RefinementLaws.antt` says that a run with references gives
-//! what the run with names gives, `specs/Sides.antt` and `specs/FoundLaws.antt` that references stand for
-//! what names do, and `specs/Laws.antt` with `specs/Shown.antt` that typed queries have plans. Each has its
+//! Read `specs/Found.antt` of `gq_plan_expr` first (what a name resolves to), then `specs/PlannedLaws.antt`
+//! (`IsPlanned`) with `specs/Planned.antt`. `specs/RefinementLaws.antt` says that a run with references has the
+//! same result as the run with names, `specs/Sides.antt` and `specs/FoundLaws.antt` that references denote
+//! what names denote, and `specs/Laws.antt` with `specs/Shown.antt` that typed queries have plans. Each has its
 //! module: `src/found.rt`, `src/planned.rt`, `src/refinement.rt`, `src/laws.rt`.
 #![tactic(auto)]
 

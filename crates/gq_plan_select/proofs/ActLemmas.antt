@@ -1,4 +1,4 @@
--- ActLemmas: the branches of an IF, planned from the first on.
+-- ActLemmas: the branches of an IF, planned in order.
 use Rattle.std.proofs.Common.{◌≡◌, ◌<◌, ◌≤◌, List, [], ◌∷◌, ◌++◌, length, arith, Option, Some, None, refl, ap}
 use Rattle.gq_tree.specs.declared.select.ActTree as code
 use Rattle.gq_rules_typing.specs.SelectViews.{view_acts}
@@ -7,7 +7,7 @@ use Rattle.gq_plan_ir.specs.declared.block.Act.{Act}
 use Rattle.gq_plan_expr.specs.Resolved.{◌>>=◌}
 use Rattle.gq_plan_select.specs.Resolved.{Branches, else_of, if_of, branch_and}
 
--- what came before, with what is left
+-- the branches already planned, followed by the rest
 abbrev pub after : List (Expr × List Act) → Option Branches → Option Branches
 after done o = o >>= λ b. Some (done ++ b.0, b.1)
 

@@ -1,4 +1,4 @@
--- BlockLaws: the blocks of a plan are those of the query with references for names.
+-- BlockLaws: the blocks of a plan are those of the query with references in place of names.
 use Rattle.std.proofs.Common.{◌≡◌, ℕ, Bool, true, false, List, [], ◌∷◌, map, Option, Some, None, refl, sym, ap, ◌∙◌}
 use Rattle.std.specs.Prelude.{if◌then◌else◌}
 use Rattle.std.specs.Option.{option_map}
@@ -48,7 +48,7 @@ two f a c b d e g = ap (λ x. f x b) e ∙ ap (f c) g
 pub three : {A B C D : Type 0} (f : A → B → C → D) (a a' : A) (b b' : B) (c c' : C) → a ≡ a' → b ≡ b' → c ≡ c' → f a b c ≡ f a' b' c'
 three f a a' b b' c c' e g h = ap (λ x. f x b c) e ∙ two (f a') b b' c c' g h
 
--- what may be left out, and lists
+-- optional parts, and lists
 pub there_planned : {A B C : Type 0} (f : A → Option B) (v : B → C) (g : A → C) → ((a : A) (b : B) → f a ≡ Some b → v b ≡ g a) → (o : Option A) (p : Option B) → if_there f o ≡ Some p → option_map v p ≡ option_map g o
 there_planned f v g all None p h = ap (option_map v) (sym (some_inj h))
 there_planned f v g all (Some a) p h = let u = then_some (f a) _ p h in ap (option_map v) (sym (some_inj u.2)) ∙ ap Some (all a u.0 u.1)
@@ -60,7 +60,7 @@ each_planned f v g all (a ∷ rest) bs h =
     let w = then_some (each_resolved f rest) _ bs u.2 in
     ap (map v) (sym (some_inj w.2)) ∙ two (λ x xs. x ∷ xs) (v u.0) (g a) (map v w.0) (map g rest) (all a u.0 u.1) (each_planned f v g all rest w.0 w.1)
 
--- what is found is what the reference says
+-- if a name is found, the reference is what was found
 pub found_is : {A : Type 0} (f : A → Reference) (o : Option A) (a : A) → o ≡ Some a → f a ≡ or_nothing f o
 found_is f o a h = sym (ap (or_nothing f) h)
 
@@ -139,7 +139,7 @@ module _ (k : Known) where
         ap {A = Branches} (λ c. view_choices c.0 c.1) (sym (some_inj w.2))
         ∙ three when (view u.0) (renamed r t) (view_acts v.0) (renamed_acts r acts) (view_choices w.0.0 w.0.1) (renamed_choices r rest) (planned k t u.0 u.1) (acts_planned acts v.0 v.1) (choices_planned rest w.0 w.1)
 
-  -- ---- expressions that may be left out, and keys
+  -- ---- optional expressions, and keys
 
   pub if_planned : (t : Option (Tree Bytes)) (e : Option Expr) → if_there (resolved k) t ≡ Some e → option_map view e ≡ option_map (renamed r) t
   if_planned t e h = there_planned (resolved k) view (renamed r) (planned k) t e h

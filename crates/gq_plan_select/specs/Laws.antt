@@ -1,4 +1,4 @@
--- Laws: what the blocks of a plan are: those of the query with references for names.
+-- Laws: the blocks of a plan are those of the query with references in place of names.
 use Rattle.std.specs.Prelude.{◌≡◌, Some}
 use Rattle.gq_rules_typing.specs.Statements.{Bytes}
 use Rattle.gq_rules_typing.specs.Selecting as plain

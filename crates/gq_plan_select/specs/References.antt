@@ -1,4 +1,4 @@
--- References: what stands for the names of a SELECT.
+-- References: the references that replace the names of a SELECT.
 use Rattle.std.specs.Prelude.{if◌then◌else◌}
 use Rattle.gq_rules_typing.specs.Statements.{Bytes}
 use Rattle.gq_plan_ir.specs.Reference.{Reference, VertexType, EdgeType}

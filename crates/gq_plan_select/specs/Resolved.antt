@@ -1,4 +1,4 @@
--- Resolved: the acts and SELECTs of a plan, from those with names; none where something stands for nothing.
+-- Resolved: the acts and SELECTs of a plan, from those with names; None if something isn't found.
 use Rattle.std.specs.Prelude.{ℕ, Bool, if◌then◌else◌, List, [], ◌∷◌, map, Option, Some, None}
 use Rattle.std.specs.Option.{option_map}
 use Rattle.gq_tree.specs.View.{view}
@@ -35,9 +35,9 @@ use Rattle.gq_plan_select.specs.declared.selects.Clauses.{Clauses}
 use Rattle.gq_plan_select.specs.declared.selects.Tail.{Tail}
 use Rattle.gq_plan_expr.specs.Globals.{Sees}
 
--- ---- parts that may be left out, and lists
+-- ---- optional parts, and lists
 
--- what is left out is nothing
+-- a part that is left out stays left out
 abbrev pub if_there : {A B : Type 0} → (A → Option B) → Option A → Option (Option B)
 if_there f None = Some None
 if_there f (Some a) = f a >>= λ b. Some (Some b)
@@ -57,7 +57,7 @@ view_inputs trees = inputs_of (map view_input trees)
 abbrev pub view_steps : List StepTree → List (plain.Step Bytes)
 view_steps trees = map view_step trees
 
--- IF and each ELSE IF, and what stands behind ELSE
+-- IF and each ELSE IF, and the acts after ELSE
 abbrev pub view_choices : List (Node × List code_act.ActTree) → Option (List code_act.ActTree) → Choices Bytes
 view_choices branches others = choices_of (map {A = Node × List (plain.Act Bytes)} (λ b. (view b.0, b.1)) (map {A = Node × List code_act.ActTree} (λ b. (b.0, map view_act b.1)) branches)) (option_map (map view_act) others)
 
@@ -76,9 +76,9 @@ abbrev pub resolved_change : Known → plain.Change Bytes → Option Change
 resolved_change k (plain.Adds x) = resolved_input k x >>= λ f. Some (change.Feed f)
 resolved_change k (plain.Puts t) = resolved k t >>= λ e. Some (change.Set e)
 
--- ---- acts; ELSE with no act is as none
+-- ---- acts; ELSE without acts is the same as no ELSE
 
--- IF and each ELSE IF with its condition, and what stands behind ELSE
+-- IF and each ELSE IF with its condition, and the acts after ELSE
 abbrev pub Branches : Type 0
 Branches = List (Expr × List Act) × Option (List Act)
 
@@ -118,7 +118,7 @@ resolved_hop k s h =
     resolved_types s.vertex_type h.targets >>= λ targets. if_there k.place h.target_alias >>= λ target_alias.
     Some (record { edges = edges; edge_alias = edge_alias; targets = targets; target_alias = target_alias })
 
--- an edge type with the way in which it is walked
+-- an edge type with the direction in which it is walked
 abbrev pub resolved_way : Sees → Way × Bytes → Option (Way × ℕ)
 resolved_way s w = s.edge_type w.1 >>= λ t. Some (w.0, t)
 
@@ -139,11 +139,11 @@ resolved_walk k s (plain.Path steps) = each_resolved (resolved_step k s) steps >
 abbrev pub resolved_source : Known → Sees → Bytes → Option SelectSource
 resolved_source k s x = if s.is_set x then (k.place x >>= λ n. Some (source.Set n)) else (s.vertex_type x >>= λ t. Some (source.Type t))
 
--- a key of ORDER BY, with whether it descends
+-- a key of ORDER BY, and whether it is descending
 abbrev pub resolved_key : Known → Tree Bytes × Bool → Option (Expr × Bool)
 resolved_key k key = resolved k key.0 >>= λ e. Some (e, key.1)
 
--- where it begins and goes, and its aliases
+-- the source and the pattern of a SELECT, and its aliases
 abbrev pub resolved_from : Known → Sees → Select Bytes → Option Walked
 resolved_from k s q =
     k.place q.selected >>= λ selected. resolved_source k s q.source >>= λ from. if_there k.place q.alias >>= λ alias. resolved_walk k s q.walk >>= λ way.

@@ -14,7 +14,7 @@ use gq_plan_ir::Act;
 use gq_tree::ChangeTree;
 use std::alloc::Global;
 
-/// The acts of a clause, where there is one.
+/// Plans the acts of a clause, if there is one.
 pub(crate) fn acts_if(
     alloc: Global,
     names: &NameResolver<'_>,
@@ -28,7 +28,7 @@ pub(crate) fn acts_if(
     }
 }
 
-/// A change of the accumulator of a name, at the alias of a name.
+/// Plans a change of a named accumulator at a named alias.
 fn at_alias(
     alloc: Global,
     names: &NameResolver<'_>,
@@ -44,7 +44,7 @@ fn at_alias(
     Ok(Act::Attached(place, slot, planned))
 }
 
-/// A change of the global accumulator of a name.
+/// Plans a change of a named global accumulator.
 fn at_global(
     alloc: Global,
     names: &NameResolver<'_>,
@@ -58,7 +58,7 @@ fn at_global(
     Ok(Act::Global(slot, planned))
 }
 
-/// The slot of an accumulator.
+/// Returns the slot of an accumulator.
 pub(crate) fn plan_slot(names: &NameResolver<'_>, name: &str) -> Result<u32, PlanFault>
     ensures { Answers ((known_of names.now).slot name.now) result }
 {
@@ -113,7 +113,7 @@ fn act(item: &gq_tree::ActTree, alloc: Global, names: &NameResolver<'_>) -> Resu
     }
 }
 
-/// The acts behind ELSE; none is as no ELSE.
+/// Plans the acts after ELSE; none is the same as no ELSE.
 #[cycle(acts)]
 fn else_acts(
     list: &[gq_tree::ActTree],

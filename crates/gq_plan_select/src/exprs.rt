@@ -1,4 +1,4 @@
-// Expressions that may be left out, and lists of them.
+// Optional expressions, and lists of expressions.
 ghost use Rattle.std.specs.Option.{option_map, option_copied};
 ghost use Rattle.gq_tree.specs.View.{view, views};
 ghost use Rattle.gq_rules_typing.specs.SelectViews.{view_order};
@@ -12,7 +12,7 @@ use gq_plan_ir::Expr;
 use gq_tree::Node;
 use std::alloc::Global;
 
-/// The expression of a plan, where there is one.
+/// Plans an expression, if there is one.
 pub fn plan_if(
     alloc: Global,
     names: &NameResolver<'_>,
@@ -29,7 +29,7 @@ pub fn plan_if(
     }
 }
 
-/// Expressions, one after the other.
+/// Plans expressions, in order.
 #[tactic(auto, using(gq_plan_expr::proofs::ListLemmas::list_laws))]
 pub(crate) fn exprs(
     alloc: Global,
@@ -46,7 +46,7 @@ pub(crate) fn exprs(
     Ok(planned)
 }
 
-/// Keys of ORDER BY, each with whether it descends.
+/// Plans keys of ORDER BY, each with whether it is descending.
 #[tactic(auto, using(gq_plan_expr::proofs::ListLemmas::list_laws))]
 fn keys(
     alloc: Global,
@@ -63,7 +63,7 @@ fn keys(
     Ok(planned)
 }
 
-/// ORDER BY, where there is one.
+/// Plans ORDER BY, if there is one.
 pub(crate) fn order(
     alloc: Global,
     names: &NameResolver<'_>,

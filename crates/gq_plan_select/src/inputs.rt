@@ -1,4 +1,4 @@
-// What accumulators are fed, and changes of them.
+// Inputs of accumulators, and changes of accumulators.
 ghost use Rattle.gq_rules_typing.specs.SelectViews.{inputs_of, view_input, view_change};
 ghost use Rattle.gq_plan_expr.specs.Names.{known_of};
 ghost use Rattle.gq_plan_expr.specs.Resolved.{Answers};
@@ -11,9 +11,10 @@ use gq_plan_ir::{Change, Feed};
 use gq_tree::InputTree;
 use std::alloc::Global;
 
-/// The change of an accumulator in a plan. It takes some frames of the stack for each level of the tree.
+/// Plans the change of an accumulator. It takes some stack frames for each level of the tree.
 ///
-/// Unknown where something stands for nothing, which no well typed query has. OutOfMemory may come at any time.
+/// Returns `Unknown` if something isn't found, which doesn't happen in a well typed query. `OutOfMemory` may occur at
+/// any time.
 pub fn plan_change(
     alloc: Global,
     names: &NameResolver<'_>,

@@ -3,7 +3,7 @@
 //!
 //! Names are resolved by a `NameResolver` of `gq_plan_expr`, with the aliases of the SELECT in view.
 //!
-//! Read `specs/References.antt` first, what stands for names, then `specs/Resolved.antt`, the block of the
+//! Read `specs/References.antt` first, the references of names, then `specs/Resolved.antt`, the block of the
 //! plan, and `specs/Laws.antt`: it is the SELECT of the query with references for names. The code begins in
 //! `src/selects.rt`; `src/walks.rt` plans patterns, `src/acts.rt` and `src/inputs.rt` the statements of
 //! ACCUM.

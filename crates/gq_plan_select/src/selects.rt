@@ -13,7 +13,7 @@ use gq_plan_ir::{Act, Block, Expr, SelectSource, Walk};
 use gq_tree::SelectTree;
 use std::alloc::Global;
 
-/// Where a SELECT begins and goes, with its aliases.
+/// The source and the pattern of a SELECT, with its aliases.
 #[derive(Drop)]
 pub(crate) struct Walked {
     pub(crate) selected: u32,
@@ -38,10 +38,11 @@ pub(crate) struct Tail {
     pub(crate) limit: Option<Expr>,
 }
 
-/// The block of a plan for the tree of a SELECT, where `names` says what each name stands for, with the SELECT's aliases in view. It
-/// takes some frames of the stack for each level of the tree, and none for the length of a list.
+/// Plans a SELECT, given its tree; `names` resolves its names, with the SELECT's aliases in view. It
+/// takes some stack frames for each level of the tree, and none for the length of a list.
 ///
-/// Unknown where something stands for nothing, which no well typed query has. OutOfMemory may come at any time.
+/// Returns `Unknown` if something isn't found, which doesn't happen in a well typed query. `OutOfMemory` may occur at
+/// any time.
 pub fn plan_block(
     alloc: Global,
     names: &NameResolver<'_>,
@@ -66,7 +67,7 @@ pub fn plan_block(
     })
 }
 
-/// The set variable or the vertex type that a SELECT begins from.
+/// Returns the set variable or the vertex type that a SELECT begins from.
 fn source(names: &NameResolver<'_>, name: &str) -> Result<SelectSource, PlanFault>
     ensures { Answers (resolved_source (known_of names.now) (sees_of names.now) name.now) result }
 {

@@ -1,4 +1,4 @@
-// Patterns: edges and where they lead.
+// Patterns: edges and their targets.
 ghost use Rattle.gq_rules_typing.specs.SelectViews.{view_types, view_types_if, view_hop, view_step, view_walk};
 ghost use Rattle.gq_plan_expr.specs.Names.{known_of, sees_of};
 ghost use Rattle.gq_plan_expr.specs.Resolved.{Answers};
@@ -11,7 +11,7 @@ use gq_tree::{HopTree, StepTree, Way};
 use gq_value::Txt;
 use std::alloc::Global;
 
-/// The place of a variable, a set or an alias. Unknown where it isn't visible.
+/// Returns the place of a variable, a set or an alias, or `Unknown` if it isn't visible.
 pub fn plan_place(names: &NameResolver<'_>, name: &str) -> Result<u32, PlanFault>
     ensures { Answers ((known_of names.now).place name.now) result }
 {
@@ -21,7 +21,7 @@ pub fn plan_place(names: &NameResolver<'_>, name: &str) -> Result<u32, PlanFault
     }
 }
 
-/// The place of an alias, where there is one.
+/// Returns the place of an alias, if there is one.
 pub(crate) fn alias(names: &NameResolver<'_>, name: &Option<Txt>) -> Result<Option<u32>, PlanFault>
     ensures { Answers (if_there (known_of names.now).place name.now) result }
 {
@@ -34,7 +34,7 @@ pub(crate) fn alias(names: &NameResolver<'_>, name: &Option<Txt>) -> Result<Opti
     }
 }
 
-/// The vertex type of a name.
+/// Returns the vertex type with a name.
 pub(crate) fn vertex_type(names: &NameResolver<'_>, name: &str) -> Result<u32, PlanFault>
     ensures { Answers ((sees_of names.now).vertex_type name.now) result }
 {
@@ -44,7 +44,7 @@ pub(crate) fn vertex_type(names: &NameResolver<'_>, name: &str) -> Result<u32, P
     }
 }
 
-/// The edge type of a name.
+/// Returns the edge type with a name.
 fn edge_type(names: &NameResolver<'_>, name: &str) -> Result<u32, PlanFault>
     ensures { Answers ((sees_of names.now).edge_type name.now) result }
 {
@@ -194,7 +194,7 @@ fn steps(
     Ok(planned)
 }
 
-/// What stands behind the source.
+/// Plans the pattern after the source.
 pub(crate) fn walk(
     alloc: Global,
     names: &NameResolver<'_>,

@@ -1,4 +1,4 @@
--- CycleLemmas: each way through statements of which the first ones are planned.
+-- CycleLemmas: each path through statements of which a prefix is planned.
 use Rattle.std.proofs.Common.{◌≡◌, ◌≢◌, ℕ, ◌+◌, ◌<◌, ◌≤◌, List, [], ◌∷◌, ◌++◌, drop, length, get_or, Option, Some, None, Result, Ok, Err, sym, ap, subst, ◌∙◌}
 use Rattle.std.specs.Prelude.{IsErrAnd}
 use Rattle.std.proofs.lemmas.Result.{err_from_is_err_and}
@@ -117,7 +117,7 @@ if_none g whole m bs others i done l n inv =
     inv ∙ (ap (λ xs. as_if (after_branches done (resolved_branches g m (view_branches xs others)))) (drop_all i bs l)
     ∙ (ap (λ (o : Option (List code.Stmt)). as_if (after_branches done (resolved_branches g m (view_branches [] o)))) n ∙ ap as_if (branches_all m done None)))
 
--- what stands behind ELSE
+-- the statements after ELSE
 else_at : (g : Globals) (whole : Option (Behind Step)) (m : Named) (bs : List (Node × List code.Stmt)) (others : Option (List code.Stmt)) (trees : List code.Stmt) (i : ℕ) (done : List (Expr × List Step)) → length bs ≤ i → others ≡ Some trees
     → whole ≡ as_if (after_branches done (resolved_branches g m (view_branches (drop i bs) others)))
     → whole ≡ as_if (after_branches done (else_of m (view_stmts trees) (body_of m (resolved_stmts g m (view_stmts trees))) >>= λ b. Some (b.0, ([], b.1))))
@@ -151,7 +151,7 @@ pub body_done : (g : Globals) (n m o : Named) (trees : plain.Stmts Bytes) (steps
 body_done g n m o trees steps k h e c =
     ap (body_of n) h ∙ ap {A = Named} {B = Option (Behind (List Step))} (λ p. Some (p, steps)) (sym (c ∙ stmts_cut g n trees m steps k h e))
 
--- what comes into view in a loop, and its body
+-- the names that a loop brings into view, and its body
 abbrev behind_loop : Globals → Named → plain.Stmts Bytes → Over → Behind ℕ → Option (Behind Step)
 behind_loop g n trees p m = body_of n (resolved_stmts g m.0 trees) >>= λ b. Some (b.0, step.Foreach m.1 p b.1)
 

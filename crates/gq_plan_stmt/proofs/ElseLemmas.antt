@@ -1,4 +1,4 @@
--- ElseLemmas: what stands behind ELSE, by whether a statement is there.
+-- ElseLemmas: the plan of ELSE, with and without statements.
 use Rattle.std.proofs.Common.{◌≡◌, ◌<◌, ◌≤◌, List, [], ◌∷◌, length, arith, Option, Some, None, refl}
 use Rattle.gq_tree.specs.declared.body.Stmt as code
 use Rattle.gq_scope.specs.Named.{Named}

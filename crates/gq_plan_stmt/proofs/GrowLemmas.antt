@@ -1,4 +1,4 @@
--- GrowLemmas: names come into view before others, so that a cut to as many as there were gives those back.
+-- GrowLemmas: new names are added in front, so truncating to the former number restores the former names.
 use Rattle.std.proofs.Common.{◌≡◌, ◌≤◌, ◌-◌, ℕ, Bool, true, false, List, [], ◌∷◌, ◌++◌, length, drop, arith, Option, Some, None, refl, sym, ap, ◌∙◌}
 use Rattle.std.proofs.Math.Seq.{drop-append_seam}
 use Rattle.std.proofs.lemmas.List.{length-append}
@@ -29,7 +29,7 @@ append_assoc (x ∷ xs) ys zs = ap (λ l. x ∷ l) (append_assoc xs ys zs)
 pub grows_twice : (n m o : Named) → Grows n m → Grows m o → Grows n o
 grows_twice n m o g h = record { more = h.more ++ g.more; is = h.is ∙ (ap (λ l. h.more ++ l) g.is ∙ append_assoc h.more g.more n.visible) }
 
--- the behind of what is planned
+-- the names in view after what is planned
 pub same_behind : {A : Type 0} (n m : Named) (a b : A) → ◌≡◌ {A = Option (Behind A)} (Some (n, a)) (Some (m, b)) → n ≡ m
 same_behind n m a b h = ap (λ (p : Behind _). p.0) (some_inj h)
 
@@ -88,7 +88,7 @@ locals_grow g n (x ∷ xs) b h =
 pub body_grows : (n : Named) (o : Option (Behind (List Step))) (b : Behind (List Step)) → body_of n o ≡ Some b → b.0.visible ≡ n.visible
 body_grows n o b h = let u = then_some o _ b h in ap (λ (p : Behind (List Step)). p.0.visible) (sym (some_inj u.2))
 
--- what follows keeps what is in view
+-- what follows keeps the names in view
 moved : {A B : Type 0} (n : Named) (o : Option (Behind A)) (f : Behind A → Behind B) (b : Behind B) → ((a : Behind A) → (f a).0 ≡ a.0) → ((a : Behind A) → o ≡ Some a → Grows n a.0) → (o >>= λ a. Some (f a)) ≡ Some b → Grows n b.0
 moved n o f b same grows h =
     let u = then_some o _ b h in
@@ -154,7 +154,7 @@ cut_back n m k g e =
     let gone : length m.visible - k ≡ length g.more = omega (arith, ap length g.is, length-append g.more n.visible, e) in
     ap (λ l. record { visible = l; next = m.next }) (ap (λ i. drop i m.visible) gone ∙ (ap (drop (length g.more)) g.is ∙ drop-append_seam g.more n.visible))
 
--- where a SELECT, a body or a loop was planned from the names before
+-- after a SELECT, a body or a loop was planned from the earlier names
 pub aliases_cut : (n : Named) (q : Select Bytes) (m : Named) (k : ℕ) → with_aliases n q ≡ Some m → k ≡ length n.visible → kept k m ≡ ended n m
 aliases_cut n q m k h e = cut_back n m k (aliases_grow n q m h) e
 

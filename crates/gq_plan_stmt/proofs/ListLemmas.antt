@@ -1,4 +1,4 @@
--- ListLemmas: lists that are planned from the left, with what is in view behind them.
+-- ListLemmas: lists that are planned from the left, with the names in view after them.
 use Rattle.std.proofs.Common.{◌≡◌, ℕ, List, [], ◌∷◌, ◌++◌, Option, Some, None, refl, ap}
 use Rattle.gq_scope.specs.Named.{Named}
 use Rattle.gq_plan_ir.specs.declared.expr.Expr.{Expr}
@@ -14,7 +14,7 @@ append_none : {A : Type 0} (xs : List A) → xs ++ [] ≡ xs
 append_none [] = refl
 append_none (x ∷ xs) = ap (λ l. x ∷ l) (append_none xs)
 
--- what came before, with what is left
+-- the items already planned, followed by the rest
 abbrev pub after_in : {A : Type 0} → List A → Option (Behind (List A)) → Option (Behind (List A))
 after_in done o = o >>= λ b. Some (b.0, done ++ b.1)
 

@@ -1,4 +1,4 @@
--- StepLaws: the statements of a plan stand for those of the query.
+-- StepLaws: the statements of a plan represent those of the query.
 use Rattle.std.proofs.Common.{◌≡◌, ◌<◌, ℕ, suc, Bool, true, false, List, [], ◌∷◌, ◌++◌, map, arith, eq-eqb, ne_eqb, ◌≢◌, Option, Some, None, refl, sym, ap, ◌∙◌, subst}
 use Rattle.std.specs.Prelude.{if◌then◌else◌, ◌==◌}
 use Rattle.std.specs.Str.{bytes_eq}
@@ -71,7 +71,7 @@ bounded_name n x marked b = (
   all_more (λ (e : Bytes × NameBinding). e.1.place < n.next) (λ (e : Bytes × NameBinding). e.1.place < suc n.next) (λ e h. omega (arith, h)) n.visible b,
 )
 
--- the next place is none that is in view
+-- the next place isn't one that is in view
 not_same : (p q : ℕ) → p < q → (p == q) ≡ false
 not_same p q h = let ne : p ≢ q = omega (arith, h) in ne_eqb p q ne
 
@@ -81,7 +81,7 @@ not_same_back p q h = let ne : q ≢ p = omega (arith, h) in ne_eqb q p ne
 same_self : (p : ℕ) → (p == p) ≡ true
 same_self p = eq-eqb p p refl
 
--- a name that isn't found is that of none in view
+-- a name that isn't found differs from all names in view
 not_found : (x : Bytes) (es : List (Bytes × NameBinding)) → found_in es x ≡ None → AllOf (λ (e : Bytes × NameBinding). bytes_eq e.0 x ≡ false) es
 not_found x [] h = _
 not_found x (e ∷ es) h = go (bytes_eq e.0 x) refl h (not_found x es)
@@ -98,7 +98,7 @@ new_is n x b h = go (seen_at n x) refl h
     go None e g = (e, some_inj g)
     go (Some s) e g = cc
 
--- a name that is in view stays where it is
+-- a name that is in view keeps its place
 abbrev Stays : Named → Named → Type 0
 Stays n m = (y : Bytes) (p : ℕ) → place_at n y ≡ Some p → place_at m y ≡ Some p
 
@@ -116,7 +116,7 @@ module _ (sorts : Sorts) (accums : List Bytes) (g : Globals) where
   abbrev F : Fixed Bytes Reference
   F = fixed_in sorts accums g
 
-  -- ---- what stands for names
+  -- ---- the references of names
 
   -- a name in view, with its place and mark
   abbrev placed : NameBinding → ℕ
@@ -164,7 +164,7 @@ module _ (sorts : Sorts) (accums : List Bytes) (g : Globals) where
   abbrev alias_in : Named → Option Bytes → Option Reference
   alias_in m x = option_map (references (known_in g m)).name x
 
-  -- an alias comes into view, and stays where it is till the last one has come
+  -- an alias comes into view, and stays in view until the last one has
   record AliasStands (n m : Named) (x : Option Bytes) (last : Named) : Type 0 where
     pub new : AliasIsNew F (view_of n) x (alias_in last x)
     pub view : stands.with_alias F (view_of n) x (alias_in last x) ≡ view_of m
@@ -237,7 +237,7 @@ module _ (sorts : Sorts) (accums : List Bytes) (g : Globals) where
     pub visible : m.visible ≡ n.visible
     pub bounded : IsBounded m
 
-  -- a bound goes on where names end
+  -- places stay bounded when names end
   pub bounded_back : (n m : Named) → Grows n m → IsBounded m → IsBounded (ended n m)
   bounded_back n m grows b = behind_them grows.more (subst (AllOf (λ (e : Bytes × NameBinding). e.1.place < m.next)) grows.is b)
     where
@@ -351,7 +351,7 @@ module _ (sorts : Sorts) (accums : List Bytes) (g : Globals) where
         ap view_item (sym (some_inj v.2))
         ∙ two (λ a b. plain.Selection a b key) (Place u.0) (r.name x) (map view_keyed v.0) (map (renamed_item r) items) (found_is Place (k.place x) u.0 u.1) (each_planned (resolved_keyed k) view_keyed (renamed_item r) keyed_planned items v.0 v.1)
 
-  -- an expression, and one that may be left out, where these names are in view
+  -- an expression, and an optional one, with these names in view
   tree_planned : (n : Named) (t : Tree Bytes) (e : Expr) → resolved (known_in g n) t ≡ Some e → view e ≡ renamed (inside F (view_of n)) t
   tree_planned n t e h = planned (known_in g n) t e h ∙ ap (λ z. renamed z t) (inside_is n)
 
@@ -403,7 +403,7 @@ module _ (sorts : Sorts) (accums : List Bytes) (g : Globals) where
   set_right_is n (plain.Expression (And t ts)) = refl
   set_right_is n (plain.Expression (Or t ts)) = refl
 
-  -- what is in view at a name
+  -- the thing in view under a name
   seen_visible : (es : List (Bytes × NameBinding)) (x : Bytes) (s : NameBinding) → found_in es x ≡ Some s → (v : Visible Bytes Reference) × (visible_at F (map visible_of es) x ≡ Some v) × (Place s.place ≡ v.reference) × (v.is_set ≡ s.marked)
   seen_visible [] x s h = cc
   seen_visible (e ∷ es) x s h = go (bytes_eq e.0 x) h (seen_visible es x s)
@@ -500,7 +500,7 @@ module _ (sorts : Sorts) (accums : List Bytes) (g : Globals) where
   same_view : (n m : Named) → m.visible ≡ n.visible → view_of n ≡ view_of m
   same_view n m h = ap (map visible_of) (sym h)
 
-  -- a body from these names, whose names end with it
+  -- a body that starts with these names, whose own names end with it
   record BodyStands (m : Named) (body : Stmts Bytes) (n : Named) (c : Behind (List Step)) : Type 0 where
     pub stand : AllStand F (view_of m) body (view_steps c.1)
     pub visible : c.0.visible ≡ n.visible

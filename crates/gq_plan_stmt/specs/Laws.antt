@@ -1,4 +1,4 @@
--- Laws: the statements of a plan stand for those of the query.
+-- Laws: the statements of a plan represent those of the query.
 use Rattle.std.specs.Prelude.{◌≡◌, ◌<◌, List, ◌++◌, Some}
 use Rattle.gq_scope.specs.declared.places.NameBinding.{NameBinding}
 use Rattle.gq_scope.specs.Named.{Named}
@@ -12,11 +12,11 @@ use Rattle.gq_plan_expr.specs.Globals.{Globals}
 use Rattle.gq_plan_stmt.specs.References.{view_of, fixed_in}
 use Rattle.gq_plan_stmt.specs.Steps.{resolved_stmts}
 
--- places in view lie before the next one
+-- places in view are below the next one
 abbrev pub IsBounded : Named → Type 0
 IsBounded n = AllOf (λ (e : Bytes × NameBinding). e.1.place < n.next) n.visible
 
--- names have come into view, and none has gone
+-- names have come into view, and none was removed
 pub record Grows (n m : Named) : Type 0 where
   pub more : List (Bytes × NameBinding)
   pub is : m.visible ≡ more ++ n.visible
@@ -26,7 +26,7 @@ pub record StepsStand (sorts : Sorts) (accums : List Bytes) (g : Globals) (n : N
   pub behind : behind_all (fixed_in sorts accums g) (view_of n) body (view_steps steps) ≡ view_of m
   pub bounded : IsBounded m
 
--- so that by the law of gq_plan_laws they do what those do
+-- so, by the law of gq_plan_laws, they have the same effect
 abbrev pub StepsLaw : Type 0
 StepsLaw =
     (sorts : Sorts) (accums : List Bytes) (g : Globals) (n : Named) → IsBounded n → (body : Stmts Bytes) (m : Named) (steps : List Step) → resolved_stmts g n body ≡ Some (m, steps)

@@ -1,5 +1,5 @@
--- Parts: the parts of a plan's statements in which no name comes into view, from those with names; none where something stands for
--- nothing.
+-- Parts: the parts of a plan's statements that bring no name into view, from those with names; None if something isn't
+-- found.
 use Rattle.std.specs.Prelude.{Bool, true, false, List, map, Option, Some, None}
 use Rattle.std.specs.Option.{unwrap_or}
 use Rattle.gq_tree.specs.Tree.{Tree, Name}
@@ -52,7 +52,7 @@ view_items trees = map view_item trees
 abbrev pub view_path : List StepTree → List (Step Bytes)
 view_path trees = map view_step trees
 
--- without AS a selection is keyed by its set
+-- without AS the key of a selection is the name of its set
 abbrev pub selection_key : Bytes → Option Bytes → Bytes
 selection_key set name = unwrap_or name set
 
@@ -67,7 +67,7 @@ last_target (Some s) = s.target_alias
 
 -- ---- types
 
--- a type that something is declared with
+-- the type of a declaration
 abbrev pub resolved_base : Globals → plain.BaseTree Bytes → Option Declared
 resolved_base g plain.Ints = Some declared.Int
 resolved_base g plain.UInts = Some declared.UInt
@@ -98,7 +98,7 @@ abbrev pub resolved_set_types : Globals → plain.SetTypes Bytes → Option SetT
 resolved_set_types g plain.AnyType = Some set_types.Every
 resolved_set_types g (plain.TypeOf t) = g.vertex_type t >>= λ n. Some (set_types.Of n)
 
--- whether a right side is a set: a SELECT, a set expression, or a set's name alone
+-- whether a right side is a set: a SELECT, a set expression, or only a set's name
 abbrev pub is_set_name : Named → Tree Bytes → Bool
 is_set_name n (Name y) = is_marked n y
 is_set_name n t = false
@@ -108,7 +108,7 @@ is_set_right n (plain.Selects q) = true
 is_set_right n (plain.Sets t rest) = true
 is_set_right n (plain.Expression t) = is_set_name n t
 
--- ---- what FOREACH goes over, and what is printed
+-- ---- what FOREACH iterates over, and what is printed
 
 abbrev pub resolved_over : Known → plain.Over Bytes → Option Over
 resolved_over k (plain.Elements t) = resolved k t >>= λ e. Some (over.Elements e)

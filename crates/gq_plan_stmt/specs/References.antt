@@ -1,4 +1,4 @@
--- References: what stands for names in the statements of a plan: those in view, and those that a query may use wherever it stands.
+-- References: the references of names in the statements of a plan: names in view, and names that are the same anywhere.
 use Rattle.std.specs.Prelude.{List, map}
 use Rattle.gq_scope.specs.declared.places.NameBinding.{NameBinding}
 use Rattle.gq_scope.specs.Named.{Named}
@@ -20,7 +20,7 @@ visible_of e = record { name = e.0; reference = Place e.1.place; is_set = e.1.ma
 abbrev pub view_of : Named → View Bytes Reference
 view_of n = map visible_of n.visible
 
--- what stands for names wherever they stand, over these types and the names of accumulators
+-- the references of names that are the same anywhere, with these types and names of accumulators
 abbrev pub fixed_in : Sorts → List Bytes → Globals → Fixed Bytes Reference
 fixed_in sorts accums g = record {
   names = by_name sorts;

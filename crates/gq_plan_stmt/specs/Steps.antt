@@ -1,5 +1,5 @@
--- Steps: the statements of a plan, from those with names, beside the names that are in view behind them; none where something stands
--- for nothing. Each name that comes into view takes the next place.
+-- Steps: the statements of a plan, from those with names, and the names in view after them; None if something isn't
+-- found. Each name that comes into view takes the next place.
 use Rattle.std.specs.Prelude.{◌≡◌, ◌≢◌, ℕ, Bool, true, false, List, [], ◌∷◌, Option, Some, None, Result, Ok, Err}
 use Rattle.gq_tree.specs.Tree.{Tree}
 use Rattle.gq_scope.specs.declared.places.NameBinding.{NameBinding}
@@ -21,23 +21,23 @@ use Rattle.gq_plan_select.specs.Resolved.{if_there, each_resolved, resolved_chan
 use Rattle.gq_plan_expr.specs.Globals.{Globals, known_in, sees_in}
 use Rattle.gq_plan_stmt.specs.Parts.{resolved_base, resolved_sets, resolved_set_types, is_set_right, resolved_over, resolved_item}
 
--- what is planned, and what is in view behind it
+-- what is planned, and the names in view after it
 abbrev pub Behind : Type 0 → Type 0
 Behind A = Named × A
 
--- an answer is what is planned, with what is in view then, or nothing is planned; OutOfMemory may come at any time
+-- the answer is what is planned, with the names in view then, or nothing is planned; OutOfMemory may occur at any time
 abbrev pub AnswersIn : {A : Type 0} → Option (Behind A) → Named → Result A PlanFault → Type 0
 AnswersIn o n (Ok a) = o ≡ Some (n, a)
 AnswersIn o n (Err e) = e ≢ fault.OutOfMemory → o ≡ None
 
--- where nothing is planned but names come into view
+-- the same if nothing is planned but names come into view
 abbrev pub DoneIn : {A : Type 0} → Option Named → Named → Result A PlanFault → Type 0
 DoneIn o n (Ok a) = o ≡ Some n
 DoneIn o n (Err e) = e ≢ fault.OutOfMemory → o ≡ None
 
--- ---- names that come into view and go
+-- ---- names that come into view and end
 
--- only one that isn't in view
+-- only a name that isn't in view yet
 abbrev pub when_new : Option NameBinding → Behind ℕ → Option (Behind ℕ)
 when_new None b = Some b
 when_new (Some s) b = None
@@ -45,7 +45,7 @@ when_new (Some s) b = None
 abbrev pub new_name : Named → Bytes → Option (Behind ℕ)
 new_name n x = when_new (seen_at n x) (with_name n x false, n.next)
 
--- the names of a body end with it; no place is taken again
+-- the names of a body end with it; no place is reused
 abbrev pub ended : Named → Named → Named
 ended n m = record { visible = n.visible; next = m.next }
 
@@ -68,7 +68,7 @@ resolved_right g n (plain.Selects q) = resolved_block g n q >>= λ b. Some (b.0,
 resolved_right g n (plain.Sets t rest) = resolved_sets g n t rest >>= λ s. Some (n, right.Sets s)
 resolved_right g n (plain.Expression t) = resolved (known_in g n) t >>= λ e. Some (n, right.Value e)
 
--- a name that is in view stays what it is; or a set comes into view
+-- a name that is in view must keep its kind; else a set comes into view
 abbrev pub same_mark : Bool → Bool → Bool
 same_mark true b = b
 same_mark false true = false
@@ -89,7 +89,7 @@ abbrev pub resolved_assign : Globals → Named → Bytes → Option (plain.SetTy
 resolved_assign g n x types r =
     if_there (resolved_set_types g) types >>= λ ts. resolved_right g n r >>= λ b. resolved_target b.0 x (is_set_right n r) >>= λ t. Some (t.0, step.Assign t.1 ts b.1)
 
--- ---- locals: each comes into view behind its own value
+-- ---- locals: each comes into view after its own value
 
 abbrev pub local_and : ℕ → Option Expr → Behind (List (ℕ × Option Expr)) → Behind (List (ℕ × Option Expr))
 local_and place e b = (b.0, (place, e) ∷ b.1)
@@ -100,7 +100,7 @@ resolved_locals g n (x ∷ xs) = if_there (resolved (known_in g n)) x.1 >>= λ e
 
 -- ---- statements
 
--- IF and each ELSE IF with its condition, and what stands behind ELSE, where no statement is as no ELSE
+-- IF and each ELSE IF with its condition, and the statements after ELSE; no statement is the same as no ELSE
 abbrev pub Parts : Type 0
 Parts = List (Expr × List Step) × Option (List Step)
 
@@ -114,7 +114,7 @@ else_of n (stmt_and s rest) o = o >>= λ b. Some (b.0, Some b.1)
 abbrev pub branch_and : Expr → List Step → Behind Parts → Behind Parts
 branch_and e body b = (b.0, ((e, body) ∷ b.1.0, b.1.1))
 
--- a body, whose names end with it
+-- a body, whose own names end with it
 abbrev pub body_of : Named → Option (Behind (List Step)) → Option (Behind (List Step))
 body_of n o = o >>= λ b. Some (ended n b.0, b.1)
 

@@ -1,4 +1,4 @@
-// SELECT, and what is assigned.
+// SELECT, and the right sides of assignments.
 ghost use Rattle.std.specs.Prelude.{◌≡◌};
 ghost use Rattle.std.specs.Option.{option_copied};
 ghost use Rattle.gq_tree.specs.View.{view};
@@ -25,7 +25,7 @@ use gq_tree::{Node, PatternTree, SelectTree, StepTree};
 use gq_value::Txt;
 use std::alloc::Global;
 
-/// A name that may be left out, as a text.
+/// Returns an optional name as a text.
 fn text_of(name: &Option<Txt>) -> Option<&str>
     ensures { option_copied result ≡ name.now }
 {
@@ -53,7 +53,7 @@ fn last_target(list: &[StepTree]) -> Option<&str>
     }
 }
 
-/// The edge alias: that of a hop, or of the last step of a path.
+/// Returns the edge alias: that of a hop, or of the last step of a path.
 fn edge_alias(tree: &Option<PatternTree>) -> Option<&str>
     ensures { option_copied result ≡ patterns.edge_alias (view_walk tree.now) }
 {
@@ -66,7 +66,7 @@ fn edge_alias(tree: &Option<PatternTree>) -> Option<&str>
     }
 }
 
-/// The target alias: that of a hop, or of the last step of a path.
+/// Returns the target alias: that of a hop, or of the last step of a path.
 fn target_alias(tree: &Option<PatternTree>) -> Option<&str>
     ensures { option_copied result ≡ patterns.target_alias (view_walk tree.now) }
 {
@@ -79,7 +79,7 @@ fn target_alias(tree: &Option<PatternTree>) -> Option<&str>
     }
 }
 
-/// An alias comes into view, if there is one.
+/// Brings an alias into view, if there is one.
 fn with_alias(places: &mut Places, name: Option<&str>) -> Result<(), PlanFault>
     ensures { DoneIn (steps.with_alias places.old (option_copied name.entry)) places.new result }
 {
@@ -112,7 +112,7 @@ fn within(
     plan_block(alloc, &names, tree)
 }
 
-/// A SELECT. Its aliases end with it.
+/// Plans a SELECT. Its aliases end with it.
 #[tactic(auto, using(crate::proofs::GrowLemmas::block_cuts))]
 fn block(
     alloc: Global,
@@ -129,7 +129,7 @@ fn block(
     Ok(planned)
 }
 
-/// What is assigned.
+/// Plans the right side of an assignment.
 pub(crate) fn right(
     alloc: Global,
     globals: &CatalogNames<'_>,
@@ -154,7 +154,7 @@ pub(crate) fn right(
     }
 }
 
-/// Whether it is the name of a set alone.
+/// Whether it is only the name of a set.
 #[tactic(auto, using(gq_tree::proofs::ViewLemmas::view_laws))]
 fn is_set_name(places: &Places, node: &Node) -> bool
     ensures { result ≡ parts.is_set_name places.now (view node.now) }
@@ -168,7 +168,7 @@ fn is_set_name(places: &Places, node: &Node) -> bool
     }
 }
 
-/// Whether what is assigned is a set.
+/// Whether the right side of an assignment is a set.
 pub(crate) fn is_set_right(places: &Places, tree: &gq_tree::RightTree) -> bool
     ensures { result ≡ parts.is_set_right places.now (view_right tree.now) }
 {

@@ -1,4 +1,4 @@
-// What PRINT prints.
+// The items of PRINT.
 ghost use Rattle.std.specs.Prelude.{◌≡◌, IfOk};
 ghost use Rattle.gq_rules_typing.specs.StatementViews.{key_of, view_item};
 ghost use Rattle.gq_plan_expr.specs.Names.{globals_in};
@@ -24,7 +24,7 @@ fn key(alloc: Global, label: &Label) -> Result<Txt, OutOfMemory>
     Txt::of(alloc, text)
 }
 
-/// Without AS a selection is keyed by its set.
+/// Returns the key of a selection: without AS it is the name of its set.
 fn columns_key(alloc: Global, set: &Txt, name: &Option<Txt>) -> Result<Txt, OutOfMemory>
     ensures { IfOk result (λ key. key ≡ selection_key set.now name.now) }
 {
@@ -82,7 +82,7 @@ fn item(
     }
 }
 
-/// The items of a PRINT.
+/// Plans the items of a PRINT.
 #[tactic(auto, using(gq_plan_expr::proofs::ListLemmas::list_laws))]
 pub(crate) fn items(
     alloc: Global,

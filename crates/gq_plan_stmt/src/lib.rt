@@ -4,7 +4,7 @@
 //! as types and accumulators, are resolved by `CatalogNames` of `gq_plan_expr`.
 //!
 //! Read `specs/Parts.antt` and `specs/Steps.antt` first, the statements of the plan, then
-//! `specs/References.antt`, what stands for names, and `specs/Laws.antt`: they represent the statements of
+//! `specs/References.antt`, the references of names, and `specs/Laws.antt`: they represent the statements of
 //! the query. The code begins in `src/steps.rt`; `src/blocks.rt` plans SELECT and assignments,
 //! `src/names.rt` declares names.
 #![tactic(auto)]

@@ -12,7 +12,7 @@ use gq_plan_ir::{Declared, SetTypes};
 use gq_scope::Places;
 use gq_tree::BaseTree;
 
-/// A name comes into view, if it isn't in view yet. Its place.
+/// Brings a name into view, if it isn't yet, and returns its place.
 pub fn add_name(places: &mut Places, name: &str) -> Result<u32, PlanFault>
     ensures { AnswersIn (new_name places.old name.now) places.new result }
 {
@@ -25,7 +25,7 @@ pub fn add_name(places: &mut Places, name: &str) -> Result<u32, PlanFault>
     }
 }
 
-/// The place of a name that is assigned a set, or a value.
+/// Returns the place of a name that is assigned a set or a value.
 pub(crate) fn target(places: &mut Places, name: &str, set: bool) -> Result<u32, PlanFault>
     ensures { AnswersIn (resolved_target places.old name.now set) places.new result }
 {
@@ -48,7 +48,7 @@ pub(crate) fn target(places: &mut Places, name: &str, set: bool) -> Result<u32, 
     }
 }
 
-/// The graph's vertex type of a name.
+/// Returns the graph's vertex type with a name.
 pub(crate) fn vertex_type(globals: &CatalogNames<'_>, name: &str) -> Result<u32, PlanFault>
     ensures { Answers ((globals_in globals.now).vertex_type name.now) result }
 {
@@ -58,7 +58,7 @@ pub(crate) fn vertex_type(globals: &CatalogNames<'_>, name: &str) -> Result<u32,
     }
 }
 
-/// The slot of an accumulator.
+/// Returns the slot of an accumulator.
 pub(crate) fn slot(globals: &CatalogNames<'_>, name: &str) -> Result<u32, PlanFault>
     ensures { Answers ((globals_in globals.now).slot name.now) result }
 {
@@ -68,7 +68,7 @@ pub(crate) fn slot(globals: &CatalogNames<'_>, name: &str) -> Result<u32, PlanFa
     }
 }
 
-/// A type that something is declared with. Unknown where it isn't one of the graph.
+/// Returns the type of a declaration, or `Unknown` if the graph doesn't have it.
 pub fn plan_base(globals: &CatalogNames<'_>, tree: &BaseTree) -> Result<Declared, PlanFault>
     ensures { Answers (resolved_base (globals_in globals.now) (view_base tree.now)) result }
 {
@@ -100,7 +100,7 @@ fn set_types(
     }
 }
 
-/// The types that a set variable is declared with, where there are some.
+/// Returns the types that a set variable is declared with, if there are any.
 pub(crate) fn set_types_if(
     globals: &CatalogNames<'_>,
     types: Option<&gq_tree::SetTypesTree>,

@@ -1,4 +1,4 @@
-// Written sets.
+// Set expressions.
 ghost use Rattle.gq_rules_typing.specs.StatementViews.{view_seed, view_term};
 ghost use Rattle.gq_scope.specs.Named.{place_at};
 ghost use Rattle.gq_plan_expr.specs.Names.{globals_in};
@@ -101,7 +101,7 @@ fn operands(
     Ok(planned)
 }
 
-/// A written set, or several in a chain.
+/// Plans a set expression: a written set, or several in a chain.
 pub(crate) fn plan_sets(
     alloc: Global,
     globals: &CatalogNames<'_>,

@@ -1,4 +1,4 @@
-// Statements, one after another. What a body declares ends with it.
+// Statements, in order. What a body declares ends with it.
 ghost use Rattle.std.specs.Option.{option_map, option_copied};
 ghost use Rattle.gq_tree.specs.View.{view};
 ghost use Rattle.gq_rules_typing.specs.SelectViews.{view_change};
@@ -20,10 +20,11 @@ use gq_tree::{BaseTree, ChangeTree, ItemTree, Node, OverTree, RightTree, SetType
 use gq_value::Txt;
 use std::alloc::Global;
 
-/// The statements of a plan for statements, where `places` are the names in view; what they declare comes into view. It takes some
-/// frames of the stack for each level of the trees, and none for the length of a list.
+/// Plans statements; `places` holds the names in view, and what the statements declare comes into view. It takes some
+/// stack frames for each level of the trees, and none for the length of a list.
 ///
-/// Unknown where something stands for nothing, which no well typed query has. OutOfMemory may come at any time.
+/// Returns `Unknown` if something isn't found, which doesn't happen in a well typed query. `OutOfMemory` may occur at
+/// any time.
 pub fn plan_steps(
     alloc: Global,
     globals: &CatalogNames<'_>,
@@ -35,7 +36,7 @@ pub fn plan_steps(
     steps(trees, alloc, globals, places)
 }
 
-/// New variables, each with its value where one is given.
+/// Plans new variables, each with its value if one is given.
 #[tactic(auto, using(crate::proofs::ListLemmas::in_laws))]
 fn locals(
     alloc: Global,
@@ -68,7 +69,7 @@ fn local_step(
     Ok(Step::Local(declared, planned))
 }
 
-/// A change of the global accumulator of a name.
+/// Plans a change of a named global accumulator.
 fn global_step(
     alloc: Global,
     globals: &CatalogNames<'_>,
@@ -129,7 +130,7 @@ fn steps(
     Ok(planned)
 }
 
-/// A body, whose names end with it.
+/// Plans a body, whose names end with it.
 #[cycle(steps)]
 #[tactic(auto, using(crate::proofs::GrowLemmas::body_cuts))]
 fn body(
@@ -146,7 +147,7 @@ fn body(
     Ok(planned)
 }
 
-/// What stands behind ELSE; no statement is as no ELSE.
+/// Plans the statements after ELSE; no statement is the same as no ELSE.
 #[cycle(steps)]
 fn else_body(
     trees: &[Stmt],
@@ -180,7 +181,7 @@ fn while_step(
     Ok(Step::While(test, limit, planned))
 }
 
-/// The variable of a FOREACH ends with its body.
+/// Plans a FOREACH, whose variable ends with its body.
 #[cycle(steps)]
 #[tactic(auto, using(crate::proofs::GrowLemmas::loop_cuts))]
 fn foreach_step(

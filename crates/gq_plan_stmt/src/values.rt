@@ -1,4 +1,4 @@
-// Expressions where some names are in view.
+// Expressions, with some names in view.
 ghost use Rattle.std.specs.Option.{option_map, option_copied};
 ghost use Rattle.gq_tree.specs.View.{view};
 ghost use Rattle.gq_rules_typing.specs.SelectViews.{view_change};
@@ -16,7 +16,7 @@ use gq_scope::Places;
 use gq_tree::Node;
 use std::alloc::Global;
 
-/// An expression.
+/// Plans an expression.
 pub(crate) fn value(
     alloc: Global,
     globals: &CatalogNames<'_>,
@@ -29,7 +29,7 @@ pub(crate) fn value(
     plan_expr(alloc, &names, node)
 }
 
-/// An expression that may be left out, as what a local or an accumulator opens with.
+/// Plans an optional expression, such as the initial value of a local or an accumulator.
 pub fn plan_opening(
     alloc: Global,
     globals: &CatalogNames<'_>,
@@ -42,7 +42,7 @@ pub fn plan_opening(
     plan_if(alloc, &names, node)
 }
 
-/// The change of a global accumulator.
+/// Plans the change of a global accumulator.
 pub(crate) fn change(
     alloc: Global,
     globals: &CatalogNames<'_>,
@@ -55,7 +55,7 @@ pub(crate) fn change(
     plan_change(alloc, &names, tree)
 }
 
-/// What FOREACH goes over.
+/// Plans what FOREACH iterates over.
 pub(crate) fn over(
     alloc: Global,
     globals: &CatalogNames<'_>,

@@ -1,4 +1,4 @@
--- Lines and refusals, by what is meant.
+-- Lines and refusals, by what the definitions say.
 use Rattle.std.proofs.Common.{ℕ, ◌≡◌, List, [], ◌∷◌, map, Option, Some, ap, sym, ◌∙◌}
 use Rattle.std.specs.Prelude.{Result, Ok, Err, Vec}
 use Rattle.std.specs.declared.alloc.Global.{Global}
@@ -22,7 +22,7 @@ use Rattle.gq_query_run.specs.Judging.{Judges}
 use Rattle.gq_query_run.specs.Answers.{Objects, Tells, Says}
 use Rattle.gq_query_run.specs.Runs.{answer_given}
 
--- the line of gq_json is that of what is printed
+-- the line of gq_json is that of the output
 pub line_is : (line : List ℕ) (printed : List Printed) (objects : Objects) → line ≡ line_text (map (λ (p : Printed). p.members) printed)
     → map (λ (p : Printed). p.members) printed ≡ map built_print objects → line ≡ query_line objects
 line_is line printed objects is same = is ∙ ap line_text same ∙ line_law objects
@@ -39,20 +39,20 @@ denied g clock turns q meant (Refused found) is = ap (answer_given g clock turns
 denied g clock turns q meant ReadFault is = is
 denied g clock turns q meant OutOfMemory is = tt
 
--- what is meant, as what is done to a session
+-- the answer of the definitions, as an effect on a session
 pub says : (s : Session) (effect : Effect) (meant : Result Objects Bytes) (answer : Result (Vec ℕ Global) StatementFault) → effect ≡ of_answer s meant → Tells meant answer → Says s effect answer
 says s effect meant (Ok line) is tells = is ∙ ap (of_answer s) tells.1 ∙ ap (λ text. sessions.Becomes s (text ∷ [])) (sym tells.2)
 says s effect meant (Err (Refused found)) is tells = is ∙ ap (of_answer s) tells
 says s effect meant (Err ReadFault) is tells = tells
 says s effect meant (Err OutOfMemory) is tells = tt
 
--- a refusal that is due, as what is done to a session
+-- a refusal that is due, as an effect on a session
 pub says_due : (s : Session) (effect : Effect) (due : Refusal) (f : StatementFault) → effect ≡ sessions.Refused (message_of due) → rows.Tells due f → Says s effect (Err f)
 says_due s effect due (Refused found) is same = is ∙ ap (λ (r : Refusal). sessions.Refused (message_of r)) (sym same)
 says_due s effect due ReadFault is same = same
 says_due s effect due OutOfMemory is same = tt
 
--- what judging refuses, as what is done to a session
+-- a refusal by the judging of a query, as an effect on a session
 pub says_judged : (s : Session) (effect : Effect) (due : Option Refusal) (f : StatementFault) → ((r : Refusal) → due ≡ Some r → effect ≡ sessions.Refused (message_of r)) → Judges due (Err f) → Says s effect (Err f)
 says_judged s effect due (Refused found) refused is = refused found is
 says_judged s effect due ReadFault refused is = is

@@ -20,7 +20,7 @@ module _ {A : Type 0} (f : A → A) where
   pub changed_next : (n : ℕ) (xs ys : List A) (d : A) → n < length xs → ys ≡ changed n xs → slice_set ys n (f (slice_index_or ys n d)) ≡ changed (n + 1) xs
   changed_next n xs ys d low is = ap (λ (zs : List A). slice_set zs n (f (slice_index_or zs n d))) is ∙ (one_more n xs d low ∙ next n xs)
 
-  -- the same, where what stands in its place is equal to that
+  -- the same, if the item written there equals that
   pub changed_to : (n : ℕ) (xs ys : List A) (d y : A) → n < length xs → ys ≡ changed n xs → y ≡ f (slice_index_or ys n d) → slice_set ys n y ≡ changed (n + 1) xs
   changed_to n xs ys d y low is same = ap (slice_set ys n) same ∙ changed_next n xs ys d low is
 

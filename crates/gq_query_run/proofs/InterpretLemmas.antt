@@ -26,7 +26,7 @@ use Rattle.gq_query_run.specs.Answers.{Objects}
 use Rattle.gq_query_run.specs.Runs.{answer_over}
 use Rattle.gq_query_run.specs.Sessions.{graph_read, session_of}
 
--- a rule's fault is said as a refusal says it
+-- the message of a typing fault is that of its refusal
 message_is : (fault : TypingFault) → typing_message fault ≡ message_of (refusal_of fault)
 message_is Mismatch = refl
 message_is NotAllowedHere = refl
@@ -39,7 +39,7 @@ message_is (WiderSet x) = refl
 message_is (BadKind x) = refl
 message_is (NameTwice x) = refl
 
--- the refusal that is due, or what the run answers
+-- the refusal that is due, or the answer of the run
 abbrev unless : Session → Option Refusal → Result Objects Bytes → Effect
 unless s (Some due) meant = Refused (message_of due)
 unless s None meant = of_answer s meant
@@ -67,7 +67,7 @@ module _ (schema : Schema) (in_use : Option ℕ) (queries : List Kept) (store : 
   by_rules meant (Ok scope) = refl
   by_rules meant (Err fault) = ap Refused (message_is fault)
 
-  -- for the graph of a number, or for none
+  -- for the graph with a number, or for none
   on_number : (graph : Option ℕ) → of_answer here (answer_of_query (graph_read schema graph store) clock (view_query tree) [] turns) ≡ unless here (rules_refusal schema graph tree) (answer graph)
   on_number graph = by_rules (answer graph) (typing_query (sorts_of schema (graph_in schema graph)) (view_query tree))
 

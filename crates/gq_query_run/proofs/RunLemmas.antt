@@ -1,4 +1,4 @@
--- RUN QUERY: the query of a name, and its values.
+-- RUN QUERY: the query with a name, and its values.
 use Rattle.std.proofs.Common.{ℕ, ◌≡◌, Bool, true, false, cond, List, [], ◌∷◌, ◌++◌, map, Option, Some, None, bytes_eq, refl, ap, sym, subst, ◌∙◌}
 use Rattle.std.specs.Prelude.{Vec, Result, Err, codes, find, option_map, if◌then◌else◌}
 use Rattle.std.specs.Bool.{one_answer, Decides}
@@ -35,7 +35,7 @@ use Rattle.gq_query_run.specs.Answers.{Objects, Tells}
 use Rattle.gq_query_run.specs.Runs.{answer_given, answer_installed, answer_found, values_run, of_values}
 use Rattle.gq_query_run.specs.Sessions.{graph_read, session_of, stored_of}
 
--- ---- the query of a name
+-- ---- the query with a name
 
 turned : (xs ys : Bytes) → bytes_eq xs ys ≡ bytes_eq ys xs
 turned xs ys =
@@ -101,7 +101,7 @@ module _ (schema : Schema) (in_use : Option ℕ) (queries : List Kept) (store : 
       ∙ by_installed q.installed tree.name (run_stored here clock turns (option_map (map view_argument) tree.arguments) (members_for file tree.name) (stored_of schema q))
       (answer_installed schema store clock turns q tree file) (run_is q (option_map (map view_argument) tree.arguments) (members_for file tree.name))
 
-  -- no query of the name
+  -- there is no query with the name
   pub ran_unknown : (tree : RunTree) (file : Option Data) → find (is_named tree.name) queries ≡ None
       → ran here clock turns tree.name (option_map (map view_argument) tree.arguments) (members_for file tree.name) ≡ Refused (message_of (refusal.UnknownName tree.name))
   ran_unknown tree file is = ap (of_found here clock turns tree.name (option_map (map view_argument) tree.arguments) (members_for file tree.name)) (named_is tree.name None is)
@@ -109,7 +109,7 @@ module _ (schema : Schema) (in_use : Option ℕ) (queries : List Kept) (store : 
 -- ---- a query of the session
 
 module _ (schema : Schema) (store : Store) (clock : Calendar) (turns : ℕ) (q : Kept) (tree : RunTree) (file : Option Data) where
-  -- its tree and its graph, by what was read of it
+  -- its tree and its graph, as read from it
   pub installed_tells : (graph : Option ℕ) (query : QueryTree) (arguments : Arguments) (r : Result (Vec ℕ Global) StatementFault)
       → graph ≡ q.graph → query ≡ q.tree → q.installed ≡ true
       → ((sorts : Sorts) (vertices : List VertexRow) (ps : List (Parameter Bytes)) → rows.values_given sorts vertices ps arguments ≡ values_run sorts vertices ps (option_map (map view_argument) tree.arguments) (members_for file tree.name))

@@ -1,4 +1,4 @@
--- Accumulators by their numbers.
+-- Accumulators by number.
 use Rattle.std.proofs.Common.{ℕ, zero, suc, ◌+◌, ◌-◌, ◌≡◌, ◌<◌, ◌≤◌, List, [], ◌∷◌, ◌++◌, length, map, drop, get_or, Some, refl, ap, sym, ◌∙◌, arith, add-one, drop-cons}
 use Rattle.std.proofs.lemmas.List.{drop_all}
 use Rattle.std.specs.Prelude.{slice_get}
@@ -11,7 +11,7 @@ use Rattle.gq_rules_meaning.specs.Messages.{accum_names, slot_names, name_at}
 some_inj : {A : Type 0} (x y : A) → Some x ≡ Some y → x ≡ y
 some_inj {A} x y e = cc
 
--- behind these names
+-- after these names
 skipped : (names more : List Bytes) (n : ℕ) → length names ≤ n → name_at (names ++ more) n ≡ name_at more (n - length names)
 skipped [] more n low = let same : n ≡ n - 0 = omega arith in ap (name_at more) same
 skipped (x ∷ names) more zero low = absurd (omega (arith, low))
@@ -28,7 +28,7 @@ among (y ∷ names) more (suc n) x is = among names more n x is
 abbrev pub names_in : List AccumTree → List Bytes
 names_in accums = map (λ (a : AccumTree). a.name) accums
 
--- as gq_rules_typing has them
+-- as gq_rules_typing represents them
 pub names_viewed : (accums : List AccumTree) → names_in accums ≡ map (λ a. a.1) (map view_accum accums)
 names_viewed [] = refl
 names_viewed (a ∷ accums) = ap (λ names. a.name ∷ names) (names_viewed accums)
@@ -52,7 +52,7 @@ at ds i d accums low is names =
     ap (λ xs. slot_names (map view_definition xs)) (drop-cons ds i d low ∙ ap (λ y. y ∷ drop (suc i) ds) (sym is) ∙ ap (λ n. d ∷ drop n ds) (sym (add-one i)))
     ∙ ap (λ ns. ns ++ names_from ds (i + 1)) (sym names)
 
--- behind the accumulators of a declaration
+-- after the accumulators of a declaration
 pub behind_accums : (ds : List DefinitionTree) (i : ℕ) (d : DefinitionTree) (accums : List AccumTree) (n : ℕ) (whole : Bytes) → i < length ds → d ≡ get_or ds i d → names_in accums ≡ accum_names (view_definition d)
     → length accums ≤ n → whole ≡ name_at (names_from ds i) n → whole ≡ name_at (names_from ds (i + 1)) (n - length accums)
 behind_accums ds i d accums n whole low is names most so_far =
@@ -67,6 +67,6 @@ among_accums ds i d accums a n whole low is names there found so_far =
     sym (so_far ∙ ap (λ ns. name_at ns n) (at ds i d accums low is names)
     ∙ among (names_in accums) (names_from ds (i + 1)) n a.name (name_in accums n a there found))
 
--- behind all declarations
+-- after all declarations
 pub at_end : (ds : List DefinitionTree) (i n : ℕ) (whole : Bytes) → length ds ≤ i → whole ≡ name_at (names_from ds i) n → [] ≡ whole
 at_end ds i n whole most so_far = sym (so_far ∙ ap (λ xs. name_at (slot_names (map view_definition xs)) n) (drop_all i ds most))

@@ -1,4 +1,4 @@
--- Answers: when the line of a statement, or its refusal, is what is meant.
+-- Answers: when the line of a statement, or its refusal, is that of the definitions.
 use Rattle.std.specs.Prelude.{◌≡◌, ℕ, List, [], ◌∷◌, Result, Ok, Err, Vec}
 use Rattle.std.specs.declared.alloc.Global.{Global}
 use Rattle.gq_diagnostics.specs.declared.refusal.StatementFault.{StatementFault}
@@ -14,14 +14,14 @@ use Rattle.gq_rules_meaning.specs.Sessions.{Session, Effect}
 abbrev pub Objects : Type 0
 Objects = List (List (Bytes × Out))
 
--- the line is that of what is printed, and a refusal has the message; memory may be wanting at any time
+-- the line is that of the output, and a refusal has the message; OutOfMemory may occur at any time
 abbrev pub Tells : Result Objects Bytes → Result (Vec ℕ Global) StatementFault → Type 0
 Tells meant (Ok line) = (objects : Objects) × (meant ≡ Ok objects) × (line.items ≡ query_line objects)
 Tells meant (Err (Refused refusal)) = meant ≡ Err (message_of refusal)
 Tells meant (Err ReadFault) = ⊥
 Tells meant (Err OutOfMemory) = Unit {0}
 
--- the same of what a statement does to a session, which stays as it is
+-- the same for the effect of a statement on a session that it doesn't change
 abbrev pub Says : Session → Effect → Result (Vec ℕ Global) StatementFault → Type 0
 Says s effect (Ok line) = effect ≡ sessions.Becomes s (line.items ∷ [])
 Says s effect (Err (Refused refusal)) = effect ≡ sessions.Refused (message_of refusal)

@@ -1,4 +1,4 @@
--- Judging: why a query is refused for its modes, its graph or its rules, and when an answer is that.
+-- Judging: why a query is refused for its modes, its graph or its rules, and when an answer is that refusal.
 use Rattle.std.specs.Prelude.{◌≡◌, ℕ, if◌then◌else◌, List, Option, Some, None, Result, Ok, Err}
 use Rattle.gq_graph.specs.Catalog.{Schema, graph_of}
 use Rattle.gq_tree.specs.declared.query.QueryTree.{QueryTree}
@@ -15,7 +15,7 @@ use Rattle.gq_rules_meaning.specs.Sessions.{good_modes}
 
 -- ---- the rules on queries
 
--- how a statement says a fault of typing
+-- the refusal of a statement for a fault of typing
 abbrev pub refusal_of : typing.TypingFault → Refusal
 refusal_of typing.Mismatch = refusal.Mismatch
 refusal_of (typing.UnknownName name) = refusal.UnknownName name
@@ -32,7 +32,7 @@ abbrev pub refusal_in : {A : Type 0} → typing.Judged A → Option Refusal
 refusal_in (Ok a) = None
 refusal_in (Err fault) = Some (refusal_of fault)
 
--- the first rule that fails of a query that sees the types of this graph, or none
+-- the first rule that a query violates that sees the types of this graph, or None
 abbrev pub rules_refusal : Schema → Option ℕ → QueryTree → Option Refusal
 rules_refusal schema graph tree = refusal_in (typing_query (sorts_of schema (graph_in schema graph)) (view_query tree))
 
@@ -51,17 +51,17 @@ abbrev pub on_graph : Schema → QueryTree → Result (Option ℕ) Refusal → O
 on_graph schema tree (Ok graph) = rules_refusal schema graph tree
 on_graph schema tree (Err due) = Some due
 
--- its graph is there, and no rule fails
+-- its graph exists, and no rule fails
 abbrev pub graph_refusal : Schema → Option ℕ → QueryTree → Option Refusal
 graph_refusal schema in_use tree = on_graph schema tree (graph_for schema in_use tree.graph)
 
--- INTERPRET QUERY, with the graph in use: its modes are good, and all that
+-- INTERPRET QUERY, with the graph in use: its modes are valid, its graph exists, and no rule fails
 abbrev pub interpret_refusal : Schema → Option ℕ → QueryTree → Option Refusal
 interpret_refusal schema in_use tree = if good_modes tree.modes then graph_refusal schema in_use tree else Some refusal.BadOption
 
 -- ---- answers
 
--- nothing is refused, or what is due is; memory may be wanting at any time
+-- nothing is refused, or the refusal that is due is returned; OutOfMemory may occur at any time
 abbrev pub Judges : Option Refusal → Result (Unit {0}) StatementFault → Type 0
 Judges due (Ok done) = due ≡ None
 Judges due (Err (Refused found)) = due ≡ Some found

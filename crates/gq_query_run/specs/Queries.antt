@@ -1,4 +1,4 @@
--- Queries: the queries of a session by their names, and what CREATE QUERY and INSTALL QUERY make of them, or why they are refused.
+-- Queries: the queries of a session by name, the effects of CREATE QUERY and INSTALL QUERY, and why they are refused.
 use Rattle.std.specs.Prelude.{ℕ, Bool, true, false, not, ◌&&◌, ◌||◌, if◌then◌else◌, List, [], ◌∷◌, ◌++◌, map, find, position, slice_set, Option, Some, None, Result, Ok, Err, bytes_eq}
 use Rattle.std.specs.List.{list_any}
 use Rattle.gq_graph.specs.Catalog.{Schema}
@@ -16,7 +16,7 @@ use Rattle.gq_query_run.specs.Judging.{graph_for, graph_refusal}
 abbrev pub is_named : List ℕ → Kept → Bool
 is_named name query = bytes_eq query.name name
 
--- whether a query of the name is there
+-- whether there is a query with the name
 abbrev pub has_query : List Kept → List ℕ → Bool
 has_query queries name = list_any (is_named name) queries
 
@@ -38,11 +38,11 @@ abbrev pub put_at : List Kept → Kept → Option ℕ → List Kept
 put_at queries query (Some n) = slice_set queries n query
 put_at queries query None = queries ++ query ∷ []
 
--- in the place of the one of its name, or behind all
+-- the query replaces the one with its name, or is appended
 abbrev pub with_query : List Kept → Kept → List Kept
 with_query queries query = put_at queries query (position (is_named query.name) queries)
 
--- its modes are good, its name is new unless it may replace another, its graph is there, and no rule fails
+-- its modes are valid, its name is new unless it may replace another one, its graph exists, and no rule fails
 abbrev pub create_refusal : Schema → Option ℕ → List Kept → Bool → List ℕ → QueryTree → Option Refusal
 create_refusal schema in_use queries replace name tree =
     if not (good_modes tree.modes) then Some refusal.BadOption
@@ -62,7 +62,7 @@ query_created schema in_use queries replace name tree =
 abbrev pub installed_if : Bool → Kept → Kept
 installed_if is query = record query { installed = query.installed || is }
 
--- the queries of these names are installed
+-- the queries with these names are installed
 abbrev pub with_installed : List (List ℕ) → List Kept → List Kept
 with_installed names queries = map (λ (query : Kept). installed_if (list_any (bytes_eq query.name) names) query) queries
 
@@ -73,7 +73,7 @@ or_installed (Some name) queries = Err (refusal.UnknownName name)
 abbrev pub all_installed : List Kept → List Kept
 all_installed queries = map (λ (query : Kept). record query { installed = true }) queries
 
--- all of them, or those of these names, where each is there
+-- all of them, or those with these names, if each exists
 abbrev pub query_installed : List Kept → Installed → Result (List Kept) Refusal
 query_installed queries which.All = Ok (all_installed queries)
 query_installed queries (which.Named names) = or_installed (find (λ name. not (has_query queries name)) names) (with_installed names queries)

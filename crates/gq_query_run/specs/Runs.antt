@@ -1,4 +1,4 @@
--- Runs: when an answer of what runs queries is that of gq_rules_meaning, and what a run over arguments prints.
+-- Runs: when the answer of a runner is that of gq_rules_meaning, and what a run over arguments prints.
 use Rattle.std.specs.Prelude.{◌≡◌, ℕ, if◌then◌else◌, List, map, Option, Some, None, option_map, Result, Ok, Err}
 use Rattle.gq_value.specs.Val.{Val}
 use Rattle.gq_json.specs.declared.out.Printed.{Printed}
@@ -30,7 +30,7 @@ use Rattle.gq_query_run.specs.declared.runner.QueryFault.{QueryFault}
 use Rattle.gq_query_run.specs.declared.runner.QueryFault.TheVariants.{Wrong, SumRange, LoopBound, PathBound, OutOfMemory}
 use Rattle.gq_query_run.specs.Answers.{Objects}
 
--- what is printed is what the query gives, or the fault is the query's; memory may be wanting at any time
+-- the output is that of the query, or the fault is the query's; OutOfMemory may occur at any time
 abbrev pub Runs : Answer meaning.Fault Objects → Result (List Printed) QueryFault → Type 0
 Runs answer (Ok printed) = (objects : Objects) × (answer ≡ Gives objects) × (map (λ (p : Printed). p.members) printed ≡ map built_print objects)
 Runs answer (Err (Wrong w)) = answer ≡ Faults (meaning.Evaluation w)
@@ -43,7 +43,7 @@ Runs answer (Err OutOfMemory) = Unit {0}
 abbrev pub answer_over : Graph → Calendar → ℕ → Query Bytes → List Val → Result Objects Bytes
 answer_over g clock turns q vs = answer_of_run (slot_names q.definitions) turns (run_query g clock q vs turns)
 
--- the same, where there may be no values
+-- the same, if the values may be refused
 abbrev pub answer_given : Graph → Calendar → ℕ → Query Bytes → Result (List Val) Refusal → Result Objects Bytes
 answer_given g clock turns q (Ok vs) = answer_over g clock turns q vs
 answer_given g clock turns q (Err due) = Err (message_of due)
@@ -52,13 +52,13 @@ abbrev pub of_values : Values → Result (List Val) Refusal
 of_values (AllValues vs) = Ok vs
 of_values (BadArgument x) = Err (refusal.BadArgument x)
 
--- the values of all parameters: in parentheses their number counts too, and without these they are the members of the file
+-- the values of all parameters: arguments in parentheses, whose number is checked too, or else the members of the file
 abbrev pub values_run : Sorts → List VertexRow → List (Parameter Bytes) → Option (List Argument) → List (Bytes × Member) → Result (List Val) Refusal
 values_run sorts rows ps None members = of_values (values_of sorts rows ps (by_members ps members))
 values_run sorts rows ps (Some arguments) members =
     if wrong_number ps arguments then Err refusal.WrongArguments else of_values (values_of sorts rows ps (in_order ps arguments))
 
--- a query of a session, by its name and with these arguments, or with the members of the file
+-- a query of a session, by name and with these arguments, or with the members of the file
 abbrev pub answer_installed : Schema → Store → Calendar → ℕ → Kept → RunTree → Option Data → Result Objects Bytes
 answer_installed schema store clock turns q tree file =
     answer_given (graph_read schema q.graph store) clock turns (view_query q.tree)

@@ -1,4 +1,4 @@
--- Sessions: catalog, queries and store as the session of gq_rules_meaning's definitions.
+-- Sessions: catalog, queries and store as a session of the definitions of gq_rules_meaning.
 use Rattle.std.specs.Prelude.{ℕ, List, map, Option}
 use Rattle.gq_graph.specs.Catalog.{Schema}
 use Rattle.gq_index.specs.declared.store.Store.{Store}
@@ -20,6 +20,6 @@ session_of schema in_use queries store = record {
   in_use = in_use;
 }
 
--- what a query for the graph of this number reads
+-- what a query for the graph with this number reads
 abbrev pub graph_read : Schema → Option ℕ → Store → Graph
 graph_read schema graph store = graph_of schema (graph_in schema graph) store.vertices store.edges.rows

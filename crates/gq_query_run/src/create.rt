@@ -15,11 +15,11 @@ use gq_schema::Catalog;
 use gq_tree::QueryTree;
 use std::alloc::Global;
 
-/// CREATE QUERY, with the graph that is in use, by its number. The queries gain the one of the name, which isn't installed, or are
-/// as they were. With `replace` a query of the name is replaced.
+/// Executes CREATE QUERY, with the graph in use, given by number. The queries gain the one with the name, not
+/// installed, or are unchanged. With `replace` a query with the same name is replaced.
 ///
-/// Refused for its modes, else where a query of the name is there, else for a graph that isn't there, else by the first rule on
-/// queries that fails.
+/// Refused for its modes, else if there is a query with the name, else for a graph that doesn't exist, else by the
+/// first rule on queries that fails.
 pub fn create_query<'s>(
     alloc: Global,
     catalog: &Catalog,
@@ -72,7 +72,7 @@ fn judge(
     judge_graph(alloc, catalog, in_use, tree)
 }
 
-// Puts a query that isn't installed in the place of the one of its name, or behind all.
+// Replaces the query with the same name by one that isn't installed, or appends it.
 fn put<'s>(
     queries: &mut List<Stored<'s>>,
     name: &'s str,

@@ -12,9 +12,9 @@ use gq_diagnostics::{Refusal, StatementFault};
 use gq_value::Txt;
 use std::alloc::Global;
 
-/// What a statement says of a fault of its query.
+/// Returns the fault of a statement for a fault of its query.
 pub(crate) fn statement_fault(fault: CheckFault) -> StatementFault
-    // Where the rules give this fault, the statement's says the same.
+    // If the rules give this fault, the statement's fault corresponds to it.
     ensures { (judged : Judged (Scope Bytes)) → (fault ≢ CheckFault.OutOfMemory → judged ≡ Err (fault_of fault)) → Judges (refusal_in judged) (Err result) }
 {
     match fault {
@@ -32,7 +32,7 @@ pub(crate) fn statement_fault(fault: CheckFault) -> StatementFault
     }
 }
 
-/// Nothing of the name is there, or memory for the name is wanting.
+/// Returns `UnknownName`, or `OutOfMemory` if the name can't be copied.
 pub(crate) fn unknown(alloc: Global, name: &str) -> StatementFault
     ensures { Tells (Refusal.UnknownName name.now) result }
 {
@@ -42,7 +42,7 @@ pub(crate) fn unknown(alloc: Global, name: &str) -> StatementFault
     }
 }
 
-/// A query of the name is there, or memory for the name is wanting.
+/// Returns `NameTaken`, or `OutOfMemory` if the name can't be copied.
 pub(crate) fn taken(alloc: Global, name: &str) -> StatementFault
     ensures { Tells (Refusal.NameTaken name.now) result }
 {

@@ -14,7 +14,8 @@ use gq_tree::Installed;
 use gq_value::Txt;
 use std::alloc::Global;
 
-/// INSTALL QUERY: all queries, or those of the names. Refused for the first name that is none of them; then none is installed.
+/// Executes INSTALL QUERY: all queries, or those with the names. Refused for the first name without a query; then none
+/// is installed.
 pub fn install_queries(
     alloc: Global,
     queries: &mut List<Stored<'_>>,

@@ -20,10 +20,11 @@ use gq_tree::QueryTree;
 use std::alloc::Global;
 use std::thread::Threads;
 
-/// INTERPRET QUERY over a store with its index, with the graph that is in use, by its number: the line that the query prints. The
-/// session stays as it is.
+/// Executes INTERPRET QUERY over a store with its index, with the graph in use, given by number. Returns the line that
+/// the query prints. The session isn't changed.
 ///
-/// Refused for its modes, else for a graph that isn't there, else by the first rule on queries that fails, else for the fault of its run.
+/// Refused for its modes, else for a graph that doesn't exist, else by the first rule on queries that fails, else for
+/// the fault of its run.
 pub fn interpret_query<R: Threads + Sync, M: RunsQueries>(
     rt: &R,
     alloc: Global,

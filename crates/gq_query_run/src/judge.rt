@@ -1,4 +1,4 @@
-// Why a query is refused for its modes, its graph or its rules.
+// Refusals of queries for their modes, their graph or their rules.
 ghost use Rattle.std.specs.Prelude.{◌≡◌, ◌<◌, length};
 ghost use Rattle.std.specs.Option.{ForSome};
 ghost use Rattle.gq_query_run.specs.Judging.{Judges, graph_refusal, interpret_refusal, rules_refusal};
@@ -12,8 +12,8 @@ use gq_schema::Catalog;
 use gq_tree::QueryTree;
 use std::alloc::Global;
 
-/// Whether INTERPRET QUERY is refused, with the graph that is in use, by its number: for its modes, else for a graph that isn't
-/// there, else by the first rule on queries that fails.
+/// Checks whether INTERPRET QUERY is refused, with the graph in use, given by number: for its modes, else for a graph
+/// that doesn't exist, else by the first rule on queries that fails.
 pub(crate) fn judge_interpreted(
     alloc: Global,
     catalog: &Catalog,
@@ -29,7 +29,7 @@ pub(crate) fn judge_interpreted(
     judge_graph(alloc, catalog, in_use, tree)
 }
 
-/// The number of a query's graph: of the one that is named, else of the one in use, else none.
+/// Returns the number of a query's graph: of the one that is named, else of the one in use, else None.
 pub fn graph_of(catalog: &Catalog, in_use: Option<u32>, tree: &QueryTree) -> Option<u32>
     ensures { result ≡ graph_fixed catalog.now in_use tree.now }
 {
@@ -39,7 +39,7 @@ pub fn graph_of(catalog: &Catalog, in_use: Option<u32>, tree: &QueryTree) -> Opt
     }
 }
 
-/// The same for a query whose modes are good.
+/// The same for a query whose modes are valid.
 pub(crate) fn judge_graph(
     alloc: Global,
     catalog: &Catalog,

@@ -27,7 +27,8 @@ use gq_value::{Row, Txt, Wrong};
 use std::alloc::Global;
 use std::thread::Threads;
 
-/// The line of a query for the graph of this number, over a store with its index and values of its parameters.
+/// Returns the line that a query prints, for the graph with this number, over a store with its index and values of its
+/// parameters.
 pub(crate) fn line_over<R: Threads + Sync, M: RunsQueries>(
     rt: &R,
     alloc: Global,
@@ -60,7 +61,7 @@ pub(crate) fn line_over<R: Threads + Sync, M: RunsQueries>(
     }
 }
 
-// The line of what was printed.
+// Returns the line of the output.
 fn line_of(alloc: Global, printed: &[Printed]) -> Result<Vec<u8>, StatementFault>
     ensures { (objects : Objects) → map (λ (p : JsonPrinted). p.members) printed.now ≡ map built_print objects → Tells (Ok objects) result }
 {
@@ -70,7 +71,7 @@ fn line_of(alloc: Global, printed: &[Printed]) -> Result<Vec<u8>, StatementFault
     }
 }
 
-// What is said of a fault.
+// Returns the refusal for a fault.
 fn refused(alloc: Global, query: &QueryTree, turns: u64, fault: QueryFault) -> StatementFault
     ensures { (answer : Answer Fault Objects) → Runs answer (Err fault) → Tells (answer_of_run (slot_names (view_query query.now).definitions) turns answer) (Err result) }
 {

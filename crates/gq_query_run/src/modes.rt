@@ -5,11 +5,11 @@ ghost use Rattle.gq_rules_meaning.specs.Sessions as spec;
 
 use gq_tree::Mode;
 
-/// Whether API is `v2`, SYNTAX is `v1` or `v2` in any case, and neither stands twice.
+/// Whether API is `v2`, SYNTAX is `v1` or `v2` in any case, and neither occurs twice.
 pub(crate) fn are_good(modes: &[Mode]) -> bool
     ensures { result ≡ spec.good_modes modes.now }
 {
-    // Of three modes one stands twice, so this goes three deep at most.
+    // Of three modes one occurs twice, so the recursion is at most three levels deep.
     match modes {
         [] => true,
         [mode, rest @ ..] => is_good(mode) && !stands_in(mode, rest) && are_good(rest),

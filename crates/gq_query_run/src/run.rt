@@ -31,9 +31,10 @@ use gq_value::Txt;
 use std::alloc::Global;
 use std::thread::Threads;
 
-/// RUN QUERY, over a store with its index: the line that the query prints. The session stays as it is.
+/// Executes RUN QUERY over a store with its index. Returns the line that the query prints. The session isn't changed.
 ///
-/// Refused where no query of the name is there, else where it isn't installed, else for its arguments, else for the fault of its run.
+/// Refused if there is no query with the name, else if it isn't installed, else for its arguments, else for the fault
+/// of its run.
 pub fn run_query<R: Threads + Sync, M: RunsQueries>(
     rt: &R,
     alloc: Global,
@@ -88,7 +89,7 @@ fn run_found<R: Threads + Sync, M: RunsQueries>(
     }
 }
 
-// The arguments in parentheses, else what the file has for the query.
+// Returns the arguments in parentheses, or else those that the file has for the query.
 fn arguments_of<'a>(tree: &'a RunTree, file: &'a Args) -> Arguments<'a>
     ensures { (sorts : Sorts) (rows : List VertexRow) (ps : List (Parameter Bytes))
         → values_given sorts rows ps result ≡ values_run sorts rows ps (option_map (map view_argument) tree.now.arguments) (members_for (held file.now) tree.now.name) }
@@ -131,7 +132,7 @@ fn run_with<R: Threads + Sync, M: RunsQueries>(
     }
 }
 
-// Whether the graph of this number is there. What a session keeps of a query has one that is.
+// Whether there is a graph with this number. That of a stored query exists.
 fn is_there(catalog: &Catalog, graph: Option<u32>) -> bool
     ensures { result ≡ true → ForSome graph (λ g. g < length catalog.now.graphs) }
 {

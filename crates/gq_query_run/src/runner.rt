@@ -1,4 +1,4 @@
-// What runs queries.
+// The runner of queries.
 ghost use Rattle.std.specs.Prelude.{map};
 ghost use Rattle.std.specs.Thread.{IsSync};
 ghost use Rattle.gq_value.specs.Views.{val};
@@ -26,11 +26,11 @@ pub enum QueryFault {
     #[error("{0}")]
     Wrong(Wrong),
 
-    /// The sum of the accumulator of this number, in order of declaration, doesn't fit its type.
+    /// The sum of the accumulator with this number, in order of declaration, doesn't fit its type.
     #[error("sum out of range")]
     SumRange(u32),
 
-    /// A loop's body would be entered with no turn left.
+    /// No turn is left for another iteration of a loop's body.
     #[error("loop bound reached")]
     LoopBound,
     #[error("too many paths")]
@@ -39,22 +39,23 @@ pub enum QueryFault {
     OutOfMemory,
 }
 
-/// What runs the queries of a session, and how.
+/// The machine that runs the queries of a session, and its parameters.
 #[derive(Drop)]
 pub struct Runner<'r, M> {
     pub machine: &'r M,
 
-    /// How the work of a block is cut. It changes no answer.
+    /// How the work of a block is divided. It doesn't affect any answer.
     pub shape: Shape,
 
-    /// How many rounds of loops a query may take.
+    /// The number of loop iterations that a query may take.
     pub turns: u64,
 }
 
-/// Something that runs queries which were checked.
+/// A machine that runs checked queries.
 pub trait RunsQueries {
-    /// Runs a query for the graph of this number, over a store with its index and a value of each parameter, and with so many turns. The
-    /// runtime's threads, and the shape, by which the work of its blocks is cut, change no answer.
+    /// Runs a query for the graph with this number, over a store with its index and a value for each parameter, with a
+    /// limit on turns. The runtime's threads and the shape, which says how the work of its blocks is divided, don't
+    /// affect any answer.
     fn run<R: Threads + Sync>(
         &self,
         rt: &R,

@@ -1,4 +1,4 @@
-// Accumulators by their numbers.
+// Accumulators by number.
 ghost use Rattle.std.specs.Prelude.{◌≡◌, map};
 ghost use Rattle.gq_tree.specs.declared.kind.AccumTree.{AccumTree as DeclaredAccum};
 ghost use Rattle.gq_rules_typing.specs.StatementViews.{view_definition};
@@ -6,7 +6,7 @@ ghost use Rattle.gq_rules_meaning.specs.Messages.{accum_names, name_at, slot_nam
 
 use gq_tree::{AccumTree, DefinitionTree};
 
-/// The name of the accumulator of a number, in order of declaration, or nothing.
+/// Returns the name of the accumulator with a number, in order of declaration, or the empty text.
 pub(crate) fn slot_name(definitions: &[DefinitionTree], slot: usize) -> &str
     ensures { result.now ≡ name_at (slot_names (map view_definition definitions.now)) slot }
 {
@@ -21,7 +21,7 @@ pub(crate) fn slot_name(definitions: &[DefinitionTree], slot: usize) -> &str
     ""
 }
 
-// The accumulators of a declaration; a tuple type has none.
+// Returns the accumulators of a declaration; a tuple type has none.
 fn accums_of(definition: &DefinitionTree) -> &[AccumTree]
     ensures { map (λ (a : DeclaredAccum). a.name) result.now ≡ accum_names (view_definition definition.now) }
 {

@@ -1,4 +1,4 @@
-// Queries by their names.
+// Queries by name.
 ghost use Rattle.std.specs.Prelude.{◌≡◌, find, position};
 ghost use Rattle.std.specs.Option.{option_copied};
 ghost use Rattle.gq_query_run.specs.Queries as spec;
@@ -6,8 +6,8 @@ ghost use Rattle.gq_query_run.specs.Queries as spec;
 use gq_tree::QueryTree;
 use std::marker::Model;
 
-/// A query of a session: the tree that it was created with, which the script lends, the graph that was fixed then, by its number, and
-/// whether it was installed since.
+/// A query of a session: its tree as it was created, borrowed from the script, the graph that was fixed then, by
+/// number, and whether it was installed since.
 #[derive(Drop)]
 pub struct Stored<'s> {
     pub name: &'s str,
@@ -29,14 +29,14 @@ impl<'s> Model for Stored<'s> {
 }
 
 impl<'s> Stored<'s> {
-    /// The query's tree.
+    /// Returns the query's tree.
     pub fn tree(&self) -> &'s QueryTree
         ensures { result.now ≡ self.now.tree }
     {
         self.tree
     }
 
-    /// The number of the query's graph.
+    /// Returns the number of the query's graph.
     pub fn graph(&self) -> Option<u32>
         ensures { result ≡ self.now.graph }
     {
@@ -51,21 +51,21 @@ impl<'s> Stored<'s> {
     }
 }
 
-/// The query of a name.
+/// Returns the query with a name.
 pub(crate) fn query_named<'q, 's>(queries: &'q [Stored<'s>], name: &str) -> Option<&'q Stored<'s>>
     ensures { option_copied result ≡ find (spec.is_named name.now) queries.now }
 {
     queries.iter().find(|query| query.name == name)
 }
 
-/// Whether a query of the name is there.
+/// Whether there is a query with the name.
 pub(crate) fn has_query(queries: &[Stored<'_>], name: &str) -> bool
     ensures { result ≡ spec.has_query queries.now name.now }
 {
     queries.iter().any(|query| query.name == name)
 }
 
-/// The place of the query of a name.
+/// Returns the index of the query with a name.
 pub(crate) fn place_of(queries: &[Stored<'_>], name: &str) -> Option<usize>
     ensures { result ≡ position (spec.is_named name.now) queries.now }
 {

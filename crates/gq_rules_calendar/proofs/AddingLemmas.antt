@@ -1,4 +1,4 @@
--- AddingLemmas: what is added gives what gq_time says.
+-- AddingLemmas: adding agrees with gq_time.
 use Rattle.std.proofs.Common.{◌≡◌, ℕ, zero, suc, ◌+◌, ◌/◌, ◌%◌, ◌<◌, ◌≤◌, min, Bool, true, false, nat_lt, int_le, refl, sym, ap, subst, ◌∙◌, arith, ℤ, pos, negsuc, ◌+ℤ◌, ◌*ℤ◌, ◌≤ℤ◌, Some, None}
 use Rattle.std.specs.Prelude.{if◌then◌else◌}
 use Rattle.std.proofs.lemmas.Bool.Decides.{nat_tests}
@@ -24,7 +24,7 @@ use Rattle.gq_rules_calendar.specs.Adding.{if_in_range, seconds_in_month, at_mon
 use Rattle.gq_rules_calendar.proofs.NumberLemmas.{both}
 use Rattle.gq_rules_calendar.proofs.MomentLemmas.{HasMoment, has_moment}
 
--- a value where a test holds
+-- a value if a test holds
 if_some : {A : Type 0} (b : Bool) (v y : A) → (if b then Some v else None) ≡ Some y → (b ≡ true) × (v ≡ y)
 if_some true v y e = (refl, cc)
 if_some false v y e = absurd cc
@@ -85,7 +85,7 @@ date_in_month m d few some = record {
 seconds_of : (to : DateTime) (s : ℕ) (y : ℤ) → time_seconds to.time ≡ s → seconds_at to.date.year to.date.month to.date.day s ≡ y → y ≡ civil_seconds to
 seconds_of to s y clock is = sym is ∙ ap (seconds_at to.date.year to.date.month to.date.day) (sym clock) ∙ sym (civil_seconds-parts to)
 
--- its seconds at the time of day of another moment are those of so many months later
+-- its seconds at the time of day of another moment are those `months` later
 months_gives : (months x : ℤ) (has : HasMoment x) (y : ℤ) → months_later months x ≡ Some y → AreMonthsLater months x y
 months_gives months x has y e =
     let at = at_month_is (year (days x) *ℤ pos 12 +ℤ pos (month (days x)) +ℤ months) (day (days x)) (second_of_day x) y e in
@@ -130,7 +130,7 @@ adds_exactly Hour n x y h = seconds_later (n *ℤ pos 3_600) x y
 adds_exactly Minute n x y h = seconds_later (n *ℤ pos 60) x y
 adds_exactly Second n x y h = seconds_later n x y
 
--- what is added is in range
+-- the result of adding is in range
 pub added_in_range : (u : Unit) (n x y : ℤ) → IsAdded u n x y → IsDatetime y
 added_in_range Year n x y h = moment_in_range y h.to h.of_to
 added_in_range Month n x y h = moment_in_range y h.to h.of_to

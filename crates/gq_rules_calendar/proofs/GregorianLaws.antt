@@ -1,4 +1,4 @@
--- GregorianLaws: the calendar gives what gq_time says, and stays in its range.
+-- GregorianLaws: the calendar agrees with gq_time, and stays in its range.
 use Rattle.std.proofs.Common.{refl, sym, ap, ℤ, pos}
 use Rattle.gq_time.specs.Moments.{IsDatetime, HasParts}
 use Rattle.gq_time.specs.Texts.{IsWritten}

@@ -1,4 +1,4 @@
--- ReadingLemmas: a text is read as what it tells.
+-- ReadingLemmas: a text is read as the seconds that it denotes.
 use Rattle.std.proofs.Common.{◌≡◌, ◌⊎◌, inl, inr, ℕ, ◌+◌, ◌-◌, ◌*◌, ◌<◌, ◌≤◌, ◌^◌, Bool, true, false, ◌==◌, ◌&&◌, ◌||◌, nat_le, nat_lt, List, [], ◌∷◌, ◌++◌, length, get_or, take, drop, refl, sym, ap, subst, ◌∙◌, arith, Option, Some, None, ℤ, pos, ◌+ℤ◌, ◌*ℤ◌, unsigned_abs}
 use Rattle.std.specs.Prelude.{if◌then◌else◌}
 use Rattle.std.proofs.lemmas.List.{append-nil, take-append-drop, length_push, take_at, get_or_push}
@@ -148,7 +148,7 @@ clock_given text t shows =
     then_given (three 2 58 text) (λ p. if_true (nat_lt p.0 24 && (nat_lt p.1 60 && nat_lt p.2 60)) (Some (p.0 * 3600 + p.1 * 60 + p.2))) (t.hour, t.minute, t.second) parts
     ∙ if_given (nat_lt t.hour 24 && (nat_lt t.minute 60 && nat_lt t.second 60)) (Some (time_seconds t)) test
 
--- ---- what may stand behind a time of day
+-- ---- what may follow a time of day
 
 few_is : (text : List ℕ) → is_few_digits text ≡ true → IsFewDigits text
 few_is text h =

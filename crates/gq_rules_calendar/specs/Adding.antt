@@ -1,4 +1,4 @@
--- Adding: so many units after seconds. Months are counted from the year 0 on.
+-- Adding: the seconds n units later. Months are counted from the year 0 on.
 use Rattle.std.specs.Prelude.{ℕ, zero, suc, ◌+◌, ◌/◌, ◌%◌, min, nat_lt, if◌then◌else◌, ℤ, pos, negsuc, ◌+ℤ◌, ◌*ℤ◌, Option, Some, None}
 use Rattle.jiff_core.specs.Calendar.{days_in_month}
 use Rattle.gq_value.specs.Typed.{in_calendar}

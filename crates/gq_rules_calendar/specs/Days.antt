@@ -39,7 +39,7 @@ day days = (5 * day_of_year days + 461) % 153 / 5 + 1
 abbrev pub since_year_0 : ℤ → ℕ
 since_year_0 seconds = unsigned_abs (seconds +ℤ pos 62_167_219_200)
 
--- the year 0 began so many days after 1 March of the year -10000
+-- the year 0 began 3,652,365 days after 1 March of the year -10000
 abbrev pub days : ℤ → ℕ
 days seconds = since_year_0 seconds / 86_400 + 3_652_365
 

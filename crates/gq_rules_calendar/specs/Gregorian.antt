@@ -1,4 +1,4 @@
--- Gregorian: the proleptic Gregorian calendar as functions. `gregorian_is_a_calendar` says that they give what gq_time says.
+-- Gregorian: the proleptic Gregorian calendar as functions. `gregorian_is_a_calendar`: they agree with gq_time.
 -- It is for contracts, which name a calendar; code calls gq_time.
 use Rattle.std.specs.Prelude.{ℕ, ◌++◌, List, ◌∷◌, ℤ, pos, unsigned_abs}
 use Rattle.gq_time.specs.Texts.{three_text}

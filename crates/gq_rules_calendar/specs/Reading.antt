@@ -1,4 +1,4 @@
--- Reading: the seconds that a text tells, part by part at their places.
+-- Reading: the seconds that a text denotes, part by part at their places.
 use Rattle.std.specs.Prelude.{ℕ, ◌+◌, ◌-◌, ◌*◌, Bool, true, false, nat_le, nat_lt, ◌==◌, ◌&&◌, ◌||◌, if◌then◌else◌, List, [], ◌∷◌, length, get_or, take, drop, ℤ, pos, neg_ℤ, ◌+ℤ◌, ◌*ℤ◌, Option, Some, None}
 use Rattle.jiff_core.specs.Calendar.{days_from_civil, days_in_month}
 use Rattle.gq_time.specs.Reading.{trimmed}
@@ -25,7 +25,7 @@ is_some (Some a) = true
 abbrev pub is_digit : ℕ → Bool
 is_digit c = nat_le 48 c && nat_le c 57
 
--- the number that digits write behind those of another
+-- the number whose digits are those of n and then these
 abbrev pub number_behind : ℕ → List ℕ → Option ℕ
 number_behind n [] = Some n
 number_behind n (c ∷ text) = if_true (is_digit c) (number_behind (n * 10 + (c - 48)) text)
@@ -33,11 +33,11 @@ number_behind n (c ∷ text) = if_true (is_digit c) (number_behind (n * 10 + (c 
 abbrev pub number : List ℕ → Option ℕ
 number = number_behind 0
 
--- the marks of three numbers stand where they are due, and nothing behind them
+-- the marks of three numbers are at their places, and nothing follows them
 abbrev pub is_marked : ℕ → ℕ → List ℕ → Bool
 is_marked size mark text = (length text == size + 6) && ((get_or text size 0 == mark) && (get_or text (size + 3) 0 == mark))
 
--- three numbers with a mark between them, the first of so many digits and the others of two
+-- three numbers with a mark between them, the first of `size` digits and the others of two
 abbrev pub three : ℕ → ℕ → List ℕ → Option (ℕ × ℕ × ℕ)
 three size mark text =
     if_true (is_marked size mark text) (and_then (number (take size text)) (λ a.
@@ -79,7 +79,7 @@ is_end text = is_fraction text || (has_zone text && is_fraction (take (length te
 abbrev pub clock_with_end : List ℕ → Option ℕ
 clock_with_end text = if_true (nat_le 8 (length text) && is_end (drop 8 text)) (clock (take 8 text))
 
--- what stands behind a date: nothing, a blank or `T`
+-- the rest after a date: nothing, a blank or `T`
 abbrev pub time : List ℕ → Option ℕ
 time [] = Some 0
 time (c ∷ text) = if c == 32 then clock text else if_true (c == 84) (clock_with_end text)

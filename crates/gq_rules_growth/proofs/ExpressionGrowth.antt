@@ -28,7 +28,7 @@ vertex_field words a t f = at_place (bases_of (vertex_fields a t)) (words.field 
 abbrev edge_field : {N : Type 0} → Words N → Sorts → ℕ → N → Option Base
 edge_field words a t f = at_place (bases_of (edge_fields a t)) (words.field (OfEdgeType t) (names_of (edge_fields a t)) f)
 
--- fields that are there keep their types, and the graph's edge types stay as they are
+-- existing fields keep their types, and the graph's edge types stay as they are
 pub record SortsGrow {N : Type 0} (words : Words N) (a : Sorts) (vertices : List VertexSort) (edges : List EdgeSort) : Type 0 where
   pub vertex : (t : ℕ) (f : N) (c : Base) → vertex_field words a t f ≡ Some c → vertex_field words (wider a vertices edges) t f ≡ Some c
   pub edge : (t : ℕ) (f : N) (c : Base) → edge_field words a t f ≡ Some c → edge_field words (wider a vertices edges) t f ≡ Some c
@@ -164,7 +164,7 @@ module _ {N : Type 0} (words : Words N) (a : Sorts) (vertices : List VertexSort)
       bools_kept (tree t ts) x =
           kept_then (typing n₁ t >>= operated both_bool x) (typing n₂ t >>= operated both_bool x) _ _ (kept_on (typing n₁ t) (typing n₂ t) (operated both_bool x) (tree_kept t)) (λ y. bools_kept ts y)
 
-    -- ---- what a place wants
+    -- ---- the types that a place requires
 
     pub base_kept : (t : Tree N) → Keeps (base_type n₁ t) (base_type n₂ t)
     base_kept t = kept_on (typing n₁ t) (typing n₂ t) as_base (tree_kept t)

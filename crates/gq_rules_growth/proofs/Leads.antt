@@ -1,12 +1,12 @@
--- Leads: rules that give something over some types, and what they give over more of them.
+-- Leads: rules that give something over some types, and their results over more types.
 use Rattle.std.proofs.Common.{◌≡◌, List, [], ◌∷◌, Option, Some, None, Ok, Err, refl, ap, sym, ◌∙◌, subst}
 use Rattle.gq_rules_typing.specs.Judging.{TypingFault, Judged, ◌>>=◌, ◌>>◌, or_fault, each_judged, through_judged}
 
--- where the first gives something, the second gives what stands in R to it
+-- if the first gives something, the second gives something related to it by R
 pub record Leads {A B : Type 0} (R : A → B → Type 0) (j : Judged A) (k : Judged B) : Type 0 where
   pub leads : (a : A) → j ≡ Ok a → (b : B) × (k ≡ Ok b) × R a b
 
--- where the first gives something, the second gives the same
+-- if the first gives something, the second gives the same
 abbrev pub Keeps : {A : Type 0} → Judged A → Judged A → Type 0
 Keeps {A = A} j k = Leads (λ (a b : A). a ≡ b) j k
 
@@ -20,7 +20,7 @@ pub or_kept : {A : Type 0} (x : TypingFault) (o p : Option A) → ((a : A) → o
 or_kept x None p h = record { leads = λ a e. absurd (cc e) }
 or_kept x (Some c) p h = record { leads = λ a e. (a, ap (or_fault x) (h c refl) ∙ e, refl) }
 
--- what is there where no fault is
+-- the value, if there is no fault
 pub known : {A : Type 0} (x : TypingFault) (o : Option A) (a : A) → or_fault x o ≡ Ok a → o ≡ Some a
 known x None a e = absurd (cc e)
 known x (Some c) a e = cc
@@ -56,7 +56,7 @@ pub leads_and : {A B C D : Type 0} {R : A → B → Type 0} {Q : C → D → Typ
 leads_and {R = R} {Q = Q} (Ok a) k l m h n = record { leads = λ c e. let u = h.leads a refl in let v = n.leads c e in (v.0, ap (λ k. k >> m) u.1 ∙ v.1, v.2) }
 leads_and {R = R} {Q = Q} (Err x) k l m h n = fails Q x (k >> m)
 
--- ---- each in turn
+-- ---- each one after the other
 
 pub each_kept : {A B : Type 0} (f g : A → Judged B) → ((a : A) → Keeps (f a) (g a)) → (xs : List A) → Keeps (each_judged f xs) (each_judged g xs)
 each_kept f g h [] = kept (Ok [])

@@ -17,7 +17,7 @@ use Rattle.gq_rules_growth.proofs.ScopeGrowth.{scoped, Scopes, scopes_ok}
 use Rattle.gq_rules_growth.proofs.ExpressionGrowth.{SortsGrow, at₁, at₂, converting_kept}
 use Rattle.gq_rules_growth.proofs.WalkGrowth.{Grown, select_kept}
 
--- a set on both sides, and where there is one the other keeps its types; or none
+-- a set on both sides, and if there is one the other keeps its types; or none
 abbrev pub BothKeep : Option (Judged (List ℕ)) → Option (Judged (List ℕ)) → Type 0
 BothKeep None None = Unit {0}
 BothKeep (Some j) (Some k) = Keeps j k

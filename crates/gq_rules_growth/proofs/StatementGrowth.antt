@@ -40,7 +40,7 @@ module _ {N : Type 0} (words : Words N) (a : Sorts) (vertices : List VertexSort)
   same_names : (names : List (N × Entry)) → Goes (Ok (s names)) (Ok (t names))
   same_names names = scopes_ok first second paths names
 
-  -- ---- what a place wants
+  -- ---- the types that a place requires
 
   tree_at : (names : List (N × Entry)) (place : Place N) (e : Tree N) → Keeps (typing (names_at (s names) place) e) (typing (names_at (t names) place) e)
   tree_at names place e = tree_kept words a vertices edges h tuples (names_at (s names) place) e

@@ -1,4 +1,4 @@
--- WalkGrowth: a walk leads to the same types where there are more of them, and so a SELECT gives the same.
+-- WalkGrowth: a walk leads to the same types if there are more of them, and so a SELECT gives the same.
 use Rattle.std.proofs.Common.{◌≡◌, ℕ, Bool, true, false, List, [], ◌∷◌, ◌++◌, Option, Some, None, Ok, Err, refl, ap, ap₂, sym, ◌∙◌, subst, eq-eqb}
 use Rattle.std.specs.Prelude.{not, ◌&&◌, ◌||◌, ◌==◌, if◌then◌else◌, map, filter_map, slice_get, length, nat_lt, nat_le}
 use Rattle.std.specs.List.{flat_map, cons_option}
@@ -21,12 +21,12 @@ use Rattle.gq_rules_growth.proofs.ScopeGrowth.{scoped, Scopes, scopes_ok, scopes
 use Rattle.gq_rules_growth.proofs.ExpressionGrowth.{SortsGrow, at₁, at₂, wider, tree_kept, number_kept}
 use Rattle.gq_rules_growth.proofs.ActGrowth.{condition_at, acts_kept, post_kept}
 
--- a rule on what may be left out
+-- a rule on an optional part
 pub optional_kept : {N A : Type 0} (f g : Tree N → Judged A) → ((t : Tree N) → Keeps (f t) (g t)) → (o : Option (Tree N)) → Keeps (optional f o) (optional g o)
 optional_kept f g h None = kept (Ok true)
 optional_kept f g h (Some t) = leads_and (f t) (g t) (Ok true) (Ok true) (h t) (kept (Ok true))
 
--- ---- where edges lead
+-- ---- the types that edges lead to
 
 abbrev way_from : Option EdgeSort → Way
 way_from o = of_sort o
@@ -193,7 +193,7 @@ module _ {N : Type 0} (words : Words N) (a : Sorts) (vertices : List VertexSort)
     conditions_kept : (names : List (N × Entry)) (place : Place N) (o : Option (Tree N)) → Keeps (optional (condition (names_at (s names) place)) o) (optional (condition (names_at (t names) place)) o)
     conditions_kept names place o = optional_kept (condition (names_at (s names) place)) (condition (names_at (t names) place)) (λ e. condition_at words a vertices edges h tuples names paths place e) o
 
-    -- the rules behind FROM
+    -- the rules after FROM
     abbrev behind : Select N → Scope N → Judged ℕ
     behind q z = optional (condition (names_at z InBlock)) q.filter >> typing_acts z false 0 q.accum >> typing_post z q.alias (target_alias q.walk) 0 q.post
 

@@ -1,4 +1,4 @@
--- WordGrowth: names stand for what they stood for once a catalog has grown, and fields that were there keep their types.
+-- WordGrowth: once a catalog has grown, names denote what they denoted before, and existing fields keep their types.
 use Rattle.std.proofs.Common.{◌≡◌, ℕ, zero, suc, ◌+◌, ◌<◌, ◌≤◌, Bool, true, false, List, [], ◌∷◌, ◌++◌, length, take, drop, arith, Option, Some, None, Ok, refl, ap, ap₂, sym, ◌∙◌, subst, eq-eqb}
 use Rattle.std.proofs.lemmas.Bool.{eqb-true, ltb-true}
 use Rattle.std.proofs.lemmas.Bool.Decides.{nat_tests}
@@ -48,7 +48,7 @@ position_behind p x xs e = go (nat_lt (position_or_len p xs) (length xs)) refl
     go true f = let z = shifted (position_or_len p xs) (length xs) true f in let w = one_more (position_or_len p xs) in cc
     go false f = let z = shifted (position_or_len p xs) (length xs) false f in cc
 
--- the first place in a longer list is the one of the shorter, or lies behind it
+-- the first place in a longer list is the one of the shorter, or comes after it
 data Stays {A : Type 0} (p : A → Bool) (xs ys : List A) : Type 0 where
   AsBefore : position p (xs ++ ys) ≡ position p xs → Stays p xs ys
   Nowhere : position p xs ≡ None → position p (xs ++ ys) ≡ None → Stays p xs ys
@@ -77,7 +77,7 @@ low_of m (n ∷ ns) t h e = go (n == t) refl (nat_lt n m) refl h e (low_of m ns 
     go true f true g h e rest = let P : ℕ → Type 0 = λ n. n < m in subst P (eqb-true n t f) (ltb-true n m g)
     go false f true g h e rest = rest h e
 
--- a name of the graph stands for the number that it stood for
+-- a name of the graph denotes the number that it denoted before
 own_stays : (own : List ℕ) (xs ys : List Bytes) (x : Bytes) → list_all (λ n. nat_lt n (length xs)) own ≡ true → if_own own (place_of (xs ++ ys) x) ≡ if_own own (place_of xs x)
 own_stays own xs ys x low = go (stays (bytes_eq x) xs ys)
   where

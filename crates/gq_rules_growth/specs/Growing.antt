@@ -1,4 +1,4 @@
--- Growing: which types a graph sees, and what stays of a query's typing while its catalog grows.
+-- Growing: which types a graph sees, and what is preserved of a query's typing while its catalog grows.
 use Rattle.std.specs.Prelude.{◌≡◌, ℕ, ◌<◌, true, length, nat_lt, Option, Ok, slice_get}
 use Rattle.std.specs.List.{list_all}
 use Rattle.gq_graph.specs.Catalog.{Schema}
@@ -19,8 +19,8 @@ pub record SeesTypes (schema : Schema) (own : Option GraphType) : Type 0 where
 abbrev pub over : Sorts → Scope Bytes → Scope Bytes
 over sorts s = record s { setting = record { words = by_name sorts; sorts = sorts; tuples = s.setting.tuples } }
 
--- a query that is typed over a catalog is typed over each that has grown out of it, with the same names and types: its graph is
--- the one of old, and what a later type is called, or has for attributes, changes nothing
+-- a query that is typed over a catalog is typed over each that has grown out of it, with the same names and types: its
+-- graph is the same, and the names and attributes of later types change nothing
 abbrev pub GrowthLaw : Type 0
 GrowthLaw = (before after : Schema) (own : Option GraphType) → HasGrown before after → SeesTypes before own
     → (q : Query Bytes) (t : Scope Bytes) → typing_query (sorts_of before own) q ≡ Ok t → typing_query (sorts_of after own) q ≡ Ok (over (sorts_of after own) t)

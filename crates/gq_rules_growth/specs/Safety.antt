@@ -1,4 +1,4 @@
--- Safety: what a query that was checked may rely on, in its catalog and in each that grows out of it.
+-- Safety: the properties that a checked query may rely on, in its catalog and in each that grows out of it.
 use Rattle.std.specs.Prelude.{◌≡◌, ℕ, List, Option, Ok}
 use Rattle.gq_value.specs.Val.{Val}
 use Rattle.gq_graph.specs.Catalog.{Schema}
@@ -18,7 +18,7 @@ use Rattle.gq_rules_meaning.specs.Fitting.{Safe, WorldFits}
 use Rattle.gq_rules_safety.specs.Laws.{ArgumentsFit}
 use Rattle.gq_rules_growth.specs.Growing.{SeesTypes}
 
--- what a query for a graph reads of a store is of the catalog's types, whatever tuple types the query declares
+-- the data that a query for a graph reads are of the catalog's types, whatever tuple types the query declares
 abbrev pub IsStoreOf : Schema → Option GraphType → List VertexRow → List EdgeRow → Calendar → Type 0
 IsStoreOf schema own vertices edges clock = (tuples : List (Bytes × Fields)) → WorldFits (with_tuples tuples (world_of (graph_of schema own vertices edges) clock))
 
@@ -28,7 +28,8 @@ NeverStuck schema own q = (vertices : List VertexRow) (edges : List EdgeRow) (cl
     → (arguments : List Val) → ArgumentsFit (world_of (graph_of schema own vertices edges) clock) q.parameters arguments
     → (turns : ℕ) → Safe (λ (printed : List (List (Bytes × Out))). Unit {0}) (run_query (graph_of schema own vertices edges) clock q arguments turns)
 
--- so it is in the catalog of today, and in each that grows out of it, where its graph's types are types of the catalog of today
+-- this holds in the current catalog, and in each that grows out of it, if its graph's types are types of the current
+-- catalog
 pub record StaysSafe (schema : Schema) (own : Option GraphType) (q : Query Bytes) : Type 0 where
   pub today : NeverStuck schema own q
   pub later : SeesTypes schema own → (after : Schema) → HasGrown schema after → NeverStuck after own q
@@ -37,6 +38,6 @@ pub record StaysSafe (schema : Schema) (own : Option GraphType) (q : Query Bytes
 abbrev pub SafetyLaw : Type 0
 SafetyLaw = (schema : Schema) (own : Option GraphType) (q : Query Bytes) (t : Scope Bytes) → typing_query (sorts_of schema own) q ≡ Ok t → StaysSafe schema own q
 
--- and so it goes on: what holds of a query in a catalog holds in each that grows out of it
+-- and it is preserved: what holds of a query in a catalog holds in each that grows out of it
 abbrev pub GoesOnLaw : Type 0
 GoesOnLaw = (before after : Schema) (own : Option GraphType) (q : Query Bytes) → HasGrown before after → SeesTypes before own → StaysSafe before own q → SeesTypes after own × StaysSafe after own q

@@ -3,8 +3,8 @@
 //! A query is checked once, when it is created. Declarations only add to the catalog, so its graph and its
 //! types stay the same, and what it relies on still holds when it runs.
 //!
-//! Read `specs/Growing.antt` first, what is preserved of typing, then `specs/Safety.antt`, what a checked
-//! query may rely on. Nothing here runs: each function in `src/lib.rt` states a law in its contract.
+//! Read `specs/Growing.antt` first (what is preserved of typing), then `specs/Safety.antt` (what a checked
+//! query may rely on). Nothing here runs: each function in `src/lib.rt` states a law in its contract.
 #![tactic(auto)]
 
 ghost use Rattle.gq_rules_growth.specs.Growing.{GrowthLaw, GraphLaw};
@@ -16,7 +16,7 @@ pub fn queries_stay_typed()
     ensures { GrowthLaw }
 {}
 
-/// A graph that is there stays as it is, by its number.
+/// An existing graph stays as it is, by its number.
 #[tactic(auto, using(crate::proofs::SafetyLaws::graph_law))]
 pub fn graphs_stay()
     ensures { GraphLaw }
@@ -29,7 +29,7 @@ pub fn queries_stay_safe()
     ensures { SafetyLaw }
 {}
 
-/// What is known of a query's safety in a catalog goes on holding while the catalog grows.
+/// A query that is safe in a catalog stays safe while the catalog grows.
 pub fn safety_goes_on()
     ensures { GoesOnLaw }
 {}

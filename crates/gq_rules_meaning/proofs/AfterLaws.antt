@@ -1,4 +1,4 @@
--- AfterLaws: contents keep to values of their types, whatever inputs of their kinds they are fed.
+-- AfterLaws: contents keep to values of their types, for all inputs of their kinds.
 use Rattle.std.proofs.Common.{◌≡◌, ℕ, zero, suc, Bool, true, false, List, [], ◌∷◌, ◌++◌, map, take, refl}
 use Rattle.std.specs.Prelude.{if◌then◌else◌}
 use Rattle.std.specs.List.{list_all}
@@ -96,7 +96,7 @@ module _ {N : Type 0} (world : World N) where
   group_rows keys ps (Keyed row ys ∷ xs) h = both_ok (row_is world (bases_of keys) row) _ h.0.0 (group_rows keys ps xs h.1)
   group_rows keys ps (One v ∷ xs) h = absurd h.0
 
-  -- what they give under one key row
+  -- the inputs under one key row
   map_own : (b : Base) (k : Accum) (q : List Val) (xs : List Given) → AllOf (InputFits world (MapAccum b k)) xs → AllOf (InputFits world k) (map first (own q xs))
   map_own b k q [] h = tt
   map_own b k q (Keyed row (given_and x no_given) ∷ xs) h = go (is_eq (row_cmp q row)) (map_own b k q xs h.1)

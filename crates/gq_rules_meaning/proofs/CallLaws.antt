@@ -1,4 +1,4 @@
--- CallLaws: functions and methods of typed arguments are not stuck, and give what they are typed with.
+-- CallLaws: functions and methods of typed arguments are not stuck, and return values of the typed result.
 use Rattle.std.proofs.Common.{◌≡◌, ℕ, suc, Bool, true, false, List, [], ◌∷◌, map, length, ◌+◌, eq-eqb, arith, Option, Some, None, Ok, refl, ap, sym, ◌∙◌, subst}
 use Rattle.std.specs.Prelude.{◌&&◌, ◌==◌, if◌then◌else◌, slice_get}
 use Rattle.gq_rules_typing.specs.Tree.{Trees}
@@ -26,7 +26,7 @@ use Rattle.gq_rules_meaning.proofs.AnswerLaws.{checked, after_ok, ok_inj, and_ok
 use Rattle.gq_rules_meaning.proofs.ValueLaws.{same_number, IsValue}
 use Rattle.gq_rules_meaning.proofs.ContentLaws.{read_suits, size_safe, got_map, got_group}
 
--- ---- arguments behind their conversions
+-- ---- arguments after their conversions
 
 abbrev pub type_wanted : Option Base → Base → Base
 type_wanted None b = b
@@ -43,7 +43,7 @@ AcceptsAll [] (b ∷ bs) = ⊥
 AcceptsAll (w ∷ ws) (b ∷ bs) = (accepts w b ≡ true) × AcceptsAll ws bs
 
 module _ {N : Type 0} (world : World N) where
-  -- each argument is of the type that is wanted
+  -- each argument is of the required type
   abbrev pub AreArguments : List (Option Base) → List Base → List Val → Type 0
   AreArguments wants [] [] = Unit {0}
   AreArguments (w ∷ ws) (b ∷ bs) (v ∷ vs) = IsValue world (type_wanted w b) v × AreArguments ws bs vs
@@ -72,7 +72,7 @@ module _ {N : Type 0} (world : World N) where
   no_arguments [] h = refl
   no_arguments (b ∷ bs) h = let e : length (b ∷ bs) ≡ 0 = same_number (length (b ∷ bs)) 0 h in cc
 
-  -- a rule on keys holds of maps and groups alone
+  -- only maps and groups have a rule on keys
   keys_accept : (j : Accum) (bs : List Base) (ty : Typed) → got_type (Whole j) bs ≡ Ok ty → AcceptsAll (map Some (key_types j)) bs
   keys_accept (MapAccum b k) bs ty e = accepts_keys bs (b ∷ []) (checked Mismatch (convert_all bs (b ∷ [])) _ ty e).0
   keys_accept (GroupByAccum keys ps) bs ty e = accepts_keys bs (key_types (GroupByAccum keys ps)) (checked Mismatch (convert_all bs (key_types (GroupByAccum keys ps))) _ ty e).0
@@ -85,11 +85,11 @@ module _ {N : Type 0} (world : World N) where
   content_accepts sorts Get j c ts bs ty n e = keys_accept j bs ty e
   content_accepts sorts Outdegree j c ts bs ty n e = cc
 
-  -- what a set's size takes
+  -- the arguments that a set's size takes
   pub size_accepts : (bs : List Base) (t : Bool) (ty : Typed) → (unless Mismatch (t && (length bs == 0)) >> Ok (Of INT)) ≡ Ok ty → (bs ≡ []) × (ty ≡ Of INT)
   size_accepts bs t ty e = let u = checked Mismatch (t && (length bs == 0)) _ ty e in (no_arguments bs (and_ok t _ u.0).1, sym (ok_inj u.1))
 
-  -- what a collection gives
+  -- the results of a collection's methods
   size_gives : (j : Accum) (c : Holds j) (bs : List Base) (vs : List Val) → is_scalar j ≡ false → AreArguments [] bs vs → Safe (Suits world (Of INT)) (method_of world.graph Size (IsContent j c) vs)
   size_gives j c [] [] n h = size_safe world j c _ _ n (λ k. (refl, refl))
   size_gives j c [] (v ∷ vs) n h = absurd h

@@ -22,7 +22,7 @@ since_0 x = whole (x +ℤ pos offset)
 
 -- ---- days
 
--- 400 years have 146,097 days; they are added so that no number goes below 0
+-- 400 years have 146,097 days; they are added so that no number gets below 0
 abbrev marching : ℕ → ℕ
 marching n = n / 86400 + 146037
 
@@ -76,7 +76,7 @@ abbrev write : ℤ → List ℕ
 write x = let n = since_0 x in let d = date_of n in
     last_digits 4 d.0 ++ (45 ∷ last_digits 2 d.1 ++ (45 ∷ last_digits 2 d.2 ++ (32 ∷ last_digits 2 (n / 3600 % 24) ++ (58 ∷ last_digits 2 (n / 60 % 60) ++ (58 ∷ last_digits 2 (n % 60))))))
 
--- ---- reading a date, and a date with a time behind a blank
+-- ---- reading a date, and a date with a time after a blank
 
 abbrev number_of : List ℕ → ℕ → ℕ
 number_of [] n = n
@@ -85,7 +85,7 @@ number_of (c ∷ cs) n = number_of cs (10 * n + (c - 48))
 abbrev is_digit : ℕ → Bool
 is_digit c = nat_le 48 c && nat_le c 57
 
--- the number that so many digits are from a place on, below a bound
+-- the number whose `size` digits begin at a place, below a bound
 abbrev digits_at : ℕ → ℕ → List ℕ → Option ℕ
 digits_at at size text = let ds = take size (drop at text) in if list_all is_digit ds && (length ds == size) then Some (number_of ds 0) else None
 
@@ -130,7 +130,7 @@ read text = let said = trimmed text in then_number (either (date_in 45 said) (da
 abbrev if_in_range : ℤ → Option ℤ
 if_in_range x = if in_calendar x then Some x else None
 
--- so many months from year 0 on, with a day and a time
+-- a number of months from year 0 on, with a day and a time
 abbrev at_month : ℤ → ℕ → ℕ → Option ℤ
 at_month (negsuc m) day time = None
 at_month (pos m) day time = if_true (nat_lt m 120000) (Some (neg_ℤ (pos offset) +ℤ pos (days_to (m / 12) (m % 12 + 1) (min day (month_length (m / 12) (m % 12 + 1))) * 86400 + time)))

@@ -1,4 +1,4 @@
--- ContentLaws: what contents read as, and what the methods of collections give.
+-- ContentLaws: the values that contents read as, and the results of the methods of collections.
 use Rattle.std.proofs.Common.{◌≡◌, ℕ, zero, suc, Bool, true, false, List, refl}
 use Rattle.std.specs.Prelude.{if◌then◌else◌, ℤ}
 use Rattle.gq_value.specs.declared.value.Wrong.{Wrong}
@@ -73,7 +73,7 @@ module _ {N : Type 0} (world : World N) where
   size_safe (HeapAccum b n by) c Q f h g = g _
   size_safe k c Q f h g = cc
 
-  -- what stands under a key, or the opening
+  -- the content under a key, or the opening
   pub got_map : (b : Base) (k : Accum) (c : Holds (MapAccum b k)) (row : List Val) → HoldsValues world (MapAccum b k) c → (t : Bool) → HoldsValues world k (if t then c.1 row else fresh k)
   got_map b k c row h true = h.1 row
   got_map b k c row h false = fresh_holds k

@@ -1,4 +1,4 @@
--- ContributionLaws: what a match contributes is never stuck, and each input is one that its accumulator takes.
+-- ContributionLaws: the contributions of a match are never stuck, and each input is one that its accumulator takes.
 use Rattle.std.proofs.Common.{◌≡◌, ℕ, Bool, true, false, List, [], ◌∷◌, ◌++◌, Option, Some, None, Ok, Err, refl, ap, sym, ◌∙◌, subst}
 use Rattle.std.specs.Prelude.{not, slice_get}
 use Rattle.gq_rules_typing.specs.Tree.{Tree}

@@ -1,4 +1,4 @@
--- DotLaws: what stands behind a dot has its type, whatever stands before it.
+-- DotLaws: the part after a dot has its type, whatever comes before the dot.
 use Rattle.std.proofs.Common.{◌≡◌, Bool, true, false, [], ◌∷◌, Ok, refl, sym, subst}
 use Rattle.std.specs.Prelude.{if◌then◌else◌}
 use Rattle.gq_value.specs.Val.{Val, Vertex, Tuple}
@@ -14,7 +14,7 @@ use Rattle.gq_rules_meaning.proofs.ValueLaws.{IsValue}
 use Rattle.gq_rules_meaning.proofs.FieldLaws.{vertex_behind, edge_behind, tuple_behind, row_behind}
 
 module _ {N : Type 0} (world : World N) where
-  -- `.type` gives a text, of what has a type's name
+  -- `.type` gives a text, for anything that has the name of a type
   named : (x : Typed) (f : N) (ty : Typed) → behind_dot (setting world) x f ≡ Ok ty → world.words.is_type f ≡ true → (has_type_name x ≡ true) × (ty ≡ Of STRING)
   named x f ty e t =
       let u = checked Mismatch (has_type_name x) _ ty (subst (λ q. (if q then (unless Mismatch (has_type_name x) >> Ok (Of STRING)) else field_type (setting world) x f) ≡ Ok ty) t e) in
@@ -24,7 +24,7 @@ module _ {N : Type 0} (world : World N) where
   field : (x : Typed) (f : N) (ty : Typed) → behind_dot (setting world) x f ≡ Ok ty → world.words.is_type f ≡ false → field_type (setting world) x f ≡ Ok ty
   field x f ty e t = subst (λ q. (if q then (unless Mismatch (has_type_name x) >> Ok (Of STRING)) else field_type (setting world) x f) ≡ Ok ty) t e
 
-  -- what has no type's name has a field
+  -- anything without the name of a type has a field
   only_field : (x : Typed) (f : N) (ty : Typed) → behind_dot (setting world) x f ≡ Ok ty → has_type_name x ≡ false → field_type (setting world) x f ≡ Ok ty
   only_field x f ty e none = go (world.words.is_type f) refl
     where

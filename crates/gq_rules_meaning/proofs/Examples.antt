@@ -1,4 +1,4 @@
--- Examples: the graphs of the worked queries, and what a query says over one.
+-- Examples: the graphs of the worked queries, and the output of a query over one.
 use Rattle.std.proofs.Common.{ℕ, Bool, true, false, List, [], ◌∷◌, ℤ, pos, Option, Some, None}
 use Rattle.std.specs.Prelude.{codes}
 use Rattle.gq_value.specs.Val.{Val, Int, Text}
@@ -83,7 +83,7 @@ friends = graph_with (record {
     (friend (codes "Tom") 40 ∷ friend (codes "Dan") 34 ∷ friend (codes "Jenny") 25 ∷ friend (codes "Kevin") 28 ∷ friend (codes "Amily") 22 ∷ friend (codes "Nancy") 20 ∷ friend (codes "Jack") 26 ∷ [])
     (friendship 0 1 (codes "2017-06-03") ∷ friendship 0 2 (codes "2015-01-01") ∷ friendship 1 2 (codes "2016-08-03") ∷ friendship 2 4 (codes "2015-06-08") ∷ friendship 1 5 (codes "2016-01-03") ∷ friendship 5 6 (codes "2017-03-02") ∷ friendship 1 3 (codes "2015-12-30") ∷ [])
 
--- ---- what a query says, at a line of the script
+-- ---- the output of a query, at a line of the script
 
 abbrev pub answers : ℕ → Graph → Query Bytes → List Val → ℕ → Bytes
 answers line g q arguments turns = line_of_answer line (answer_of_query g clock q arguments turns)
@@ -91,7 +91,7 @@ answers line g q arguments turns = line_of_answer line (answer_of_query g clock 
 abbrev interpreted : Bool → List (Definition Bytes (KindTree Bytes)) → Stmts Bytes → Query Bytes
 interpreted with_paths definitions statements = record { parameters = []; with_paths = with_paths; definitions = definitions; statements = statements }
 
--- with so many turns
+-- with a bound on loop iterations
 abbrev pub says_in : Graph → ℕ → List (Definition Bytes (KindTree Bytes)) → Stmts Bytes → Bytes
 says_in g turns definitions statements = answers 8 g (interpreted false definitions statements) [] turns
 

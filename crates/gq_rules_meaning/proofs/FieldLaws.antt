@@ -65,7 +65,7 @@ target_kind kinds types v h = go (slice_get kinds v) refl h
 module _ {N : Type 0} (world : World N) where
   -- ---- rows of values
 
-  -- what stands at a place of a row has the type of the place
+  -- the value at a place of a row has the type of the place
   row_at : (bs : List Base) (vs : List Val) (i : ℕ) (b : Base) → row_is world bs vs ≡ true → slice_get bs i ≡ Some b → (v : Val) × (slice_get vs i ≡ Some v) × (IsValue world b v)
   row_at [] [] i b h e = cc
   row_at (c ∷ bs) (v ∷ vs) zero b h e = (v, refl, subst (λ d. IsValue world d v) (some_inj e) (and_ok _ _ h).0)
@@ -113,7 +113,7 @@ module _ {N : Type 0} (world : World N) where
       of_sort None = []
       of_sort (Some s) = s.fields
 
-  -- what behind a dot of vertices of these types: the name of the type, or one attribute of all
+  -- the part after a dot of vertices of these types: the name of the type, or one attribute of all
   behind_vertices : (f : N) (types : List ℕ) (t : ℕ) (ty : Typed) → among types t ≡ true → of_vertices (setting world) types f ≡ Ok ty → (b : Base) × (ty ≡ Of b) × (field_base (setting world) (OfVertexType t) (vertex_fields world.graph.sorts t) f ≡ Some b)
   behind_vertices f types t ty k e =
       let w = then_ok (field_fault (one_base (map field types))) _ ty e in
@@ -125,7 +125,7 @@ module _ {N : Type 0} (world : World N) where
       field_fault : Option Base → Judged Base
       field_fault o = or_fault (NoAttribute (world.words.said f)) o
 
-  -- what behind a dot of one of these vertices is
+  -- the part after a dot of one of these vertices
   pub vertex_behind : WorldFits world → (f : N) (types : List ℕ) (v : ℕ) (ty : Typed) → is_target world.graph.sight.kinds types v ≡ true
       → (world.words.is_type f ≡ true → ty ≡ Of STRING) → (world.words.is_type f ≡ false → of_vertices (setting world) types f ≡ Ok ty) → Safe (Suits world ty) (vertex_field world f v)
   vertex_behind fits f types v ty h named field =

@@ -1,4 +1,4 @@
--- FunctionLaws: what functions give for arguments of their types.
+-- FunctionLaws: the results of functions for arguments of their types.
 use Rattle.std.proofs.Common.{◌≡◌, ℕ, Bool, true, false, List, [], ◌∷◌, map, Option, Some, None, Ok, refl, sym, subst}
 use Rattle.std.specs.Prelude.{if◌then◌else◌, ℤ, pos, ◌-ℤ◌, unsigned_abs}
 use Rattle.gq_rules_typing.specs.Tree.{Trees}

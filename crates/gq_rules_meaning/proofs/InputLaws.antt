@@ -28,7 +28,7 @@ use Rattle.gq_rules_meaning.proofs.CallLaws.{AreArguments, accepts_keys}
 use Rattle.gq_rules_meaning.proofs.NeverStuck.{never_stuck, arguments_safe, as_value_safe}
 
 module _ {N : Type 0} (names : Names N) (look : Look N) (fits : LookFits names look) where
-  -- an expression as a value that is wanted
+  -- an expression as a value of the required type
   pub value_as_safe : (b : Base) (t : Tree N) (q : Bool) → converting names b t ≡ Ok q → Safe (IsValue look.world b) (value_as look b t)
   value_as_safe b t q e =
       let c = then_ok (base_type names t) _ q e in let x = then_ok (typing names t) as_base c.0 c.1 in

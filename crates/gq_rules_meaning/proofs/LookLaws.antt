@@ -1,4 +1,4 @@
--- LookLaws: what an expression sees of a state that fits its scope has the types of what it may name.
+-- LookLaws: in a state that fits its scope, an expression sees values of the types of the names that it may use.
 use Rattle.std.proofs.Common.{◌≡◌, ℕ, zero, suc, ◌<◌, Bool, true, false, List, [], ◌∷◌, length, Option, Some, None, Ok, Err, arith, refl, sym, ◌∙◌, subst}
 use Rattle.std.proofs.lemmas.Option.{slice_get_within}
 use Rattle.std.specs.Prelude.{slice_get}

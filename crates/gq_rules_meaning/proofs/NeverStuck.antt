@@ -1,4 +1,4 @@
--- NeverStuck: a typed expression is never stuck, and what it is has its type.
+-- NeverStuck: a typed expression is never stuck, and its value has its type.
 use Rattle.std.proofs.Common.{◌≡◌, ℕ, Bool, true, false, List, [], ◌∷◌, Option, Some, None, Ok, refl, ap, sym, ◌∙◌, subst}
 use Rattle.std.specs.Prelude.{◌&&◌}
 use Rattle.gq_rules_typing.specs.Tree.{Tree, Behind, Trees, Parts, Factors, Terms, Number, Text, Truth, Global, Name, Call, Post, Neg, Mul, Sum, Cmp, Not, And, Or, Field, Method, Attached, Before, no_tree, tree, no_part, part, no_factor, factor, no_term, term}
@@ -45,7 +45,7 @@ alone_ok (AliasOf types) ty e = ok_inj e
 operated_ok : (rule : Base → Base → Judged Typed) (x y ty : Typed) → operated rule x y ≡ Ok ty → (b : Base) × (c : Base) × (as_base x ≡ Ok b) × (as_base y ≡ Ok c) × (rule b c ≡ Ok ty)
 operated_ok rule x y ty e = let b = then_ok (as_base x) _ ty e in let c = then_ok (as_base y) (rule b.0) ty b.2 in (b.0, c.0, b.1, c.1, c.2)
 
--- what has accumulators stands for a vertex
+-- anything with accumulators denotes a vertex
 accums_of_vertex : (x : Typed) → has_accums x ≡ true → stands_for_vertex x ≡ true
 accums_of_vertex (AliasOf types) h = refl
 accums_of_vertex (MemberOf types) h = refl
@@ -81,7 +81,7 @@ module _ {N : Type 0} (names : Names N) (look : Look N) (fits : LookFits names l
   abbrev HasType : Typed → Meant → Type 0
   HasType x m = Suits look.world x m
 
-  -- ---- what an expression is taken for
+  -- ---- expressions read as values
 
   pub as_value_safe : (t : Tree N) (x : Typed) (b : Base) → Safe (HasType x) (meaning look t) → as_base x ≡ Ok b → Safe (IsValue look.world b) (answers.◌>>=◌ (meaning look t) value_of_meant)
   as_value_safe t x b h e = safe_then (HasType x) (IsValue look.world b) (meaning look t) value_of_meant h (λ m k. as_value look.world x b m e k)
@@ -155,7 +155,7 @@ module _ {N : Type 0} (names : Names N) (look : Look N) (fits : LookFits names l
           outdegree words.Outdegree n e = outdegree_safe x m ts ty e h
           outdegree f n e = cc
 
-  -- so many units later
+  -- units later
   abbrev add_wants : List (Option Base)
   add_wants = None ∷ Some INT ∷ None ∷ []
 
@@ -208,7 +208,7 @@ module _ {N : Type 0} (names : Names N) (look : Look N) (fits : LookFits names l
   bools_type no_tree x ty e = let b = then_ok (as_base x) a_bool ty e in sym (ok_inj (checked Mismatch (is_bool b.0) _ ty b.2).1)
   bools_type (tree t ts) x ty e = let z = then_ok (typing names t >>= operated both_bool x) _ ty e in bools_type ts z.0 ty z.2
 
-  -- an operand of a chain, and what the chain goes on with
+  -- an operand of a chain, and the type with which the chain continues
   abbrev Operand : Tree N → Trees N → Typed → Typed → Type 0
   Operand t ts x ty = (b : Base) × (as_base x ≡ Ok b) × (is_bool b ≡ true) × (typing names t ≡ Ok (Of BOOL)) × (typing_bools names (Of BOOL) ts ≡ Ok ty)
 

@@ -1,4 +1,4 @@
--- OperatorLaws: what signs, comparisons and conversions give.
+-- OperatorLaws: the results of signs, comparisons and conversions.
 use Rattle.std.proofs.Common.{◌≡◌, ℕ, zero, suc, Bool, true, false, Ok, Err, inl, inr, ◌⊎◌, refl, sym, ◌∙◌, subst}
 use Rattle.std.specs.Prelude.{◌&&◌, ◌||◌, if◌then◌else◌, ◌++◌, ◌^◌, nat_lt, pos, neg_ℤ, ℤ, ◌+ℤ◌}
 use Rattle.gq_rules_typing.specs.AddSign.{AddSign}
@@ -42,7 +42,7 @@ module _ {N : Type 0} (world : World N) where
   to_number : (b : Base) (n : numbers.Number) (v : Val) → is_number b ≡ true → IsValue world b v → Safe (IsValue world (number_type n)) (answers.◌>>=◌ (as_number v) (λ x. of_result (in_type n x)))
   to_number b n v h f = safe_then _ _ (as_number v) _ (number_safe world b v h f) (λ x u. in_type_value n x)
 
-  -- a value of a type that converts is one of the wanted type, or Range
+  -- a value of a type that converts is one of the required type, or Range
   pub converted_safe : (b c : Base) (v : Val) → converts b c ≡ true → IsValue world b v → Safe (IsValue world c) (converted_to c v)
   converted_safe INT INT v h f = to_number INT number.Int v refl f
   converted_safe UINT INT v h f = to_number UINT number.Int v refl f
@@ -89,7 +89,7 @@ module _ {N : Type 0} (world : World N) where
   plus_numbers : (b c : Base) (ty : Typed) (v w : Val) → types.calculated b c ≡ Ok ty → IsValue world b v → IsValue world c w → Safe (Suits world ty) (expressions.calculated added v w)
   plus_numbers b c ty v w e f g = calculated_safe world added added_exact b c ty v w e f g
 
-  -- what isn't two texts is calculated
+  -- operands that aren't two texts are added as numbers
   plus_numbers_is : (b c : Base) (v w : Val) → is_number b ≡ true → IsValue world b v → summed sign.Plus v w ≡ expressions.calculated added v w
   plus_numbers_is b c (Int x) w n f = refl
   plus_numbers_is b c (UInt x) w n f = refl

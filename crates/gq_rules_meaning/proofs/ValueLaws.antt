@@ -1,4 +1,4 @@
--- ValueLaws: values of a type: what they are taken for, what operators give, what converts.
+-- ValueLaws: values of a type: what they are read as, the results of operators, conversions.
 use Rattle.std.proofs.Common.{◌≡◌, ℕ, Bool, true, false, List, [], ◌∷◌, Result, Ok, Err, refl, ap, sym, ◌∙◌, subst, arith}
 use Rattle.std.proofs.lemmas.Bool.Decides.{nat_tests}
 use Rattle.std.specs.Prelude.{◌&&◌, ◌==◌, ℤ, if◌then◌else◌}
@@ -48,7 +48,7 @@ mutual
       let w = and_ok (same_base b c) (same_bases bs cs) h in let e = same_base_is b c w.0 in let f = same_bases_are bs cs w.1 in cc
   same_bases_are bs cs h = cc
 
--- ---- what a value is taken for
+-- ---- what a value is read as
 
 module _ {N : Type 0} (world : World N) where
   -- it is a value of the type
@@ -113,7 +113,7 @@ module _ {N : Type 0} (world : World N) where
   vertex_safe (MemberOf ts) m n h = absurd h
   vertex_safe x m n h = cc
 
-  -- ---- what operators give
+  -- ---- the results of operators
 
   -- a number of a type
   pub in_type_safe : (n : numbers.Number) (x : ℤ) → Safe (λ v. Suits world (Of (number_type n)) (Is (number_type n) v)) (of_result (in_type n x))
@@ -124,7 +124,7 @@ module _ {N : Type 0} (world : World N) where
       go true number.UInt = (refl, refl)
       go false n = tt
 
-  -- as what it is printed and calculated with
+  -- as a number for printing and arithmetic
   pub numbered_safe : (n : numbers.Number) (r : Result Val Wrong) → Safe (λ v. Suits world (Of (number_type n)) (Is (number_type n) v)) (of_result r) → Safe (Suits world (Of (number_type n))) (answers.◌>>=◌ (of_result r) numbered)
   numbered_safe number.Int (Ok (Int x)) h = h
   numbered_safe number.UInt (Ok (UInt x)) h = h
@@ -132,7 +132,7 @@ module _ {N : Type 0} (world : World N) where
   numbered_safe number.UInt (Ok v) h = cc
   numbered_safe n (Err e) h = tt
 
-  -- what an operation on two whole numbers gives
+  -- the result of an operation on two whole numbers
   abbrev pub IsExact : (Val → Val → Result Val Wrong) → Type 0
   IsExact operation = (b c : Base) (v w : Val) → is_number b ≡ true → is_number c ≡ true → IsValue b v → IsValue c w → Safe (λ z. Suits world (Of (number_type (type_of_both v w))) (Is (number_type (type_of_both v w)) z)) (of_result (operation v w))
 

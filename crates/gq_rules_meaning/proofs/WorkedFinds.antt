@@ -1,4 +1,4 @@
--- WorkedFinds: what is easily read another way, each as a whole query with the line that it prints.
+-- WorkedFinds: cases that are easily misread, each as a whole query with the line that it prints.
 use Rattle.std.proofs.Common.{◌≡◌, true, false, [], ◌∷◌, Some, None, refl}
 use Rattle.std.specs.Prelude.{codes}
 use Rattle.std.specs.Fmt.{digits}

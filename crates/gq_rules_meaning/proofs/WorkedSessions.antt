@@ -84,7 +84,7 @@ a_run_with_its_default : lines [] ((1, create) ∷ (2, install) ∷ (3, Run (cod
 unfolding fraction_text error_text digits
 a_run_with_its_default = refl
 
--- RUN QUERY q("Tom", -7), and another statement behind it
+-- RUN QUERY q("Tom", -7), and another statement after it
 a_run_with_both : lines [] ((1, create) ∷ (2, install) ∷ (3, Run (codes "q") (Some (OfLiteral (Quoted (codes "Tom")) ∷ OfLiteral (Signed true 7) ∷ []))) ∷ (
   4,
   Interpret None [] (record {
@@ -172,7 +172,7 @@ an_option_twice : lines [] ((
 unfolding fraction_text error_text digits
 an_option_twice = refl
 
--- the line of an earlier statement stands
+-- the line of an earlier statement is kept
 a_query_that_is_not_typed : lines [] ((
   1,
   Interpret None (mode.Api (codes "v2") ∷ []) (record {

@@ -11,7 +11,7 @@ use Rattle.gq_rules_typing.specs.Sorts.{Sorts}
 use Rattle.gq_rules_typing.specs.Words.{by_name, under}
 use Rattle.gq_rules_typing.specs.Signed.{signed}
 
--- what stands for a parameter: a literal, the id and type of a vertex, or, in the file, something else
+-- an argument for a parameter: a literal, the id and type of a vertex, or, in the file, something else
 pub data Argument : Type 0 where
   OfLiteral : Literal → Argument
   OfVertex : Bytes → Bytes → Argument
@@ -39,7 +39,7 @@ abbrev pub a_vertex : Option ℕ → Option Val
 a_vertex None = None
 a_vertex (Some v) = Some (Vertex v)
 
--- a vertex of a type that is named, where the query sees the type
+-- a vertex of a named type, if the query sees the type
 abbrev pub vertex_in : Sorts → List VertexRow → Bytes → Bytes → Option Val
 vertex_in sorts rows type id = of_type ((by_name sorts).vertex_type type)
   where
@@ -72,13 +72,13 @@ abbrev pub default_or : Argument → Option Literal → Argument
 default_or a None = a
 default_or a (Some l) = OfLiteral l
 
--- in parentheses they stand in order; the parameters that are left have their defaults
+-- in parentheses they are in order; the remaining parameters have their defaults
 abbrev pub in_order : List (Parameter Bytes) → List Argument → List Argument
 in_order [] arguments = []
 in_order (p ∷ ps) [] = default_or Nothing p.default ∷ in_order ps []
 in_order (p ∷ ps) (a ∷ arguments) = a ∷ in_order ps arguments
 
--- a parameter that is left wants a default
+-- a remaining parameter needs a default
 abbrev pub lacks_default : Option Literal → Bool
 lacks_default None = true
 lacks_default (Some l) = false
@@ -90,7 +90,7 @@ wrong_number [] (a ∷ arguments) = true
 wrong_number (p ∷ ps) (a ∷ arguments) = wrong_number ps arguments
 wrong_number (p ∷ ps) [] = lacks_default p.default || wrong_number ps []
 
--- a text stands for a STRING and for the id of a vertex, but a number doesn't stand for an id
+-- a text may be a STRING or the id of a vertex, but a number may not be an id
 abbrev pub of_member : BaseTree Bytes → Member → Argument
 of_member (VertexOf type) (NumberMember x) = Nothing
 of_member base (NumberMember x) = OfLiteral (Signed (is_negative x) (unsigned_abs x))

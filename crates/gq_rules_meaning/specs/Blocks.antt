@@ -1,4 +1,4 @@
--- Blocks: WHERE and ACCUM: what each match contributes, all contributions together, and the first fault.
+-- Blocks: WHERE and ACCUM: the contributions of each match, all contributions together, and the first fault.
 -- In the code threads gather the inputs of chunks, which are then fed in order; here all inputs of a block are one list.
 use Rattle.std.specs.Prelude.{ℕ, suc, Bool, true, false, ◌&&◌, if◌then◌else◌, ◌==◌, List, [], ◌∷◌, ◌++◌, map, filter_map, Option, Some, None}
 use Rattle.std.specs.List.{flat_map, list_all}
@@ -32,7 +32,7 @@ pub record Contribution : Type 0 where
 -- ---- inputs
 
 abbrev mutual
-  -- an input, converted to what the kind takes
+  -- an input, converted to the type that the kind takes
   pub input_of : {N : Type 0} → Look N → Accum → Input N → Answer Wrong Given
   input_of look k (Plain t) = found (input_type k) >>= λ b. value_as look b t >>= λ v. Gives (One v)
   input_of look k (Keys ts xs) = arguments look (map Some (key_types k)) ts >>= λ vs. inputs_of look (part_kinds k) xs >>= λ ys. Gives (Keyed vs ys)
@@ -44,7 +44,7 @@ abbrev mutual
 
 -- ---- ACCUM
 
--- the vertex that a name stands for
+-- the vertex that a name denotes
 abbrev pub vertex_named : {N : Type 0} → Look N → N → Answer Wrong ℕ
 vertex_named look v = look.named v >>= vertex_of_meant
 
@@ -53,7 +53,7 @@ contributed look slots a v (Puts t) = Stuck
 contributed look slots a v (Adds x) = found (slot_number look.world slots a) >>= λ n. found (slot_named look.world slots a) >>= λ s. input_of look s.kind x >>= λ y. Gives (record { slot = n; vertex = v; input = y } ∷ [])
 
 abbrev mutual
-  -- what one match gives, in order of text
+  -- the contributions of one match, in order of text
   pub contributions : {N : Type 0} → Look N → List (Slot N) → Acts N → Answer Wrong (List Contribution)
   contributions look slots no_act = Gives []
   contributions look slots (act_and a acts) = of_act look slots a >>= λ xs. contributions look slots acts >>= λ ys. Gives (xs ++ ys)
@@ -69,17 +69,17 @@ abbrev mutual
 
 -- ---- matches
 
--- a match with what it gives
+-- a match with its contributions
 pub record Match : Type 0 where
   pub candidate : Candidate
   pub gives : List Contribution
 
--- no WHERE lets every candidate pass
+-- without WHERE every candidate passes
 abbrev pub passes : {N : Type 0} → Look N → Option (Tree N) → Answer Wrong Bool
 passes look None = Gives true
 passes look (Some t) = truth_of look t
 
--- a candidate is a match where it passes WHERE
+-- a candidate is a match if it passes WHERE
 abbrev pub match_of : {N : Type 0} → Select N → List (Slot N) → Candidate → Look N → Answer Wrong (List Match)
 match_of q slots c look = passes look q.filter >>= elim [ true ↦ contributions look slots q.accum >>= λ xs. Gives (record { candidate = c; gives = xs } ∷ []) | false ↦ Gives [] ]
 
@@ -117,7 +117,7 @@ abbrev pub unless_unfit : {A : Type 0} → Option ℕ → A → Answer BlockFaul
 unless_unfit None a = Gives a
 unless_unfit (Some n) a = Faults (SumRange n)
 
--- the accumulators after all these inputs, where every content fits
+-- the accumulators after all these inputs, if every content fits
 abbrev pub fed_together : {N : Type 0} → List Contribution → List (Slot N) → Answer BlockFault (List (Slot N))
 fed_together xs slots = unless_unfit (first_unfit 0 (slots_after xs 0 slots)) (slots_after xs 0 slots)
 

@@ -1,4 +1,4 @@
--- Built: what is printed, as the values of gq_json, by their constructors.
+-- Built: printed values, as the values of gq_json, by their constructors.
 use Rattle.std.specs.Prelude.{◌≡◌, List, [], ◌∷◌, map}
 use Rattle.gq_json.specs.declared.out.Out as json
 use Rattle.gq_json.specs.declared.out.Out.TheVariants as out
@@ -25,10 +25,10 @@ abbrev mutual
   built_members no_member = []
   built_members (member_and name o rest) = (name, built o) ∷ built_members rest
 
--- what one PRINT printed
+-- the output of one PRINT
 abbrev pub built_print : List (Bytes × Out) → List (Bytes × json.Out)
 built_print ms = map (λ m. (m.0, built m.1)) ms
 
--- the line of what is printed is that of gq_json
+-- the line of the output is that of gq_json
 abbrev pub LineLaw : Type 0
 LineLaw = (objects : List (List (Bytes × Out))) → line_text (map built_print objects) ≡ query_line objects

@@ -1,4 +1,4 @@
--- Calls: what functions and methods give for their arguments.
+-- Calls: the results of functions and methods for their arguments.
 use Rattle.std.specs.Prelude.{ℕ, ◌+◌, true, false, if◌then◌else◌, List, [], ◌∷◌, map, length, ℤ, ◌-ℤ◌, Option, Some, None, codes, slice_get}
 use Rattle.std.specs.Fmt.{decimal, signed_decimal}
 use Rattle.gq_value.specs.declared.value.Wrong.{Wrong}
@@ -24,7 +24,7 @@ abbrev pub one_wanted : Option Base → List (Option Base)
 one_wanted None = []
 one_wanted (Some b) = Some b ∷ []
 
--- the types to which a method's arguments are converted; None leaves an argument as it is
+-- the types to which a method's arguments are converted; None leaves an argument unchanged
 abbrev pub method_wants : Method → Meant → List (Option Base)
 method_wants Contains (IsContent k c) = one_wanted (contained_type k)
 method_wants ContainsKey (IsContent k c) = map Some (key_types k)

@@ -1,4 +1,4 @@
--- Collections: what the methods of collections give.
+-- Collections: the results of the methods of collections.
 use Rattle.std.specs.Prelude.{ℕ, Bool, if◌then◌else◌, List, length, Option, Some, None}
 use Rattle.std.specs.List.{list_any}
 use Rattle.std.specs.Ordering.{is_eq}
@@ -46,7 +46,7 @@ has_row (MapAccum b k) c row = Some (among row_cmp row c.0)
 has_row (GroupByAccum keys ps) c row = Some (among row_cmp row c.0)
 has_row k c row = None
 
--- what stands at a key row, or the opening where it isn't held
+-- the content at a key row, or the opening if the row isn't held
 abbrev pub got : (k : Accum) → Holds k → List Val → Option Meant
 got (MapAccum b k) c row = Some (read k (if among row_cmp row c.0 then c.1 row else fresh k))
 got (GroupByAccum keys ps) c row = Some (IsRow ps (if among row_cmp row c.0 then c.1 row else fresh_each ps))

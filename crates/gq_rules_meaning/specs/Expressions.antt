@@ -1,5 +1,5 @@
--- Expressions: what an expression means, one line for each form. Parts are evaluated from left to right, and the first fault
--- counts. Names are looked up; the plan has numbers of slots.
+-- Expressions: the meaning of expressions, one line for each form. Parts are evaluated from left to right; the first
+-- fault counts. Names are looked up; the plan has numbers of slots.
 use Rattle.std.specs.Prelude.{ℕ, zero, suc, Bool, true, false, not, ◌&&◌, ◌||◌, if◌then◌else◌, List, [], ◌∷◌, ℤ, Option, Some, None, Result, ◌==◌}
 use Rattle.std.specs.declared.cmp.Ordering.{Ordering}
 use Rattle.std.specs.declared.cmp.Ordering.TheVariants.{Less, Equal, Greater}
@@ -35,7 +35,7 @@ pub record World (N : Type 0) : Type 0 where
 abbrev pub setting : {N : Type 0} → World N → Setting N
 setting world = record { words = world.words; sorts = world.graph.sorts; tuples = world.tuples }
 
--- what an expression sees: names, accumulators, what a vertex's accumulators held before the block, fields
+-- what an expression sees: names, accumulators, the values of a vertex's accumulators before the block, fields
 pub record Look (N : Type 0) : Type 0 where
   pub named : N → Outcome
   pub global : N → Outcome
@@ -60,17 +60,17 @@ product times.Times = calculated multiplied
 product times.Over = calculated divided
 product times.Modulo = calculated remainder
 
--- so many minus signs, from the inner one on
+-- minus signs, applied from the inner one on
 abbrev pub minus : ℕ → Val → Outcome
 minus zero v = numbered v
 minus (suc n) v = as_number v >>= λ x. of_result (negated v) >>= minus n
 
--- so many NOTs
+-- a number of NOTs
 abbrev pub nots : ℕ → Bool → Bool
 nots zero b = b
 nots (suc n) b = nots n (not b)
 
--- numbers, averages and texts by every sign; truths and vertices by `==` and `!=` alone
+-- numbers, averages and texts by every sign; truths and vertices only by `==` and `!=`
 abbrev pub may_compare : CmpSign → ℕ → ℕ → Bool
 may_compare s r q = (r == q) && ((r == 0) || ((r == 2) || (is_equality s && ((r == 1) || (r == 3)))))
 
@@ -118,7 +118,7 @@ abbrev mutual
   arguments look [] (tree t ts) = Stuck
   arguments look (want ∷ wants) (tree t ts) = meaning look t >>= value_of_meant >>= wanted want >>= λ v. arguments look wants ts >>= λ vs. Gives (v ∷ vs)
 
-  -- m with what stands behind its dots
+  -- m with the parts after its dots
   pub meaning_parts : {N : Type 0} → Look N → Meant → Parts N → Outcome
   meaning_parts look m no_part = Gives m
   meaning_parts look m (part p ps) = meaning_part look m p >>= λ n. meaning_parts look n ps
@@ -129,7 +129,7 @@ abbrev mutual
   meaning_part look m (Attached a) = vertex_of_meant m >>= look.attached a
   meaning_part look m (Before a) = vertex_of_meant m >>= look.before a
 
-  -- a chain, from what stands before
+  -- a chain, from the operands before
   pub meaning_factors : {N : Type 0} → Look N → Meant → Factors N → Outcome
   meaning_factors look m no_factor = Gives m
   meaning_factors look m (factor sign t rest) = value_of_meant m >>= λ v. meaning look t >>= value_of_meant >>= product sign v >>= λ n. meaning_factors look n rest
@@ -138,7 +138,7 @@ abbrev mutual
   meaning_terms look m no_term = Gives m
   meaning_terms look m (term sign t rest) = value_of_meant m >>= λ v. meaning look t >>= value_of_meant >>= summed sign v >>= λ n. meaning_terms look n rest
 
-  -- AND and OR leave out what stands behind an operand that decides
+  -- AND and OR don't evaluate the operands after one that decides
   pub meaning_all : {N : Type 0} → Look N → Meant → Trees N → Outcome
   meaning_all look m no_tree = value_of_meant m >>= as_truth >>= truly
   meaning_all look m (tree t ts) = value_of_meant m >>= as_truth >>= elim [ true ↦ meaning look t >>= λ n. meaning_all look n ts | false ↦ truly false ]
@@ -147,7 +147,7 @@ abbrev mutual
   meaning_any look m no_tree = value_of_meant m >>= as_truth >>= truly
   meaning_any look m (tree t ts) = value_of_meant m >>= as_truth >>= elim [ true ↦ truly true | false ↦ meaning look t >>= λ n. meaning_any look n ts ]
 
--- ---- an expression as what a place wants
+-- ---- an expression as the type that a place requires
 
 abbrev pub value_of : {N : Type 0} → Look N → Tree N → Answer Wrong Val
 value_of look t = meaning look t >>= value_of_meant

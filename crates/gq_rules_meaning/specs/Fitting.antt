@@ -1,5 +1,5 @@
--- Fitting: when what is there has the type that typing gave. Only the form of numbers is judged: that they lie within 64 bits
--- is what the code's values can't but keep to.
+-- Fitting: when data has the type that typing gave it. Of numbers only the form is judged: that they have 64 bits
+-- holds for all values of the code.
 use Rattle.std.specs.Prelude.{◌≡◌, ℕ, Bool, true, false, ◌&&◌, ◌==◌, List, [], ◌∷◌, Option, Some, slice_get, map, length, nat_lt}
 use Rattle.std.specs.Option.{unwrap_or}
 use Rattle.std.specs.List.{list_all}
@@ -22,7 +22,7 @@ use Rattle.gq_rules_meaning.specs.Graphs.{Graph, vertex_count}
 use Rattle.gq_rules_meaning.specs.Meanings.{Meant, Is, IsAverage, IsContent, IsRow, IsEdge, IsSet, IsMember}
 use Rattle.gq_rules_meaning.specs.Expressions.{World, setting}
 
--- an answer that isn't stuck, and what it gives is so
+-- an answer that isn't stuck, and if it gives something, that satisfies P
 abbrev pub Safe : {F A : Type 0} → (A → Type 0) → Answer F A → Type 0
 Safe P (Gives a) = P a
 Safe P (Faults e) = Unit {0}
@@ -77,7 +77,7 @@ abbrev mutual
 
 -- ---- the graph
 
--- an edge row of a type, which may be the reverse type of its own
+-- an edge row of a type, which may be the reverse type of the row's type
 abbrev pub is_row_of : Graph → List ℕ → ℕ → ℕ → Bool
 is_row_of g types r t = among types t && of_row (slice_get g.sight.edges r) (slice_get g.sorts.edges t)
   where
@@ -111,7 +111,7 @@ pub record EdgeFits {N : Type 0} (world : World N) (r t : ℕ) : Type 0 where
   pub are_values : slice_get world.graph.edge_values r ≡ Some values
   pub fit : row_is world (bases_of sort.fields) values ≡ true
 
--- what the store's columns say of each vertex and type is the same everywhere, and a graph's edge types have their ends in it
+-- the store's columns agree on each vertex and type, and a graph's edge types have their ends in it
 pub record GraphFits (g : Graph) : Type 0 where
   pub types : map ends_of_type g.sight.types ≡ map ends_of_sort g.sorts.edges
   pub ids : length g.ids ≡ vertex_count g
@@ -126,12 +126,12 @@ pub record WorldFits {N : Type 0} (world : World N) : Type 0 where
   pub vertices : (v t : ℕ) → slice_get world.graph.sight.kinds v ≡ Some t → VertexFits world v t
   pub edges : (r t : ℕ) (types : List ℕ) → is_row_of world.graph types r t ≡ true → EdgeFits world r t
   pub times : StaysInRange world.calendar
-  -- tuple types alone make tuples
+  -- only tuple types make tuples
   pub functions : (f : N) (n : ℕ) (fields : List Base) → world.words.function f ≡ Some (Makes n fields) → ⊥
 
 -- ---- expressions
 
--- what an expression is has its type
+-- the meaning of an expression has its type
 abbrev pub Suits : {N : Type 0} → World N → Typed → Meant → Type 0
 Suits world (Of b) (Is c v) = (c ≡ b) × (is_value world b v ≡ true)
 Suits world Average (IsAverage (Fraction s n)) = Unit {0}

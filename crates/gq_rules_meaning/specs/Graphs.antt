@@ -1,5 +1,5 @@
--- Graphs: what a query reads of catalog and store. A vertex's number and an edge's number are their places.
--- The code asks tables; here the store's columns are lists.
+-- Graphs: the data that a query reads from catalog and store. A vertex's number and an edge's number are their places.
+-- The code looks up tables; here the store's columns are lists.
 use Rattle.std.specs.Prelude.{ℕ, ◌+◌, ◌*◌, ◌-◌, ◌==◌, if◌then◌else◌, ℤ, pos, neg_ℤ, List, [], ◌∷◌, map, filter, length, Option, Some, None, slice_get}
 use Rattle.std.specs.List.{range_with_len}
 use Rattle.gq_value.specs.Val.{Val, Int, UInt, Text}
@@ -15,7 +15,8 @@ use Rattle.gq_graph.specs.declared.rows.EdgeRow.{EdgeRow}
 use Rattle.gq_rules_typing.specs.Statements.{Bytes}
 use Rattle.gq_rules_typing.specs.Sorts.{Sorts, VertexSort, sorts_of}
 
--- the types, what blocks go through, each vertex's id and attributes, each edge's attributes; a shown id is the first attribute
+-- the types, the rows that blocks walk, each vertex's id and attributes, each edge's attributes; a shown id is the
+-- first attribute
 pub record Graph : Type 0 where
   pub sorts : Sorts
   pub sight : Sight
@@ -40,7 +41,7 @@ sort_of_vertex g v = of_kind (slice_get g.sight.kinds v)
 
 -- ---- from catalog and store
 
--- the number that decimal digits are, behind a number
+-- the number that decimal digits denote, after a number
 abbrev pub number_in : List ℕ → ℕ → ℕ
 number_in [] n = n
 number_in (c ∷ cs) n = number_in cs (10 * n + (c - 48))
@@ -60,11 +61,11 @@ abbrev pub with_shown : VertexRow → Option VertexType → List Val → List Va
 with_shown r None vs = vs
 with_shown r (Some t) vs = if t.id.shown then id_value t.id.kind r.id ∷ vs else vs
 
--- the values of a vertex: a row has those of the declared attributes alone, and a shown id stands before them
+-- the values of a vertex: a row has only those of the declared attributes, and a shown id comes before them
 abbrev pub values_in : Schema → VertexRow → List Val
 values_in schema r = with_shown r (slice_get schema.vertex_types r.kind) (map val r.attributes)
 
--- what a query for a graph reads
+-- the data that a query for a graph reads
 abbrev pub graph_of : Schema → Option GraphType → List VertexRow → List EdgeRow → Graph
 graph_of schema own vertices edges = record {
   sorts = sorts_of schema own;

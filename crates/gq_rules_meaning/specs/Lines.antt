@@ -1,4 +1,4 @@
--- Lines: the text of what was printed, by the words of gq_json.
+-- Lines: the text of the output, by the definitions of gq_json.
 use Rattle.std.specs.Prelude.{ℕ, ℤ, List, [], ◌∷◌, ◌++◌, map, codes}
 use Rattle.std.specs.Fmt.{decimal, signed_decimal}
 use Rattle.gq_value.specs.declared.value.Fraction as fraction
@@ -28,7 +28,7 @@ abbrev mutual
   member_texts no_member = []
   member_texts (member_and name o rest) = (name, text_of o) ∷ member_texts rest
 
--- what one PRINT printed
+-- the output of one PRINT
 abbrev pub print_text : List (Bytes × Out) → Bytes
 print_text ms = object_text (map (λ m. (m.0, text_of m.1)) ms)
 

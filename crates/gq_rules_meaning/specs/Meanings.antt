@@ -1,4 +1,4 @@
--- Meanings: what an expression may be, and what operations take and give.
+-- Meanings: the possible values of an expression, and the operands and results of operations.
 use Rattle.std.specs.Prelude.{ℕ, ◌^◌, Bool, if◌then◌else◌, nat_lt, List, ℤ, pos, Option, Some, None}
 use Rattle.gq_value.specs.declared.value.Wrong.{Wrong}
 use Rattle.gq_value.specs.declared.value.Wrong.TheVariants as wrong
@@ -13,7 +13,7 @@ use Rattle.gq_rules_typing.specs.Statements.{Bytes}
 use Rattle.gq_rules_meaning.specs.Answers.{Answer, Gives, Faults, Stuck, ◌>>=◌, of_result}
 
 -- a value of a base type, an average, a whole collection, a group's row, an edge row with the type under which it was walked,
--- a set, or, within `S[..]`, the set and the vertex in turn
+-- a set, or, within `S[..]`, the set and each vertex of it in turn
 pub data Meant : Type 0 where
   Is : Base → Val → Meant
   IsAverage : Val → Meant
@@ -26,7 +26,7 @@ pub data Meant : Type 0 where
 abbrev pub Outcome : Type 0
 Outcome = Answer Wrong Meant
 
--- ---- what an operation takes
+-- ---- the operands of operations
 
 abbrev pub value_of_meant : Meant → Answer Wrong Val
 value_of_meant (Is b v) = Gives v
@@ -51,13 +51,13 @@ abbrev pub as_bytes : Val → Answer Wrong Bytes
 as_bytes (Text s) = Gives s
 as_bytes _ = Stuck
 
--- a number where another number type is wanted, by value; all else stays
+-- a number as another number type, if one is required, by value; other values stay
 abbrev pub converted_to : Base → Val → Answer Wrong Val
 converted_to INT v = as_number v >>= λ x. of_result (in_type number.Int x)
 converted_to UINT v = as_number v >>= λ x. of_result (in_type number.UInt x)
 converted_to b v = Gives v
 
--- ---- what an operation gives
+-- ---- the results of operations
 
 -- a number is of its own type
 abbrev pub numbered : Val → Outcome
@@ -82,7 +82,7 @@ at_time (Some x) = Gives (Is DATETIME (Int x))
 abbrev pub literal : ℕ → Outcome
 literal n = if nat_lt n (2 ^ 63) then Gives (Is INT (Int (pos n))) else Gives (Is UINT (UInt n))
 
--- what a content reads as
+-- the value that a content reads as
 abbrev pub read : (k : Accum) → Holds k → Meant
 read (SumAccum n) c = Is (number_type n) (value_in (SumAccum n) c)
 read (MinAccum n) c = Is (number_type n) (value_in (MinAccum n) c)

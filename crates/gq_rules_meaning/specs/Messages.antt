@@ -1,4 +1,4 @@
--- Messages: what is said of a fault, and the line that a query prints.
+-- Messages: the message of a fault, and the line that a query prints.
 use Rattle.std.specs.Prelude.{ℕ, List, [], ◌++◌, map, Option, Some, None, Result, Ok, Err, codes, slice_get}
 use Rattle.std.specs.List.{flat_map}
 use Rattle.std.specs.Fmt.{decimal}
@@ -53,21 +53,21 @@ name_at names n = or_nothing (slice_get names n)
     or_nothing None = []
     or_nothing (Some name) = name
 
--- over accumulators of these names, with so many turns
+-- over accumulators of these names, with a bound on loop iterations
 abbrev pub fault_message : List Bytes → ℕ → Fault → Bytes
 fault_message names turns (Evaluation w) = wrong_message w
 fault_message names turns (SumOutOfRange n) = codes "sum out of range in " ++ name_at names n
 fault_message names turns LoopBound = codes "loop bound " ++ (decimal turns ++ codes " reached")
 fault_message names turns PathBound = codes "more than 4194304 paths"
 
--- ---- what a query answers: what it printed, or why it is refused. One that is taken is never stuck
+-- ---- the result of a query: its output, or why it is refused. A query that is accepted is never stuck
 
 abbrev pub answer_of_run : List Bytes → ℕ → Answer Fault (List (List (Bytes × Out))) → Result (List (List (Bytes × Out))) Bytes
 answer_of_run names turns (Gives objects) = Ok objects
 answer_of_run names turns (Faults fault) = Err (fault_message names turns fault)
 answer_of_run names turns Stuck = Err []
 
--- a query over a graph, with arguments and so many turns
+-- a query over a graph, with arguments and a bound on loop iterations
 abbrev pub answer_of_query : Graph → Calendar → Query Bytes → List Val → ℕ → Result (List (List (Bytes × Out))) Bytes
 answer_of_query g clock q arguments turns = of_judged (typing_query g.sorts q)
   where
@@ -75,11 +75,11 @@ answer_of_query g clock q arguments turns = of_judged (typing_query g.sorts q)
     of_judged (Err fault) = Err (typing_message fault)
     of_judged (Ok scope) = answer_of_run (slot_names q.definitions) turns (run_query g clock q arguments turns)
 
--- a refusal says the line of the script where its statement begins
+-- a refusal gives the line of the script where its statement begins
 abbrev pub refusal_line : ℕ → Bytes → Bytes
 refusal_line line message = error_text (codes "line " ++ (decimal line ++ (codes ": " ++ message)))
 
--- what the statement prints
+-- the output of the statement
 abbrev pub line_of_answer : ℕ → Result (List (List (Bytes × Out))) Bytes → Bytes
 line_of_answer line (Ok objects) = query_line objects
 line_of_answer line (Err message) = refusal_line line message

@@ -1,4 +1,4 @@
--- Outs: what PRINT makes of values and contents.
+-- Outs: the output that PRINT makes of values and contents.
 -- A map prints as an object by the texts of its keys, a group as an array of objects, a tuple as an object.
 use Rattle.std.specs.Prelude.{ℕ, Bool, true, false, List, [], ◌∷◌, ◌++◌, map, ℤ, Option, Some, None, codes, slice_get}
 use Rattle.std.specs.Fmt.{decimal, signed_decimal}

@@ -1,5 +1,5 @@
 -- Posts: POST-ACCUM, in phases of statements that name one alias, each once for every distinct matched vertex.
--- The code goes through the vertices of a phase on many threads.
+-- The code processes the vertices of a phase on many threads.
 use Rattle.std.specs.Prelude.{ℕ, Bool, true, false, not, if◌then◌else◌, List, [], ◌∷◌, ◌++◌}
 use Rattle.gq_rules_typing.specs.Selecting.{Change, Act, AtAlias, AtGlobal, Choose, Acts, no_act, act_and, Choices, otherwise, when, Select}
 use Rattle.gq_rules_typing.specs.Patterns.{is_alias}
@@ -21,7 +21,7 @@ abbrev pub same_end : Bool → Bool → Bool
 same_end true b = b
 same_end false b = not b
 
--- one statement more in front
+-- one more statement in front
 abbrev pub before_phases : {N : Type 0} → Bool → Act N → List (Bool × Acts N) → List (Bool × Acts N)
 before_phases end a [] = (end, act_and a no_act) ∷ []
 before_phases end a (p ∷ ps) = if same_end end p.0 then (end, act_and a p.1) ∷ ps else (end, act_and a no_act) ∷ p ∷ ps
@@ -57,7 +57,7 @@ at_vertex v (TooBig n) = SumRange n
 abbrev pub write : {N : Type 0} → Post N → N → Change N → Written N → Answer BlockFault (Written N)
 write p a change w = blaming (at_vertex p.vertex) (slots_changed (post_look p w) w.slots a p.vertex change) >>= λ slots. Gives (record w { slots = slots })
 
--- an input to a global one waits for the end of the phase
+-- an input to a global one is deferred to the end of the phase
 abbrev pub feed : {N : Type 0} → Post N → N → Change N → Written N → Answer BlockFault (Written N)
 feed p a change w = blaming (AtPlace p.vertex) (contributed (post_look p w) w.slots a 0 change) >>= λ xs. Gives (record w { to_globals = w.to_globals ++ xs })
 
@@ -84,7 +84,7 @@ matched a false = a.sources
 abbrev pub post_of : {N : Type 0} → World N → State N → From N → Bool → ℕ → Post N
 post_of world s f end v = record { world = world; names = with_vertex f end v s.names; before = s.slots; vertex = v }
 
--- vertex after vertex by number; then the global accumulators gain their inputs, all at once
+-- vertex by vertex in order of number; then the global accumulators get their inputs, all at once
 abbrev pub phase : {N : Type 0} → World N → State N → From N → After N → Bool × Acts N → Answer BlockFault (After N)
 phase world s f a p =
     through (λ w v. post_acts (post_of world s f p.0 v) p.1 w) (record { slots = a.slots; to_globals = [] }) (matched a p.0) >>= λ w.

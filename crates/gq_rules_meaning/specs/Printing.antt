@@ -1,4 +1,4 @@
--- Printing: what PRINT makes of vertices, sets and items, vertex after vertex in the set's order, from left to right.
+-- Printing: the output of PRINT for vertices, sets and items, vertex by vertex in the set's order, from left to right.
 use Rattle.std.specs.Prelude.{ℕ, Bool, true, List, [], ◌∷◌, ◌++◌, Option, Some, codes, slice_get}
 use Rattle.gq_value.specs.declared.value.Wrong.{Wrong}
 use Rattle.gq_value.specs.Accums.{Accum}

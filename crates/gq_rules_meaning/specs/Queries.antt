@@ -1,4 +1,4 @@
--- Queries: a query's run: its openings over the arguments, then its statements. The result is what was printed.
+-- Queries: a query's run: its openings over the arguments, then its statements. The result is its output.
 use Rattle.std.specs.Prelude.{ℕ, Bool, true, false, List, [], ◌∷◌, ◌++◌, Option, Some, None, Ok, Err}
 use Rattle.std.specs.List.{range_with_len}
 use Rattle.gq_rules_typing.specs.Tree.{Tree}
@@ -39,7 +39,7 @@ places world false = 0 ∷ []
 abbrev pub opened : {N : Type 0} → World N → (k : Accum) → State N → Bool × N × Option (Tree N) → Answer Wrong (State N)
 opened world k s a = each (λ v. opening (seen world s) k a.2) (places world a.0) >>= λ cs. Gives (record s { slots = s.slots ++ record { name = a.1; attached = a.0; kind = k; contents = cs } ∷ [] })
 
--- the tuple types and the accumulators that are declared so far
+-- the tuple types and the accumulators declared so far
 pub record Defining (N : Type 0) : Type 0 where
   pub tuples : List (N × Fields)
   pub state : State N
@@ -59,7 +59,7 @@ fields_of world fs = judged (fields_written (scope_of (setting world)) 16 [] fs)
 abbrev pub with_tuples : {N : Type 0} → List (N × Fields) → World N → World N
 with_tuples tuples world = record world { tuples = tuples }
 
--- a declaration sees the tuple types before it; a rule gives what stands for a kind
+-- a declaration sees the tuple types before it; a rule gives the kind that K represents
 abbrev pub defined : {N K : Type 0} → World N → (World N → K → Answer Wrong Accum) → Defining N → Definition N K → Answer Wrong (Defining N)
 defined world kinds d (TupleType fs x) = fields_of (with_tuples d.tuples world) fs >>= λ fields. Gives (record d { tuples = d.tuples ++ (x, fields) ∷ [] })
 defined world kinds d (Accums k accums) = kinds (with_tuples d.tuples world) k >>= λ kind. through (opened (with_tuples d.tuples world) kind) d.state accums >>= λ s. Gives (record d { state = s })
@@ -75,17 +75,17 @@ bound world _ _ = Stuck
 abbrev pub start : {N K : Type 0} → World N → (World N → K → Answer Wrong Accum) → QueryOver N K → List Val → Answer Wrong (Defining N)
 start world kinds q arguments = bound world q.parameters arguments >>= λ names. through (defined world kinds) (record { tuples = []; state = record { names = names; slots = [] } }) q.definitions
 
--- what is printed with so many turns, an object for each PRINT; or the first fault
+-- the output with a bound on loop iterations, an object for each PRINT; or the first fault
 abbrev pub run_over : {N K : Type 0} → World N → (World N → K → Answer Wrong Accum) → QueryOver N K → List Val → ℕ → Answer Fault (List (List (Bytes × Out)))
 run_over world kinds q arguments turns = blaming Evaluation (start world kinds q arguments) >>= λ d. run_all (with_tuples d.tuples world) q.statements (record { state = d.state; turns = turns; printed = [] }) >>= λ r. Gives r.printed
 
--- a plan has its kinds at hand
+-- a plan has its kinds already
 abbrev pub run_plan : {N : Type 0} → World N → QueryOver N Accum → List Val → ℕ → Answer Fault (List (List (Bytes × Out)))
 run_plan world q arguments turns = run_over world (λ w k. Gives k) q arguments turns
 
 -- ---- by names
 
--- the kind that a tree stands for
+-- the kind that a tree represents
 abbrev pub kind_of : {N : Type 0} → World N → KindTree N → Answer Wrong Accum
 kind_of world k = judged (kind_written (scope_of (setting world)) [] k)
 
@@ -93,6 +93,6 @@ kind_of world k = judged (kind_written (scope_of (setting world)) [] k)
 abbrev pub world_of : Graph → Calendar → World Bytes
 world_of g clock = record { words = by_name g.sorts; tuples = []; graph = g; calendar = clock }
 
--- a query as it is written
+-- a query as written
 abbrev pub run_query : Graph → Calendar → Query Bytes → List Val → ℕ → Answer Fault (List (List (Bytes × Out)))
 run_query g clock q arguments turns = run_over (world_of g clock) kind_of q arguments turns

@@ -1,4 +1,4 @@
--- Runs: what statements do, one after the other, with so many turns.
+-- Runs: the effects of statements, one after the other, with a bound on loop iterations.
 use Rattle.std.specs.Prelude.{ℕ, zero, suc, Bool, true, false, List, [], ◌∷◌, ◌++◌, ℤ, pos, negsuc, Option, Some, None}
 use Rattle.gq_rules_typing.specs.Tree.{Tree}
 use Rattle.gq_value.specs.declared.value.Wrong.{Wrong}
@@ -14,7 +14,7 @@ use Rattle.gq_rules_meaning.specs.Outs.{Out}
 use Rattle.gq_rules_meaning.specs.Printing.{printed}
 use Rattle.gq_rules_meaning.specs.Statements.{Fault, Evaluation, LoopBound, of_write, base_of_tree, with_local, assigned, gone_over}
 
--- a state, the turns left, and what was printed: an object for each PRINT
+-- a state, the loop entries left, and the output: an object for each PRINT
 pub record Running (N : Type 0) : Type 0 where
   pub state : State N
   pub turns : ℕ
@@ -23,7 +23,7 @@ pub record Running (N : Type 0) : Type 0 where
 abbrev pub with_state : {N : Type 0} → State N → Running N → Running N
 with_state s r = record r { state = s }
 
--- what is run
+-- a body to run
 abbrev pub Body : Type 0 → Type 0
 Body N = Running N → Answer Fault (Running N)
 
@@ -31,7 +31,7 @@ Body N = Running N → Answer Fault (Running N)
 abbrev pub inner : {N : Type 0} → Body N → Body N
 inner body r = body r >>= λ t. Gives (with_state (without_new r.state t.state) t)
 
--- each entry of a body takes a turn
+-- each entry of a body counts against the bound
 abbrev pub enter : {N : Type 0} → Body N → Body N
 enter {N = N} body r = with_turns r.turns
   where
@@ -49,8 +49,8 @@ abbrev pub one_less : Option ℕ → Option ℕ
 one_less (Some (suc n)) = Some n
 one_less limit = limit
 
--- at each round first the limit, then the condition, then the body; as each round takes a turn, there are no more of them
--- than one beyond the turns
+-- in each iteration first the limit is checked, then the condition, then the body runs; as each iteration counts,
+-- there is at most one more than the entries left
 abbrev pub rounds : {N : Type 0} → ℕ → Option ℕ → (Running N → Answer Fault Bool) → Body N → Body N
 rounds zero limit condition body r = Faults LoopBound
 rounds (suc n) limit condition body r =

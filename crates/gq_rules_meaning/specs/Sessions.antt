@@ -1,4 +1,4 @@
--- Sessions: what a script's statements on queries do, and what a whole script prints.
+-- Sessions: the effects of a script's statements on queries, and the output of a whole script.
 -- The statements on types, graphs, jobs and files come with their own definitions: they are a parameter here.
 use Rattle.std.specs.Prelude.{ℕ, Bool, true, false, not, ◌&&◌, ◌||◌, if◌then◌else◌, List, [], ◌∷◌, ◌++◌, map, find, Option, Some, None, Result, Ok, Err, bytes_eq, codes, slice_get}
 use Rattle.std.specs.List.{list_any}
@@ -38,7 +38,7 @@ pub record Session : Type 0 where
   pub queries : List Stored
   pub in_use : Option ℕ
 
--- what a statement does: a session and a line, if it prints one; or the message of its refusal
+-- the effect of a statement: a session and a line, if it prints one; or the message of its refusal
 pub data Effect : Type 0 where
   Becomes : Session → List Bytes → Effect
   Refused : Bytes → Effect
@@ -67,7 +67,7 @@ same_mode (mode.Api s) (mode.Api t) = true
 same_mode (mode.Syntax s) (mode.Syntax t) = true
 same_mode _ _ = false
 
--- each is good, and none stands twice
+-- each is good, and none occurs twice
 abbrev pub good_modes : List Mode → Bool
 good_modes [] = true
 good_modes (m ∷ ms) = is_good_mode m && (not (list_any (same_mode m) ms) && good_modes ms)
@@ -153,8 +153,8 @@ ran s clock turns name arguments members = of_stored (stored_named s name)
 
 -- ---- scripts
 
--- the lines of all statements, each with the line of the script where it begins; the first refusal is the last line. True where
--- every statement ran
+-- the lines of all statements, each with the line of the script where it begins; the first refusal is the last line.
+-- True if every statement ran
 abbrev pub script_lines : {A : Type 0} → (Session → A → Effect) → Session → List (ℕ × A) → List Bytes × Bool
 script_lines step s [] = ([], true)
 script_lines {A = A} step s (a ∷ rest) = go (step s a.1) (λ t. script_lines step t rest)

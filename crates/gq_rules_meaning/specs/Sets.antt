@@ -73,7 +73,7 @@ sets_of world s t rest = term_of world s t >>= λ a. through (λ b next. term_of
 
 -- ---- assigning a set
 
--- a variable's types are fixed where it is first assigned
+-- a variable's types are fixed when it is first assigned
 abbrev pub types_fixed : {N : Type 0} → World N → Option (SetTypes N) → List ℕ → List ℕ
 types_fixed world None types = types
 types_fixed world (Some AnyType) types = world.graph.sorts.own_vertices

@@ -1,4 +1,4 @@
--- Sources: the vertices and types that a SELECT begins from, its candidates, and what their names stand for.
+-- Sources: the vertices and types from which a SELECT begins, its candidates, and what their names denote.
 use Rattle.std.specs.Prelude.{ℕ, Bool, true, false, List, [], ◌∷◌, map, length, Option, Some, None, nat_le}
 use Rattle.gq_graph.specs.declared.rows.Candidate.{Candidate}
 use Rattle.gq_graph.specs.declared.rows.Pattern.{Pattern}
@@ -47,13 +47,13 @@ from world names q = record {
 abbrev pub hop_pattern : {N : Type 0} → Setting N → Hop N → Pattern
 hop_pattern setting h = record { edges = edge_types setting h.edges; targets = (hop_step setting h).targets }
 
--- what a block goes through, from these vertices
+-- the candidates of a block, from these vertices
 abbrev pub candidates_of : {N : Type 0} → World N → List ℕ → Walk N → List Candidate
 candidates_of world start Nowhere = candidates world.graph.sight start None
 candidates_of world start (OneHop h) = candidates world.graph.sight start (Some (hop_pattern (setting world) h))
 candidates_of world start (Path steps) = bindings world.graph.sight start (map (path_step (setting world)) steps)
 
--- a path has 4,194,304 bindings at most
+-- a path has at most 4,194,304 bindings
 abbrev pub within_bound : {N : Type 0} → Walk N → List Candidate → Bool
 within_bound (Path steps) cs = nat_le (length cs) 4194304
 within_bound walk cs = true
@@ -79,7 +79,7 @@ with_candidate f c names =
     (named_as f.edge (edge_thing c.edge c.kind)
     (named_as f.source (Some (a_vertex f.source_types c.source)) names))
 
--- ---- the selected vertex: at the target where the flag is true, else at the source
+-- ---- the selected vertex: at the target if the flag is true, else at the source
 
 abbrev pub selects_target : {N : Type 0} → World N → Select N → Bool
 selects_target world q = is_alias world.words.same (target_alias q.walk) q.selected

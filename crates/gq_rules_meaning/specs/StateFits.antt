@@ -1,4 +1,4 @@
--- StateFits: when a state fits a scope: each name stands for something of its type, and each accumulator has contents of its kind
+-- StateFits: when a state fits a scope: names denote things of their types, accumulators have contents of their kinds
 -- that fit, one or one for each vertex of the store.
 use Rattle.std.specs.Prelude.{◌≡◌, ℕ, Bool, true, false, not, ◌&&◌, List, [], ◌∷◌, length, Option, Some, None, slice_get}
 use Rattle.std.specs.List.{list_all}
@@ -22,7 +22,7 @@ abbrev pub no_repeats : List ℕ → Bool
 no_repeats [] = true
 no_repeats (v ∷ vs) = not (among vs v) && no_repeats vs
 
--- what a name stands for is of its entry; a member of `S[..]` is of its set
+-- what a name denotes fits its entry; a member of `S[..]` is in its set
 abbrev pub ThingFits : {N : Type 0} → World N → Entry → Option Thing → Type 0
 ThingFits world (Variable b) (Some (states.Variable c v)) = (c ≡ b) × (is_value world b v ≡ true)
 ThingFits world (SetVariable types) (Some (SetOf ts vs)) = (ts ≡ types) × (list_all (is_vertex_of world.graph types) vs ≡ true) × (no_repeats vs ≡ true)
@@ -50,7 +50,7 @@ pub record SlotFits {N : Type 0} (world : World N) (k : Accum) (attached : Bool)
   pub count : length slot.contents ≡ places_of world attached
   pub contents : (v : ℕ) (c : Holds slot.kind) → slice_get slot.contents v ≡ Some c → ContentFits world slot.kind c
 
--- an accumulator that is declared is there
+-- a declared accumulator exists
 pub record AccumFits {N : Type 0} (world : World N) (slots : List (Slot N)) (a : N) (k : Accum) (attached : Bool) : Type 0 where
   pub slot : Slot N
   pub found : slot_named world slots a ≡ Some slot
@@ -73,7 +73,7 @@ ValueFits world None v = ⊥
 ValueFits world (Some b) v = is_value world b v ≡ true
 
 abbrev mutual
-  -- an input is of what its kind takes
+  -- an input of the types that its kind takes
   pub InputFits : {N : Type 0} → World N → Accum → Given → Type 0
   InputFits world (MapAccum b k) (Keyed row (given_and x no_given)) = (row_is world (b ∷ []) row ≡ true) × InputFits world k x
   InputFits world (GroupByAccum keys ps) (Keyed row xs) = (row_is world (bases_of keys) row ≡ true) × InputsFit world ps xs

@@ -1,4 +1,4 @@
--- Statements: what declarations, assignments and changes of global accumulators do, and what FOREACH goes over.
+-- Statements: the effects of declarations, assignments and changes of global accumulators, and the values of FOREACH.
 use Rattle.std.specs.Prelude.{ℕ, zero, suc, Bool, true, false, List, [], ◌∷◌, map, ℤ, pos, ◌+ℤ◌, ◌-ℤ◌, int_le, nat_abs, Option, Some, None}
 use Rattle.gq_rules_typing.specs.Tree.{Tree, Name}
 use Rattle.gq_value.specs.declared.kind.Number.{Number}
@@ -21,8 +21,8 @@ use Rattle.gq_rules_meaning.specs.Writes.{WriteFault, Wrongly, TooBig}
 use Rattle.gq_rules_meaning.specs.Tails.{select}
 use Rattle.gq_rules_meaning.specs.Sets.{set_named, sets_of, set_assigned}
 
--- why a run ends: an expression's fault, a sum out of range in the accumulator of this number, a body with no turn left, or
--- a path with too many bindings
+-- why a run ends: an expression's fault, a sum out of range in the accumulator of this number, the bound on loop
+-- entries, or a path with too many bindings
 pub data Fault : Type 0 where
   Evaluation : Wrong → Fault
   SumOutOfRange : ℕ → Fault
@@ -105,19 +105,19 @@ abbrev pub elements_of : Meant → Answer Wrong (List (Base × Val))
 elements_of (IsContent k c) = found (element_type k) >>= λ b. found (elements k c) >>= λ vs. Gives (with_base b vs)
 elements_of m = Stuck
 
--- so many numbers from x on
+-- n numbers from x on
 abbrev pub numbers_from : Number → ℕ → ℤ → List Val
 numbers_from n zero x = []
 numbers_from n (suc k) x = as_type n x ∷ numbers_from n k (x +ℤ pos 1)
 
--- both ends count; none where the first is above the second
+-- both ends are included; empty if the first is above the second
 abbrev pub numbers_between : Number → ℤ → ℤ → List Val
 numbers_between n x y = elim (int_le x y) [ true ↦ numbers_from n (suc (nat_abs (y -ℤ x))) x | false ↦ [] ]
 
 abbrev pub end_of : Number → Val → Answer Wrong ℤ
 end_of n v = as_number v >>= λ x. of_result (in_type n x) >>= as_number
 
--- the numbers are UINT where both ends are, else INT with both ends converted
+-- the numbers are UINT if both ends are, else INT with both ends converted
 abbrev pub between : Val → Val → Answer Wrong (List (Base × Val))
 between v w = end_of (type_of_both v w) v >>= λ x. end_of (type_of_both v w) w >>= λ y. Gives (with_base (number_type (type_of_both v w)) (numbers_between (type_of_both v w) x y))
 

@@ -1,4 +1,4 @@
--- States: what names and accumulators hold while a query runs, and what an expression sees of it.
+-- States: the contents of names and accumulators while a query runs, and what an expression sees of them.
 -- The code has a frame of slots.
 use Rattle.std.specs.Prelude.{ℕ, zero, suc, ◌-◌, Bool, if◌then◌else◌, List, [], ◌∷◌, length, drop, Option, Some, None, is_some, position, slice_get}
 use Rattle.gq_value.specs.Val.{Val, Vertex, Tuple, list_of}
@@ -13,7 +13,7 @@ use Rattle.gq_rules_meaning.specs.Meanings.{Meant, Is, IsRow, IsEdge, IsSet, IsM
 use Rattle.gq_rules_meaning.specs.Expressions.{World, setting, Look}
 
 -- a variable, a vertex alias too; a set with its types; an edge row with the type under which it was walked; within `S[..]` the
--- set with its types, and the vertex in turn
+-- set with its types, and each vertex of it in turn
 pub data Thing : Type 0 where
   Variable : Base → Val → Thing
   SetOf : List ℕ → List ℕ → Thing
@@ -53,7 +53,7 @@ abbrev pub changed : {N A : Type 0} → (N → N → Bool) → N → A → List 
 changed same x a [] = []
 changed same x a (e ∷ es) = if same e.0 x then (x, a) ∷ es else e ∷ changed same x a es
 
--- a name that is there keeps its place
+-- a name that is there already keeps its place
 abbrev pub with_name : {N : Type 0} → World N → N → Thing → State N → State N
 with_name world x thing s = if is_some (thing_named world s.names x) then (record s { names = changed world.words.same x thing s.names }) else with_new x thing s
 
@@ -74,7 +74,7 @@ slot_named {N = N} world slots a = at (slot_number world slots a)
     at None = None
     at (Some n) = slice_get slots n
 
--- what a global one reads as, and what a vertex's one reads as; a global one has its content at place 0
+-- the value that a global or a vertex's accumulator reads as; a global one has its content at place 0
 abbrev pub read_slot : {N : Type 0} → World N → List (Slot N) → N → ℕ → Outcome
 read_slot world slots a v = found (slot_named world slots a) >>= λ s. found (slice_get s.contents v) >>= λ c. Gives (read s.kind c)
 
@@ -111,7 +111,7 @@ field_of world (IsEdge r t) f = edge_field world f r t
 field_of world (IsRow ps cs) f = found (world.words.field OfParts (names_of_parts ps) f) >>= part_at ps cs
 field_of world m f = Stuck
 
--- ---- what an expression sees: names and accumulators as they are, and as accumulators were before the block
+-- ---- what an expression sees: names and accumulators as they are now, and accumulators before the block
 
 abbrev pub sight : {N : Type 0} → World N → List (N × Thing) → List (Slot N) → List (Slot N) → Look N
 sight world names slots before = record {

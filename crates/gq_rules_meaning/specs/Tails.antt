@@ -39,11 +39,11 @@ abbrev pub by_keys : {N : Type 0} → List (Tree N × Bool) → List Val → Lis
 by_keys (key ∷ order) (v ∷ vs) (w ∷ ws) = ordering_then (if key.1 then ordering_reverse (compare v w) else compare v w) (by_keys order vs ws)
 by_keys _ _ _ = Equal
 
--- ties go by vertex number
+-- ties are broken by vertex number
 abbrev pub in_order : {N : Type 0} → List (Tree N × Bool) → Ranked → Ranked → Ordering
 in_order order a b = ordering_then (by_keys order a.keys b.keys) (nat_cmp a.vertex b.vertex)
 
--- none where the number is negative
+-- none if the number is negative
 abbrev pub at_most : {A : Type 0} → ℤ → List A → List A
 at_most (pos n) xs = take n xs
 at_most (negsuc n) xs = []

@@ -1,4 +1,4 @@
--- Writes: what a change makes of one content at once, outside ACCUM: `+=` with one input, and `=`.
+-- Writes: the immediate effect of a change on one content, outside ACCUM: `+=` with one input, and `=`.
 use Rattle.std.specs.Prelude.{ℕ, zero, suc, Bool, true, false, List, [], ◌∷◌}
 use Rattle.gq_value.specs.declared.value.Wrong.{Wrong}
 use Rattle.gq_value.specs.Val.{Val}
@@ -19,7 +19,7 @@ pub data WriteFault : Type 0 where
   Wrongly : Wrong → WriteFault
   TooBig : ℕ → WriteFault
 
--- what a change makes of a content
+-- the effect of a change on a content
 abbrev pub Making : Type 0
 Making = (k : Accum) → Holds k → Holds k
 

@@ -14,13 +14,13 @@ ghost use Rattle.gq_rules_typing.specs.Statements.{Bytes};
 ghost use Rattle.gq_rules_meaning.specs.Laws.{ExpressionLaw, LookLaw, InputLaw, ContentLaw, ContributionLaw};
 ghost use Rattle.gq_rules_meaning.specs.Built.{LineLaw};
 
-/// A typed expression is never stuck, and what it is has its type.
+/// A typed expression is never stuck, and its value has its type.
 #[tactic(auto, using(crate::proofs::NeverStuck::expression_law_by_name))]
 pub fn no_expression_is_stuck()
     ensures { ExpressionLaw Bytes }
 {}
 
-/// What is seen of a state that fits its scope has the types of what may be named.
+/// In a state that fits its scope, the names that may be used have values of their types.
 pub fn a_fitting_state_is_seen_as_typed()
     ensures { LookLaw Bytes }
 {}
@@ -30,18 +30,18 @@ pub fn no_input_is_stuck()
     ensures { InputLaw Bytes }
 {}
 
-/// What a typed ACCUM contributes is never stuck, and each input is one that its accumulator takes.
+/// The contributions of a typed ACCUM are never stuck, and each input is one that its accumulator takes.
 pub fn no_contribution_is_stuck()
     ensures { ContributionLaw Bytes }
 {}
 
-/// Contents keep to values of their types, whatever inputs of their kind they are fed.
+/// Contents keep to values of their types, for all inputs of their kind.
 #[tactic(auto, using(crate::proofs::AfterLaws::content_law_by_name))]
 pub fn contents_keep_their_types()
     ensures { ContentLaw Bytes }
 {}
 
-/// The line of what a query prints is the one that gq_json writes.
+/// The line that a query prints is the one that gq_json writes.
 #[tactic(auto, using(crate::proofs::LineLaws::line_law))]
 pub fn one_line()
     ensures { LineLaw }

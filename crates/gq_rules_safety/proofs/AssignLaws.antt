@@ -1,4 +1,4 @@
--- AssignLaws: typed assignments are never stuck, and the state behind them is the one that their scope tells of.
+-- AssignLaws: typed assignments are never stuck, and the state after them matches their scope.
 use Rattle.std.proofs.Common.{◌≡◌, ℕ, Bool, true, false, List, [], ◌∷◌, Option, Some, None, Ok, Err, refl, ap, sym, ◌∙◌, subst}
 use Rattle.std.specs.Prelude.{if◌then◌else◌}
 use Rattle.std.specs.List.{list_all}
@@ -41,7 +41,7 @@ use Rattle.gq_rules_safety.proofs.SetLaws.{GoodSet, sets_safe, set_named_safe}
 use Rattle.gq_rules_safety.proofs.RunLaws.{runs_safe}
 
 module _ {N : Type 0} (world : World N) (words : WordsFit world) where
-  -- what typing says of an assignment of a set of these types: x keeps its types, or comes into view with fixed ones
+  -- the typing of an assignment of a set of these types: x keeps its types, or comes into view with fixed ones
   data SetAssigned (s : Scope N) (x : N) (types : Option (SetTypes N)) (got : List ℕ) (t : Scope N) : Type 0 where
     keeps : (fixed : List ℕ) → entry s x ≡ Some (SetVariable fixed) → ((u : ℕ) → among got u ≡ true → among fixed u ≡ true) → s ≡ t → SetAssigned s x types got t
     declares : (fixed : List ℕ) → entry s x ≡ None → types_fixed world types got ≡ fixed → ((u : ℕ) → among got u ≡ true → among fixed u ≡ true) → with_entry x (SetVariable fixed) s ≡ t → SetAssigned s x types got t
@@ -72,7 +72,7 @@ module _ {N : Type 0} (world : World N) (words : WordsFit world) where
       (subst (λ ts. Behind world words s (with_entry x (SetVariable fixed) s) state (with_name world x (SetOf ts set.1) state)) (sym d)
       (declared_behind world words s state x (SetVariable fixed) (SetOf fixed set.1) h e refl (refl, wider got fixed set.1 w g.0.1, g.1)))
 
-  -- ---- what typing says
+  -- ---- facts from typing
 
   kept_all : (s : Scope N) (x : N) (fixed got : List ℕ) (q : Bool) → kept_within s x fixed got ≡ Ok q → (u : ℕ) → among got u ≡ true → among fixed u ≡ true
   kept_all s x fixed got q e u h = all_among got fixed u (unless_ok (WiderSet (said s x)) (list_all (among fixed) got) q e) h
@@ -129,7 +129,7 @@ module _ {N : Type 0} (world : World N) (words : WordsFit world) where
       let g = then_ok set (kept_within s x f.0) w.0.0 w.0.1 in
       (g.0, g.1, declares f.0 (new_none s x u.0.0 u.0.1) (fixed_known s types f.0 g.0 z f.1) (kept_all s x f.0 g.0 w.0.0 g.2) (ok_inj w.1))
 
-  -- an expression that is no set is assigned to a visible variable
+  -- an expression that isn't a set is assigned to a visible variable
   value_known : (s t : Scope N) (x : N) (types : Option (SetTypes N)) (a : Tree N) → right_types s (Expression a) ≡ None → typing_assignment s x types (Expression a) ≡ Ok t
       → (b : Base) × (entry s x ≡ Some (Variable b)) × (q : Bool) × (converting (here s) b a ≡ Ok q) × (s ≡ t)
   value_known s t x None a r e = go (entry s x) refl (subst (λ o. typing_assign s x (Expression a) (entry s x) o ≡ Ok t) r e)
@@ -209,7 +209,7 @@ module _ {N : Type 0} (world : World N) (words : WordsFit world) where
   alias_no_set ts (Some (states.Member us vs v)) h = absurd h
   alias_no_set ts None h = absurd h
 
-  -- a name that is a value is no set
+  -- a name that is a value isn't a set
   value_no_set : (s : Scope N) (state : State N) (y : N) (ty : Typed) → StateIs world s state → is_set (entry s y) ≡ false → typing (here s) (Name y) ≡ Ok ty → statements.is_set (thing_named world state.names y) ≡ false
   value_no_set s state y ty h n e = go (entry s y) refl n (then_ok (name_at s InStatement y (entry s y)) alone ty e)
     where

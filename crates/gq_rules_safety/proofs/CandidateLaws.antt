@@ -1,4 +1,4 @@
--- CandidateLaws: what a typed SELECT goes through is of the types of its aliases.
+-- CandidateLaws: the candidates of a typed SELECT are of the types of its aliases.
 use Rattle.std.proofs.Common.{◌≡◌, ℕ, zero, suc, ◌+◌, Bool, true, false, List, [], ◌∷◌, map, arith, Option, Some, None, refl, ap, sym, ◌∙◌, subst}
 use Rattle.std.specs.Prelude.{◌||◌, ◌==◌, if◌then◌else◌, filter, slice_get}
 use Rattle.std.specs.Option.{unwrap_or}

@@ -1,4 +1,4 @@
--- FedLaws: accumulators that are fed all inputs at once keep fitting, where their sums are in range.
+-- FedLaws: accumulators that are fed all inputs at once keep fitting, if their sums are in range.
 use Rattle.std.proofs.Common.{◌≡◌, ℕ, zero, suc, ◌+◌, Bool, true, false, List, [], ◌∷◌, length, arith, Option, Some, None, refl, sym, ◌∙◌, subst}
 use Rattle.std.specs.Prelude.{◌&&◌, ◌==◌, if◌then◌else◌, slice_get}
 use Rattle.std.specs.List.{list_all}

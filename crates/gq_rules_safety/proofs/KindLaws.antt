@@ -1,4 +1,4 @@
--- KindLaws: a kind as it is written depends on the setting alone; typed queries and plans are never stuck.
+-- KindLaws: a kind as written depends only on the setting; typed queries and plans are never stuck.
 use Rattle.std.proofs.Common.{◌≡◌, ℕ, Bool, true, false, List, [], ◌∷◌, Option, Some, None, Ok, refl, ap, sym, ◌∙◌, subst}
 use Rattle.std.proofs.lemmas.Slice.Eq.{bytes_eq-Decides}
 use Rattle.std.specs.Prelude.{◌&&◌, ◌-◌, if◌then◌else◌, nat_lt, nat_le}

@@ -1,4 +1,4 @@
--- LocalLaws: locals, changes of global accumulators, and what FOREACH goes over.
+-- LocalLaws: locals, changes of global accumulators, and the values of FOREACH.
 use Rattle.std.proofs.Common.{◌≡◌, ℕ, zero, suc, Bool, true, false, List, [], ◌∷◌, Option, Some, None, Ok, refl, ap, sym, ◌∙◌, subst}
 use Rattle.std.specs.Prelude.{not, is_some, ℤ, pos, ◌+ℤ◌, ◌-ℤ◌, int_le, nat_abs}
 use Rattle.std.specs.List.{list_all}
@@ -47,7 +47,7 @@ new_none s x q e = go (entry s x) refl (unless_ok (NameTwice (said s x)) (not (i
     go None d h = d
     go (Some e) d h = cc
 
--- ---- types as they are written
+-- ---- types as written
 
 -- a type that a local may have
 abbrev pub IsWritten : Base → Type 0

@@ -1,4 +1,5 @@
--- MatchLaws: the matches of a typed SELECT are never stuck; accumulators fit behind them, and matched vertices are of their types.
+-- MatchLaws: the matches of a typed SELECT are never stuck; accumulators fit after them, and matched vertices have
+-- their types.
 use Rattle.std.proofs.Common.{◌≡◌, ℕ, suc, Bool, true, false, List, [], ◌∷◌, map, Option, Some, None, Ok, refl}
 use Rattle.std.specs.Prelude.{filter_map}
 use Rattle.std.specs.List.{list_all, flat_map, cons_option}
@@ -35,7 +36,7 @@ module _ {N : Type 0} (world : World N) (words : WordsFit world) where
   abbrev pub aliases : From N → List ℕ → Aliases world words
   aliases f edges = record { source = f.source; sources = f.source_types; edge = f.edge; edges = edges; target = f.target; targets = f.target_types }
 
-  -- what a candidate goes through is of the types of its aliases
+  -- the parts of a candidate are of the types of its aliases
   pub record CandidateFits (f : From N) (edges : List ℕ) (c : Candidate) : Type 0 where
     pub source : is_vertex_of world.graph f.source_types c.source ≡ true
     pub edge : StandsFor world words f.edge (EdgeAlias edges) (edge_thing c.edge c.kind)
@@ -80,7 +81,7 @@ module _ {N : Type 0} (world : World N) (words : WordsFit world) where
         (safe_blaming (AllOf MatchFits) (AtPlace m) (match_of q state.slots c (look_at world state f c)) (match_safe q r n c e d k.0))
         (λ xs g. safe_then (AllOf MatchFits) (AllOf MatchFits) (matches world state q f (suc m) cs) _ (matches_safe q r n e d (suc m) cs k.1) (λ ys u. appended_all MatchFits xs ys g u))
 
-    -- ---- behind all matches
+    -- ---- after all matches
 
     pub record AfterFits (a : After N) : Type 0 where
       pub slots : Keeps world state.slots a.slots

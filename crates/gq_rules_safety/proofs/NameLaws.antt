@@ -9,7 +9,7 @@ use Rattle.gq_rules_meaning.specs.States.{Thing, State, thing_named, with_new, w
 use Rattle.gq_rules_meaning.specs.StateFits.{ThingFits, AccumFits, AllOf}
 use Rattle.gq_rules_safety.specs.Matching.{WordsFit, has_thing, StateIs}
 
--- what stands for an entry is a thing, and not an accumulator's
+-- an entry whose name denotes a thing, not an accumulator
 abbrev pub IsNamed : Entry → Type 0
 IsNamed e = has_thing (Some e) ≡ true
 
@@ -18,7 +18,7 @@ keys names = map (λ e. e.0) names
 
 -- ---- scopes that grow
 
--- what is visible stays visible, as what it was
+-- visible names stay visible, with the same entries
 pub record Grows {N : Type 0} (s t : Scope N) : Type 0 where
   pub setting : t.setting ≡ s.setting
   pub kept : (x : N) (e : Entry) → entry s x ≡ Some e → entry t x ≡ Some e
@@ -29,7 +29,7 @@ grows_same s = record { setting = refl; kept = λ x e h. h }
 pub grows_then : {N : Type 0} (s t u : Scope N) → Grows s t → Grows t u → Grows s u
 grows_then s t u g h = record { setting = h.setting ∙ g.setting; kept = λ x e k. h.kept x e (g.kept x e k) }
 
--- what isn't visible later wasn't visible before
+-- a name that isn't visible later wasn't visible before
 pub grew_none : {N : Type 0} (s t : Scope N) → Grows s t → (x : N) → entry t x ≡ None → entry s x ≡ None
 grew_none s t g x h = go (entry s x) refl
   where
@@ -61,7 +61,7 @@ module _ {N : Type 0} (world : World N) (words : WordsFit world) where
     pub keys : keys after.names ≡ news ++ keys before.names
     pub new : AllOf (λ x. entry s x ≡ None) news
 
-  -- a state behind statements between two scopes
+  -- a state after statements between two scopes
   pub record Behind (s t : Scope N) (before after : State N) : Type 0 where
     pub is : StateIs world t after
     pub extends : Extends s before after
@@ -87,7 +87,7 @@ module _ {N : Type 0} (world : World N) (words : WordsFit world) where
   pub entry_new : (s : Scope N) (x y : N) (e : Entry) → s.setting.words.same ≡ same → (q : Bool) → same x y ≡ q → entry (with_entry x e s) y ≡ (if q then Some e else entry s y)
   entry_new s x y e f q g = ap (λ p. if p x y then Some e else entry s y) f ∙ ap (λ b. if b then Some e else entry s y) g
 
-  -- a new name is visible behind the others
+  -- a new name is visible after the others
   pub grows_new : (s : Scope N) (x : N) (e : Entry) → s.setting.words.same ≡ same → entry s x ≡ None → Grows s (with_entry x e s)
   grows_new s x e f h = record { setting = refl; kept = λ y d k. go y d k (same x y) refl }
     where
@@ -196,7 +196,7 @@ module _ {N : Type 0} (world : World N) (words : WordsFit world) where
   pub new_behind : (s : Scope N) (state : State N) (x : N) (e : Entry) (thing : Thing) → StateIs world s state → entry s x ≡ None → IsNamed e → ThingFits world e (Some thing) → Behind s (with_entry x e s) state (with_new x thing state)
   new_behind s state x e thing h k named fit = record { is = new_is s state x e thing h named fit; extends = new_extends s state x thing k }
 
-  -- one that is assigned where it isn't visible
+  -- one that is assigned when it isn't visible
   pub declared_behind : (s : Scope N) (state : State N) (x : N) (e : Entry) (thing : Thing) → StateIs world s state → entry s x ≡ None → IsNamed e → ThingFits world e (Some thing) → Behind s (with_entry x e s) state (with_name world x thing state)
   declared_behind s state x e thing h k named fit = subst (Behind s (with_entry x e s) state) (sym (with_name_new x thing state (h.alone x (ap has_thing k)))) (new_behind s state x e thing h k named fit)
 
@@ -208,7 +208,7 @@ module _ {N : Type 0} (world : World N) (words : WordsFit world) where
 
   -- ---- names of a body, which end with it
 
-  -- behind so many others a name stands for what it stood for
+  -- a name denotes the same after other names before it are dropped
   under_dropped : {A : Type 0} (y : N) (news : List N) (rest : List N) (es : List (N × A)) → keys es ≡ news ++ rest → AllOf (λ x. same x y ≡ false) news → under same y (drop (length news) es) ≡ under same y es
   under_dropped y [] rest es h k = refl
   under_dropped y (n ∷ news) rest [] h k = cc
@@ -237,7 +237,7 @@ module _ {N : Type 0} (world : World N) (words : WordsFit world) where
       go x n true g = let u = words.same x y g in let v : entry s y ≡ None = subst (λ z. entry s z ≡ None) u n in cc
       go x n false g = g
 
-  -- where the keys are the same, the same names are missing
+  -- if the keys are the same, the same names are missing
   missing : {A B : Type 0} (y : N) (es : List (N × A)) (ds : List (N × B)) → keys es ≡ keys ds → under same y ds ≡ None → under same y es ≡ None
   missing y [] ds h k = refl
   missing y (e ∷ es) [] h k = cc

@@ -76,7 +76,7 @@ ascends_once (x ∷ xs) h = both_ok (not (among xs x)) (no_repeats xs) (ap not (
 pub distinct_once : (xs : List ℕ) → no_repeats (by_number xs) ≡ true
 distinct_once xs = ascends_once (distinct nat_cmp xs) (distinct_ascends xs)
 
--- ---- what is listed
+-- ---- listed elements
 
 or_left : (p q : Bool) → p ≡ true → (p || q) ≡ true
 or_left p q h = cc

@@ -1,4 +1,4 @@
--- PostLaws: a typed POST-ACCUM is never stuck, and accumulators fit behind it.
+-- PostLaws: a typed POST-ACCUM is never stuck, and accumulators fit after it.
 use Rattle.std.proofs.Common.{◌≡◌, ℕ, zero, suc, Bool, true, false, List, [], ◌∷◌, Some, Ok, refl, ap, sym, ◌∙◌, subst}
 use Rattle.std.specs.Prelude.{not, ◌&&◌, if◌then◌else◌, slice_get}
 use Rattle.std.specs.List.{list_all}
@@ -152,7 +152,7 @@ module _ {N : Type 0} (world : World N) (words : WordsFit world) (s : Scope N) (
 
   -- ---- phases
 
-  -- statements that are typed and name the one end alone
+  -- statements that are typed and name only one end
   abbrev PhaseFits : Bool → Acts N → Type 0
   PhaseFits end no_act = Unit {0}
   PhaseFits end (act_and a acts) = ((n : ℕ) × (m : ℕ) × (typing_act inside true n a ≡ Ok m) × (in_act (bars end) a ≡ false)) × PhaseFits end acts

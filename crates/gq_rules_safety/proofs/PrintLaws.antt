@@ -39,7 +39,7 @@ use Rattle.gq_rules_safety.specs.Matching.{WordsFit, StateIs}
 use Rattle.gq_rules_safety.proofs.NameLaws.{under_new}
 use Rattle.gq_rules_safety.proofs.LocalLaws.{here_fits}
 
--- ---- a typed expression is no edge, and no set alone
+-- ---- a typed expression isn't an edge, nor a set alone
 
 abbrev pub IsAlone : Typed → Type 0
 IsAlone (EdgeOf types) = ⊥
@@ -147,7 +147,7 @@ module _ {N : Type 0} (names : Names N) where
   typed_alone (And t ts) ty h = let x = then_ok (typing names t) _ ty h in bools_alone ts x.0 ty x.2
   typed_alone (Or t ts) ty h = let x = then_ok (typing names t) _ ty h in bools_alone ts x.0 ty x.2
 
--- what is printed isn't a row either
+-- a printed expression isn't a row either
 abbrev pub IsPrintable : Typed → Type 0
 IsPrintable (GroupRow ps) = ⊥
 IsPrintable (EdgeOf types) = ⊥
@@ -208,7 +208,7 @@ module _ {N : Type 0} (world : World N) where
   item_safe w slots key ty o p h = safe_then (λ (o : Out). Unit {0}) (λ (m : Bytes × Out). Unit {0}) (answers.◌>>=◌ o (out_meant world slots)) _ (safe_then (Suits world ty) (λ (o : Out). Unit {0}) o (out_meant world slots) h (λ m k. meant_safe w slots ty m p k)) (λ q k. tt)
 
 module _ {N : Type 0} (world : World N) (words : WordsFit world) where
-  -- ---- what an item of `S[..]` sees
+  -- ---- the context of an item of `S[..]`
 
   member_named : (s : Scope N) (state : State N) (x : N) (types vs : List ℕ) (v : ℕ) → StateIs world s state → entry s x ≡ Some (SetVariable types) → is_vertex_of world.graph types v ≡ true
       → (y : N) (ty : Typed) → name_at s (InSelection x) y (entry s y) ≡ Ok ty → Safe {F = Wrong} (Suits world ty) (answers.◌>>=◌ (found (thing_named world ((x, Member types vs v) ∷ state.names) y)) (λ thing. Gives (meant thing)))
@@ -314,7 +314,7 @@ module _ {N : Type 0} (world : World N) (words : WordsFit world) where
   typed_out s state i x ty h e p =
       out_of s state i x h (never_stuck (here s) (seen world state) (here_fits world words s state h) i.tree x e) (printable_is x ty p (typed_alone (here s) i.tree x e))
 
-  -- a name is printed as what it is, a set too
+  -- a name is printed as its value, also a set
   name_out : (s : Scope N) (state : State N) (x : N) (key : Bytes) (ty : Typed) → StateIs world s state → typing_whole s (Name x) ≡ Ok ty → Safe (λ (m : Bytes × Out). Unit {0}) (printed world state (Whole (record { tree = Name x; key = key })))
   name_out s state x key ty h e = go (entry s x) refl e
     where

@@ -140,7 +140,7 @@ fresh_fits (MapAccum b k) = refl
 fresh_fits (GroupByAccum keys ps) = refl
 fresh_fits (HeapAccum b n by) = refl
 
--- ---- types as they are written depend on the setting alone
+-- ---- types as written depend only on the setting
 
 pub base_same : {N : Type 0} (s t : Scope N) (b : BaseTree N) → s.setting ≡ t.setting → base_written s b ≡ base_written t b
 base_same s t Ints h = refl
@@ -166,7 +166,7 @@ module _ {N : Type 0} (world : World N) (words : WordsFit world) (stores : (tupl
   words_at : (tuples : List (N × Fields)) → WordsFit (at tuples)
   words_at tuples = record { same = words.same; vertex_type = words.vertex_type; edge_type = words.edge_type }
 
-  -- what is declared so far; values stay of their types whatever tuple types come
+  -- the declarations so far; values keep their types whatever tuple types are added
   pub record Declared (s : Scope N) (tuples : List (N × Fields)) (state : State N) : Type 0 where
     pub setting : s.setting ≡ setting (at tuples)
     pub named : (more : List (N × Fields)) (x : N) (e : Entry) → entry s x ≡ Some e → ThingFits (at more) e (thing_named world state.names x)

@@ -1,4 +1,4 @@
--- RunLaws: typed statements are never stuck, and the state behind them is the one that their scope tells of.
+-- RunLaws: typed statements are never stuck, and the state after them matches their scope.
 use Rattle.std.proofs.Common.{◌≡◌, ℕ, zero, suc, Bool, true, false, List, [], ◌∷◌, Option, Some, None, Ok, refl, ap, sym, ◌∙◌, subst}
 use Rattle.gq_tree.specs.Tree.{Tree}
 use Rattle.gq_value.specs.Val.{Val}
@@ -33,7 +33,7 @@ use Rattle.gq_rules_safety.proofs.WriteLaws.{typed_change, change_safe}
 use Rattle.gq_rules_safety.proofs.LocalLaws.{new_none, written_base, here_fits, locals_safe, locals_grow, IsOf, gone_safe}
 
 module _ {N : Type 0} (world : World N) (words : WordsFit world) where
-  -- behind a run from a scope to a scope
+  -- after a run from a scope to a scope
   abbrev pub Ran : Scope N → Scope N → Running N → Running N → Type 0
   Ran s t r q = Behind world words s t r.state q.state
 
@@ -79,7 +79,7 @@ module _ {N : Type 0} (world : World N) (words : WordsFit world) where
       go true rest = behind_same world words s r.state h
       go false rest = safe_then (λ (b : Bool). Unit {0}) (Ran s s r) (holds r) _ (c r h) (λ b u. again b rest)
 
-  -- each value in turn, under a new name
+  -- each value one after the other, under a new name
   each_safe : (s t : Scope N) (x : N) (b : Base) (body : Body N) → entry s x ≡ None → Grows s (with_entry x (scopes.Variable b) s) → Grows (with_entry x (scopes.Variable b) s) t → IsSafe (with_entry x (scopes.Variable b) s) t body
       → (vs : List (Base × Val)) → AllOf (IsOf world words b) vs → IsSafe s s (for_each x body vs)
   each_safe s t x b body n g k f [] a r h = behind_same world words s r.state h
@@ -93,7 +93,7 @@ module _ {N : Type 0} (world : World N) (words : WordsFit world) where
           safe_with (Ran (with_entry x (scopes.Variable b) s) t (with_state (with_new x (Variable v.0 v.1) p.state) p)) (Ran s t p) _ (f (with_state (with_new x (Variable v.0 v.1) p.state) p) w.is)
           (λ q l. behind_then world words s (with_entry x (scopes.Variable b) s) t p.state (with_new x (Variable v.0 v.1) p.state) q.state g w l)
 
-  -- ---- what statements rest on
+  -- ---- what statements rely on
 
   condition_holds : (s : Scope N) (t : Tree N) (q : Bool) → condition (here s) t ≡ Ok q → (r : Running N) → StateIs world s r.state → Safe (λ (b : Bool). Unit {0}) (condition_of world t r)
   condition_holds s t q e r h = safe_blaming (λ (b : Bool). Unit {0}) Evaluation (truth_of (seen world r.state) t) (condition_safe (here s) (seen world r.state) (here_fits world words s r.state h) t q e)
@@ -121,7 +121,7 @@ module _ {N : Type 0} (world : World N) (words : WordsFit world) where
         safe_then (λ (m : Bytes × Out). Unit {0}) (λ (ms : List (Bytes × Out)). Unit {0}) (printed world state p) _ (print_safe s state known u.0 p h u.1)
         (λ m f. safe_then (λ (ms : List (Bytes × Out)). Unit {0}) (λ (ms : List (Bytes × Out)). Unit {0}) (each (printed world state) ps) _ (prints_safe s state ps u.0 keys h u.2) (λ ms g. tt))
 
-    -- ---- scopes behind statements
+    -- ---- scopes after statements
 
     mutual
       pub stmt_grows : (st : Stmt N) (s t : Scope N) → s.setting ≡ setting world → typing_stmt s st ≡ Ok t → Grows s t

@@ -71,7 +71,7 @@ module _ {N : Type 0} (world : World N) (words : WordsFit world) (s : Scope N) (
       go (as_source p r d) w e = ap (types_at f) p ∙ ok_inj (sym (ap of_entry d) ∙ e)
       go (as_before p r d) w e = absurd (either_is (is_alias same f.source q.selected) (is_alias same f.target q.selected) r p w)
 
-  -- ---- what HAVING and ORDER BY name
+  -- ---- the names in HAVING and ORDER BY
 
   tail_same : (x : N) (types : List ℕ) (ty : Typed) → alias_at inside (InTail q.selected) x types ≡ Ok ty → q.selected ≡ x
   tail_same x types ty e = words.same q.selected x (subst (λ z. z.words.same q.selected x ≡ true) setting_is (checked NotAllowedHere (inside.setting.words.same q.selected x) _ ty e).0)

@@ -1,4 +1,4 @@
--- SightLaws: what the parts of a SELECT see: its aliases in front of the names of its scope.
+-- SightLaws: the names that the parts of a SELECT see: its aliases before the names of its scope.
 use Rattle.std.proofs.Common.{◌≡◌, ℕ, Bool, true, false, List, Option, Some, None, Ok, Err, refl, ap, sym, ◌∙◌, subst}
 use Rattle.std.specs.Prelude.{if◌then◌else◌}
 use Rattle.gq_value.specs.declared.value.Wrong.{Wrong}
@@ -45,7 +45,7 @@ adds_setting (Some x) e s = refl
 abbrev pub state_of : {N : Type 0} → List (N × Thing) → List (Slot N) → State N
 state_of names slots = record { names = names; slots = slots }
 
--- what may be named depends on the setting and the entry alone
+-- the names that may be used depend only on the setting and the entry
 name_at_setting : {N : Type 0} (s t : Scope N) (place : Place N) (x : N) (o : Option Entry) → t.setting ≡ s.setting → name_at t place x o ≡ name_at s place x o
 name_at_setting s t place x (Some (Variable b)) h = refl
 name_at_setting s t (InSelection set) x (Some (SetVariable ts)) h = ap (λ z. Ok (if z.words.same set x then MemberOf ts else SetOf ts)) h
@@ -86,7 +86,7 @@ module _ {N : Type 0} (world : World N) (words : WordsFit world) where
   adds_grows None e s z h = grows_same s
   adds_grows (Some x) e s z h = grows_new world words s x e (ap (λ z. z.words.same) z) h
 
-  -- what an alias stands for, if there is one
+  -- the thing that an alias denotes, if there is one
   abbrev pub StandsFor : Option N → Entry → Option Thing → Type 0
   StandsFor None e o = Unit {0}
   StandsFor (Some x) e o = ThingFits world e o
@@ -118,7 +118,7 @@ module _ {N : Type 0} (world : World N) (words : WordsFit world) where
   alias_is (Some x) e (Some thing) s names slots a h f = new_is world words s (state_of names slots) x e thing h (aliased_named e a) f
   alias_is (Some x) e None s names slots a h f = absurd (nothing_fits e a f)
 
-  -- ---- entries behind an alias
+  -- ---- entries under an alias
 
   -- apart from the alias itself all stays
   pub behind_alias : (o : Option N) (e : Entry) (s : Scope N) (x : N) → s.setting ≡ setting world → is_alias same o x ≡ false → entry (adds o e s) x ≡ entry s x
@@ -172,7 +172,7 @@ module _ {N : Type 0} (world : World N) (words : WordsFit world) where
   pub target_setting : (s : Scope N) (a : Aliases) → (with_target s a).setting ≡ s.setting
   target_setting s a = adds_setting a.target (Alias a.targets) (with_edge s a) ∙ edge_setting s a
 
-  -- what a name is in such a scope
+  -- the meaning of a name in such a scope
   pub data SeenAs (s : Scope N) (a : Aliases) (x : N) : Type 0 where
     as_target : is_alias same a.target x ≡ true → entry (with_target s a) x ≡ Some (Alias a.targets) → SeenAs s a x
     as_edge : is_alias same a.edge x ≡ true → entry (with_target s a) x ≡ Some (EdgeAlias a.edges) → SeenAs s a x
@@ -200,7 +200,7 @@ module _ {N : Type 0} (world : World N) (words : WordsFit world) where
       go (as_source p q d) f = let u = sym d ∙ f in cc
       go (as_before p q d) f = declared_from s x k attached (sym d ∙ f)
 
-  -- ---- what is seen with one of the vertices alone
+  -- ---- the context with only one of the vertices
 
   -- names of the whole scope, but for some
   abbrev pub barring : (N → Bool) → Scope N → Place N → Names N
@@ -212,7 +212,7 @@ module _ {N : Type 0} (world : World N) (words : WordsFit world) where
     setting = s.setting;
   }
 
-  -- a name that may be said is the one alias, or stands before the SELECT
+  -- a name that may be used is the one alias, or is from before the SELECT
   pub data Covered (s : Scope N) (a : Aliases) (o : Option N) (types : List ℕ) (x : N) : Type 0 where
     the_alias : is_alias same o x ≡ true → entry (with_target s a) x ≡ Some (Alias types) → Covered s a o types x
     before_it : is_alias same o x ≡ false → entry (with_target s a) x ≡ entry s x → Covered s a o types x

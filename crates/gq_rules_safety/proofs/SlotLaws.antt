@@ -29,7 +29,7 @@ changed_items P p f (suc n) (x ∷ xs) old new h zero a e = old 0 a e
 changed_items P p f (suc n) (x ∷ xs) old new h (suc i) a e = changed_items P p f n xs (λ j. old (suc j)) new h i a e
 
 module _ {N : Type 0} (world : World N) where
-  -- an accumulator keeps its name, and still fits where it did
+  -- an accumulator keeps its name, and still fits if it did before
   pub record SlotKeeps (s t : Slot N) : Type 0 where
     pub name : t.name ≡ s.name
     pub kind : t.kind ≡ s.kind
@@ -103,7 +103,7 @@ module _ {N : Type 0} (world : World N) where
 
   -- ---- one content that changes
 
-  -- what a making makes of a content still fits
+  -- the result of a making on a content still fits
   abbrev pub Makes : Accum → Making → Type 0
   Makes k f = (c : Holds k) → ContentFits world k c → fits k (f k c) ≡ true → ContentFits world k (f k c)
 

@@ -36,7 +36,8 @@ or_first false q h = (refl, h)
 or_both : (p q : Bool) → p ≡ false → q ≡ false → (p || q) ≡ false
 or_both p q h g = cc
 
--- what isn't in the one list isn't in the other, and all in the other are as in the one
+-- an element that isn't in the one list isn't in the other, and a property of all elements of the one holds of the
+-- other
 record Leaves (p : ℕ → Bool) (xs ys : List ℕ) : Type 0 where
   all : list_all p xs ≡ true → list_all p ys ≡ true
   missing : (t : ℕ) → among xs t ≡ false → among ys t ≡ false

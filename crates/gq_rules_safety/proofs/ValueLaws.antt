@@ -1,4 +1,4 @@
--- ValueLaws: conditions, numbers and values that are wanted; values that are set.
+-- ValueLaws: conditions, numbers and values that are required; values that are set.
 use Rattle.std.proofs.Common.{◌≡◌, Bool, true, false, Some, Ok, Err, arith, refl, sym, subst}
 use Rattle.std.specs.Prelude.{if◌then◌else◌, ℤ, pos, negsuc, ◌≤ℤ◌, int_le, FitsSigned}
 use Rattle.std.specs.Int.{w64}
@@ -46,7 +46,7 @@ whole_of_type number.Int x h = refl
 whole_of_type number.UInt (pos n) h = refl
 whole_of_type number.UInt (negsuc n) h = cc
 
--- never mind what the answer is: what it gives is so
+-- whatever the answer is: if it gives something, that satisfies P
 abbrev pub Within : {F A : Type 0} → (A → Type 0) → Answer F A → Type 0
 Within P (Gives a) = P a
 Within P (Faults e) = Unit {0}
@@ -115,7 +115,7 @@ module _ {N : Type 0} (world : World N) where
   set_fits BitwiseAndAccum INT v e r = record { values = tt; fit = refl; proper = word_sized (whole v) r }
   set_fits k b v e r = cc
 
--- ---- what a place wants
+-- ---- the types that a place requires
 
 module _ {N : Type 0} (names : Names N) (look : Look N) (fit : LookFits names look) where
   pub base_safe : (t : Tree N) (b : Base) → base_type names t ≡ Ok b → Safe (IsValue look.world b) (value_of look t)
@@ -137,6 +137,6 @@ module _ {N : Type 0} (names : Names N) (look : Look N) (fit : LookFits names lo
   pub number_of_safe : (t : Tree N) (b : Base) → number names t ≡ Ok b → Safe (λ (x : ℤ). Unit {0}) (number_of look t)
   number_of_safe t b e = safe_then (IsValue look.world b) _ _ as_number (number_value t b e) (λ v f. number_safe look.world b v (number_known t b e).1 f)
 
-  -- a value that is wanted is of the type, and in range
+  -- a required value is of the type, and in range
   pub wanted_safe : (b : Base) (t : Tree N) (q : Bool) → converting names b t ≡ Ok q → Safe (λ v. IsValue look.world b v × InRange b v) (value_as look b t)
   wanted_safe b t q e = safe_within (IsValue look.world b) (InRange b) (value_as look b t) (value_as_safe names look fit b t q e) (within_then (InRange b) (value_of look t) (converted_to b) (converted_within b))

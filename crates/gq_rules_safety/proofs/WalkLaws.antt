@@ -1,4 +1,4 @@
--- WalkLaws: the scope inside a typed SELECT, and the types that it goes through.
+-- WalkLaws: the scope inside a typed SELECT, and the types of its walks.
 use Rattle.std.proofs.lemmas.Bool.Decides.{nat_tests}
 use Rattle.std.proofs.Common.{◌≡◌, ℕ, suc, arith, Bool, true, false, List, [], ◌∷◌, map, Option, Some, None, Ok, refl, ap, sym, ◌∙◌, subst}
 use Rattle.std.specs.Prelude.{not, ◌&&◌, ◌||◌, ◌==◌, filter_map, slice_get, nat_lt, nat_le, length}
@@ -100,7 +100,7 @@ module _ {N : Type 0} (world : World N) (words : WordsFit world) where
   hop_own [] h = refl
   hop_own (t ∷ ts) h = let w = and_ok (among world.graph.sorts.own_edges t) _ h in both_ok (among world.graph.sorts.own_edges t) _ w.0 (hop_own ts w.1)
 
-  -- the ways of a step, where all its types are known
+  -- the ways of a step, if all its types are known
   pub ways_known : (s : Scope N) → s.setting ≡ setting world → (ways : List (Way × N)) (edges : List ℕ) → each_judged (way_known s) ways ≡ Ok edges → (map (λ (d : Way × ℕ). d.1) (filter_map (way_of (setting world)) ways) ≡ edges) × OwnEdges (filter_map (way_of (setting world)) ways)
   ways_known s z [] edges e = (ok_inj e, refl)
   ways_known s z (d ∷ ways) edges e =

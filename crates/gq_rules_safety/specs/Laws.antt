@@ -1,4 +1,4 @@
--- Laws: what holds of all typed SELECTs, statements and queries. N is what stands for a name.
+-- Laws: the laws of all typed SELECTs, statements and queries. N is the representation of a name.
 use Rattle.std.specs.Prelude.{◌≡◌, ℕ, true, Ok, List, [], ◌∷◌}
 use Rattle.gq_value.specs.Val.{Val}
 use Rattle.gq_value.specs.Accums.{Base, Accum}
@@ -25,7 +25,7 @@ use Rattle.gq_rules_meaning.specs.Fitting.{Safe, is_vertex_of, is_value, WorldFi
 use Rattle.gq_rules_meaning.specs.StateFits.{NamesFit, no_repeats}
 use Rattle.gq_rules_safety.specs.Matching.{WordsFit, StateIs}
 
--- what a SELECT gives: accumulators that fit, and vertices of these types, each once
+-- the result of a SELECT: accumulators that fit, and vertices of these types, each once
 pub record SelectedFits {N : Type 0} (world : World N) (s : Scope N) (state : State N) (types : List ℕ) (r : Selected N) : Type 0 where
   pub slots : NamesFit world s state.names r.slots
   pub vertices : list_all (is_vertex_of world.graph types) r.vertices ≡ true
@@ -36,7 +36,8 @@ abbrev pub SelectLaw : Type 0 → Type 0
 SelectLaw N = (world : World N) → WordsFit world → (s : Scope N) (state : State N) → StateIs world s state → (q : Select N) (types : List ℕ) → typing_select s q ≡ Ok types
     → (types_at (from world state.names q) (selects_target world q) ≡ types) × Safe (SelectedFits world s state types) (select world state q)
 
--- typed statements are never stuck over a state of their scope, and the state that they give is one of the scope behind them
+-- typed statements are never stuck over a state of their scope, and the state that they give is one of the scope after
+-- them
 abbrev pub StatementLaw : Type 0 → Type 0
 StatementLaw N = (world : World N) → WordsFit world → (s t : Scope N) (body : Stmts N) → typing_stmts s body ≡ Ok t
     → (r : Running N) → StateIs world s r.state → Safe (λ (after : Running N). StateIs world t after.state) (run_all world body r)
@@ -56,7 +57,7 @@ PlanLaw N = (world : World N) → WordsFit world → ((tuples : List (N × Field
     → (q : QueryOver N Accum) (t : Scope N) → typing_over (λ s a k. Ok k) (setting (with_tuples [] world)) q ≡ Ok t
     → (arguments : List Val) → ArgumentsFit world q.parameters arguments → (turns : ℕ) → Safe (λ (printed : List (List (Bytes × Out))). Unit {0}) (run_plan world q arguments turns)
 
--- nor is a typed query as it is written
+-- nor is a typed query as written
 abbrev pub QueryLaw : Type 0
 QueryLaw = (g : Graph) (clock : Calendar) → ((tuples : List (Bytes × Fields)) → WorldFits (with_tuples tuples (world_of g clock)))
     → (q : Query Bytes) (t : Scope Bytes) → typing_query g.sorts q ≡ Ok t

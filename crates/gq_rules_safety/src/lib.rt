@@ -3,7 +3,7 @@
 //! A state matches a scope if each name of the scope has a value of its type, and the state has no other
 //! names. Typed statements over such a state give one that matches the scope after them.
 //!
-//! Read `specs/Matching.antt` first, when a state matches a scope, then `specs/Laws.antt`. The laws are about
+//! Read `specs/Matching.antt` first (when a state matches a scope), then `specs/Laws.antt`. The laws are about
 //! the definitions of `gq_rules_typing` and `gq_rules_meaning`. Nothing here runs: each function in
 //! `src/lib.rt` states a law in its contract.
 #![tactic(auto)]
@@ -16,19 +16,19 @@ pub fn no_select_is_stuck()
     ensures { SelectLaw Bytes }
 {}
 
-/// Typed statements are never stuck, and the state that they give is the one that the scope behind them tells of.
+/// Typed statements are never stuck, and the state that they give matches the scope after them.
 #[tactic(auto, using(crate::proofs::SelectLaws::statement_law_by_name))]
 pub fn no_statement_is_stuck()
     ensures { StatementLaw Bytes }
 {}
 
-/// A typed plan, which has its kinds at hand, is never stuck over arguments of its parameters' types.
+/// A typed plan, which has its kinds already, is never stuck over arguments of its parameters' types.
 #[tactic(auto, using(crate::proofs::KindLaws::plan_law_by_name))]
 pub fn no_plan_is_stuck()
     ensures { PlanLaw Bytes }
 {}
 
-/// A typed query as it is written is never stuck over arguments of its parameters' types.
+/// A typed query as written is never stuck over arguments of its parameters' types.
 #[tactic(auto, using(crate::proofs::KindLaws::query_law))]
 pub fn no_query_is_stuck()
     ensures { QueryLaw }

@@ -204,7 +204,7 @@ module _ (schema : Schema) (types : List EdgeType) where
         subst (λ (e : EdgeType). (among g.vertices e.from && among g.vertices e.to) ≡ true) (sym (at_old t l)) (x.ends t o l);
   }
 
--- a number at or behind n, where there is one such number, or two
+-- a number from n on, if the bound leaves one such number, or two
 the_first : (t n m : ℕ) → n ≤ t → t < m → m ≡ n + 1 → t ≡ n + 0
 the_first t n m least low is = omega (arith, least, low, is)
 

@@ -1,4 +1,4 @@
--- ClockFits: what a calendar reads and adds is a time.
+-- ClockFits: the results of reading and adding in a calendar are times.
 use Rattle.std.proofs.Common.{◌≡◌, Bool, true, false, ℤ, pos, negsuc, refl, arith}
 use Rattle.std.proofs.lemmas.Bool.{lt-ltb}
 use Rattle.std.proofs.lemmas.Int.{ints}

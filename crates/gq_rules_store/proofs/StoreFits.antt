@@ -1,4 +1,4 @@
--- StoreFits: what a query reads of a store whose rows are of their types.
+-- StoreFits: the data that a query reads from a store whose rows are of their types.
 use Rattle.std.proofs.Common.{◌≡◌, ℕ, ◌<◌, Bool, true, false, List, [], ◌∷◌, length, ℤ, pos, negsuc, All, Option, Some, None, refl, ap, ap₂, sym, ◌∙◌, subst, arith}
 use Rattle.std.proofs.lemmas.Bool.{eqb-true}
 use Rattle.std.proofs.lemmas.Bool.Decides.{nat_tests}
@@ -90,7 +90,7 @@ all_at P xs n x all e = subst P (get_or_from_slice_get xs n x x e) (all n x (sli
 some_same : {A : Type 0} (x y : A) → Some x ≡ Some y → x ≡ y
 some_same x y e = cc
 
--- what stands in a list of images
+-- an item of a list of images
 mapped : {A B : Type 0} (f : A → B) (xs : List A) (n : ℕ) (y : B) → slice_get (map f xs) n ≡ Some y → (x : A) × (slice_get xs n ≡ Some x) × (f x ≡ y)
 mapped f xs n y e = go (slice_get xs n) refl
   where

@@ -1,4 +1,4 @@
--- UpsertFits: rows stay of their types while rows of their types are put, and while the catalog grows.
+-- UpsertFits: rows keep their types while rows of their types are upserted, and while the catalog grows.
 use Rattle.std.proofs.Common.{◌≡◌, ℕ, ◌<◌, ◌≤◌, min, Bool, true, false, cond, List, [], ◌∷◌, ◌++◌, length, get_or, take, All, Option, Some, None, refl, ap, sym, ◌∙◌, subst, arith}
 use Rattle.std.proofs.lemmas.Bool.{eqb-true}
 use Rattle.std.proofs.lemmas.List.{length-take}

@@ -1,4 +1,4 @@
--- ValueFits: arguments that stand for values stand for values of their parameters' types.
+-- ValueFits: arguments that denote values denote values of their parameters' types.
 use Rattle.std.proofs.Common.{◌≡◌, ℕ, Bool, true, false, List, [], ◌∷◌, get_or, Option, Some, None, refl, ap, ap₂, sym, ◌∙◌, subst, eq-eqb}
 use Rattle.std.proofs.lemmas.Bool.{eqb-true}
 use Rattle.std.proofs.lemmas.List.Quantifiers.{position-Some}

@@ -24,6 +24,6 @@ EdgeTypeLaw = (schema : Schema) (name : List ℕ) (directed : Bool) (from to : L
 abbrev pub GraphTypeLaw : Type 0
 GraphTypeLaw = (schema : Schema) (name : List ℕ) (members : Option (List (List ℕ))) → graph_refusal schema name members ≡ None → IsSound schema → IsWhole schema → IsWhole (with_graph schema (graph_with schema name members))
 
--- a graph of a whole catalog, or none, sees types of the catalog alone
+-- a graph of a whole catalog, or none, sees only types of the catalog
 abbrev pub SeesLaw : Type 0
 SeesLaw = (schema : Schema) (n : ℕ) (own : Option GraphType) → IsWhole schema → slice_get schema.graphs n ≡ own → SeesTypes schema own × ForSome own (OwnFits schema)

@@ -58,11 +58,11 @@ pub record RowsFit (schema : Schema) (vertex_rows : List VertexRow) (edge_rows :
   pub vertices : All (VertexRowFits schema) vertex_rows
   pub edges : All (EdgeRowFits schema) edge_rows
 
--- what a query for a graph reads of such a store is of the catalog's types
+-- the data that a query for a graph reads from such a store are of the catalog's types
 abbrev pub StoreLaw : Type 0
 StoreLaw = (schema : Schema) (own : Option GraphType) (vertices : List VertexRow) (edges : List EdgeRow) (clock : Calendar)
     → PairsFit schema → ForSome own (OwnFits schema) → RowsFit schema vertices edges → StaysInRange clock → IsStoreOf schema own vertices edges clock
 
--- what a calendar reads and adds is a time
+-- the results of reading and adding in a calendar are times
 abbrev pub CalendarLaw : Type 0
 CalendarLaw = (clock : Calendar) → IsCalendar clock → StaysInRange clock

@@ -1,4 +1,4 @@
--- Upserts: when upserts are of rows of their types, and what they leave of a store.
+-- Upserts: when upserts are of rows of their types, and the store that they leave.
 use Rattle.std.specs.Prelude.{◌≡◌, ◌<◌, true, List, [], ◌∷◌, length}
 use Rattle.gq_graph.specs.Catalog.{Schema}
 use Rattle.gq_index.specs.declared.store.Store.{Store}
@@ -9,7 +9,7 @@ use Rattle.gq_index.specs.Steps.{Step, Vertex, End, Edge, Begun}
 use Rattle.gq_load.specs.Keeping.{no_rows}
 use Rattle.gq_rules_store.specs.Stores.{VertexRowFits, RowsFit}
 
--- what is put is a row of a type of the catalog, with a value for each attribute
+-- an upserted row is of a type of the catalog, with a value for each attribute
 abbrev pub StepFits : Schema → Step → Type 0
 StepFits schema (Vertex row) = VertexRowFits schema row
 StepFits schema (End row) = VertexRowFits schema row
@@ -26,10 +26,10 @@ StoreRowsFit schema store = RowsFit schema store.vertices store.edges.rows
 abbrev pub EmptyLaw : Type 0
 EmptyLaw = (schema : Schema) → StoreRowsFit schema no_rows
 
--- upserts of such rows, as many of them as were taken, leave a store of such rows
+-- after any number of upserts of such rows, the store is one of such rows
 abbrev pub UpsertLaw : Type 0
 UpsertLaw = (schema : Schema) (before later : Store) (steps : List Step) → StepsFit schema steps → Begun before steps later → StoreRowsFit schema before → StoreRowsFit schema later
 
--- and so it stays one of each catalog that grows out of its own
+-- and the store stays one of each catalog that grows out of its own
 abbrev pub RowGrowthLaw : Type 0
 RowGrowthLaw = (before after : Schema) (store : Store) → HasGrown before after → StoreRowsFit before store → StoreRowsFit after store

@@ -13,7 +13,7 @@ use Rattle.gq_rules_meaning.specs.Queries.{world_of}
 use Rattle.gq_rules_meaning.specs.Arguments.{Argument, Member, AllValues, in_order, by_members, values_of}
 use Rattle.gq_rules_safety.specs.Laws.{ArgumentsFit}
 
--- where none of them is bad, the values are of the parameters' types: those in parentheses
+-- if none of them is bad, the values are of the parameters' types: those in parentheses
 abbrev pub OrderLaw : Type 0
 OrderLaw = (schema : Schema) (own : Option GraphType) (vertices : List VertexRow) (edges : List EdgeRow) (clock : Calendar) (parameters : List (Parameter Bytes)) (arguments : List Argument) (values : List Val)
     → values_of (sorts_of schema own) vertices parameters (in_order parameters arguments) ≡ AllValues values → ArgumentsFit (world_of (graph_of schema own vertices edges) clock) parameters values

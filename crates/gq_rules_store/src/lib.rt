@@ -14,14 +14,15 @@ ghost use Rattle.gq_rules_store.specs.Values.{OrderLaw, MemberLaw};
 ghost use Rattle.gq_rules_store.specs.Upserts.{EmptyLaw, UpsertLaw, RowGrowthLaw};
 ghost use Rattle.gq_rules_store.specs.Catalogs.{NoTypesLaw, VertexTypeLaw, EdgeTypeLaw, GraphTypeLaw, SeesLaw};
 
-/// Arguments of a script, in parentheses or as members of its file, are values of the parameters' types, where none of them is bad.
+/// Arguments of a script, in parentheses or as members of its file, are values of the parameters' types, if none of
+/// them is bad.
 #[tactic(auto, using(crate::proofs::ValueFits::order_law, crate::proofs::ValueFits::member_law))]
 pub fn arguments_fit()
     ensures in_order { OrderLaw }
     ensures by_members { MemberLaw }
 {}
 
-/// What a query reads of a store whose rows are of their types is of the catalog's types.
+/// The data that a query reads from a store whose rows are of their types are of the catalog's types.
 pub fn stores_fit()
     ensures { StoreLaw }
 {}
@@ -44,13 +45,13 @@ pub fn catalogs_stay_whole()
     ensures by_graph { GraphTypeLaw }
 {}
 
-/// The graphs of a whole catalog have types of the catalog alone.
+/// The graphs of a whole catalog have only types of the catalog.
 #[tactic(auto, using(crate::proofs::CatalogFits::sees_law))]
 pub fn graphs_see_types()
     ensures { SeesLaw }
 {}
 
-/// What a calendar reads and adds is a time.
+/// The results of reading and adding in a calendar are times.
 pub fn calendars_stay_in_range()
     ensures { CalendarLaw }
 {}

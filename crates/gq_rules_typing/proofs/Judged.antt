@@ -21,7 +21,7 @@ all_sorts = record {
   own_edges = 0 ∷ 1 ∷ 2 ∷ 3 ∷ [];
 }
 
--- a graph with persons and whom they know alone, and no graph
+-- a graph with only persons and whom they know, and no graph
 abbrev pub few_sorts : Sorts
 few_sorts = record all_sorts { own_vertices = 0 ∷ []; own_edges = 0 ∷ 1 ∷ [] }
 
@@ -40,12 +40,12 @@ refused with_paths definitions statements = fault_in (typing_query all_sorts (re
 abbrev pub fault_over : Sorts → Query Bytes → Option TypingFault
 fault_over sorts q = fault_in (typing_query sorts q)
 
--- so many of one thing, before others
+-- n copies of one thing, before others
 abbrev pub repeated : {A : Type 0} → ℕ → A → List A → List A
 repeated zero a rest = rest
 repeated (suc n) a rest = a ∷ repeated n a rest
 
--- global accumulators of so many names
+-- n global accumulators
 abbrev pub so_many : ℕ → List (Bool × Bytes × Option (Tree Bytes))
 so_many zero = []
 so_many (suc n) = (false, codes "@@a" ++ (n ∷ []), None) ∷ so_many n

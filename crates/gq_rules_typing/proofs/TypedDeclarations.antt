@@ -1,4 +1,4 @@
--- TypedDeclarations: which rule on declarations fails first, and what is taken.
+-- TypedDeclarations: for declarations, which rule fails first, and which are accepted.
 use Rattle.std.proofs.Common.{◌≡◌, true, false, [], ◌∷◌, Some, None, refl}
 use Rattle.std.specs.Prelude.{codes}
 use Rattle.gq_tree.specs.declared.kind.Plain.TheVariants as plain

@@ -1,4 +1,4 @@
--- TypedExpressions: which rule on expressions fails first, and what is taken.
+-- TypedExpressions: for expressions, which rule fails first, and which are accepted.
 use Rattle.std.proofs.Common.{◌≡◌, true, false, [], ◌∷◌, Some, None, refl}
 use Rattle.std.specs.Prelude.{codes}
 use Rattle.gq_tree.specs.declared.expr.AddSign.TheVariants as add

@@ -1,4 +1,4 @@
--- TypedQueries: parameters, graphs and openings: which rule fails first, and what is taken.
+-- TypedQueries: for parameters, graphs and openings, which rule fails first, and which are accepted.
 use Rattle.std.proofs.Common.{◌≡◌, true, false, [], ◌∷◌, Some, None, refl}
 use Rattle.std.specs.Prelude.{codes}
 use Rattle.gq_tree.specs.declared.expr.AddSign.TheVariants as add

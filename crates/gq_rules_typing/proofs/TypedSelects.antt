@@ -1,4 +1,4 @@
--- TypedSelects: which rule on SELECT fails first, and what is taken.
+-- TypedSelects: for SELECT, which rule fails first, and which blocks are accepted.
 use Rattle.std.proofs.Common.{◌≡◌, true, false, [], ◌∷◌, Some, None, refl}
 use Rattle.std.specs.Prelude.{codes}
 use Rattle.gq_tree.specs.declared.expr.AddSign.TheVariants as add

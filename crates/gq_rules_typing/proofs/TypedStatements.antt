@@ -1,4 +1,4 @@
--- TypedStatements: which rule on statements fails first, and what is taken.
+-- TypedStatements: for statements, which rule fails first, and which are accepted.
 use Rattle.std.proofs.Common.{◌≡◌, true, false, [], ◌∷◌, Some, None, refl}
 use Rattle.std.specs.Prelude.{codes}
 use Rattle.gq_tree.specs.declared.expr.AddSign.TheVariants as add

@@ -43,7 +43,7 @@ pub view_act-Global : (a : List ℕ) (c : ChangeTree) → view_act (act.Global a
 unfolding view_act
 view_act-Global a c = ap view_act (sym (act.rolls-Global a c)) ∙ fold-roll-ActTree (plain.Act Named) act_step (ActTree-F.Global a c)
 
--- IF with what its branches are
+-- IF, given the views of its branches
 abbrev pub view_choices : List (Node × List ActTree) → Option (List ActTree) → plain.Choices Named
 view_choices branches others = choices_of (map {A = Node × List (plain.Act Named)} (λ b. (view b.0, b.1)) (map {A = Node × List ActTree} (λ b. (b.0, map view_act b.1)) branches)) (option_map (map view_act) others)
 
@@ -52,7 +52,7 @@ unfolding view_act
 view_act-If branches None = ap view_act (sym (act.rolls-If branches None)) ∙ fold-roll-ActTree (plain.Act Named) act_step (ActTree-F.If branches None)
 view_act-If branches (Some xs) = ap view_act (sym (act.rolls-If branches (Some xs))) ∙ fold-roll-ActTree (plain.Act Named) act_step (ActTree-F.If branches (Some xs))
 
--- what a map holds
+-- the content of a map
 unfoldable pub view_held : EntryTree → HeldView
 view_held = fold-EntryTree HeldView (plain_stmt.KindTree Named) held_step kind_step
 
@@ -100,7 +100,7 @@ pub view_stmt-Global : (a : List ℕ) (c : ChangeTree) → view_stmt (stmt.Globa
 unfolding view_stmt
 view_stmt-Global a c = ap view_stmt (sym (stmt.rolls-Global a c)) ∙ fold-roll-Stmt (plain_stmt.Stmt Named) stmt_step (Stmt-F.Global a c)
 
--- IF with what its branches are
+-- IF, given the views of its branches
 abbrev pub view_branches : List (Node × List Stmt) → Option (List Stmt) → plain_stmt.Branches Named
 view_branches branches others = branches_of (map {A = Node × List (plain_stmt.Stmt Named)} (λ b. (view b.0, b.1)) (map {A = Node × List Stmt} (λ b. (b.0, map view_stmt b.1)) branches)) (option_map (map view_stmt) others)
 

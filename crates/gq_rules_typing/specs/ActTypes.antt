@@ -10,7 +10,7 @@ use Rattle.gq_rules_typing.specs.Scopes.{Entry, Alias, TupleName, Place, InBlock
 use Rattle.gq_rules_typing.specs.Patterns.{is_alias}
 use Rattle.gq_rules_typing.specs.Mentions.{in_act}
 
--- ---- inputs; where there are more than parts, what is left over has no kind, and is read for its own faults alone
+-- ---- inputs; surplus ones have no kind, and are judged only for their own faults
 
 abbrev pub converts_into : Base → Option Base → Bool
 converts_into b None = false
@@ -56,11 +56,11 @@ vertex_alias s v = of_entry (entry s v)
     of_entry (Some TupleName) = Err (unknown s v)
     of_entry (Some e) = Err NotAllowedHere
 
--- what `=` sets, which is a value of a scalar kind but no average
+-- the type that `=` sets: that of a scalar kind other than an average
 abbrev pub settable : Accum → Judged Base
 settable k = or_fault Mismatch (set_type k)
 
--- a change in ACCUM: inputs alone, and none to a ListAccum
+-- a change in ACCUM: only inputs, and none to a ListAccum
 abbrev pub typing_given : {N : Type 0} → Scope N → N → Accum → Change N → Judged Bool
 typing_given s a k (Adds x) = unless (OrderDependent (said s a)) (not (is_list k)) >> typing_input (names_at s InBlock) (Some k) x
 typing_given s a k (Puts t) = Err NotAllowedHere
@@ -70,12 +70,12 @@ abbrev pub typing_written : {N : Type 0} → Scope N → Accum → Change N → 
 typing_written s k (Adds x) = typing_input (names_at s InPost) (Some k) x
 typing_written s k (Puts t) = settable k >>= λ b. converting (names_at s InPost) b t
 
--- a change of a global accumulator in POST-ACCUM: inputs alone
+-- a change of a global accumulator in POST-ACCUM: only inputs
 abbrev pub typing_fed : {N : Type 0} → Scope N → Accum → Change N → Judged Bool
 typing_fed s k (Adds x) = typing_input (names_at s InPost) (Some k) x
 typing_fed s k (Puts t) = Err NotAllowedHere
 
--- at an alias, or of a global accumulator; the flag tells POST-ACCUM
+-- at an alias, or of a global accumulator; the flag is true in POST-ACCUM
 abbrev pub typing_at : {N : Type 0} → Scope N → Bool → N → N → Change N → Judged Bool
 typing_at s true v a change = vertex_alias s v >> declared_kind s true a >>= λ k. typing_written s k change
 typing_at s false v a change = vertex_alias s v >> declared_kind s true a >>= λ k. typing_given s a k change
@@ -90,12 +90,12 @@ abbrev pub place_of : {N : Type 0} → Bool → Place N
 place_of true = InPost
 place_of false = InBlock
 
--- one statement more, of 1,000 at most, nested ones counted
+-- one more statement, of at most 1,000 including nested ones
 abbrev pub one_more : ℕ → Judged ℕ
 one_more n = unless TooMany (nat_lt n 1000) >> Ok (suc n)
 
 abbrev mutual
-  -- behind n statements; how many there are then
+  -- after n statements; the result is their number then
   pub typing_acts : {N : Type 0} → Scope N → Bool → ℕ → Acts N → Judged ℕ
   typing_acts s post n no_act = Ok n
   typing_acts s post n (act_and a acts) = one_more n >>= λ m. typing_act s post m a >>= λ k. typing_acts s post k acts
@@ -109,7 +109,7 @@ abbrev mutual
   typing_choices s post n (otherwise acts) = typing_acts s post n acts
   typing_choices s post n (when t acts rest) = condition (names_at s (place_of post)) t >> typing_acts s post n acts >>= λ m. typing_choices s post m rest
 
--- a statement of POST-ACCUM, with all that is nested in it, names one vertex alias at most
+-- a statement of POST-ACCUM, with everything nested in it, names at most one vertex alias
 abbrev pub names_one : {N : Type 0} → Scope N → Option N → Option N → Act N → Bool
 names_one s source target a = not (in_act (is_alias s.setting.words.same source) a && in_act (is_alias s.setting.words.same target) a)
 

@@ -25,7 +25,7 @@ builtin_is builtin.DatetimeDiff = DatetimeDiff
 builtin_is builtin.DatetimeAdd = DatetimeAdd
 builtin_is (builtin.Part part) = PartOf (part_is part)
 
--- the functions that give a part of a time; they stand last among those of the language
+-- the functions that give a part of a time; they are the last ones of the language
 abbrev pub part_functions : List (Bytes × Function)
 part_functions =
     (codes "year", PartOf Year) ∷ (codes "month", PartOf Month) ∷ (codes "day", PartOf Day) ∷

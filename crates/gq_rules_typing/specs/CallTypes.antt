@@ -39,7 +39,7 @@ outdegree_type sorts x no_tree = unless Mismatch (stands_for_vertex x) >> Ok (Of
 outdegree_type sorts x (tree (Text e) no_tree) = unless Mismatch (stands_for_vertex x) >> or_fault (UnknownName e) (edge_quoted sorts e) >> Ok (Of INT)
 outdegree_type sorts x _ = Err Mismatch
 
--- what a method of x gives for arguments of these types
+-- the type of a method of x for arguments of these types
 abbrev pub method_type : {N : Type 0} → Sorts → Method → Typed → Trees N → List Base → Judged Typed
 method_type sorts Size x ts bs = unless Mismatch (has_size x && (length bs == 0)) >> Ok (Of INT)
 method_type sorts Contains x ts bs = unless Mismatch (may_contain x bs) >> Ok (Of BOOL)
@@ -59,7 +59,7 @@ abbrev pub unit_known : {N : Type 0} → Trees N → Judged Typed
 unit_known (tree x (tree n (tree (Text u) no_tree))) = or_fault (UnknownName u) (unit_named u) >> Ok (Of DATETIME)
 unit_known _ = Err Mismatch
 
--- what a function gives for arguments of these types
+-- the type of a function for arguments of these types
 abbrev pub function_type : {N : Type 0} → Function → Trees N → List Base → Judged Typed
 function_type (Makes n fields) ts bs = unless Mismatch (convert_all bs fields) >> Ok (Of (TUPLE n (bases fields)))
 function_type Abs ts (b ∷ []) = unless Mismatch (is_number b) >> Ok (Of b)

@@ -1,5 +1,5 @@
--- ExpressionTypes: the typing rules of expressions, one line for each form. A rule is judged at the end of its form, what is
--- within first, from left to right; in a chain each operation is judged behind its right operand.
+-- ExpressionTypes: the typing rules of expressions, one line for each form. A form's rule is judged after its parts,
+-- from left to right; in a chain each operation is judged after its right operand.
 use Rattle.std.specs.Prelude.{ℕ, zero, suc, ◌^◌, Bool, ◌&&◌, if◌then◌else◌, nat_lt, List, [], ◌∷◌, Ok}
 use Rattle.gq_tree.specs.declared.expr.AddSign.{AddSign}
 use Rattle.gq_tree.specs.declared.expr.AddSign.TheVariants as sign
@@ -12,7 +12,7 @@ use Rattle.gq_rules_typing.specs.Kinds.{read_type}
 use Rattle.gq_rules_typing.specs.FieldTypes.{behind_dot}
 use Rattle.gq_rules_typing.specs.CallTypes.{method_type, function_type}
 
--- what an expression may name at its place
+-- the names that an expression may use at its place
 pub record Names (N : Type 0) : Type 0 where
   pub named : N → Judged Typed
   pub global : N → Judged Accum
@@ -73,7 +73,7 @@ abbrev mutual
   typing_all names no_tree = Ok []
   typing_all names (tree t ts) = typing names t >>= λ x. typing_all names ts >>= λ xs. Ok (x ∷ xs)
 
-  -- x with what stands behind its dots
+  -- x with the parts after its dots
   pub typing_parts : {N : Type 0} → Names N → Typed → Parts N → Judged Typed
   typing_parts names x no_part = alone x
   typing_parts names x (part p ps) = typing_part names x p >>= λ y. typing_parts names y ps
@@ -84,7 +84,7 @@ abbrev mutual
   typing_part names x (Attached a) = unless NotAllowedHere (has_accums x) >> names.attached a >>= λ k. Ok (read_type k)
   typing_part names x (Before a) = unless NotAllowedHere (has_accums x) >> names.before a >>= λ k. Ok (read_type k)
 
-  -- a chain, from the type of what stands before
+  -- a chain, from the type of the operands before
   pub typing_factors : {N : Type 0} → Names N → Typed → Factors N → Judged Typed
   typing_factors names x no_factor = Ok x
   typing_factors names x (factor sign t rest) = typing names t >>= operated calculated x >>= λ y. typing_factors names y rest
@@ -97,7 +97,7 @@ abbrev mutual
   typing_bools names x no_tree = as_base x >>= a_bool
   typing_bools names x (tree t ts) = typing names t >>= operated both_bool x >>= λ y. typing_bools names y ts
 
--- ---- what a place wants
+-- ---- the types that a place requires
 
 -- a value of a base type
 abbrev pub base_type : {N : Type 0} → Names N → Tree N → Judged Base

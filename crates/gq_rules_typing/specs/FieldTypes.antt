@@ -19,7 +19,7 @@ abbrev pub at_place : {A : Type 0} → List A → Option ℕ → Option A
 at_place xs None = None
 at_place xs (Some n) = slice_get xs n
 
--- the type of a field, where its owner has it
+-- the type of a field, if its owner has it
 abbrev pub field_base : {N : Type 0} → Setting N → Owner → Fields → N → Option Base
 field_base setting owner fields f = at_place (bases_of fields) (setting.words.field owner (names_of fields) f)
 
@@ -27,7 +27,7 @@ abbrev pub agreed : Option Base → Option Base → Option Base
 agreed (Some b) (Some c) = if same_base b c then Some b else None
 agreed _ _ = None
 
--- the one type that all of these are; of none there is none
+-- the type that all of these share; none for an empty list
 abbrev pub one_base : List (Option Base) → Option Base
 one_base [] = None
 one_base (b ∷ []) = b
@@ -47,7 +47,7 @@ of_edges setting types f = field_or_fault setting f (one_base (map (λ t. field_
 abbrev pub of_parts : {N : Type 0} → Setting N → Parts → N → Judged Typed
 of_parts setting ps f = or_fault (NoAttribute (setting.words.said f)) (at_place (kinds_in ps) (setting.words.field OfParts (names_of_parts ps) f)) >>= λ k. Ok (read_type k)
 
--- vertices, edges, tuples and group rows have fields; a VERTEX that is no alias may be of any type of the graph
+-- vertices, edges, tuples and group rows have fields; a VERTEX that isn't an alias may be of any type of the graph
 abbrev pub field_type : {N : Type 0} → Setting N → Typed → N → Judged Typed
 field_type setting (AliasOf types) f = of_vertices setting types f
 field_type setting (MemberOf types) f = of_vertices setting types f

@@ -1,4 +1,4 @@
--- KindTypes: accumulators' kinds as they are written, with the rules on them. A bad kind names its accumulator.
+-- KindTypes: accumulators' kinds as written, with the rules on them. A bad kind names its accumulator.
 use Rattle.std.specs.Prelude.{ℕ, suc, ◌-◌, Bool, true, false, not, ◌&&◌, if◌then◌else◌, nat_lt, nat_le, List, [], ◌∷◌, ◌++◌, length, Option, Some, None, Ok, Err, bytes_eq}
 use Rattle.std.specs.List.{list_any}
 use Rattle.gq_tree.specs.declared.kind.Plain.{Plain}
@@ -22,18 +22,18 @@ use Rattle.gq_rules_typing.specs.Scopes.{Scope, unknown, base_written}
 abbrev pub stands_in : List Bytes → Bytes → Bool
 stands_in names n = list_any (bytes_eq n) names
 
--- one name more that its type doesn't have yet, of so many at most
+-- adds a name that its type doesn't have yet, up to the limit
 abbrev pub own_name : ℕ → List Bytes → Bytes → Judged (List Bytes)
 own_name most names n = unless (NameTwice n) (not (stands_in names n)) >> unless TooMany (nat_lt (length names) most) >> Ok (names ++ n ∷ [])
 
--- names with base types, of so many at most
+-- names with base types, up to the limit
 abbrev pub fields_written : {N : Type 0} → Scope N → ℕ → List Bytes → List (BaseTree N × Bytes) → Judged Fields
 fields_written s most names [] = Ok []
 fields_written s most names (f ∷ fs) = base_written s f.0 >>= λ b. own_name most names f.1 >>= λ more. fields_written s most more fs >>= λ rest. Ok ((f.1, b) ∷ rest)
 
 -- ---- elements
 
--- the number of the first of these tuple types with this name, where the first of all has the number n
+-- the number of the first of these tuple types with this name, if they are numbered from n on
 abbrev pub tuple_from : {N : Type 0} → (N → N → Bool) → N → ℕ → List (N × Fields) → Option ℕ
 tuple_from same x n [] = None
 tuple_from same x n (t ∷ ts) = if same t.0 x then Some n else tuple_from same x (suc n) ts
@@ -68,7 +68,7 @@ over_elem plain.Set a b = Ok (SetAccum b)
 over_elem plain.Bag a b = Ok (BagAccum b)
 over_elem plain.List a b = Ok (ListAccum b)
 
--- truths are BOOL and bits are INT, where a type is written at all
+-- truths are BOOL and bits are INT, if a type is written at all
 abbrev pub over_bits : Bits → Bytes → Option Base → Judged Accum
 over_bits bits.Or a None = Ok OrAccum
 over_bits bits.And a None = Ok AndAccum
@@ -80,7 +80,7 @@ over_bits bits.BitwiseOr a (Some INT) = Ok BitwiseOrAccum
 over_bits bits.BitwiseAnd a (Some INT) = Ok BitwiseAndAccum
 over_bits k a b = Err (BadKind a)
 
--- a tuple is no key
+-- a tuple can't be a key
 abbrev pub is_key : Base → Bool
 is_key (TUPLE n bs) = false
 is_key b = true
@@ -89,16 +89,16 @@ is_key b = true
 abbrev pub sort_fields : Bytes → List Bytes → List (Bytes × Bool) → Judged (List (ℕ × Bool))
 sort_fields a names fs = each_judged (λ f. or_fault (BadKind a) (place_of names f.0) >>= λ i. Ok (i, f.1)) fs
 
--- a name that no key has
+-- a name that isn't among the keys
 abbrev pub part_name : List Bytes → List Bytes → Bytes → Judged (List Bytes)
 part_name keys names n = unless (NameTwice n) (not (stands_in keys n)) >> own_name 8 names n
 
--- a level more, of 8 at most
+-- one more level, of at most 8
 abbrev pub level_left : ℕ → Judged Bool
 level_left n = unless TooMany (nat_lt 0 n)
 
 abbrev mutual
-  -- the kind, for the accumulator a, with so many levels left; maps and groups hold no ListAccum
+  -- the kind of the accumulator a, with n levels left; maps and groups hold no ListAccum
   pub kind_within : {N : Type 0} → ℕ → Scope N → Bytes → KindTree N → Judged Accum
   kind_within n s a (OverElem k e) = level_left n >> elem_written s e >>= over_elem k a
   kind_within n s a (OverBits k e) = level_left n >> optional_elem s e >>= over_bits k a

@@ -1,10 +1,10 @@
--- Kinds: what accumulators of a kind read as, what they are fed, and what `=` sets them to.
+-- Kinds: for accumulators of each kind, the type that they read as, of their inputs, and of what `=` sets them to.
 use Rattle.std.specs.Prelude.{Bool, true, false, List, [], ◌∷◌, map, Option, Some, None}
 use Rattle.gq_tree.specs.Accums.{Base, INT, BOOL, Accum, SumAccum, MinAccum, MaxAccum, OrAccum, AndAccum, BitwiseOrAccum, BitwiseAndAccum, AvgAccum, SetAccum, BagAccum, ListAccum, MapAccum, GroupByAccum, HeapAccum, Parts, no_part, part_and}
 use Rattle.gq_tree.specs.Typed.{number_type}
 use Rattle.gq_rules_typing.specs.Judging.{Typed, Of, Average, Whole}
 
--- what reading one gives
+-- the type that one reads as
 abbrev pub read_type : Accum → Typed
 read_type (SumAccum n) = Of (number_type n)
 read_type (MinAccum n) = Of (number_type n)
@@ -16,7 +16,7 @@ read_type BitwiseAndAccum = Of INT
 read_type AvgAccum = Average
 read_type k = Whole k
 
--- the type that `=` sets it to, where it can be set
+-- the type that `=` sets it to, if it can be set
 abbrev pub set_type : Accum → Option Base
 set_type (SumAccum n) = Some (number_type n)
 set_type (MinAccum n) = Some (number_type n)
@@ -27,7 +27,7 @@ set_type BitwiseOrAccum = Some INT
 set_type BitwiseAndAccum = Some INT
 set_type _ = None
 
--- the type of an input that is one value, where it takes such inputs
+-- the type of an input that is one value, if it takes such inputs
 abbrev pub input_type : Accum → Option Base
 input_type AvgAccum = Some INT
 input_type (SetAccum b) = Some b
@@ -42,7 +42,7 @@ key_types (MapAccum b k) = b ∷ []
 key_types (GroupByAccum keys ps) = map (λ k. k.1) keys
 key_types _ = []
 
--- the type of an element, where it has elements in order of their own
+-- the type of an element, if it has elements in an order of their own
 abbrev pub element_type : Accum → Option Base
 element_type (SetAccum b) = Some b
 element_type (BagAccum b) = Some b
@@ -50,7 +50,7 @@ element_type (ListAccum b) = Some b
 element_type (HeapAccum b n by) = Some b
 element_type _ = None
 
--- the type of what `.contains` looks for: a heap has no `.contains`
+-- the type that `.contains` takes: a heap has no `.contains`
 abbrev pub contained_type : Accum → Option Base
 contained_type (HeapAccum b n by) = None
 contained_type k = element_type k
@@ -59,7 +59,7 @@ abbrev pub kinds_in : Parts → List Accum
 kinds_in no_part = []
 kinds_in (part_and name k ps) = k ∷ kinds_in ps
 
--- the kinds of what stands under a key
+-- the kinds of the contents under a key
 abbrev pub part_kinds : Accum → List Accum
 part_kinds (MapAccum b k) = k ∷ []
 part_kinds (GroupByAccum keys ps) = kinds_in ps

@@ -1,4 +1,4 @@
--- Mentions: whether an act names an alias, also within its expressions. What stands behind a dot is no name of an alias.
+-- Mentions: whether an act names an alias, also within its expressions. A name after a dot doesn't name an alias.
 use Rattle.std.specs.Prelude.{Bool, false, ◌||◌}
 use Rattle.gq_tree.specs.Tree.{Tree, Behind, Trees, Parts, Factors, Terms, Name, Call, Post, Neg, Mul, Sum, Cmp, Not, And, Or, Method, no_tree, tree, no_part, part, no_factor, factor, no_term, term}
 use Rattle.gq_rules_typing.specs.Selecting.{Input, Plain, Keys, Inputs, no_input, input_and, Change, Adds, Puts, Act, AtAlias, AtGlobal, Choose, Acts, no_act, act_and, Choices, otherwise, when}

@@ -1,4 +1,4 @@
--- Patterns: which types a walk goes along and where it leads, and its aliases. The plan has them as numbers.
+-- Patterns: the edge types that a walk takes, the vertex types that it reaches, and its aliases. Plans have numbers.
 use Rattle.std.specs.Prelude.{ℕ, Bool, true, false, List, [], ◌∷◌, map, filter_map, Option, Some, None, slice_get}
 use Rattle.std.specs.List.{flat_map}
 use Rattle.gq_tree.specs.declared.select.Way.{Way}
@@ -18,14 +18,14 @@ pub record PathStep : Type 0 where
   pub edges : List (Way × ℕ)
   pub targets : List ℕ
 
--- ---- the types that are named
+-- ---- named types
 
 -- edge types, or all of the graph
 abbrev pub edge_types : {N : Type 0} → Setting N → Types N → List ℕ
 edge_types setting Every = setting.sorts.own_edges
 edge_types setting (These ns) = filter_map setting.words.edge_type ns
 
--- where an edge type leads, walked in a way
+-- the vertex types that an edge type leads to, walked in a way
 abbrev pub ends_of : Sorts → Way × ℕ → List ℕ
 ends_of sorts d = of_sort d.0 (slice_get sorts.edges d.1)
   where
@@ -51,7 +51,7 @@ abbrev pub or_all : List ℕ → List ℕ → List ℕ
 or_all all [] = all
 or_all all (t ∷ ts) = by_number (t ∷ ts)
 
--- vertex types; where none is named, the far ends, and where that gives none, all of the graph
+-- vertex types; if none is named, the far ends, and if there are none, all of the graph
 abbrev pub target_types : {N : Type 0} → Setting N → List (Way × ℕ) → Types N → List ℕ
 target_types setting edges Every = or_all setting.sorts.own_vertices (flat_map (ends_of setting.sorts) edges)
 target_types setting edges (These ns) = by_number (filter_map setting.words.vertex_type ns)

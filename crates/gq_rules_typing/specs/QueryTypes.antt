@@ -17,7 +17,7 @@ use Rattle.gq_rules_typing.specs.KindTypes.{fields_written, kind_written}
 
 -- ---- parameters
 
--- whether a literal may stand for a type; a vertex's is its id
+-- whether a literal may be given for a type; a vertex is given by its id
 abbrev pub stands_for : Base → Literal → Bool
 stands_for INT (Signed minus n) = is_within number.Int (signed minus n)
 stands_for UINT (Signed minus n) = is_within number.UInt (signed minus n)
@@ -36,7 +36,7 @@ typing_parameter s p = base_written s p.base >>= λ b. new_name s p.name >> unle
 
 -- ---- declarations
 
--- a tuple type has 16 fields at most, and is numbered by its place among those of its query
+-- a tuple type has at most 16 fields, and is numbered by its place among those of its query
 abbrev pub with_tuple : {N : Type 0} → N → Fields → Scope N → Scope N
 with_tuple x fields s = with_entry x TupleName (record s { setting = record (s.setting) { tuples = s.setting.tuples ++ (x, fields) ∷ [] } })
 
@@ -47,12 +47,12 @@ is_accum e = of_entry e.1
     of_entry (Accumulator k attached) = true
     of_entry _ = false
 
--- an opening is a value that `=` may set; it names parameters alone
+-- an opening is a value that `=` may set; it names only parameters
 abbrev pub typing_opening : {N : Type 0} → Scope N → Bytes → Accum → Option (Tree N) → Judged Bool
 typing_opening s a k None = Ok true
 typing_opening s a k (Some t) = or_fault (BadKind a) (set_type k) >>= λ b. converting (names_at s InOpening) b t
 
--- 256 accumulators at most; each comes into view behind its opening
+-- at most 256 accumulators; each comes into view after its opening
 abbrev pub typing_accum : {N : Type 0} → Accum → Scope N → Bool × N × Option (Tree N) → Judged (Scope N)
 typing_accum k s a = new_name s a.1 >> unless TooMany (nat_lt (length (filter is_accum s.names)) 256) >> typing_opening s (said s a.1) k a.2 >> Ok (with_entry a.1 (Accumulator k a.0) s)
 
@@ -67,13 +67,13 @@ typing_definition kinds s (Accums k accums) = kinds s (first_name s accums) k >>
 
 -- ---- queries
 
--- with a rule for what stands for a kind
+-- with a rule for what represents a kind
 abbrev pub typing_over : {N K : Type 0} → (Scope N → Bytes → K → Judged Accum) → Setting N → QueryOver N K → Judged (Scope N)
 typing_over kinds setting q =
     through_judged typing_parameter (record { setting = setting; names = []; with_paths = q.with_paths }) q.parameters >>= λ s.
     through_judged (typing_definition kinds) s q.definitions >>= λ s₁.
     typing_stmts s₁ q.statements
 
--- a query as it is written, for the types that it sees
+-- a query as written, for the types that it sees
 abbrev pub typing_query : Sorts → Query Bytes → Judged (Scope Bytes)
 typing_query sorts q = typing_over kind_written (record { words = by_name sorts; sorts = sorts; tuples = [] }) q

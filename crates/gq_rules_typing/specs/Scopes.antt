@@ -1,4 +1,4 @@
--- Scopes: the names that are visible, and what a place lets an expression name.
+-- Scopes: the names that are visible, and the names that an expression may use at a place.
 use Rattle.std.specs.Prelude.{ℕ, Bool, true, false, not, if◌then◌else◌, List, ◌∷◌, Option, Some, is_some, Ok, Err}
 use Rattle.gq_tree.specs.Accums.{Base, INT, UINT, BOOL, STRING, VERTEX, VERTEX_OF, Accum}
 use Rattle.gq_rules_typing.specs.Statements.{BaseTree, Ints, UInts, Bools, Strings, AnyVertex, VertexOf}
@@ -6,15 +6,15 @@ use Rattle.gq_rules_typing.specs.Words.{Setting, under}
 use Rattle.gq_rules_typing.specs.Judging.{Typed, Of, AliasOf, EdgeOf, SetOf, MemberOf, TypingFault, NotAllowedHere, UnknownName, NameTwice, Judged, ◌>>=◌, ◌>>◌, unless, or_fault}
 use Rattle.gq_rules_typing.specs.ExpressionTypes.{Names}
 
--- what a name is: a variable of a type; a set variable, a vertex alias, an edge alias with their types; an accumulator of a
--- kind, with true for an attached one; a tuple type
+-- an entry of a name: a variable of a type; a set variable, a vertex alias, an edge alias with their types; an
+-- accumulator of a kind, with true for an attached one; a tuple type
 pub data Entry : Type 0 where
   Variable : Base → Entry
   SetVariable Alias EdgeAlias : List ℕ → Entry
   Accumulator : Accum → Bool → Entry
   TupleName : Entry
 
--- where an expression stands; a selection has its set, HAVING and ORDER BY have the selected alias
+-- the place of an expression; a selection has its set, HAVING and ORDER BY have the selected alias
 pub data Place (N : Type 0) : Type 0 where
   InStatement InBlock InPost InLimit InOpening : Place N
   InSelection InTail : N → Place N
@@ -41,9 +41,9 @@ with_entry x e s = record s { names = (x, e) ∷ s.names }
 abbrev pub new_name : {N : Type 0} → Scope N → N → Judged Bool
 new_name s x = unless (NameTwice (said s x)) (not (is_some (entry s x)))
 
--- ---- what an expression may name
+-- ---- the names that an expression may use
 
--- HAVING and ORDER BY name the selected alias alone, LIMIT none
+-- HAVING and ORDER BY name only the selected alias, LIMIT none
 abbrev pub alias_at : {N : Type 0} → Scope N → Place N → N → List ℕ → Judged Typed
 alias_at s (InTail selected) x types = unless NotAllowedHere (s.setting.words.same selected x) >> Ok (AliasOf types)
 alias_at s InLimit x types = Err NotAllowedHere
@@ -56,7 +56,7 @@ edge_at InStatement types = Ok (EdgeOf types)
 edge_at (InSelection set) types = Ok (EdgeOf types)
 edge_at place types = Err NotAllowedHere
 
--- within `S[..]` S is the vertex in turn too
+-- within `S[..]` S is also each vertex of the set
 abbrev pub set_at : {N : Type 0} → Scope N → Place N → N → List ℕ → Typed
 set_at s (InSelection set) x types = if s.setting.words.same set x then MemberOf types else SetOf types
 set_at s place x types = SetOf types
@@ -85,7 +85,7 @@ abbrev pub global_at : {N : Type 0} → Place N → Accum → Judged Accum
 global_at InOpening k = Err NotAllowedHere
 global_at place k = Ok k
 
--- `v.@a'` stands in POST-ACCUM alone
+-- `v.@a'` occurs only in POST-ACCUM
 abbrev pub before_at : {N : Type 0} → Place N → Accum → Judged Accum
 before_at InPost k = Ok k
 before_at place k = Err NotAllowedHere
@@ -99,7 +99,7 @@ names_at s place = record {
   setting = s.setting;
 }
 
--- ---- types as they are written
+-- ---- types as written
 
 abbrev pub vertex_type : {N : Type 0} → Scope N → N → Judged ℕ
 vertex_type s t = or_fault (unknown s t) (s.setting.words.vertex_type t)

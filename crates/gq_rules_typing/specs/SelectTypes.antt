@@ -26,12 +26,12 @@ source_types s n = of_entry (entry s n)
     of_entry (Some (SetVariable types)) = Ok types
     of_entry _ = vertex_type s n >>= λ t. Ok (t ∷ [])
 
--- types that are named are of the graph
+-- named types are of the graph
 abbrev pub all_known : {N : Type 0} → (N → Judged ℕ) → Types N → Judged (List ℕ)
 all_known known Every = Ok []
 all_known known (These ns) = each_judged known ns
 
--- ---- hops, which stand in v1
+-- ---- hops, which are v1 syntax
 
 abbrev pub typing_hop : {N : Type 0} → Scope N → List ℕ → Hop N → Judged (Scope N)
 typing_hop s ends h =
@@ -39,7 +39,7 @@ typing_hop s ends h =
     with_alias h.edge_alias (EdgeAlias (edge_types s.setting h.edges)) s >>= λ s₁.
     all_known (vertex_type s₁) h.targets >> with_alias h.target_alias (Alias ends) s₁
 
--- ---- paths, which stand in v2
+-- ---- paths, which are v2 syntax
 
 abbrev pub is_both : Way → Bool
 is_both way.Both = true
@@ -76,7 +76,7 @@ typing_walk s ends (Path steps) = unless NotAllowedHere s.with_paths >> unless M
 
 -- ---- the whole
 
--- what may be left out
+-- an optional part
 abbrev pub optional : {N A : Type 0} → (Tree N → Judged A) → Option (Tree N) → Judged Bool
 optional rule None = Ok true
 optional rule (Some t) = rule t >> Ok true

@@ -40,7 +40,7 @@ abbrev pub acts_of : {N : Type 0} → List (plain.Act N) → plain.Acts N
 acts_of [] = plain.no_act
 acts_of (a ∷ rest) = plain.act_and a (acts_of rest)
 
--- without ELSE there is no act
+-- without ELSE there are no acts
 abbrev pub acts_or_none : {N : Type 0} → Option (List (plain.Act N)) → plain.Acts N
 acts_or_none None = plain.no_act
 acts_or_none (Some acts) = acts_of acts
@@ -66,7 +66,7 @@ abbrev pub view_types : TypesTree → plain.Types Named
 view_types types.Any = plain.Every
 view_types (types.Named names) = plain.These names
 
--- what is left out is every type
+-- types that are left out mean every type
 abbrev pub view_types_if : Option TypesTree → plain.Types Named
 view_types_if None = plain.Every
 view_types_if (Some t) = view_types t

@@ -1,11 +1,11 @@
 -- Selecting: inputs, acts, patterns and SELECT as plain data, on which the definitions of types and of meaning match.
--- N is what stands for a name: its bytes in a query, and what it was resolved to in a plan.
+-- N is the representation of a name: its bytes in a query, and what it was resolved to in a plan.
 use Rattle.std.specs.Prelude.{Bool, List, Option}
 use Rattle.gq_tree.specs.Tree.{Tree, Trees}
 use Rattle.gq_tree.specs.declared.select.Way.{Way}
 
 mutual
-  -- what `+=` feeds: a value, or keys with an input for each part
+  -- an input of `+=`: a value, or keys with an input for each part
   pub data Input (N : Type 0) : Type 0 where
     Plain : Tree N → Input N
     Keys : Trees N → Inputs N → Input N
@@ -30,7 +30,7 @@ mutual
     no_act : Acts N
     act_and : Act N → Acts N → Acts N
 
-  -- IF and each ELSE IF with its condition, and what stands behind ELSE
+  -- IF and each ELSE IF with its condition, and the acts after ELSE
   pub data Choices (N : Type 0) : Type 0 where
     otherwise : Acts N → Choices N
     when : Tree N → Acts N → Choices N → Choices N
@@ -54,13 +54,13 @@ pub record Step (N : Type 0) : Type 0 where
   pub targets : Types N
   pub target_alias : Option N
 
--- what stands behind the source: nothing, a hop, or a path
+-- the pattern after the source: nothing, a hop, or a path
 pub data Walk (N : Type 0) : Type 0 where
   Nowhere : Walk N
   OneHop : Hop N → Walk N
   Path : List (Step N) → Walk N
 
--- SELECT; without ACCUM and POST-ACCUM there is no act, and without ORDER BY no key. True descends
+-- SELECT; without ACCUM and POST-ACCUM there are no acts, and without ORDER BY no keys. True means descending
 pub record Select (N : Type 0) : Type 0 where
   pub selected : N
   pub source : N

@@ -79,11 +79,11 @@ abbrev pub right_value : {N : Type 0} → Right N → Judged (Tree N)
 right_value (Expression t) = Ok t
 right_value _ = Err Mismatch
 
--- types that are assigned lie within those of the variable
+-- assigned types are among those of the variable
 abbrev pub kept_within : {N : Type 0} → Scope N → N → List ℕ → List ℕ → Judged Bool
 kept_within s x fixed types = unless (WiderSet (said s x)) (list_all (among fixed) types)
 
--- `x = ..`: what x is, and what the right side is, are judged at the sign; an assignment of a set may declare x
+-- `x = ..`: the entry of x and the right side are judged at the sign; an assignment of a set may declare x
 abbrev pub typing_assign : {N : Type 0} → Scope N → N → Right N → Option Entry → Option (Judged (List ℕ)) → Judged (Scope N)
 typing_assign s x right (Some (SetVariable fixed)) (Some set) = set >>= kept_within s x fixed >> Ok s
 typing_assign s x (Expression t) (Some (Variable b)) None = converting (here s) b t >> Ok s
@@ -96,7 +96,7 @@ abbrev pub fixed_types : {N : Type 0} → Scope N → SetTypes N → Judged (Lis
 fixed_types s AnyType = Ok s.setting.sorts.own_vertices
 fixed_types s (TypeOf t) = vertex_type s t >>= λ n. Ok (n ∷ [])
 
--- `x (T) = ..` declares x; an expression that is no set is read before it is refused
+-- `x (T) = ..` declares x; an expression that isn't a set is judged before it is refused
 abbrev pub typing_fixed : {N : Type 0} → Scope N → N → List ℕ → Right N → Option (Judged (List ℕ)) → Judged (Scope N)
 typing_fixed s x fixed right (Some set) = set >>= kept_within s x fixed >> Ok (with_entry x (SetVariable fixed) s)
 typing_fixed s x fixed right None = right_value right >>= typing (here s) >> Err Mismatch

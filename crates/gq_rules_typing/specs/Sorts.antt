@@ -1,5 +1,5 @@
 -- Sorts: the vertex and edge types that a query sees, with their attributes.
--- A type's number is its place in the catalog. The code asks the catalog.
+-- A type's number is its place in the catalog. The code looks it up in the catalog.
 use Rattle.std.specs.Prelude.{ℕ, Bool, true, false, List, [], ◌∷◌, map, Option, Some, None, slice_get}
 use Rattle.gq_tree.specs.Accums.{Base, INT, UINT, STRING}
 use Rattle.gq_tree.specs.AccumViews.{base_of}
@@ -82,7 +82,7 @@ vertex_sort t = record { name = t.name; fields = with_id t.id (attribute_fields 
 abbrev pub edge_sort : EdgeType → EdgeSort
 edge_sort t = record { name = t.name; directed = t.directed; from = t.from; to = t.to; forward = t.forward; fields = attribute_fields t.attributes }
 
--- what a query for a graph sees; a query for no graph sees no type
+-- the types that a query for a graph sees; a query for no graph sees no type
 abbrev pub sorts_of : Schema → Option GraphType → Sorts
 sorts_of schema graph = record {
   vertices = map vertex_sort schema.vertex_types;

@@ -1,4 +1,4 @@
--- StatementTypes: the typing rules of statements, in order of text; each gives the scope behind it.
+-- StatementTypes: the typing rules of statements, in order of text; each returns the scope after it.
 use Rattle.std.specs.Prelude.{Bool, true, false, not, if◌then◌else◌, List, [], ◌∷◌, Option, Some, is_some, Ok, Err, bytes_eq}
 use Rattle.std.specs.List.{list_any}
 use Rattle.gq_tree.specs.Tree.{Tree, Name}
@@ -21,7 +21,7 @@ use Rattle.gq_rules_typing.specs.SetTypes.{here, set_types, is_set, typing_assig
 abbrev pub may_lack_value : Base → Bool → Bool
 may_lack_value b has = if has then true else not (is_vertex b)
 
--- a local comes into view behind its own value
+-- a local comes into view after its own value
 abbrev pub typing_local : {N : Type 0} → Base → Scope N → N × Option (Tree N) → Judged (Scope N)
 typing_local b s x = unless NotAllowedHere (may_lack_value b (is_some x.1)) >> new_name s x.0 >> optional (converting (here s) b) x.1 >> Ok (with_entry x.0 (Variable b) s)
 
@@ -59,7 +59,7 @@ abbrev pub typing_printed : {N : Type 0} → Scope N → List Bytes → Printed 
 typing_printed s keys (Whole i) = typing_whole s i.tree >> new_key keys i.key
 typing_printed s keys (Selection x items key) = set_types s x >> through_judged (typing_item (names_at s (InSelection x))) [] items >> new_key keys key
 
--- the type of an expression at a place, where a set's name alone is a whole item
+-- the type of an expression at a place, if a set's name alone is a whole item
 abbrev pub type_of : {N : Type 0} → Scope N → Place N → Tree N → Judged Typed
 type_of s place (Name x) = of_entry (entry s x)
   where

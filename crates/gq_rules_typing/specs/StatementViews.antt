@@ -54,7 +54,7 @@ abbrev pub view_elem : Elem → plain.Elem Named
 view_elem (elem.Base b) = plain.OfBase (view_base b)
 view_elem (elem.Tuple name) = plain.OfTuple name
 
--- what a map holds: an element, or a kind
+-- the content of a map: an element, or a kind
 pub data HeldView : Type 0 where
   AnElem : plain.Elem Named → HeldView
   AKind : plain.KindTree Named → HeldView

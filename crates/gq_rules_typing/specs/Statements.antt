@@ -1,4 +1,4 @@
--- Statements: statements, declarations and queries as plain data. N is what stands for a name.
+-- Statements: statements, declarations and queries as plain data. N is the representation of a name.
 use Rattle.std.specs.Prelude.{ℕ, Bool, List, Option}
 use Rattle.gq_tree.specs.Tree.{Tree}
 use Rattle.gq_tree.specs.declared.kind.Plain.{Plain}
@@ -10,7 +10,7 @@ use Rattle.gq_rules_typing.specs.Selecting.{Change, Select}
 abbrev pub Bytes : Type 0
 Bytes = List ℕ
 
--- ---- types as they are written
+-- ---- types as written
 
 pub data BaseTree (N : Type 0) : Type 0 where
   Ints UInts Bools Strings AnyVertex : BaseTree N
@@ -26,7 +26,7 @@ mutual
     OverElem : Plain → Elem N → KindTree N
     OverBits : Bits → Option (Elem N) → KindTree N
     Averaged : KindTree N
-    -- to an accumulator, or to a type that stands for the sum over it
+    -- to an accumulator, or to a type, which means the sum over it
     MapTo : Elem N → KindTree N → KindTree N
     MapToElem : Elem N → Elem N → KindTree N
     Grouped : List (BaseTree N × Bytes) → PartTrees N → KindTree N
@@ -39,7 +39,7 @@ mutual
 
 -- ---- vertex sets
 
--- what a written set holds: `T.*`, ANY, a variable, the content of a global accumulator
+-- the members of a written set: `T.*`, ANY, a variable, the content of a global accumulator
 pub data Seed (N : Type 0) : Type 0 where
   AllOf : N → Seed N
   AllVertices : Seed N
@@ -50,12 +50,12 @@ pub data SetTerm (N : Type 0) : Type 0 where
   SetNamed : N → SetTerm N
   Seeds : List (Seed N) → SetTerm N
 
--- `(ANY)` and `(T)` behind a set variable's name
+-- `(ANY)` and `(T)` after a set variable's name
 pub data SetTypes (N : Type 0) : Type 0 where
   AnyType : SetTypes N
   TypeOf : N → SetTypes N
 
--- what stands on the right of `name =`
+-- the right side of `name =`
 pub data Right (N : Type 0) : Type 0 where
   Selects : Select N → Right N
   Sets : SetTerm N → List (SetOp × SetTerm N) → Right N
@@ -75,7 +75,7 @@ pub data Printed (N : Type 0) : Type 0 where
 
 -- ---- statements
 
--- what FOREACH goes over: a collection, or both ends of a range
+-- what FOREACH iterates over: a collection, or both ends of a range
 pub data Over (N : Type 0) : Type 0 where
   Elements : Tree N → Over N
   Range : Tree N → Tree N → Over N
@@ -94,12 +94,12 @@ mutual
     no_stmt : Stmts N
     stmt_and : Stmt N → Stmts N → Stmts N
 
-  -- IF and each ELSE IF with its condition, and what stands behind ELSE
+  -- IF and each ELSE IF with its condition, and the statements after ELSE
   pub data Branches (N : Type 0) : Type 0 where
     else_ : Stmts N → Branches N
     if_ : Tree N → Stmts N → Branches N → Branches N
 
--- ---- queries; K is what stands for the kind of an accumulator: a tree in a query, the kind itself in a plan
+-- ---- queries; K represents the kind of an accumulator: a tree in a query, the kind itself in a plan
 
 -- accumulators have a flag that is true for attached ones, a name with its `@` or `@@`, and an opening
 pub data Definition (N K : Type 0) : Type 0 where

@@ -1,4 +1,4 @@
--- Types: the rules on types alone: what converts, what an operator takes and gives.
+-- Types: the rules on types alone: conversions, and the operand and result types of operators.
 use Rattle.std.specs.Prelude.{ℕ, ◌==◌, Bool, true, false, ◌&&◌, ◌||◌, List, [], ◌∷◌, Ok, Err}
 use Rattle.gq_tree.specs.declared.expr.CmpSign.{CmpSign}
 use Rattle.gq_tree.specs.declared.expr.CmpSign.TheVariants as cmp
@@ -41,7 +41,7 @@ abbrev pub converts : Base → Base → Bool
 converts (VERTEX_OF t) VERTEX = true
 converts b c = same_base b c || (is_number b && is_number c)
 
--- one after the other, and as many of both
+-- one after the other, and equally many of both
 abbrev pub convert_all : List Base → List Base → Bool
 convert_all [] [] = true
 convert_all (b ∷ bs) (c ∷ cs) = converts b c && convert_all bs cs
@@ -52,7 +52,7 @@ abbrev pub vertex_base : List ℕ → Base
 vertex_base (t ∷ []) = VERTEX_OF t
 vertex_base ts = VERTEX
 
--- ---- what an expression's type allows
+-- ---- what the type of an expression allows
 
 -- the type of an expression that is a value of a base type
 abbrev pub as_base : Typed → Judged Base
@@ -111,7 +111,7 @@ is_equality cmp.Equal = true
 is_equality cmp.NotEqual = true
 is_equality _ = false
 
--- STRING and DATETIME by every sign; BOOL and vertices by `==` and `!=` alone
+-- STRING and DATETIME by every sign; BOOL and vertices only by `==` and `!=`
 abbrev pub comparable_bases : CmpSign → Base → Base → Bool
 comparable_bases sign STRING STRING = true
 comparable_bases sign DATETIME DATETIME = true

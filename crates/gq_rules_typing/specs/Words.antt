@@ -1,4 +1,4 @@
--- Words: what the names of a tree stand for. It is the one place where a query, with names, and a plan, with numbers, differ.
+-- Words: the meaning of the names of a tree. Only here do a query, with names, and a plan, with numbers, differ.
 use Rattle.std.specs.Prelude.{ℕ, suc, ◌==◌, Bool, if◌then◌else◌, List, [], ◌∷◌, map, Option, Some, None, bytes_eq, codes, position}
 use Rattle.std.specs.List.{list_any}
 use Rattle.std.specs.Str.{str_eq_ignore_ascii_case}
@@ -8,12 +8,12 @@ use Rattle.gq_time.specs.declared.adding.Unit.TheVariants as unit
 use Rattle.gq_rules_typing.specs.Statements.{Bytes}
 use Rattle.gq_rules_typing.specs.Sorts.{Fields, VertexSort, EdgeSort, Sorts, bases_of}
 
--- what stands under a key, by the first pair of it
+-- the value under a key, from the first pair with that key
 abbrev pub under : {K A : Type 0} → (K → K → Bool) → K → List (K × A) → Option A
 under same k [] = None
 under same k (pair ∷ pairs) = if same pair.0 k then Some pair.1 else under same k pairs
 
--- what a field belongs to: a type by its number, or the parts of a group
+-- the owner of a field: a type by its number, or the parts of a group
 pub data Owner : Type 0 where
   OfVertexType OfEdgeType OfTupleType : ℕ → Owner
   OfParts : Owner
@@ -30,14 +30,14 @@ pub data Function : Type 0 where
 pub data Method : Type 0 where
   Size Contains ContainsKey Get Outdegree : Method
 
--- what a name may stand for
+-- what a name may denote
 pub record Words (N : Type 0) : Type 0 where
   pub same : N → N → Bool
-  -- how it is said in a message
+  -- its spelling in a message
   pub said : N → Bytes
   -- whether it is `type`
   pub is_type : N → Bool
-  -- which of its owner's fields, which have these names
+  -- the place of a field among those of its owner, which have these names
   pub field : Owner → List Bytes → N → Option ℕ
   pub function : N → Option Function
   pub method : N → Option Method
@@ -45,7 +45,7 @@ pub record Words (N : Type 0) : Type 0 where
   pub vertex_type : N → Option ℕ
   pub edge_type : N → Option ℕ
 
--- what typing knows: words, types, and the query's tuple types by number
+-- the context of typing: words, types, and the query's tuple types by number
 pub record Setting (N : Type 0) : Type 0 where
   pub words : Words N
   pub sorts : Sorts
@@ -67,7 +67,7 @@ functions =
     (codes "year", PartOf Year) ∷ (codes "month", PartOf Month) ∷ (codes "day", PartOf Day) ∷
     (codes "hour", PartOf Hour) ∷ (codes "minute", PartOf Minute) ∷ (codes "second", PartOf Second) ∷ []
 
--- a number, where it is one of these
+-- a number, if it is one of these
 abbrev pub if_own : List ℕ → Option ℕ → Option ℕ
 if_own ns None = None
 if_own ns (Some n) = if list_any (λ m. m == n) ns then Some n else None
@@ -85,9 +85,9 @@ by_name sorts = record {
   edge_type = λ n. if_own sorts.own_edges (place_of (map (λ (s : EdgeSort). s.name) sorts.edges) n);
 }
 
--- ---- what both have
+-- ---- common to both
 
--- a tuple type goes before a function of its name; these are numbered from n on
+-- a tuple type takes precedence over a function of its name; these are numbered from n on
 abbrev pub function_from : {N : Type 0} → Words N → N → ℕ → List (N × Fields) → Option Function
 function_from words f n [] = words.function f
 function_from words f n (t ∷ ts) = if words.same t.0 f then Some (Makes n (bases_of t.1)) else function_from words f (suc n) ts
@@ -95,7 +95,7 @@ function_from words f n (t ∷ ts) = if words.same t.0 f then Some (Makes n (bas
 abbrev pub function_named : {N : Type 0} → Setting N → N → Option Function
 function_named setting f = function_from setting.words f 0 setting.tuples
 
--- an edge type of the graph by its text, as `outdegree` has it; a plan keeps the text too
+-- an edge type of the graph by its text, as `outdegree` has it; a plan has the text too
 abbrev pub edge_quoted : Sorts → Bytes → Option ℕ
 edge_quoted sorts e = if_own sorts.own_edges (place_of (map (λ (s : EdgeSort). s.name) sorts.edges) e)
 

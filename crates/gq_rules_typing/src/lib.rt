@@ -5,7 +5,7 @@
 //!
 //! Read `specs/Judging.antt` first, then `specs/Scopes.antt` and `specs/ExpressionTypes.antt`,
 //! `specs/SelectTypes.antt`, `specs/StatementTypes.antt` and `specs/QueryTypes.antt`. `specs/Words.antt` is
-//! the only place where queries and plans differ. All that runs here is the look-up of the language's own
+//! the only place where queries and plans differ. The only code that runs here is the look-up of the language's own
 //! names (`src/words.rt`), which the checker and the planner share; the checker is `gq_check`.
 #![tactic(auto)]
 

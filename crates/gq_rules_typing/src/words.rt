@@ -23,7 +23,7 @@ pub enum Builtin {
     Part(Unit),
 }
 
-/// The language's own function of a name. Letters count as they are written.
+/// The language's own function of a name, which is case-sensitive.
 pub fn builtin_named(name: &str) -> Option<Builtin>
     ensures { option_map builtin_is result ≡ words.under bytes_eq name.now words.functions }
 {

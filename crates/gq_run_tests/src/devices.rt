@@ -1,4 +1,4 @@
-// What the contracts leave open: that calls succeed, what gates do, and what the host's files give.
+// What the contracts leave open: that calls succeed, what gates do, and what the host's files return.
 use gq_io::{
     AnyGate, FileFault, Files, Gate, HeldGate, HoldGate, HostFiles, MemoryFiles, MemorySink,
     OpenGate, Shape, Sink, SinkFault, SureFiles, SureSink, write_all,
@@ -7,7 +7,7 @@ use std::alloc::Global;
 use std::test::Fail;
 use std::{fs, thread};
 
-// Whether a read gives these bytes. Generic, so that each device is called through the trait.
+// Whether a read returns these bytes. Generic, so that each device is called through the trait.
 fn reads<F: Files>(alloc: Global, files: &mut F, name: &str, bytes: &[u8]) -> bool {
     match files.read(alloc, name) {
         Ok(found) => found.as_slice() == bytes,

@@ -1,4 +1,4 @@
-// The files that the runs of the tests find, and the lines that their scripts print.
+// The files that the test runs read, and the lines that their scripts print.
 
 pub const SEVEN: &[u8] = b"INTERPRET QUERY () { PRINT 7 AS n; }\n";
 
@@ -16,7 +16,7 @@ const LOADS: &[u8] =
 pub const LOADS_LINE: &[u8] =
     b"{\"error\":false,\"message\":\"\",\"results\":[{\"file\":\"p.csv\",\"lines\":3,\"loaded\":3,\"short\":0,\"unreadable\":0},{\"file\":\"k.csv\",\"lines\":3,\"loaded\":3,\"short\":0,\"unreadable\":0}]}\n";
 
-// The oldest of each parity, and the sum of their ages.
+// The oldest person of each parity, and the sum of their ages.
 const GROUPS: &[u8] =
     b"INTERPRET QUERY () FOR GRAPH g {\n  GroupByAccum<INT parity, SumAccum<INT> total, MaxAccum<INT> oldest> @@g;\n  S = {person.*};\n  T = SELECT s FROM S:s ACCUM @@g += (s.age % 2 -> s.age, s.age);\n  PRINT @@g; }\n";
 
@@ -34,19 +34,19 @@ const INSERT: &[u8] =
 
 pub const INSERT_LINE: &[u8] = b"{\"error\":false,\"message\":\"\",\"results\":[{\"n\":4}]}\n";
 
-// A query that isn't installed when it is to run.
+// A query that isn't installed when it is run.
 const EARLY: &[u8] = b"CREATE QUERY q () { PRINT 7 AS n; }\nRUN QUERY q\n";
 
 pub const EARLY_LINE: &[u8] = b"{\"error\":true,\"message\":\"line 2: not installed q\"}\n";
 
-// Whom one's friends know and oneself doesn't, in a graph of seven persons.
+// The friends of one's friends who aren't one's own friends, in a graph of seven persons.
 const FRIENDS: &[u8] =
     b"CREATE VERTEX person (PRIMARY_ID name STRING, name STRING, age INT)\nCREATE UNDIRECTED EDGE friendship (FROM person, TO person, day STRING)\nCREATE GRAPH social (person, friendship)\nUSE GRAPH social\nCREATE LOADING JOB j FOR GRAPH social {\n  LOAD \"person.csv\" TO VERTEX person VALUES ($\"name\", $\"name\", $\"age\") USING header=\"true\", separator=\",\";\n  LOAD \"friendship.csv\" TO EDGE friendship VALUES ($0, $1, $2) USING header=\"true\", separator=\",\"; }\nRUN LOADING JOB j\nCREATE QUERY strangers (VERTEX<person> p) FOR GRAPH social {\n  OrAccum @met = false;\n  AvgAccum @@age;\n  Start = {p};\n  Friends = SELECT t FROM Start:s -(friendship:e)-> person:t ACCUM t.@met += true, s.@met += true;\n  Theirs = SELECT t FROM Friends -(:e)-> :t WHERE t.@met == false POST_ACCUM @@age += t.age;\n  PRINT Theirs;\n  PRINT @@age; }\nINSTALL QUERY strangers\nRUN QUERY strangers(\"Tom\")\n";
 
 pub const FRIENDS_LINES: &[u8] =
     b"{\"error\":false,\"message\":\"\",\"results\":[{\"file\":\"person.csv\",\"lines\":7,\"loaded\":7,\"short\":0,\"unreadable\":0},{\"file\":\"friendship.csv\",\"lines\":7,\"loaded\":7,\"short\":0,\"unreadable\":0}]}\n{\"error\":false,\"message\":\"\",\"results\":[{\"Theirs\":[{\"v_id\":\"Kevin\",\"v_type\":\"person\",\"attributes\":{\"name\":\"Kevin\",\"age\":28,\"@met\":false}},{\"v_id\":\"Amily\",\"v_type\":\"person\",\"attributes\":{\"name\":\"Amily\",\"age\":22,\"@met\":false}},{\"v_id\":\"Nancy\",\"v_type\":\"person\",\"attributes\":{\"name\":\"Nancy\",\"age\":20,\"@met\":false}}]},{\"@@age\":23.333333}]}\n";
 
-// The first edge faults in its sum, the third one by its divisor.
+// The first edge faults in its sum, the third one in its divisor.
 const FAULT: &[u8] =
     b"CREATE VERTEX person (PRIMARY_ID id STRING, age INT)\nCREATE DIRECTED EDGE knows (FROM person, TO person, w INT)\nCREATE GRAPH g (person, knows)\nCREATE LOADING JOB j FOR GRAPH g {\n  LOAD \"p.csv\" TO VERTEX person VALUES ($0, $1);\n  LOAD \"wide.csv\" TO EDGE knows VALUES ($0, $1, $2); }\nRUN LOADING JOB j\nINTERPRET QUERY () FOR GRAPH g {\n  SumAccum<INT> @@s;\n  S = {person.*};\n  T = SELECT t FROM S:s -(knows:e)-> person:t ACCUM @@s += e.w + 1, @@s += 1 / (e.w - 30); }\n";
 
@@ -69,7 +69,7 @@ const PERSONS: &[u8] =
 const FRIENDSHIPS: &[u8] =
     b"person1,person2,date\nTom,Dan,2017-06-03\nTom,Jenny,2015-01-01\nDan,Jenny,2016-08-03\nJenny,Amily,2015-06-08\nDan,Nancy,2016-01-03\nNancy,Jack,2017-03-02\nDan,Kevin,2015-12-30\n";
 
-/// Each file, by its name and the parts that stand in it one after the other.
+/// Each file: its name, and the parts that it consists of, in order.
 pub const FILES: [(&str, &[&[u8]]); 17] = [
     ("seven", &[SEVEN]),
     ("twice", &[SEVEN, SEVEN]),

@@ -1,5 +1,5 @@
-// What the clauses of `run` leave open: that runs succeed where there is memory, and that lines and answers are those that a reader of
-// the documents expects.
+// What the contract of `run` leaves open: that runs succeed if there is memory, and that lines and statuses are those
+// that a reader of the documentation expects.
 use crate::files::{
     EARLY_LINE, FAULT_LINES, FILES, FRIENDS_LINES, GROUPS_LINE, INSERT_LINE, LOADS_LINE,
     SAMPLE_LINES, SEVEN, SEVEN_LINE, SUMS_LINE,
@@ -12,7 +12,7 @@ use std::alloc::Global;
 use std::test::Fail;
 use std::thread::Threads;
 
-// The words of a line, which are parted by blanks.
+// Returns the words of a line, which are separated by blanks.
 fn words_of(alloc: Global, line: &str) -> Result<Vec<String>, Fail> {
     let mut words = Vec::new(alloc);
     for word in line.split(' ') {
@@ -21,7 +21,7 @@ fn words_of(alloc: Global, line: &str) -> Result<Vec<String>, Fail> {
     Ok(words)
 }
 
-// What stands in these parts, one after the other.
+// Concatenates these parts.
 fn joined(alloc: Global, parts: &[&[u8]]) -> Result<Vec<u8>, Fail> {
     let mut bytes = Vec::new(alloc);
     for part in parts {
@@ -30,7 +30,7 @@ fn joined(alloc: Global, parts: &[&[u8]]) -> Result<Vec<u8>, Fail> {
     Ok(bytes)
 }
 
-// Which read and which write fail, or 0, how many bytes a write takes, and the gate that workers pass.
+// Which read and which write fail, or 0 for none, the most bytes that a write takes, and the gate that workers pass.
 #[derive(Clone, Copy)]
 struct Devices<'g> {
     failed_read: u64,
@@ -46,7 +46,7 @@ const SURE: Devices<'static> = Devices {
     gate: AnyGate::Open,
 };
 
-// Devices of which a read fails.
+// Returns devices with a failing read.
 fn failing_read(call: u64) -> Devices<'static> {
     Devices {
         failed_read: call,
@@ -54,7 +54,7 @@ fn failing_read(call: u64) -> Devices<'static> {
     }
 }
 
-// Devices of which a write fails, and each takes so many bytes.
+// Returns devices with a failing write, each of whose writes takes at most this many bytes.
 fn failing_write(call: u64, most: usize) -> Devices<'static> {
     Devices {
         failed_write: call,
@@ -63,7 +63,7 @@ fn failing_write(call: u64, most: usize) -> Devices<'static> {
     }
 }
 
-// Sure devices, with a gate.
+// Returns devices that don't fail, with a gate.
 fn with_gate(gate: AnyGate<'_>) -> Devices<'_> {
     Devices {
         failed_read: 0,
@@ -73,7 +73,7 @@ fn with_gate(gate: AnyGate<'_>) -> Devices<'_> {
     }
 }
 
-// All files, of which the read with this number fails.
+// Returns all files; the read with this number fails.
 fn files(alloc: Global, failed: u64) -> Result<MemoryFiles, Fail> {
     let mut files = MemoryFiles::new(alloc);
     files.fail_at(failed)?;
@@ -83,7 +83,7 @@ fn files(alloc: Global, failed: u64) -> Result<MemoryFiles, Fail> {
     Ok(files)
 }
 
-// Whether a run of this line over these devices has this answer and prints these lines.
+// Whether a run of this line over these devices has this status and prints these lines.
 fn ends<R: Threads + AllocGlobal + Sync>(
     rt: &R,
     line: &str,
@@ -207,10 +207,11 @@ fn two_workers_run_a_block_and_one_runs_it_alone(rt: HostRuntime) -> Result<(), 
     Ok(())
 }
 
-// How often a late worker looks for the passes that it waits for.
+// How often a late worker checks for the passes that it waits for.
 const LOOKS: u64 = 1_000_000;
 
-// A block of three candidates, and two of two and of seven. Two workers at most run the block of two; the others come to the last.
+// A block of three candidates, and others of two and of seven. At most two workers run the block of two; the rest come
+// to the last one.
 #[test]
 fn a_late_worker_changes_no_byte(rt: HostRuntime) -> Result<(), Fail> {
     for (script, early, later, answer, lines) in [

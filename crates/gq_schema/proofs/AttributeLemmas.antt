@@ -1,4 +1,4 @@
--- Going through attributes one after another.
+-- Lemmas for loops over attributes.
 use Rattle.std.proofs.Common.{ℕ, suc, ◌+◌, ◌<◌, ◌≡◌, Bool, true, false, not, cond, List, [], ◌∷◌, ◌++◌, length, get_or, take, drop, map, Option, Some, None, refl, ap, sym, ◌∙◌, arith, add-one, drop-cons, is_some}
 use Rattle.std.specs.List.{find}
 use Rattle.std.specs.Option.{option_map}

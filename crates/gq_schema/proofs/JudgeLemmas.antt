@@ -1,4 +1,4 @@
--- The first rule that fails, one rule after another.
+-- A declaration is refused by the first rule that fails: rules are tested one after another.
 use Rattle.std.proofs.Common.{ℕ, zero, suc, ◌+◌, ◌<◌, ◌≡◌, ◌≢◌, ◌||◌, Bool, true, false, not, cond, List, [], ◌∷◌, ◌++◌, length, get_or, Option, Some, None, Result, Ok, Err, refl, ap, sym, subst, ◌∙◌, arith, is_some, ◌≤◌, inl, inr, nat_lt}
 use Rattle.std.proofs.lemmas.Bool.{cases_lt}
 use Rattle.std.proofs.lemmas.Bool.Decides.{nat_tests}
@@ -17,11 +17,11 @@ use Rattle.gq_schema.specs.declared.fault.SchemaFault.{SchemaFault}
 use Rattle.gq_schema.specs.declared.fault.SchemaFault.TheVariants as fault
 use Rattle.gq_schema.specs.Refusals.{Judges, is_type, taken, reverse_taken, no_end, twice_after, twice, attribute_names, shown_id, bad_default, too_many, attribute_refusal, vertex_refusal, edge_refusal}
 
--- the fault of the first rule
+-- the first rule fails: its fault is the result
 pub judge_fault : (due rest : Option SchemaFault) (f : SchemaFault) → (f ≢ fault.OutOfMemory → due ≡ Some f) → f ≢ fault.OutOfMemory → option_or due rest ≡ Some f
 judge_fault due rest f is other = ap (λ o. option_or o rest) (is other)
 
--- the first rule holds
+-- the first rule holds: the result is that of the remaining rules
 pub judge_rest : (due rest answer : Option SchemaFault) → due ≡ None → rest ≡ answer → option_or due rest ≡ answer
 judge_rest due rest answer none is = ap (λ o. option_or o rest) none ∙ is
 
@@ -34,7 +34,7 @@ both_none : {A : Type 0} (a b : Option A) → option_or a b ≡ None → (a ≡ 
 both_none None b none = (refl, none)
 both_none (Some x) b none = absurd (cc)
 
--- attributes one list after another
+-- the first match in two lists of attributes, one after the other
 map_or : {A B : Type 0} (f : A → B) (a b : Option A) → option_map f (option_or a b) ≡ option_or (option_map f a) (option_map f b)
 map_or f None b = refl
 map_or f (Some x) b = refl
@@ -69,7 +69,7 @@ twice_join xs ys =
     ∙ ap (option_map fault.AttributeTwice) (twice_join_from [] (attribute_names xs) (attribute_names ys))
     ∙ map_or fault.AttributeTwice (twice_after [] (attribute_names xs)) (twice_after (attribute_names xs) (attribute_names ys))
 
--- where no default is bad, all are good
+-- if no default is bad, all are good
 good_head : (t : Bool) (a : Attribute) (r : Option Attribute) → option_map (λ (x : Attribute). fault.BadDefault x.name) (cond (not t) (Some a) r) ≡ None → (t ≡ true) × (option_map (λ (x : Attribute). fault.BadDefault x.name) r ≡ None)
 good_head true a r none = (refl, none)
 good_head false a r none = absurd (cc)
@@ -97,7 +97,7 @@ edge_parts schema name from to reverse attributes none =
 pub edge_good : (key rest : List Attribute) → bad_default (key ++ rest) ≡ None → (bad_default key ≡ None) × (bad_default rest ≡ None)
 edge_good key rest none = both_none (bad_default key) (bad_default rest) (sym (bad_join key rest) ∙ none)
 
--- a name that is free is in neither list
+-- a free name is in neither list of types
 not_type : (a b : Bool) (f : SchemaFault) → cond (a || b) (Some f) None ≡ None → (a ≡ false) × (b ≡ false)
 not_type true b f none = absurd (cc)
 not_type false true f none = absurd (cc)
@@ -133,7 +133,7 @@ free_reverse schema name reverse first second =
     absent : (names : List (List ℕ)) (x y : List ℕ) → name_place names x ≡ None → bytes_eq x y ≡ false → name_place (names ++ y ∷ []) x ≡ None
     absent names x y none other = position_from-zero (bytes_eq x) (names ++ y ∷ []) ∙ from names x y 0 (sym (position_from-zero (bytes_eq x) names) ∙ none) other
 
--- the reverse type's name, against all that stand before it
+-- the reverse type's name differs from all names that are already used
 pub apart_of : (schema : Schema) (name : List ℕ) (reverse : Option (List ℕ)) (make : List ℕ → EdgeType) → ((n : List ℕ) → (make n).name ≡ n)
     → taken schema name ≡ None → reverse_taken schema name reverse ≡ None → (entry : Option EdgeType) → entry ≡ option_map make reverse
     → (t : EdgeType) → entry ≡ Some t → name_place (edge_names schema.edge_types ++ name ∷ []) t.name ≡ None

@@ -1,4 +1,4 @@
--- Marks of members, and the numbers that they stand for.
+-- Marks of members, and the list of the numbers that are marked.
 use Rattle.std.proofs.Common.{inl, inr, ℕ, zero, suc, ◌+◌, ◌<◌, ◌≡◌, ◌≢◌, ◌⊎◌, ◌==◌, ◌||◌, Bool, true, false, cond, List, [], ◌∷◌, ◌++◌, length, get_or, set, take, map, filter, Option, Some, None, refl, ap, sym, ◌∙◌, arith, eq-eqb, length-set, replicate, drop, drop-cons, add-one, not, ◌≤◌, ◌&&◌, is_some}
 use Rattle.std.specs.Option.{option_map_or}
 use Rattle.std.specs.List.{find}
@@ -35,7 +35,7 @@ below_more n = range_more 0 n ∙ ap (λ k. below n ++ k ∷ []) (let e : 0 + n 
 pub chosen_more : (p : ℕ → Bool) (n : ℕ) → filter p (below (n + 1)) ≡ filter p (below n) ++ cond (p n) (n ∷ []) []
 chosen_more p n = ap (filter p) (below_more n) ∙ filter-append p (below n) (n ∷ [])
 
--- the place of a name is one of the names'
+-- the place of a name is below the number of names
 pub place_low : (names : List (List ℕ)) (name : List ℕ) (k : ℕ) → name_place names name ≡ Some k → k < length names
 place_low names name k is = (position-Some (bytes_eq name) names k [] is).0
 
@@ -53,7 +53,7 @@ mark_at f n j low = get_or-map-range_with_len f 0 n j j false low (omega arith)
 pub marks_long : (f : ℕ → Bool) (n : ℕ) → length (map f (below n)) ≡ n
 marks_long f n = length-map (below n) f ∙ length-range_with_len 0 n
 
--- one member more, which is a name
+-- one more member that is among the names: its mark is set
 pub marked : (names members : List (List ℕ)) (member : List ℕ) (i k : ℕ) (marks : List Bool) → i < length members → member ≡ get_or members i member
     → name_place names member ≡ Some k → marks ≡ map (is_listed names (take i members)) (below (length names))
     → set marks k true ≡ map (is_listed names (take (i + 1) members)) (below (length names))
@@ -74,7 +74,7 @@ marked names members member i k marks low read place are =
           ∙ sym (mark_at new n j short ∙ step j ∙ ap (λ b. old j || b) h.0 ∙ or_false (old j))
     ])
 
--- one member more, which is none
+-- one more member that isn't among the names: the marks stay
 pub unmarked : (names members : List (List ℕ)) (member : List ℕ) (i : ℕ) (marks : List Bool) → i < length members → member ≡ get_or members i member
     → name_place names member ≡ None → marks ≡ map (is_listed names (take i members)) (below (length names))
     → marks ≡ map (is_listed names (take (i + 1) members)) (below (length names))
@@ -88,12 +88,12 @@ unmarked names members member i marks low read place are =
     map_agree f g [] same = refl
     map_agree f g (x ∷ xs) same = ap (λ b. b ∷ map f xs) (same x) ∙ ap (λ l. g x ∷ l) (map_agree f g xs same)
 
--- no member
+-- without members no mark is set
 pub none_listed : (names : List (List ℕ)) (xs : List ℕ) → map (is_listed names []) xs ≡ replicate (length xs) false
 none_listed names [] = refl
 none_listed names (x ∷ xs) = ap (λ l. false ∷ l) (none_listed names xs)
 
--- one member more
+-- one more member, whether it is among the names or not
 pub marked_on : (names members : List (List ℕ)) (member : List ℕ) (i : ℕ) (marks after : List Bool) → i < length members → member ≡ get_or members i member
     → after ≡ marked_by marks (name_place names member) → marks ≡ map (is_listed names (take i members)) (below (length names))
     → after ≡ map (is_listed names (take (i + 1) members)) (below (length names))
@@ -103,7 +103,7 @@ marked_on names members member i marks after low read is are = is ∙ by (name_p
     by None place = unmarked names members member i marks low read place are
     by (Some k) place = marked names members member i k marks low read place are
 
--- a mark tells whether a name is a member, also past the marks
+-- a mark says whether a name is a member; past the end of the marks there are no members
 none_of : (names members : List (List ℕ)) (j : ℕ) → length names ≤ j → is_listed names members j ≡ false
 none_of names [] j past = refl
 none_of names (m ∷ members) j past = ap (λ b. b || is_listed names members j) (here (name_place names m) refl) ∙ none_of names members j past

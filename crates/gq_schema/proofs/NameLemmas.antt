@@ -1,4 +1,4 @@
--- Names by their places.
+-- Lemmas about names by their places.
 use Rattle.std.proofs.Common.{inl, inr, ℕ, ◌+◌, ◌<◌, ◌≤◌, ◌≡◌, Bool, true, false, cond, List, [], ◌∷◌, ◌++◌, length, get_or, take, Option, Some, None, refl, ap, sym, subst, ◌∙◌, ◌↔◌, IsTrue, arith}
 use Rattle.std.specs.BTreeMap.{BTreeMap, get_by_text}
 use Rattle.std.specs.Map.{update}
@@ -30,7 +30,7 @@ module _ {Y : Type 0} (names : List (List ℕ)) (places : BTreeMap (String Y) �
       sym (seek_none (bytes_eq name) [] names
       (λ k low. missed (bytes_eq name (name_at names k)) (λ is. not k (only_place k low is) low (sym ((bytes_eq-Decides name (name_at names k)).0 is)))))
 
-  -- what the look-up found, and whether the name stands there
+  -- the result of the lookup, and whether the name is stored at that place
   module _ (found : Option ℕ) (is : found ≡ get_by_text places name) where
     pub not_kept : found ≡ None → None ≡ name_place names name
     not_kept none = missing (λ n at low same. let e : Some n ≡ None = sym at ∙ sym is ∙ none in absurd (cc (e)))
@@ -51,7 +51,7 @@ places_cut n names places low kept = λ i there.
     let count : length (take n names) ≡ n = length-take-le n names low in
     ap (get_by_text places) (get_or-take n names i [] (omega (arith, count))) ∙ kept i (omega (arith, count))
 
--- one name more, by what was put into the tree
+-- one more name, added to the tree by an insertion
 pub places_added : {Y : Type 0} (names : List (List ℕ)) (places more : BTreeMap (String Y) ℕ) (name key : List ℕ) (n : ℕ) → name_place names name ≡ None → key ≡ name
     → n ≡ length names → ((other : List ℕ) → get_by_text more other ≡ update bytes_eq (get_by_text places) key (Some n) other)
     → HavePlaces names places → HavePlaces (names ++ name ∷ []) more

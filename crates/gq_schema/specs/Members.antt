@@ -1,5 +1,5 @@
--- Members: the types of a graph. Here each type of the catalog is looked for among the members; the code goes through the
--- members once and marks their types.
+-- Members: the types of a graph. The specification looks up each type of the catalog among the members; the code makes
+-- one pass over the members and marks their types.
 use Rattle.std.specs.Prelude.{ℕ, Bool, true, false, not, ◌||◌, ◌&&◌, ◌==◌, List, [], length, map, Option, Some, None, find, filter, is_some, slice_index_or, slice_set}
 use Rattle.std.specs.List.{list_any, range_with_len}
 use Rattle.std.specs.Option.{option_map_or}
@@ -15,7 +15,7 @@ abbrev pub is_number : Option ℕ → ℕ → Bool
 is_number None k = false
 is_number (Some n) k = n == k
 
--- whether a member is the name with number k
+-- whether a member is the k-th name
 abbrev pub is_listed : List (List ℕ) → List (List ℕ) → ℕ → Bool
 is_listed names members k = list_any (λ member. is_number (name_place names member) k) members
 
@@ -49,11 +49,11 @@ abbrev pub fits : Schema → List (List ℕ) → List ℕ → Bool
 fits schema members member =
     is_some (vertex_type_of schema member) || option_map_or (has_ends schema members) (edge_type_of schema member) false
 
--- the first member that is no type, or an edge type without its ends
+-- the first member that isn't a type, or is an edge type without both of its ends
 abbrev pub misfit : Schema → List (List ℕ) → Option (List ℕ)
 misfit schema members = find (λ member. not (fits schema members member)) members
 
--- the graph of a name and its members, or of all types
+-- the graph of a name and its members, or of all types if no members are given
 abbrev pub graph_with : Schema → List ℕ → Option (List (List ℕ)) → GraphType
 graph_with schema name None =
     record { name = name; vertices = below (length schema.vertex_types); edges = below (length schema.edge_types) }
@@ -64,7 +64,7 @@ graph_with schema name (Some members) =
       edges = filter (has_edge schema members) (below (length schema.edge_types));
     }
 
--- the marks with that number's set
+-- the marks with the mark of that number set, if there is a number
 abbrev pub marked_by : List Bool → Option ℕ → List Bool
 marked_by marks None = marks
 marked_by marks (Some k) = slice_set marks k true
@@ -84,7 +84,7 @@ abbrev pub is_pair_marked : List Bool → Option ℕ → Bool
 is_pair_marked marks None = false
 is_pair_marked marks (Some k) = is_marked marks k
 
--- the same as above, read off marks
+-- the same as above, read from marks
 abbrev pub has_ends_marked : Schema → List Bool → ℕ → Bool
 has_ends_marked schema marks k = is_marked marks (edge_type_at schema k).from && is_marked marks (edge_type_at schema k).to
 

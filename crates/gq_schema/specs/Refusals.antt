@@ -1,5 +1,5 @@
--- Refusals: why a declaration is refused, the first rule that fails. The code goes through the rules in this order and
--- builds the fault where one fails.
+-- Refusals: why a declaration is refused: the first rule that fails. The code tests the rules in this order and
+-- builds the fault of the one that fails.
 use Rattle.std.specs.Prelude.{ℕ, ◌+◌, ◌≡◌, ◌≢◌, Bool, true, false, not, ◌||◌, ◌&&◌, nat_lt, if◌then◌else◌, List, [], ◌∷◌, ◌++◌, length, map, Option, Some, None, Result, Ok, Err, bytes_eq, find, is_some}
 use Rattle.std.specs.Option.{option_map, option_or, option_map_or}
 use Rattle.gq_graph.specs.declared.types.IdShape.{IdShape}
@@ -10,7 +10,7 @@ use Rattle.gq_schema.specs.declared.fault.SchemaFault.{SchemaFault}
 use Rattle.gq_schema.specs.declared.fault.SchemaFault.TheVariants as fault
 use Rattle.gq_schema.specs.Members.{misfit}
 
--- a call answers the fault that is due, or OutOfMemory; it answers Ok only where none is due
+-- a call returns the expected fault, or OutOfMemory; it returns Ok only if no fault is expected
 abbrev pub Judges : {A : Type 0} → Option SchemaFault → Result A SchemaFault → Type 0
 Judges due (Ok a) = due ≡ None
 Judges due (Err f) = f ≢ fault.OutOfMemory → due ≡ Some f
@@ -19,21 +19,21 @@ Judges due (Err f) = f ≢ fault.OutOfMemory → due ≡ Some f
 abbrev pub is_type : Schema → List ℕ → Bool
 is_type schema name = is_some (vertex_type_of schema name) || is_some (edge_type_of schema name)
 
--- a type of that name is there
+-- the fault if a type of that name exists
 abbrev pub taken : Schema → List ℕ → Option SchemaFault
 taken schema name = if is_type schema name then Some (fault.NameTaken name) else None
 
--- a type of the reverse type's name is there, or it is the forward type's own
+-- the fault if a type of the reverse type's name exists, or if that name is the forward type's own
 abbrev pub reverse_taken : Schema → List ℕ → Option (List ℕ) → Option SchemaFault
 reverse_taken schema name None = None
 reverse_taken schema name (Some reverse) =
     if bytes_eq reverse name || is_type schema reverse then Some (fault.NameTaken reverse) else None
 
--- no vertex type has the name
+-- the fault if no vertex type has the name
 abbrev pub no_end : Schema → List ℕ → Option SchemaFault
 no_end schema name = if is_some (vertex_type_of schema name) then None else Some (fault.NoSuchType name)
 
--- the first name that stands before, here or among those that came earlier
+-- the first name that occurs earlier, in this list or among the earlier names
 abbrev pub twice_after : List (List ℕ) → List (List ℕ) → Option (List ℕ)
 twice_after before [] = None
 twice_after before (name ∷ names) = if stands before name then Some name else twice_after (before ++ name ∷ []) names
@@ -41,23 +41,23 @@ twice_after before (name ∷ names) = if stands before name then Some name else 
 abbrev pub attribute_names : List Attribute → List (List ℕ)
 attribute_names attributes = map (λ (a : Attribute). a.name) attributes
 
--- the id's name, where the id is an attribute too
+-- the id's name, if the id is an attribute too
 abbrev pub shown_id : IdShape → List (List ℕ)
 shown_id id = if id.shown then id.name ∷ [] else []
 
--- two attributes have one name
+-- the fault if two attributes have one name
 abbrev pub twice : List (List ℕ) → Option SchemaFault
 twice names = option_map fault.AttributeTwice (twice_after [] names)
 
--- an attribute's default is no value of its type
+-- the fault if an attribute's default isn't a value of its type
 abbrev pub bad_default : List Attribute → Option SchemaFault
 bad_default attributes = option_map (λ (a : Attribute). fault.BadDefault a.name) (find (λ a. not (has_good_default a)) attributes)
 
--- so many types more would be too many
+-- the fault if that many new types would exceed the limit
 abbrev pub too_many : Schema → ℕ → Option SchemaFault
 too_many schema more = if nat_lt most_types (type_count schema + more) then Some fault.TooMany else None
 
--- the rules on attributes: their names, a shown id's among them, and then their defaults
+-- the rules on attributes: first their names, with a shown id's among them, then their defaults
 abbrev pub attribute_refusal : List (List ℕ) → List Attribute → Option SchemaFault
 attribute_refusal names attributes = option_or (twice names) (bad_default attributes)
 
@@ -76,11 +76,11 @@ edge_refusal schema name from to reverse attributes =
     (option_or (no_end schema to)
     (option_or (attribute_refusal (attribute_names attributes) attributes) (too_many schema (if is_some reverse then 2 else 1))))))
 
--- a graph of that name is there
+-- the fault if a graph of that name exists
 abbrev pub graph_taken : Schema → List ℕ → Option SchemaFault
 graph_taken schema name = if is_some (graph_of schema name) then Some (fault.GraphExists name) else None
 
--- a member is no type, or lacks an end
+-- the fault if a member isn't a type, or lacks an end
 abbrev pub member_refusal : Schema → Option (List (List ℕ)) → Option SchemaFault
 member_refusal schema None = None
 member_refusal schema (Some members) = option_map fault.NoSuchType (misfit schema members)

@@ -1,4 +1,4 @@
-// Attributes: their defaults, their names, and copies of them.
+// Attributes: checks of their defaults and names, and copies of them.
 ghost use Rattle.std.specs.Prelude.{◌≡◌, ◌≢◌, ◌++◌, true, All, IfOk, IsTrue, OnOk, MatchResult, Some, None, map};
 ghost use Rattle.std.specs.Option.{option_map};
 ghost use Rattle.gq_value.specs.Views.{val};
@@ -17,7 +17,7 @@ const FIRST_SECOND: i64 = -62_167_219_200;
 
 const LAST_SECOND: i64 = 253_402_300_799;
 
-/// Whether a value is one of the type, or a number that is converted to it.
+/// Whether a value is of the type, or is a number that is converted to it.
 #[tactic(auto, using(gq_value::specs::ViewLaws::view_laws, gq_graph::specs::SortLaws::sort_laws))]
 fn suits(kind: &BaseType, value: &Value) -> bool
     ensures { result ≡ spec.suits (val value.now) (spec.sort_of kind.now) }
@@ -64,7 +64,7 @@ fn uint_suits(kind: &BaseType, n: u64) -> bool
     }
 }
 
-/// A copy of a value that suits the type, as one of the type.
+/// Copies a value that suits the type, converted to the type.
 #[tactic(auto, using(gq_value::specs::ViewLaws::view_laws, gq_graph::specs::SortLaws::sort_laws))]
 fn converted(alloc: Global, kind: &BaseType, value: &Value) -> Result<Value, OutOfMemory>
     requires { spec.suits (val value.now) (spec.sort_of kind.now) ≡ true }
@@ -103,7 +103,7 @@ fn kind_of(kind: &BaseType) -> BaseType
     }
 }
 
-/// A copy of an attribute, as it is kept.
+/// Copies an attribute as the catalog keeps it, with its default converted to the attribute's type.
 fn settled(alloc: Global, attribute: &Attribute) -> Result<Attribute, OutOfMemory>
     requires plain { spec.is_plain attribute.now ≡ true }
     requires good { spec.has_good_default attribute.now ≡ true }
@@ -122,7 +122,7 @@ fn settled(alloc: Global, attribute: &Attribute) -> Result<Attribute, OutOfMemor
     })
 }
 
-/// Puts copies of attributes last, as they are kept.
+/// Appends copies of attributes, as the catalog keeps them.
 pub(crate) fn add_settled(
     alloc: Global,
     into: &mut Vec<Attribute>,
@@ -138,7 +138,7 @@ pub(crate) fn add_settled(
     Ok(())
 }
 
-/// Whether no attribute has the name of an earlier one or of one in the table, which gets them all.
+/// Checks that no attribute has the name of an earlier one or of one in the table. Adds all names to the table.
 pub(crate) fn check_names(
     alloc: Global,
     table: &mut NameTable,
@@ -160,7 +160,7 @@ pub(crate) fn check_names(
     Ok(())
 }
 
-/// Whether each default suits its attribute's type.
+/// Checks that each default suits its attribute's type.
 pub(crate) fn check_defaults(alloc: Global, attributes: &[Attribute]) -> Result<(), SchemaFault>
     ensures { Judges (bad_default_of attributes.now) result }
 {

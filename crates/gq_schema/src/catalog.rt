@@ -45,7 +45,7 @@ impl Model for Catalog {
 }
 
 impl Catalog {
-    /// No types and no graphs.
+    /// Returns a catalog without types and graphs.
     pub fn new(alloc: Global) -> Catalog
         ensures { result ≡ record { vertex_types = []; edge_types = []; graphs = [] } }
     {
@@ -59,7 +59,7 @@ impl Catalog {
         }
     }
 
-    /// The number of the vertex type of a name. As all look-ups, it takes no memory.
+    /// The number of the vertex type of a name. Like all lookups, it allocates nothing.
     pub fn vertex_type(&self, name: &str) -> Option<u32>
         ensures { result ≡ spec.vertex_type_of self.now name.now }
     {
@@ -96,14 +96,14 @@ impl Catalog {
         &self.edge_types[kind as usize]
     }
 
-    /// The vertex type of a number, if there is one.
+    /// The vertex type of a number, or `None` if there is none.
     pub fn vertex_by_number(&self, kind: u32) -> Option<&VertexType>
         ensures { slice_get self.now.vertex_types kind ≡ option_copied result }
     {
         self.vertex_types.as_slice().get(kind as usize)
     }
 
-    /// The edge type of a number, if there is one.
+    /// The edge type of a number, or `None` if there is none.
     pub fn edge_by_number(&self, kind: u32) -> Option<&EdgeType>
         ensures { slice_get self.now.edge_types kind ≡ option_copied result }
     {
@@ -126,7 +126,7 @@ impl Catalog {
         &self.graphs[graph as usize]
     }
 
-    /// How many attributes of an edge type belong to an edge's name.
+    /// The number of attributes of an edge type that are part of an edge's name.
     pub fn discriminators(&self, kind: u32) -> u32
         requires { kind < length self.now.edge_types }
         ensures { (t : EdgeType) → slice_get self.now.edge_types kind ≡ Some t → result ≡ t.discriminators }
@@ -134,7 +134,7 @@ impl Catalog {
         self.edge_types[kind as usize].discriminators
     }
 
-    /// How many types there are, reverse types counted.
+    /// The number of types, including reverse types.
     pub fn type_count(&self) -> u32
         ensures count { result ≡ spec.type_count self.now }
         ensures few { spec.type_count self.now ≤ spec.most_types }
@@ -142,14 +142,14 @@ impl Catalog {
         self.vertex_types.len() as u32 + self.edge_types.len() as u32
     }
 
-    /// How many graphs there are.
+    /// The number of graphs.
     pub fn graph_count(&self) -> usize
         ensures { result ≡ length self.now.graphs }
     {
         self.graphs.len()
     }
 
-    /// Appends a vertex type, or refuses it by the first rule that fails. Unchanged after a refusal.
+    /// Appends a vertex type, or refuses it by the first rule that fails. A refusal leaves the catalog unchanged.
     pub fn add_vertex_type(
         &mut self,
         name: &str,
@@ -177,8 +177,9 @@ impl Catalog {
         }
     }
 
-    /// Appends an edge type and, directly behind it, its reverse type, or refuses both by the first rule that fails. The
-    /// number is the forward type's. The discriminators are the type's first attributes. Unchanged after a refusal.
+    /// Appends an edge type and, directly after it, its reverse type, or refuses both by the first rule that fails.
+    /// Returns the forward type's number. The discriminators become the type's first attributes. A refusal leaves the
+    /// catalog unchanged.
     pub fn add_edge_type(
         &mut self,
         name: &str,
@@ -234,8 +235,8 @@ impl Catalog {
         }
     }
 
-    /// Appends a graph of the members, of all types where there is no list, or refuses it by the first rule that fails.
-    /// Unchanged after a refusal.
+    /// Appends a graph of the members, or of all types without a list, or refuses it by the first rule that fails.
+    /// A refusal leaves the catalog unchanged.
     pub fn add_graph(&mut self, name: &str, members: Option<&Names>) -> Result<u32, SchemaFault>
         ensures judged { Judges (graph_refusal self.old name.now (option_copied members.entry)) result }
         ensures done { MatchResult result

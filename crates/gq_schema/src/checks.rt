@@ -1,4 +1,4 @@
-// The rules that a declaration may fail.
+// The rules that a declaration must pass.
 ghost use Rattle.std.specs.Prelude.{◌≡◌, ◌<◌, ◌≤◌, ◌+◌, ◌++◌, [], ◌∷◌, length, All, true, Some, None, IfOk, OnOk};
 ghost use Rattle.std.specs.Option.{option_copied};
 ghost use Rattle.gq_graph.specs.Defaults.{has_good_default};
@@ -68,7 +68,7 @@ impl Catalog {
         Ok(())
     }
 
-    /// Why a vertex type is refused, if it is.
+    /// Returns why a vertex type is refused, if it is.
     #[tactic(auto, using(crate::proofs::JudgeLemmas::judging))]
     pub(crate) fn check_vertex_type(
         &self,
@@ -90,7 +90,7 @@ impl Catalog {
         self.check_room(1)
     }
 
-    /// The ends of an edge type, or why it is refused.
+    /// Returns the ends of an edge type, or why it is refused.
     #[tactic(auto, using(crate::proofs::JudgeLemmas::judging))]
     pub(crate) fn check_edge_type(
         &self,
@@ -142,7 +142,7 @@ impl Catalog {
     }
 }
 
-/// The rules on a vertex type's attributes, with a shown id in front.
+/// Checks the rules on a vertex type's attributes, with a shown id in front.
 #[tactic(auto, using(crate::proofs::JudgeLemmas::judging))]
 fn check_vertex_attributes(
     alloc: Global,
@@ -175,7 +175,7 @@ fn check_vertex_names(
     check_names(alloc, &mut names, attributes)
 }
 
-/// The rules on an edge type's attributes, those of its key first.
+/// Checks the rules on an edge type's attributes, those of its key first.
 #[tactic(auto, using(crate::proofs::JudgeLemmas::judging))]
 fn check_edge_attributes(
     alloc: Global,

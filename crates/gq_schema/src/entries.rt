@@ -11,7 +11,7 @@ use gq_graph::{Attribute, Attributes, EdgeType, GraphType, IdShape, VertexType};
 use gq_value::Txt;
 use std::alloc::Global;
 
-/// Copies of attributes, as they are kept.
+/// Copies attributes, as the catalog keeps them.
 fn settled_list(alloc: Global, attributes: &[Attribute]) -> Result<Attributes, OutOfMemory>
     requires plain { All (λ a. is_plain a ≡ true) attributes.now }
     requires good { All (λ a. has_good_default a ≡ true) attributes.now }
@@ -22,7 +22,7 @@ fn settled_list(alloc: Global, attributes: &[Attribute]) -> Result<Attributes, O
     Ok(List::from_vec(copies))
 }
 
-/// An edge type: its ends, its forward or reverse type, and its attributes, of which those of the key come first.
+/// Builds an edge type: its ends, its forward or reverse type, and its attributes, those of the key first.
 pub(crate) fn edge_type(
     alloc: Global,
     name: &str,
@@ -56,7 +56,7 @@ pub(crate) fn edge_type(
     })
 }
 
-/// The number of the reverse type, where one is declared.
+/// The number of the reverse type, if one is declared: the one after the forward type's.
 pub(crate) fn number_behind(reverse: Option<&str>, number: u32) -> Option<u32>
     requires { number < 4294967295 }
     ensures { result ≡ option_map (λ _. number + 1) (option_copied reverse.entry) }
@@ -67,7 +67,7 @@ pub(crate) fn number_behind(reverse: Option<&str>, number: u32) -> Option<u32>
     }
 }
 
-/// The reverse type, where one is declared.
+/// Builds the reverse type, if one is declared.
 pub(crate) fn backward_type(
     alloc: Global,
     reverse: Option<&str>,
@@ -100,7 +100,7 @@ pub(crate) fn backward_type(
     }
 }
 
-/// A vertex type.
+/// Builds a vertex type.
 pub(crate) fn vertex_type(
     alloc: Global,
     name: &str,
@@ -122,7 +122,7 @@ pub(crate) fn vertex_type(
     })
 }
 
-/// Puts a vertex type last.
+/// Appends a vertex type.
 pub(crate) fn append_vertex_type(
     names: &mut NameTable,
     types: &mut Vec<VertexType>,
@@ -153,7 +153,7 @@ fn put_vertex_type(types: &mut Vec<VertexType>, entry: VertexType)
     }
 }
 
-/// Puts an edge type last, and its reverse type behind it.
+/// Appends an edge type, and its reverse type after it.
 pub(crate) fn append_edge_types(
     names: &mut NameTable,
     types: &mut Vec<EdgeType>,
@@ -202,7 +202,7 @@ fn put_edge_type(types: &mut Vec<EdgeType>, entry: EdgeType)
     }
 }
 
-/// Puts a graph last. OutOfMemory comes too where there are some four thousand million graphs.
+/// Appends a graph. Also returns `OutOfMemory` past the last number of 32 bits.
 pub(crate) fn append_graph(
     names: &mut NameTable,
     graphs: &mut Vec<GraphType>,

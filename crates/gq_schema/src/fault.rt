@@ -1,4 +1,4 @@
-// Refusals.
+// Refusals of declarations.
 ghost use Rattle.gq_schema.specs.Tells.{Tells};
 
 use gq_base::OutOfMemory;
@@ -12,7 +12,8 @@ pub enum SchemaFault {
     /// A vertex or edge type has the name, or a reverse type's name is its forward type's own.
     #[error("name taken")]
     NameTaken(Txt),
-    /// No vertex type has the name of an end; or a graph's member is no type, or an edge type without both its ends.
+    /// No vertex type has the name of an end; or a graph's member isn't a type, or is an edge type without both its
+    /// ends.
     #[error("no such type")]
     NoSuchType(Txt),
     /// An attribute has the name of an earlier one, or of an id that is an attribute too.
@@ -20,12 +21,12 @@ pub enum SchemaFault {
     AttributeTwice(Txt),
     #[error("graph exists")]
     GraphExists(Txt),
-    /// With the new types there would be more than 256, reverse types counted.
+    /// The new types would make more than 256 types, including reverse types.
     #[error("too many types")]
     TooMany,
     #[error("out of memory")]
     OutOfMemory,
-    /// The attribute's default is no value of its type.
+    /// The attribute's default isn't a value of its type.
     #[error("bad default")]
     BadDefault(Txt),
 }
@@ -41,7 +42,7 @@ impl From<OutOfMemory> for SchemaFault {
     }
 }
 
-/// NameTaken, or OutOfMemory where the name can't be kept; likewise the others.
+/// Returns NameTaken, or OutOfMemory if the name can't be copied. The other functions do likewise.
 pub(crate) fn name_taken(alloc: Global, name: &str) -> SchemaFault
     ensures { Tells (SchemaFault.NameTaken name.now) result }
 {

@@ -13,7 +13,7 @@ use gq_graph::{GraphType, Names, Numbers};
 use gq_value::Txt;
 use std::alloc::Global;
 
-/// Which names of a table are members.
+/// Marks which names of a table are members.
 pub(crate) fn listed(
     alloc: Global,
     table: &NameTable,
@@ -28,7 +28,7 @@ pub(crate) fn listed(
     Ok(marks)
 }
 
-/// The numbers below `count`.
+/// Returns the numbers below `count`.
 pub(crate) fn all(alloc: Global, count: u32) -> Result<Numbers, OutOfMemory>
     ensures { IfOk result (λ numbers. numbers ≡ spec.below count) }
 {
@@ -39,7 +39,7 @@ pub(crate) fn all(alloc: Global, count: u32) -> Result<Numbers, OutOfMemory>
     Ok(numbers)
 }
 
-/// The numbers of the marks that are set.
+/// Returns the numbers of the marks that are set.
 pub(crate) fn chosen(alloc: Global, marks: &[bool]) -> Result<Numbers, OutOfMemory>
     ensures { IfOk result (λ numbers. numbers ≡ filter (λ k. slice_index_or marks.now k false) (spec.below (length marks.now))) }
 {
@@ -79,7 +79,7 @@ fn is_marked(marks: &[bool], number: u32) -> bool
 }
 
 impl Catalog {
-    /// A graph of the members, or why it is refused.
+    /// Builds a graph of the members, or returns why it is refused.
     pub(crate) fn graph_type(
         &self,
         alloc: Global,
@@ -143,7 +143,7 @@ impl Catalog {
         listed(alloc, &self.edge_names, members)
     }
 
-    /// Whether each member is a type, and an edge type has its ends among the marked vertex types.
+    /// Checks that each member is a type, and that an edge type has its ends among the marked vertex types.
     fn check_members(
         &self,
         alloc: Global,

@@ -1,4 +1,4 @@
-// Names that are found fast.
+// Names with a fast lookup.
 ghost use Rattle.std.specs.Prelude.{◌≡◌, ◌≤◌, ◌++◌, [], ◌∷◌, ◌<◌, length, take, vec_len, vec_capacity, Some, None, MatchResult, IsTrue, ◌↔◌};
 ghost use Rattle.gq_graph.specs.Catalog.{name_place};
 ghost use Rattle.gq_schema.specs.Kept.{HavePlaces, name_at};
@@ -9,12 +9,12 @@ use std::alloc::Global;
 use std::collections::BTreeMap;
 use std::marker::Model;
 
-/// Names in order, none of them twice. Contracts see them as a list.
+/// Distinct names in order. Contracts see them as a list.
 #[derive(Drop)]
 pub(crate) struct NameTable {
     names: Vec<Txt>,
 
-    /// The place of each name. A name that was cut may stand here still.
+    /// The place of each name. May still hold a name that was cut.
     places: BTreeMap<String, u32>,
 }
 
@@ -45,7 +45,7 @@ impl NameTable {
         self.names.len()
     }
 
-    /// The place of a name.
+    /// Finds the place of a name.
     pub(crate) fn find(&self, name: &str) -> Option<u32>
         ensures { result ≡ name_place self.now name.now }
     {
@@ -55,7 +55,7 @@ impl NameTable {
         }
     }
 
-    /// Puts a name last. Unchanged after OutOfMemory, which comes too where there are some four thousand million names.
+    /// Appends a name. Unchanged after `OutOfMemory`, which is also returned past the last place of 32 bits.
     pub(crate) fn push(&mut self, name: &str) -> Result<(), OutOfMemory>
         requires { name_place self.old name.now ≡ None }
         ensures { MatchResult result (λ _. self.new ≡ self.old ++ name.now ∷ []) (λ _. self.new ≡ self.old) }
@@ -75,7 +75,7 @@ impl NameTable {
         Ok(())
     }
 
-    /// Keeps the first `len` names alone.
+    /// Keeps only the first `len` names.
     pub(crate) fn cut(&mut self, len: usize)
         requires { len ≤ length self.old }
         ensures { self.new ≡ take len self.old }
@@ -90,7 +90,7 @@ fn stands_at(names: &[Txt], place: u32, name: &str) -> bool
     (place as usize) < names.len() && names[place as usize].as_str() == name
 }
 
-/// Puts a name last where there is room for it.
+/// Appends a name if there is room for it.
 fn put(names: &mut Vec<Txt>, name: Txt)
     requires { vec_len names.old < vec_capacity names.old }
     ensures { names.new.items ≡ names.old.items ++ name ∷ [] }

@@ -1,4 +1,4 @@
--- BaseLemmas: what a kept type of each variant stands for.
+-- BaseLemmas: the meaning of a kept type of each variant.
 use Rattle.std.proofs.Common.{◌≡◌, ℕ, ◌<◌, List, [], ◌∷◌, refl, Option, Some, length, get_or, map, sym, ap, subst, ◌∙◌}
 use Rattle.std.specs.List.{slice_get}
 use Rattle.std.proofs.lemmas.List.{length-map, get_or-map}
@@ -42,7 +42,7 @@ base_of-Tuple n fields = ap base_of (sym (base.rolls-Tuple n fields)) ∙ fold-r
 
 pub ruleset base_laws = (base_of-Int, base_of-UInt, base_of-Bool, base_of-Text, base_of-AnyVertex, base_of-Time, base_of-VertexOf, base_of-Tuple)
 
--- ---- what is read of a list
+-- ---- reading from a list
 
 pub read_map : {A B : Type 0} (f : A → B) (ts : List A) (i : ℕ) (t : A) → i < length ts → t ≡ get_or ts i t → slice_get (map f ts) i ≡ Some (f t)
 read_map f ts i t low read =

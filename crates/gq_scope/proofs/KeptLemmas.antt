@@ -1,4 +1,4 @@
--- The places of tuple types stay right when a name is added, and when names are cut.
+-- The places of tuple types stay correct when a name is added, and when names are cut.
 use Rattle.std.proofs.Common.{ℕ, ◌+◌, ◌-◌, ◌<◌, ◌≤◌, ◌≡◌, Bool, cond, List, [], ◌∷◌, ◌++◌, length, take, drop, Option, Some, None, refl, ap, sym, ◌∙◌, arith}
 use Rattle.std.specs.Option.{is_some}
 use Rattle.std.proofs.lemmas.List.{length-take-le}
@@ -7,7 +7,7 @@ use Rattle.gq_scope.specs.declared.entry.Entry.{Entry}
 use Rattle.gq_scope.specs.Kept.{noted, tuple_in, is_tuple, tuple_types, tuple_places, IsNumbered}
 use Rattle.gq_scope.proofs.TupleLemmas.{places_push, places_cut}
 
--- a place by whether a tuple type stands there
+-- a place, if a tuple type is stored there
 noted_if : {A : Type 0} (o : Option A) (n : ℕ) → cond (is_some o) (n ∷ []) [] ≡ noted o n []
 noted_if None n = refl
 noted_if (Some a) n = refl

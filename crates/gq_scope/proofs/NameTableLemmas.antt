@@ -1,4 +1,5 @@
--- What a table of names keeps beside them: what is found by it, and how it stays right when a name is added, and when the last one goes.
+-- The lookup data of a name table: what it finds, and that it stays correct when a name is added or the last one
+-- removed.
 use Rattle.std.proofs.Common.{ℕ, zero, suc, ◌+◌, ◌<◌, ◌≤◌, ◌≡◌, Bool, true, false, cond, List, [], ◌∷◌, ◌++◌, reverse, length, get_or, map, Option, Some, None, refl, ap, sym, ◌∙◌, arith}
 use Rattle.std.specs.BTreeMap.{BTreeMap, get_by_text}
 use Rattle.std.specs.Map.{update}
@@ -11,7 +12,7 @@ use Rattle.gq_rules_typing.specs.Statements.{Bytes}
 use Rattle.gq_rules_typing.specs.Words.{under}
 use Rattle.gq_scope.specs.NameTables.{newest_first, last_of, hidden_by, row_of, IsKept}
 
--- ---- what is found under a name
+-- ---- the lookup of a name
 
 low_last : (ns : List Bytes) (name : Bytes) → last_of ns name ≤ length ns
 low_last [] name = omega arith
@@ -21,7 +22,7 @@ low_last (n ∷ ns) name = either (bytes_eq n name) (low_last ns name)
     either true low = omega arith
     either false low = omega arith
 
--- the rows come here with the last one first
+-- here the rows are in reverse order, the last one first
 nothing_under : {A : Type 0} (name : Bytes) (rs : List (Bytes × A)) → last_of (map (λ r. r.0) rs) name ≡ 0 → under bytes_eq name rs ≡ None
 nothing_under name [] is = refl
 nothing_under {A = A} name (r ∷ rs) is = either (bytes_eq r.0 name) (nothing_under name rs) is
@@ -50,7 +51,7 @@ something_under {A = A} name (r ∷ rs) n d is = either (bytes_eq r.0 name) (som
         rest is
         ∙ ap (λ (x : Bytes × A). Some x.1) (sym (get_or_append_left (reverse rs) (r ∷ []) d n low) ∙ ap (λ xs. get_or xs n d) (sym turned))
 
--- what each under its name becomes
+-- mapping the values maps the value that is found
 pub under_map : {A B : Type 0} (f : A → B) (name : Bytes) (rs : List (Bytes × A))
     → option_map f (under bytes_eq name rs) ≡ under bytes_eq name (map (λ r. (r.0, f r.1)) rs)
 under_map f name [] = refl
@@ -61,7 +62,7 @@ under_map {A = A} {B = B} f name (r ∷ rs) = step (bytes_eq r.0 name) (under_ma
     step true same = refl
     step false same = same
 
--- ---- a name more, and fewer
+-- ---- a name added or removed
 
 module _ {A Y : Type 0} (rows : List (Bytes × A)) (hidden : List ℕ) (last : BTreeMap (String Y) ℕ) where
   long : length (newest_first rows) ≡ length rows
@@ -78,12 +79,12 @@ module _ {A Y : Type 0} (rows : List (Bytes × A)) (hidden : List ℕ) (last : B
   row_found name n d kept is =
       ap (λ xs. Some (get_or xs n d).1) (sym (reverse-reverse rows)) ∙ sym (something_under name (reverse rows) n d (sym (kept.ended name) ∙ is))
 
-  -- the table with one name more, its row being the last of its name
+  -- the table with one more name, whose row becomes the last of that name
   module _ (e : Bytes × A) (h : ℕ) (other : BTreeMap (String Y) ℕ) where
     newest : newest_first (rows ++ e ∷ []) ≡ e.0 ∷ newest_first rows
     newest = ap (map (λ (r : Bytes × A). r.0)) (reverse-append rows (e ∷ []))
 
-    -- the tree was given the new row under the name's bytes, and had this under them
+    -- the tree maps the name's bytes to the new row; `found` is the row that it had before
     module _ (key : Bytes) (found : Option ℕ) (row : ℕ) (key_is : key ≡ e.0) (row_is : row ≡ suc (length rows)) where
       pub kept_push : found ≡ get_by_text last key → h ≡ unwrap_or found 0
           → ((name : Bytes) → get_by_text other name ≡ update bytes_eq (get_by_text last) key (Some row) name)
@@ -125,7 +126,7 @@ module _ {A Y : Type 0} (rows : List (Bytes × A)) (hidden : List ℕ) (last : B
         either name true same is = first ∙ ap (last_of (newest_first rows)) (same refl)
         either name false same is = is
 
-    -- the name that goes is there
+    -- the removed name is in the tree
     pub kept_there : IsKept (rows ++ e ∷ []) (hidden ++ h ∷ []) other → IsSome (get_by_text other e.0)
     kept_there kept = some_of (get_by_text other e.0) (length (newest_first rows)) (kept.ended e.0 ∙ ap (λ ns. last_of ns e.0) newest
         ∙ ap (λ b. cond b (suc (length (newest_first rows))) (last_of (newest_first rows) e.0)) ((bytes_eq-Decides e.0 e.0).1 refl))

@@ -1,4 +1,4 @@
--- Tuple types among the names: their places, and the names that are cut.
+-- Tuple types among the names: their places, and cutting of names.
 use Rattle.std.proofs.Common.{ℕ, zero, suc, ◌+◌, ◌-◌, ◌<◌, ◌≤◌, ◌≡◌, Bool, true, false, cond, List, [], ◌∷◌, ◌++◌, length, get_or, take, drop, map, Option, Some, None, refl, ap, sym, ◌∙◌, subst, arith, below_more}
 use Rattle.std.specs.Str.{bytes_eq}
 use Rattle.std.specs.Option.{option_map, is_some}
@@ -28,7 +28,7 @@ places_push n (x ∷ xs) e =
     ap (noted (tuple_in x.1) n) (places_push (suc n) xs e ∙ ap (λ m. tuple_places (suc n) xs ++ noted (tuple_in e.1) m []) (let same : suc n + length xs ≡ n + suc (length xs) = omega arith in same))
     ∙ noted_push (tuple_in x.1) n (tuple_places (suc n) xs) (noted (tuple_in e.1) (n + suc (length xs)) [])
 
--- ---- how many
+-- ---- their number
 
 count_step : (o : Option (List (Bytes × BaseType))) (name : Bytes) (n : ℕ) (ns : List ℕ) (ts : List (Bytes × List (Bytes × BaseType)))
     → length ns ≡ length ts → length (noted o n ns) ≡ length (cons_option (option_map (λ fields. (name, fields)) o) ts)
@@ -55,7 +55,7 @@ unfolding one_count
 one_counted name None = refl
 one_counted name (Some a) = refl
 
--- the count of one name more
+-- the count after one more name
 pub counted : (xs : List (Bytes × Entry)) (i : ℕ) (row : Bytes × Entry) (b : Bool) → i < length xs → row ≡ get_or xs i row → b ≡ is_tuple row.1
     → length (tuple_types (take (i + 1) xs)) ≡ length (tuple_types (take i xs)) + cond b 1 0
 unfolding one_count
@@ -69,7 +69,7 @@ counted xs i row b low read is =
 pub count_fits : (xs : List (Bytes × Entry)) (i n : ℕ) → i < length xs → n ≡ length (tuple_types (take i xs)) → n ≤ i
 count_fits xs i n low is = let short : length (take i xs) ≡ i = length-take-le i xs (omega arith) in omega (arith, types_few (take i xs))
 
--- ---- names that are cut
+-- ---- cutting of names
 
 places_split : (n k : ℕ) (xs : List (Bytes × Entry)) → tuple_places n xs ≡ tuple_places n (take k xs) ++ tuple_places (n + k) (drop k xs)
 places_split n k [] = step k
@@ -82,7 +82,7 @@ places_split n (suc k) (x ∷ xs) =
     ap (noted (tuple_in x.1) n) (places_split (suc n) k xs ∙ ap (λ m. tuple_places (suc n) (take k xs) ++ tuple_places m (drop k xs)) (let same : suc n + k ≡ n + suc k = omega arith in same))
     ∙ noted_push (tuple_in x.1) n (tuple_places (suc n) (take k xs)) (tuple_places (n + suc k) (drop k xs))
 
--- the places that are left
+-- the places that remain
 pub places_cut : (k kept : ℕ) (xs : List (Bytes × Entry)) (tuples : List ℕ) → tuples ≡ tuple_places 0 xs
     → kept ≡ length tuples - length (tuple_types (drop k xs)) → take kept tuples ≡ tuple_places 0 (take k xs)
 places_cut k kept xs tuples are count =
@@ -94,7 +94,7 @@ places_cut k kept xs tuples are count =
     let this : kept ≡ length front = omega (arith, count, gone, all) in
     ap (λ n. take n tuples) this ∙ ap (take (length front)) both ∙ take-append_seam front back
 
--- no more are gone than there were
+-- no more places are removed than there were
 pub places_gone : (k : ℕ) (xs : List (Bytes × Entry)) (tuples : List ℕ) → tuples ≡ tuple_places 0 xs → length (tuple_types (drop k xs)) ≤ length tuples
 places_gone k xs tuples are =
     let front = tuple_places 0 (take k xs) in
@@ -104,7 +104,7 @@ places_gone k xs tuples are =
 
 -- ---- by number
 
--- what the tuple type at a place is
+-- the tuple type whose name is at a place
 abbrev pub IsTupleAt : ℕ → List (Bytes × Entry) → ℕ → Option (Bytes × List (Bytes × BaseType)) → Type 0
 IsTupleAt n xs p t = (n ≤ p) × (p < n + length xs) × (t ≡ named_tuple (name_at xs (p - n)))
 
@@ -161,7 +161,7 @@ no_tuple xs tuples i are over =
 
 -- ---- by name
 
--- none of the first few has the name
+-- none of the first i tuple types has the name
 abbrev pub Misses : List (Bytes × Entry) → Bytes → ℕ → Type 0
 Misses xs name n = (k : ℕ) → k < n → bytes_eq (get_or (tuple_types xs) k ([], [])).0 name ≡ false
 
@@ -201,7 +201,7 @@ tuple_missing xs tuples name n are all before =
 pub tuples_few : (xs : List (Bytes × Entry)) (tuples : List ℕ) → tuples ≡ tuple_places 0 xs → length tuples ≤ length xs
 tuples_few xs tuples are = omega (arith, ap length are, places_count 0 xs, types_few xs)
 
--- the n-th, with its fields as typing has them
+-- the n-th, with its fields as the rules of typing have them
 pub typed_at : {A B : Type 0} (f : A → B) (ts : List (Bytes × A)) (n : ℕ)
     → option_map f (option_map (λ (t : Bytes × A). t.1) (slice_get ts n)) ≡ option_map (λ (t : Bytes × B). t.1) (slice_get (map {A = Bytes × A} {B = Bytes × B} (λ t. (t.0, f t.1)) ts) n)
 typed_at f [] n = refl

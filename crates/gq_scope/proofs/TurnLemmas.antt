@@ -1,4 +1,4 @@
--- TurnLemmas: names with the last one first, as they are added and cut at their end.
+-- TurnLemmas: names in reverse order, as they are added and cut at their end.
 use Rattle.std.proofs.Common.{ℕ, ◌-◌, ◌≤◌, ◌≡◌, List, [], ◌∷◌, ◌++◌, length, take, drop, reverse, ap, sym, ◌∙◌, arith}
 use Rattle.std.proofs.Math.Seq.{drop-append_seam}
 use Rattle.std.proofs.lemmas.List.{reverse-append, length-reverse, length-drop, take-append-drop}

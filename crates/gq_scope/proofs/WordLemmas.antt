@@ -1,4 +1,4 @@
--- The types of the catalog by name and by number, as typing has them; and tuple types by name.
+-- The types of the catalog by name and by number, as the rules of typing have them; and tuple types by name.
 use Rattle.std.proofs.Common.{ℕ, ◌+◌, ◌≡◌, Bool, cond, List, [], ◌∷◌, map, Some, refl, ap, sym, ◌∙◌}
 use Rattle.std.specs.List.{position, position_from}
 use Rattle.std.proofs.lemmas.Iterator.Adapters.{position_from-zero}
@@ -21,7 +21,7 @@ named_from : {A B : Type 0} (f : A → B) (p : Bytes → Bool) (n : ℕ) (ts : L
 named_from f p n [] = refl
 named_from f p n (t ∷ ts) = ap (cond (p t.0) (Some n)) (named_from f p (n + 1) ts)
 
--- a name has its place whatever stands beside it
+-- the place of a name doesn't depend on the values
 pub named_place : {A B : Type 0} (f : A → B) (p : Bytes → Bool) (ts : List (Bytes × A))
     → position (λ (t : Bytes × A). p t.0) ts ≡ position (λ (t : Bytes × B). p t.0) (map {A = Bytes × A} {B = Bytes × B} (λ t. (t.0, f t.1)) ts)
 named_place {A = A} {B = B} f p ts =

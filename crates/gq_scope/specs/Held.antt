@@ -1,4 +1,4 @@
--- Held: what a scope holds, and the scope and place of gq_rules_typing that it stands for.
+-- Held: what a scope holds, and the scope and place of gq_rules_typing that it represents.
 use Rattle.std.specs.Prelude.{ℕ, Bool, List, map, reverse, slice_get, Option, Some, None}
 use Rattle.gq_graph.specs.Catalog.{Schema}
 use Rattle.gq_graph.specs.declared.types.GraphType.{GraphType}
@@ -23,9 +23,9 @@ pub record Held : Type 0 where
   pub place : typing.Place Bytes
   pub with_paths : Bool
 
--- ---- what the code's entries and places stand for
+-- ---- the meaning of the code's entries and places
 
--- a tuple type's fields are among those of the setting
+-- the fields of a tuple type are in the setting instead
 abbrev pub entry_of : Entry → typing.Entry
 entry_of (entry.Variable b) = typing.Variable (base_of b)
 entry_of (entry.SetVariable types) = typing.SetVariable types
@@ -46,7 +46,7 @@ place_of place.Opening = typing.InOpening
 place_of (place.Selection set) = typing.InSelection set.now
 place_of (place.Tail selected) = typing.InTail selected.now
 
--- ---- what the scope stands for
+-- ---- the meaning of the scope
 
 -- the graph, by its number
 abbrev pub graph_in : Schema → Option ℕ → Option GraphType
@@ -65,7 +65,7 @@ setting_in h = record {
   tuples = map (λ t. (t.0, fields_of t.1)) (tuple_types h.names);
 }
 
--- the names, of which the last one comes first
+-- the names, the last one first
 unfoldable pub scope_in : Held → typing.Scope Bytes
 scope_in h = record {
   setting = setting_in h;

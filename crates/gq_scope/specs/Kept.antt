@@ -1,4 +1,4 @@
--- Kept: the tuple types among names, in the order in which they were added; and what the code keeps of them.
+-- Kept: the tuple types among names, in the order in which they were added, and what the code keeps of them.
 use Rattle.std.specs.Prelude.{ℕ, suc, ◌<◌, ◌≡◌, Bool, List, [], ◌∷◌, length, filter_map, slice_index_or, Option, Some, None}
 use Rattle.std.specs.Option.{is_some, option_map}
 use Rattle.gq_value.specs.declared.kind.BaseType.{BaseType}
@@ -24,30 +24,30 @@ is_tuple e = is_some (tuple_in e)
 abbrev pub named_tuple : Bytes × Entry → Option (Bytes × List (Bytes × BaseType))
 named_tuple e = option_map (λ fields. (e.0, fields)) (tuple_in e.1)
 
--- the tuple types, of which each has its place in this list as its number
+-- the tuple types; the number of each is its place in this list
 abbrev pub tuple_types : List (Bytes × Entry) → List (Bytes × List (Bytes × BaseType))
 tuple_types names = filter_map named_tuple names
 
 -- ---- what the code keeps
 
--- what stands at no place
+-- the default entry, for places without one
 abbrev pub nothing : Bytes × Entry
 nothing = ([], entry.TupleType [])
 
 abbrev pub name_at : List (Bytes × Entry) → ℕ → Bytes × Entry
 name_at names n = slice_index_or names n nothing
 
--- a place before others, where a tuple type stands there
+-- a place prepended to others, if a tuple type is stored there
 abbrev pub noted : {A : Type 0} → Option A → ℕ → List ℕ → List ℕ
 noted None n ns = ns
 noted (Some a) n ns = n ∷ ns
 
--- the places of tuple types, where the first name has place n
+-- the places of tuple types, counted from n for the first name
 abbrev pub tuple_places : ℕ → List (Bytes × Entry) → List ℕ
 tuple_places n [] = []
 tuple_places n (e ∷ es) = noted (tuple_in e.1) n (tuple_places (suc n) es)
 
--- the code has these places at hand, and there aren't too many
+-- the code keeps these places, and their number is within the limit
 pub record IsNumbered (names : List (Bytes × Entry)) (tuples : List ℕ) : Type 0 where
   pub numbered : tuples ≡ tuple_places 0 names
   pub few : length names < 4294967296

@@ -1,11 +1,11 @@
--- Named: the names that are visible, each with its place, and the next place.
+-- Named: the visible names, each with its place, and the next place.
 use Rattle.std.specs.Prelude.{ℕ, suc, ◌-◌, Bool, false, List, ◌∷◌, length, drop, Option, Some, None}
 use Rattle.std.specs.Option.{option_map}
 use Rattle.std.specs.Str.{bytes_eq}
 use Rattle.gq_rules_typing.specs.Words.{under}
 use Rattle.gq_scope.specs.declared.places.NameBinding.{NameBinding}
 
--- the last one that came into view comes first
+-- the names are in reverse order: the last one added comes first
 pub record Named : Type 0 where
   pub visible : List (List ℕ × NameBinding)
   pub next : ℕ
@@ -26,12 +26,12 @@ marked_in (Some s) = s.marked
 abbrev pub is_marked : Named → List ℕ → Bool
 is_marked n x = marked_in (seen_at n x)
 
--- ---- names that come and go
+-- ---- adding and removing names
 
--- a name takes the next place
+-- a new name takes the next place
 abbrev pub with_name : Named → List ℕ → Bool → Named
 with_name n x marked = record { visible = (x, record { place = n.next; marked = marked }) ∷ n.visible; next = suc n.next }
 
--- the first so many; no place is taken again
+-- only the first names are kept; places aren't reused
 abbrev pub kept : ℕ → Named → Named
 kept k n = record { visible = drop (length n.visible - k) n.visible; next = n.next }

@@ -1,4 +1,4 @@
--- Views: what the code's types and faults stand for, and when an answer is the one that a rule gives.
+-- Views: the meaning of the code's types and faults, and when a result is the one that a rule gives.
 use Rattle.std.specs.Prelude.{ℕ, ◌≡◌, ◌≢◌, Bool, true, List, map, Option, Some, None, Result, Ok, Err}
 use Rattle.std.specs.Borrow.{Bor}
 use Rattle.gq_value.specs.Accums as plain
@@ -50,7 +50,7 @@ typed_is (typed.EdgeOf ts) = judging.EdgeOf ts.now
 typed_is (typed.SetOf ts) = judging.SetOf ts.now
 typed_is (typed.MemberOf ts) = judging.MemberOf ts.now
 
--- what a fault is; of OutOfMemory nothing is said, and it may come at any time
+-- the meaning of a fault; OutOfMemory is left open and may occur at any time
 abbrev pub fault_is : TypeFault → judging.TypingFault
 fault_is fault.Mismatch = judging.Mismatch
 fault_is (fault.UnknownName name) = judging.UnknownName name
@@ -58,7 +58,7 @@ fault_is (fault.NoAttribute name) = judging.NoAttribute name
 fault_is fault.NotAllowedHere = judging.NotAllowedHere
 fault_is fault.OutOfMemory = judging.TooMany
 
--- an answer is what a rule gives, or its fault, but for OutOfMemory
+-- a result is what a rule gives, or its fault, except for OutOfMemory
 abbrev pub Judges : {A B : Type 0} → (B → A) → judging.Judged A → Result B TypeFault → Type 0
 Judges view j (Ok b) = j ≡ Ok (view b)
 Judges view j (Err e) = e ≢ fault.OutOfMemory → j ≡ Err (fault_is e)
@@ -68,15 +68,15 @@ abbrev pub IsValue : judging.Judged plain.Base → Option Base → Type 0
 IsValue j None = j ≡ Err judging.Mismatch
 IsValue j (Some b) = j ≡ Ok (base_is b)
 
--- where a test fails, type mismatch
+-- type mismatch, if a test fails
 abbrev pub matched : Bool → judging.Judged Bool
 matched test = judging.unless judging.Mismatch test
 
--- where a test fails, not allowed here
+-- not allowed here, if a test fails
 abbrev pub allowed : Bool → judging.Judged Bool
 allowed test = judging.unless judging.NotAllowedHere test
 
--- a rule on a value, of an expression's type
+-- a rule on a value, applied to the type of an expression
 abbrev pub on_value : (plain.Base → judging.Judged judging.Typed) → judging.Typed → judging.Judged judging.Typed
 on_value rule x = as_base x >>= rule
 
@@ -84,11 +84,11 @@ on_value rule x = as_base x >>= rule
 abbrev pub compared : CmpSign → judging.Typed → judging.Typed → judging.Judged judging.Typed
 compared sign x y = matched (comparable sign x y) >> Ok (judging.Of plain.BOOL)
 
--- a kind that is lent
+-- a borrowed kind
 abbrev pub kind_is : Bor Kind → plain.Accum
 kind_is k = accum_of k.now
 
--- what a group's part reads as, where it is there
+-- the type that reading a group's part gives, if the part exists
 abbrev pub part_read : Bytes → Option plain.Accum → judging.Judged judging.Typed
 part_read name k = or_fault (judging.NoAttribute name) k >>= λ kind. Ok (read_type kind)
 

@@ -1,4 +1,4 @@
-// Faults.
+// Faults of typing.
 ghost use Rattle.std.specs.Prelude.{◌≡◌, ◌≢◌, true};
 ghost use Rattle.gq_rules_typing.specs.Judging as judging;
 ghost use Rattle.gq_scope.specs.Views.{fault_is, Judges};
@@ -9,7 +9,7 @@ use gq_value::Txt;
 use std::alloc::{AllocFailed, Global};
 use thiserror::Error;
 
-/// Why an expression has no type: the first rule that fails in order of text.
+/// Why an expression has no type: the first rule that fails, in the order of the text.
 #[derive(Debug, Drop, Error)]
 pub enum TypeFault {
     #[error("type mismatch")]
@@ -46,7 +46,7 @@ impl<T: Drop> From<AllocFailed<T>> for TypeFault {
     }
 }
 
-/// UnknownName, or OutOfMemory where the name can't be kept.
+/// Returns UnknownName, or OutOfMemory if the name can't be copied.
 pub fn unknown(alloc: Global, name: &str) -> TypeFault
     ensures { result ≢ TypeFault.OutOfMemory → fault_is result ≡ judging.UnknownName name.now }
 {
@@ -56,7 +56,7 @@ pub fn unknown(alloc: Global, name: &str) -> TypeFault
     }
 }
 
-/// NoAttribute, or OutOfMemory where the name can't be kept.
+/// Returns NoAttribute, or OutOfMemory if the name can't be copied.
 pub fn no_attribute(alloc: Global, name: &str) -> TypeFault
     ensures { result ≢ TypeFault.OutOfMemory → fault_is result ≡ judging.NoAttribute name.now }
 {
@@ -66,7 +66,7 @@ pub fn no_attribute(alloc: Global, name: &str) -> TypeFault
     }
 }
 
-/// Type mismatch, where a test fails.
+/// Returns type mismatch if a test fails.
 pub fn matched(test: bool) -> Result<(), TypeFault>
     ensures { Judges (λ _. true) (spec.matched test) result }
 {
@@ -76,7 +76,7 @@ pub fn matched(test: bool) -> Result<(), TypeFault>
     }
 }
 
-/// Not allowed here, where a test fails.
+/// Returns not allowed here if a test fails.
 pub fn allowed(test: bool) -> Result<(), TypeFault>
     ensures { Judges (λ _. true) (spec.allowed test) result }
 {

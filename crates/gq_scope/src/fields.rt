@@ -5,7 +5,7 @@ ghost use Rattle.gq_rules_typing.specs.Words as words;
 use gq_base::OutOfMemory;
 use gq_value::{BaseType, Txt};
 
-/// The place of the first field of a name. OutOfMemory comes too where there are some four thousand million fields.
+/// Finds the place of the first field of a name. Also returns `OutOfMemory` past the last place of 32 bits.
 #[tactic(auto, using(crate::proofs::FieldLemmas::place_laws))]
 pub fn field_place(fields: &[(Txt, BaseType)], name: &str) -> Result<Option<u32>, OutOfMemory>
     ensures { IfOk result (λ place. place ≡ words.place_of (map (λ f. f.0) fields.now) name.now) }

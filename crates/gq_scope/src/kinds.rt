@@ -1,4 +1,4 @@
-// What accumulators of a kind read as, and what they take.
+// What accumulators of a kind yield when read, and what inputs they take.
 ghost use Rattle.std.specs.Prelude.{◌≡◌, map};
 ghost use Rattle.gq_value.specs.Accums.{TUPLE};
 ghost use Rattle.std.specs.Option.{option_map};
@@ -9,7 +9,7 @@ ghost use Rattle.gq_scope.specs.Views.{types_are, base_is, typed_is};
 use crate::typed::{Base, TupleFieldTypes, Typed};
 use gq_value::{HeapShape, Kind};
 
-/// What reading an accumulator of the kind gives.
+/// The type of a read of an accumulator of the kind.
 #[tactic(auto, using(gq_value::proofs::AccumLemmas::accum_laws))]
 pub fn read_type(kind: &Kind) -> Typed<'_>
     ensures { typed_is result ≡ spec.read_type (accum_of kind.now) }
@@ -24,7 +24,7 @@ pub fn read_type(kind: &Kind) -> Typed<'_>
     }
 }
 
-/// The type that `=` sets it to, where it can be set.
+/// The type of value that `=` sets it to, if it can be set.
 #[tactic(auto, using(gq_value::proofs::AccumLemmas::accum_laws))]
 pub fn set_type(kind: &Kind) -> Option<Base<'_>>
     ensures { option_map base_is result ≡ spec.set_type (accum_of kind.now) }
@@ -38,7 +38,7 @@ pub fn set_type(kind: &Kind) -> Option<Base<'_>>
     }
 }
 
-/// The type of an input that is one value, where it takes such inputs.
+/// The type of an input that is one value, if it takes such inputs.
 #[tactic(auto, using(gq_value::proofs::AccumLemmas::accum_laws))]
 pub fn input_type(kind: &Kind) -> Option<Base<'_>>
     ensures { option_map base_is result ≡ spec.input_type (accum_of kind.now) }
@@ -53,7 +53,7 @@ pub fn input_type(kind: &Kind) -> Option<Base<'_>>
     }
 }
 
-/// The type of an element, where it has elements in an order of their own.
+/// The type of an element, if it has elements in a defined order.
 #[tactic(auto, using(gq_value::proofs::AccumLemmas::accum_laws))]
 pub fn element_type(kind: &Kind) -> Option<Base<'_>>
     ensures { option_map base_is result ≡ spec.element_type (accum_of kind.now) }
@@ -66,7 +66,7 @@ pub fn element_type(kind: &Kind) -> Option<Base<'_>>
     }
 }
 
-/// The type of what `.contains` looks for: a heap has no `.contains`.
+/// The type of the argument of `.contains`; a heap has no `.contains`.
 #[tactic(auto, using(gq_value::proofs::AccumLemmas::accum_laws))]
 pub fn contained_type(kind: &Kind) -> Option<Base<'_>>
     ensures { option_map base_is result ≡ spec.contained_type (accum_of kind.now) }

@@ -1,11 +1,11 @@
-//! The visible names of a query: scopes for the type checker, and places of the frame for the planner.
+//! The visible names of a query: scopes for the type checker, and frame places for the planner.
 //!
-//! A `Scope` implements the scope of `gq_rules_typing` with trees of names. In `Places`, each name that comes
-//! into view takes a place of its own, even if it shadows another; the names of a body go out of view at its
+//! A `Scope` implements the scope of `gq_rules_typing` with trees of names. In `Places`, each name that becomes
+//! visible takes a new place, even if it shadows another; the names of a body are removed at its
 //! end, and their places aren't reused.
 //!
 //! Read `specs/Held.antt` first: which scope of the rules a `Scope` represents. Then read `specs/Named.antt`
-//! (names with places) and `specs/Views.antt` (when an answer of the checker is that of a rule).
+//! (names with places) and `specs/Views.antt` (when a result of the checker is that of a rule).
 //! `src/scope.rt` has scopes, `src/places.rt` places, and `src/typed.rt` and `src/fault.rt` the results of
 //! typing an expression.
 #![tactic(auto)]

@@ -1,4 +1,4 @@
-// Names with what stands under each, found fast.
+// Names with a value for each, with a fast lookup.
 ghost use Rattle.std.specs.Prelude.{◌≡◌, ◌≤◌, ◌<◌, ◌-◌, ◌++◌, [], ◌∷◌, length, take, reverse, vec_len, vec_capacity, List, ℕ, Some, IsSome, MatchResult};
 ghost use Rattle.std.specs.BTreeMap.{get_by_text};
 ghost use Rattle.std.specs.Map.{update};
@@ -13,9 +13,10 @@ use std::alloc::Global;
 use std::collections::BTreeMap;
 use std::marker::Model;
 
-/// Names with what stands under each, in the order in which they were added. A name may be added again, and hides the one before it.
+/// Names with their values, in the order in which they were added. A name may be added again and then hides the earlier
+/// one.
 ///
-/// A row is written as one more than its place, so that 0 is none.
+/// A row number is stored plus one, so that 0 is none.
 #[derive(Drop)]
 pub(crate) struct NameTable<T> {
     rows: Vec<(Txt, T)>,
@@ -58,14 +59,14 @@ impl<T> NameTable<T> {
         self.rows.len() as u32
     }
 
-    /// The names in order, each with what stands under it.
+    /// The names in order, each with its value.
     pub(crate) fn rows(&self) -> &[(Txt, T)]
         ensures { result.now ≡ self.now }
     {
         self.rows.as_slice()
     }
 
-    /// What stands under the last one of a name.
+    /// Finds the value of the last entry of a name.
     pub(crate) fn find(&self, name: &str) -> Option<&T>
         ensures { option_copied result ≡ under bytes_eq name.now (reverse self.now) }
     {
@@ -77,7 +78,7 @@ impl<T> NameTable<T> {
 }
 
 impl<T: Drop> NameTable<T> {
-    /// Puts a name last. Unchanged after OutOfMemory, which comes too where there are some four thousand million names.
+    /// Appends a name. Unchanged after `OutOfMemory`, which is also returned past the last place of 32 bits.
     pub(crate) fn push(&mut self, name: &str, what: T) -> Result<(), OutOfMemory>
         ensures added { MatchResult result (λ _. self.new ≡ self.old ++ (name.now, what) ∷ []) (λ _. self.new ≡ self.old) }
         ensures few { length self.new < 4294967296 }
@@ -100,7 +101,7 @@ impl<T: Drop> NameTable<T> {
         Ok(())
     }
 
-    /// Keeps the first `len` names alone.
+    /// Keeps only the first `len` names.
     pub(crate) fn cut(&mut self, len: u32)
         requires { len ≤ length self.old }
         ensures { self.new ≡ take len self.old }
@@ -121,7 +122,7 @@ fn last_row(last: &BTreeMap<String, u32>, name: &str) -> u32
     }
 }
 
-/// Takes the last name away. The one that it hid is the last of its name again.
+/// Removes the last name. The entry that it hid becomes the last of its name again.
 fn drop_last<T: Drop>(
     rows: &mut Vec<(Txt, T)>,
     hidden: &mut Vec<u32>,
@@ -138,7 +139,7 @@ fn drop_last<T: Drop>(
     }
 }
 
-/// Makes a row the last one of a name that has one.
+/// Makes a row the last one of a name that has an entry.
 fn restore(last: &mut BTreeMap<String, u32>, name: &str, row: u32)
     requires { IsSome (get_by_text last.old name.now) }
     ensures { (other : List ℕ) → get_by_text last.new other ≡ update bytes_eq (get_by_text last.old) name.now (Some row) other }
@@ -148,7 +149,7 @@ fn restore(last: &mut BTreeMap<String, u32>, name: &str, row: u32)
     }
 }
 
-/// Puts an item last where there is room for it.
+/// Appends an item if there is room for it.
 fn put<T: Drop>(items: &mut Vec<T>, item: T)
     requires { vec_len items.old < vec_capacity items.old }
     ensures { items.new.items ≡ items.old.items ++ item ∷ [] }

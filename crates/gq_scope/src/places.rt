@@ -1,4 +1,4 @@
-// Visible names, of which each has a place of its own.
+// Visible names, each with a place.
 ghost use Rattle.std.specs.Prelude.{◌≡◌, ◌≤◌, [], length, MatchResult};
 ghost use Rattle.std.specs.Option.{is_some};
 ghost use Rattle.gq_scope.specs.Named.{seen_at, place_at, is_marked, with_name, kept};
@@ -8,14 +8,14 @@ use gq_base::OutOfMemory;
 use std::alloc::Global;
 use std::marker::Model;
 
-/// Where a visible name stands, and whether it is marked; a set variable is.
+/// The place of a visible name, and whether it is marked; set variables are.
 #[derive(Clone, Copy, Debug, PartialEq, Eq)]
 pub struct NameBinding {
     pub place: u32,
     pub marked: bool,
 }
 
-/// The visible names with their places, and the next place. Contracts see the names with the last one first.
+/// The visible names with their places, and the next place. Contracts see the names in reverse order.
 #[derive(Drop)]
 pub struct Places {
     table: NameTable<NameBinding>,
@@ -32,7 +32,7 @@ impl Model for Places {
 }
 
 impl Places {
-    /// No names.
+    /// Returns an empty table.
     pub fn new(alloc: Global) -> Places
         ensures { result ≡ record { visible = []; next = 0 } }
     {
@@ -42,7 +42,7 @@ impl Places {
         }
     }
 
-    /// How many names are visible.
+    /// The number of visible names.
     #[tactic(auto, using(crate::proofs::TurnLemmas::turn_laws))]
     pub fn len(&self) -> u32
         ensures { result ≡ length self.now.visible }
@@ -50,7 +50,7 @@ impl Places {
         self.table.len()
     }
 
-    /// Where a name stands: the last one that was added under it.
+    /// Finds the last entry that was added under a name.
     pub fn find(&self, name: &str) -> Option<NameBinding>
         ensures { result ≡ seen_at self.now name.now }
     {
@@ -80,8 +80,8 @@ impl Places {
         }
     }
 
-    /// Adds a name, marked or not, at the next place, which it gives. Unchanged after OutOfMemory, which comes too where there are some
-    /// four thousand million places.
+    /// Adds a name, marked or not, at the next place, and returns the place. Unchanged after `OutOfMemory`, which is
+    /// also returned past the last place of 32 bits.
     #[tactic(auto, using(crate::proofs::TurnLemmas::turn_laws))]
     pub fn add(&mut self, name: &str, marked: bool) -> Result<u32, OutOfMemory>
         ensures given { MatchResult result (λ place. place ≡ self.old.next) (λ _. self.new ≡ self.old) }
@@ -96,7 +96,7 @@ impl Places {
         Ok(place)
     }
 
-    /// Drops all names but the first `len`; their places aren't taken again.
+    /// Removes all names but the first `len`; their places aren't reused.
     #[tactic(auto, using(crate::proofs::TurnLemmas::turn_laws))]
     pub fn cut(&mut self, len: u32)
         requires { len ≤ length self.old.visible }

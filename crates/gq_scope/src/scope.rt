@@ -14,7 +14,7 @@ use gq_schema::Catalog;
 use std::alloc::Global;
 use std::marker::Model;
 
-/// The names that are visible in a query for a graph of a catalog, and where the next expression stands.
+/// The visible names of a query for a graph of a catalog, and the place of the next expression.
 #[derive(Drop)]
 pub struct Scope<'a> {
     catalog: &'a Catalog,
@@ -49,7 +49,8 @@ impl<'a> Model for Scope<'a> {
 }
 
 impl<'a> Scope<'a> {
-    /// No names, at the place of a statement, without paths. A query for no graph sees no type.
+    /// Returns a scope without names, at the place of a statement, without paths. A query without a graph sees no
+    /// types.
     pub fn new(alloc: Global, catalog: &'a Catalog, graph: Option<u32>) -> Scope<'a>
         requires { ForSome graph (λ g. g < length catalog.now.graphs) }
         ensures { result ≡ record { schema = catalog.now; graph = graph; names = []; place = typing.InStatement; with_paths = false } }
@@ -63,7 +64,7 @@ impl<'a> Scope<'a> {
         }
     }
 
-    /// Adds a name that isn't visible yet, that of an accumulator with its `@` or `@@`. Unchanged after OutOfMemory.
+    /// Adds a name that isn't visible yet; an accumulator's with its `@` or `@@`. Unchanged after OutOfMemory.
     pub fn add(&mut self, name: &str, what: Entry) -> Result<(), OutOfMemory>
         requires { is_some (typing.entry (scope_in self.old) name.now) ≡ false }
         ensures { MatchResult result
@@ -80,21 +81,21 @@ impl<'a> Scope<'a> {
         self.find(name).is_some()
     }
 
-    /// What a name is: the last one that was added under it.
+    /// Finds what a name refers to: the last entry that was added under it.
     pub fn find(&self, name: &str) -> Option<&Entry>
         ensures { option_map entry_of (option_copied result) ≡ typing.entry (scope_in self.now) name.now }
     {
         self.table.find(name)
     }
 
-    /// How many names are visible.
+    /// The number of visible names.
     pub fn len(&self) -> u32
         ensures { result ≡ length self.now.names }
     {
         self.table.len()
     }
 
-    /// Drops all names but the first `len`.
+    /// Removes all names but the first `len`.
     pub fn cut(&mut self, len: u32)
         requires { len ≤ length self.old.names }
         ensures { self.new ≡ record self.old { names = take len self.old.names } }
@@ -102,21 +103,21 @@ impl<'a> Scope<'a> {
         self.table.cut(len);
     }
 
-    /// Says where the next expression stands.
+    /// Sets the place of the next expression.
     pub fn put_at(&mut self, place: Place<'a>)
         ensures { self.new ≡ record self.old { place = place_of place.entry } }
     {
         self.place = place;
     }
 
-    /// Where the next expression stands.
+    /// The place of the next expression.
     pub fn place(&self) -> Place<'a>
         ensures { place_of result ≡ self.now.place }
     {
         self.place
     }
 
-    /// Says whether patterns may be paths.
+    /// Sets whether patterns may be paths.
     pub fn allow_paths(&mut self, allowed: bool)
         ensures { self.new ≡ record self.old { with_paths = allowed } }
     {
@@ -187,7 +188,7 @@ impl<'a> Scope<'a> {
     }
 }
 
-/// A number, where it is among these.
+/// A number, if it is among these.
 fn own(all: &[u32], number: Option<u32>) -> Option<u32>
     ensures { result ≡ if_own all.now number }
 {

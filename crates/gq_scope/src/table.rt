@@ -1,4 +1,4 @@
-// Names with what they are, found fast.
+// Names with what they refer to, with a fast lookup.
 ghost use Rattle.std.specs.Prelude.{◌≡◌, ◌≤◌, ◌<◌, ◌-◌, ◌++◌, [], ◌∷◌, if◌then◌else◌, length, take};
 ghost use Rattle.std.specs.Prelude.{vec_len, vec_capacity, map, reverse, Some, None, MatchResult, slice_get, filter_map, position};
 ghost use Rattle.std.specs.Option.{option_copied, option_map};
@@ -14,7 +14,7 @@ use gq_value::Txt;
 use std::alloc::Global;
 use std::marker::Model;
 
-/// Names with what they are, in the order in which they were added.
+/// Names with what they refer to, in the order in which they were added.
 #[derive(Drop)]
 pub(crate) struct EntryTable {
     names: NameTable<Entry>,
@@ -57,7 +57,7 @@ impl EntryTable {
         self.names.len()
     }
 
-    /// What the last one of a name is.
+    /// Finds what the last entry of a name refers to.
     pub(crate) fn find(&self, name: &str) -> Option<&Entry>
         ensures { option_copied result ≡ under bytes_eq name.now (reverse self.now) }
     {
@@ -78,7 +78,7 @@ impl EntryTable {
         tuple_at(self.names.rows(), &self.tuples, number)
     }
 
-    /// Puts a name last. Unchanged after OutOfMemory, which comes too where there are some four thousand million names.
+    /// Appends a name. Unchanged after `OutOfMemory`, which is also returned past the last place of 32 bits.
     pub(crate) fn push(&mut self, name: &str, what: Entry) -> Result<(), OutOfMemory>
         ensures { MatchResult result (λ _. self.new ≡ self.old ++ (name.now, what) ∷ []) (λ _. self.new ≡ self.old) }
     {
@@ -90,7 +90,7 @@ impl EntryTable {
         Ok(())
     }
 
-    /// Keeps the first `len` names alone.
+    /// Keeps only the first `len` names.
     pub(crate) fn cut(&mut self, len: u32)
         requires { len ≤ length self.old }
         ensures { self.new ≡ take len self.old }
@@ -125,7 +125,7 @@ fn tuple_at<'a>(names: &'a [(Txt, Entry)], tuples: &[u32], number: u32) -> Optio
     fields_of(&names[tuples[number as usize] as usize].1)
 }
 
-/// The fields of a tuple type.
+/// The fields of an entry that is a tuple type.
 fn fields_of(what: &Entry) -> Option<&TupleFields>
     ensures { option_copied result ≡ tuple_in what.now }
 {
@@ -139,7 +139,7 @@ fn fields_of(what: &Entry) -> Option<&TupleFields>
     }
 }
 
-/// How many are tuple types.
+/// The number of tuple types.
 fn tuple_count(names: &[(Txt, Entry)]) -> usize
     ensures { result ≡ length (tuple_types names.now) }
 {
@@ -158,7 +158,7 @@ fn is_tuple(what: &Entry) -> bool
     fields_of(what).is_some()
 }
 
-/// Puts the place of a tuple type last, and no other, where there is room for it.
+/// Appends the place, if it is that of a tuple type. There must be room for it.
 fn note(tuples: &mut Vec<u32>, is_tuple: bool, place: u32)
     requires { vec_len tuples.old < vec_capacity tuples.old }
     ensures { tuples.new.items ≡ tuples.old.items ++ (if is_tuple then place ∷ [] else []) }

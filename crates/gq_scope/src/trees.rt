@@ -1,4 +1,4 @@
-// What a rule asks of the form of a tree.
+// What rules inspect of the form of a tree.
 ghost use Rattle.std.specs.Prelude.{◌≡◌, IfOk};
 ghost use Rattle.std.specs.List.{list_any};
 ghost use Rattle.std.specs.Option.{option_copied};
@@ -9,7 +9,7 @@ ghost use Rattle.gq_scope.specs.Parts.{text_in, name_in};
 use gq_base::OutOfMemory;
 use gq_tree::{Label, Mode, Node};
 
-/// What a text in quotes says.
+/// The value of a text literal.
 #[tactic(auto, using(gq_tree::proofs::ViewLemmas::view_laws))]
 pub fn text_of(node: &Node) -> Option<&str>
     ensures { option_copied result ≡ text_in (view node.now) }
@@ -23,7 +23,7 @@ pub fn text_of(node: &Node) -> Option<&str>
     }
 }
 
-/// A name alone.
+/// The name, if the tree is a name alone.
 #[tactic(auto, using(gq_tree::proofs::ViewLemmas::view_laws))]
 pub fn name_of(node: &Node) -> Option<&str>
     ensures { option_copied result ≡ name_in (view node.now) }
@@ -37,7 +37,7 @@ pub fn name_of(node: &Node) -> Option<&str>
     }
 }
 
-/// The key of a label. OutOfMemory comes too where a spelling isn't UTF-8; tokens of a script spell texts alone.
+/// The key of a label. Also returns `OutOfMemory` if a spelling isn't UTF-8; tokens of a script always are.
 pub fn key_text(label: &Label) -> Result<&str, OutOfMemory>
     ensures { IfOk result (λ key. key.now ≡ key_of label.now) }
 {
@@ -50,7 +50,7 @@ pub fn key_text(label: &Label) -> Result<&str, OutOfMemory>
     }
 }
 
-/// Whether a query of these modes is in SYNTAX v2, where patterns may be paths.
+/// Whether these modes select SYNTAX v2, in which patterns may be paths.
 pub fn allows_paths(modes: &[Mode]) -> bool
     ensures { result ≡ list_any is_v2 modes.now }
 {

@@ -1,4 +1,4 @@
-// What an expression's type is.
+// Types of expressions.
 ghost use Rattle.std.specs.Prelude.{◌≡◌, ◌<◌, IfOk, Some, length, slice_get, map};
 ghost use Rattle.gq_value.specs.AccumViews.{base_of};
 ghost use Rattle.gq_value.specs.Typed.{number_type};
@@ -8,7 +8,7 @@ use gq_base::{List, OutOfMemory};
 use gq_value::{BaseType, Kind, Number, Txt};
 use std::alloc::Global;
 
-/// TupleFieldTypes in order: those of a tuple's fields.
+/// Types in order: those of a tuple's fields.
 #[derive(Clone, Copy)]
 pub enum TupleFieldTypes<'a> {
     Bare(&'a [BaseType]),
@@ -44,7 +44,7 @@ pub enum Typed<'a> {
     /// A value of a type.
     Of(Base<'a>),
 
-    /// An average, which has no type of its own: it is compared and printed.
+    /// An average. It isn't a value type: it can only be compared and printed.
     Average,
 
     /// A whole collection.
@@ -56,18 +56,19 @@ pub enum Typed<'a> {
     /// A vertex alias, with its types.
     AliasOf(&'a [u32]),
 
-    /// An edge alias, with its types; it stands before a dot alone.
+    /// An edge alias, with its types; it is allowed only before a dot.
     EdgeOf(&'a [u32]),
 
-    /// A set variable, with its types; it stands before a dot alone.
+    /// A set variable, with its types; it is allowed only before a dot.
     SetOf(&'a [u32]),
 
-    /// The set of an `S[..]`, within it: the vertex in turn, and the set. It stands before a dot alone.
+    /// The set of an `S[..]`, within the brackets: both the current vertex and the set. It is allowed only before a
+    /// dot.
     MemberOf(&'a [u32]),
 }
 
 impl<'a> TupleFieldTypes<'a> {
-    /// How many there are.
+    /// The number of types.
     pub fn len(self) -> usize
         ensures { result ≡ length (types_are self.entry) }
     {
@@ -90,7 +91,7 @@ impl<'a> TupleFieldTypes<'a> {
 }
 
 impl<'a> Base<'a> {
-    /// A type as it is kept.
+    /// Views a kept type as a type.
     #[tactic(auto, using(crate::proofs::BaseLemmas::base_laws))]
     pub fn of(base: &'a BaseType) -> Base<'a>
         ensures { base_is result ≡ base_of base.now }
@@ -117,7 +118,7 @@ impl<'a> Base<'a> {
         }
     }
 
-    /// The type as it is kept, with memory of its own. Takes memory for tuples alone.
+    /// Copies the type into newly allocated memory. Only tuples allocate.
     #[tactic(auto, using(crate::proofs::BaseLemmas::base_laws))]
     pub fn keep(self, alloc: Global) -> Result<BaseType, OutOfMemory>
         ensures { IfOk result (λ b. base_of b ≡ base_is self.entry) }
@@ -135,7 +136,7 @@ impl<'a> Base<'a> {
     }
 }
 
-/// The types, with memory of their own.
+/// Copies the types into newly allocated memory.
 fn keep_types(alloc: Global, types: TupleFieldTypes<'_>) -> Result<List<BaseType>, OutOfMemory>
     ensures { IfOk result (λ kept. map base_of kept ≡ types_are types.entry) }
 {

@@ -1,4 +1,4 @@
--- Declarations that aren't refused let a catalog grow, and leave its types whole.
+-- Declarations that aren't refused extend a catalog, and keep its types sound.
 use Rattle.std.proofs.Common.{◌≡◌, ◌≢◌, ℕ, Bool, true, false, cond, List, ◌++◌, length, get_or, map, All, Option, Some, None, Result, Ok, refl, subst, ap, [], ◌∷◌, ◌<◌, arith}
 use Rattle.std.specs.Prelude.{is_some, ◌||◌, bytes_eq, nat_lt, ◌+◌, find, not}
 use Rattle.std.specs.Option.{option_or, option_map}
@@ -29,7 +29,7 @@ use Rattle.gq_load_check.specs.GrowthLaws.{grows_not, grows_by_vertex_type, grow
 use Rattle.gq_insert.specs.Fits.{IsSound}
 use Rattle.gq_insert.specs.SoundLaws.{sound_with_graph, sound_with_vertex_type, sound_with_edge_type}
 
--- one catalog has grown out of another, whole types staying whole
+-- one catalog extends another, and sound types stay sound
 pub record Grown (before after : Schema) : Type 0 where
   pub grown : HasGrown before after
   pub whole : IsSound before → IsSound after
@@ -37,7 +37,7 @@ pub record Grown (before after : Schema) : Type 0 where
 pub not_grown : (schema : Schema) → Grown schema schema
 not_grown schema = record { grown = grows_not schema; whole = λ sound. sound }
 
--- ---- no rule tells of OutOfMemory
+-- ---- no rule's fault is OutOfMemory
 
 abbrev Tells : Option SchemaFault → Type 0
 Tells o = o ≢ Some fault.OutOfMemory
@@ -165,7 +165,7 @@ graph_grown schema new tree is =
       whole = sound_with_graph schema (graph_with schema tree.name (members_of tree.members));
     })
 
--- and the new graph stands behind all others
+-- and the new graph is appended to the others
 pub graph_there : (schema new : Schema) (tree : GraphTree) (graph : ℕ) → graph_created schema tree ≡ Ok new → graph ≡ length schema.graphs → graph < length new.graphs
 graph_there schema new tree graph is last =
     let one = graph_with schema tree.name (members_of tree.members) in

@@ -1,4 +1,4 @@
--- What RUN QUERY and INTERPRET QUERY answer, by what was read of the session.
+-- The answers of RUN QUERY and INTERPRET QUERY, by what was read of the session.
 use Rattle.std.proofs.Common.{◌≡◌, ℕ, List, [], map, Option, Some, None, Result, Ok, Err, IfOk, sym, ap, subst, ◌∙◌}
 use Rattle.std.specs.Prelude.{Vec, option_map}
 use Rattle.std.specs.declared.alloc.Global.{Global}

@@ -1,4 +1,4 @@
--- How a run comes from one statement to the next.
+-- How a run goes from one statement to the next.
 use Rattle.std.proofs.Common.{◌≡◌, ℕ, ◌+◌, ◌≤◌, List, [], ◌∷◌, ◌++◌, length, drop, Option, Some, refl, ap, sym, ◌∙◌, subst}
 use Rattle.std.proofs.lemmas.List.{append-nil, drop_all}
 use Rattle.std.proofs.lemmas.List.Folds.{concat-append}
@@ -19,11 +19,11 @@ use Rattle.gq_session.specs.Runs.{Follows, Runs}
 use Rattle.gq_session.specs.Statements.{State, Does}
 use Rattle.gq_session.specs.StatementLaws.{does_one}
 
--- files that are told are known so, whatever the counts
+-- if the listing of the files is given, it is what is known, whatever the counts are
 pub told_is_known : (held : Option Listing) (pairs : Listing) (before now met : ℕ) → held ≡ Some pairs → known_of held before now met ≡ Told pairs
 told_is_known held pairs before now met is = ap (λ h. known_of h before now met) is
 
--- a prefix of some lines is one of more lines
+-- a prefix of some lines is a prefix of them with more lines
 pub prefix_of_lines : (old new : Option (List ℕ)) (lines others : List (List ℕ)) → AppendsPrefix old new (concat lines) → AppendsPrefix old new (concat (lines ++ others))
 prefix_of_lines old new lines others some = subst (AppendsPrefix old new) (sym (concat-append lines others)) (prefix_of_more old new (concat lines) (concat others) some)
 
@@ -55,10 +55,10 @@ module _ (bytes : List ℕ) where
           let more = on_runs t lines does in
           keeps_same (lines_then lines more.0) outcome status old new A B more.2 (keeps more.0)
 
-  -- ---- a part of the statements
+  -- ---- a prefix of the statements
 
   module _ (held : Option Listing) (first : State) (statements : List Placed) where
-    -- before the statement at this place: what was printed, and how the run of what is left and of the whole belong together
+    -- before the statement at this place: what was printed, and how the run of the rest determines that of the whole
     pub record HasCome (place : ℕ) (s : State) (old now : Option (List ℕ)) : Type 0 where
       pub lines : List (List ℕ)
       pub wrote : Appends old now (concat lines)
@@ -117,7 +117,7 @@ module _ (bytes : List ℕ) where
         ends_after come.lines old mid new come.wrote outcome status ends,
       )
 
-    -- the run ends behind the last statement
+    -- the run ends after the last statement
     pub meant_last : (place : ℕ) (s : State) (old now : Option (List ℕ)) → HasCome place s old now → length statements ≤ place → (before absent met : ℕ)
         → (outcome : Outcome) × Runs bytes (known_of held before absent met) first statements outcome × Ends outcome Done old now
     meant_last place s old now come end before absent met = (

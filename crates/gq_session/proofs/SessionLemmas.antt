@@ -1,4 +1,4 @@
--- What is true of a session stays so while its catalog grows; and what its answers say of a statement.
+-- The invariant of a session holds while its catalog grows; and what its answers say about a statement.
 use Rattle.std.proofs.Common.{◌≡◌, ℕ, List, [], ◌∷◌, Option, Some, None, Result, Ok, Err, IfOk, IfSome, ◌++◌, refl, sym, ap, subst, ◌∙◌, ◌<◌, ◌≤◌, length, take, drop, arith}
 use Rattle.std.proofs.lemmas.List.{take-append-drop}
 use Rattle.std.specs.Prelude.{IfErr, IsSome, Vec}
@@ -36,23 +36,23 @@ use Rattle.gq_session.specs.Statements.{State, RunsJob, JobLeft}
 use Rattle.gq_session.specs.Keeping.{SessionFits}
 use Rattle.gq_session.proofs.GrowthLemmas.{Grown, not_grown}
 
--- the ends of edge types are there
+-- the ends of edge types exist
 pub ends_there : (schema : Schema) → IsSound schema → AllHaveEnds schema
 ends_there schema sound kind low =
     let t = sound.edge_types kind no_edge_type low in
     record { from = t.from; to = t.to; key = t.key }
 
--- a list whose first items are these is as long as they are
+-- a list is at least as long as its prefix
 longer : {A : Type 0} (xs ys : List A) → take (length xs) ys ≡ xs → length xs ≤ length ys
 longer [] ys is = omega arith
 longer (x ∷ xs) [] is = absurd (cc)
 longer (x ∷ xs) (y ∷ ys) is = let rest : take (length xs) ys ≡ xs = cc in let more = longer xs ys rest in omega arith
 
--- the graph in use stays there
+-- the graph in use still exists
 stays_there : (in_use : Option ℕ) (m n : ℕ) → m ≤ n → ForSome in_use (λ graph. graph < m) → ForSome in_use (λ graph. graph < n)
 stays_there in_use m n more low = λ graph is. let before = low graph is in omega arith
 
--- a session without anything
+-- an empty session
 pub session_opens : (schema : Schema) (jobs : List NamedJob) (store : Store) (index : KeptIndex) → schema ≡ record { vertex_types = []; edge_types = []; graphs = [] } → jobs ≡ [] → store ≡ no_rows
     → IsKept index schema store → SessionFits schema None jobs store index
 session_opens schema jobs store index types no_jobs rows kept = record {
@@ -63,7 +63,7 @@ session_opens schema jobs store index types no_jobs rows kept = record {
   indexed = kept;
 }
 
--- as the index has it, the catalog has grown
+-- the catalog is extended, in the sense of the index
 types_grow : (before after : Schema) → HasGrown before after → CatalogGrown before after
 types_grow before after grown =
     let more : List EdgeType = drop (length before.edge_types) after.edge_types in
@@ -100,18 +100,18 @@ session_gains schema in_use jobs before after index fit more fits = record {
   indexed = kept_grows index schema schema before after (catalog_same schema) more fits.indexed;
 }
 
--- the index was looked after
+-- the index was updated
 pub session_indexes : (schema : Schema) (in_use : Option ℕ) (jobs : List NamedJob) (store : Store) (before after : KeptIndex) → IsKept after schema store
     → SessionFits schema in_use jobs store before → SessionFits schema in_use jobs store after
 session_indexes schema in_use jobs store before after kept fits = record { there = fits.there; sound = fits.sound; each = fits.each; kept = fits.kept; indexed = kept }
 
--- with its index, as it was last looked after, queries can run over its store
+-- with its index, as it was last updated, queries can run over its store
 pub session_indexed : (schema : Schema) (in_use : Option ℕ) (jobs : List NamedJob) (store : Store) (before after : KeptIndex) (index : List (List Traversal))
     → SessionFits schema in_use jobs store before → after.index ≡ adjacency (sight_of schema store.vertices store.edges) → index ≡ after.index → IsIndexed schema store index
 session_indexed schema in_use jobs store before after index fits built lent =
     record { attributes = attributes_there schema store fits.kept; ends = rows_join schema store fits.kept; adjacent = lent ∙ built }
 
--- a declaration lets the catalog grow, or leaves it as it was
+-- a declaration extends the catalog, or leaves it unchanged
 pub answers_grow : {R : Type 0} (meant : Result Schema Refusal) (before after : Schema) (r : Result R StatementFault) → ((new : Schema) → meant ≡ Ok new → Grown before new)
     → Answers meant before after r → Grown before after
 answers_grow meant before after (Ok x) grows is = grows after is
@@ -119,14 +119,14 @@ answers_grow meant before after (Err (fault.Refused refusal)) grows denies = sub
 answers_grow meant before after (Err fault.ReadFault) grows denies = absurd denies
 answers_grow meant before after (Err fault.OutOfMemory) grows same = subst (Grown before) (sym same) (not_grown before)
 
--- ---- what is left
+-- ---- the session afterwards
 
 denied_same : (meant : Result State Refusal) (s t : State) (f : StatementFault) → Denies meant s t f → t ≡ s
 denied_same meant s t (fault.Refused refusal) denies = denies.1
 denied_same meant s t fault.ReadFault never = absurd never
 denied_same meant s t fault.OutOfMemory same = same
 
--- a statement that prints nothing leaves the session as it was, where it doesn't run to its end
+-- a statement that prints nothing leaves the session unchanged if it fails
 pub silent_left : {R A : Type 0} (meant : Result State Refusal) (s t : State) (answer : Result R StatementFault) (r : Result A StatementFault)
     → Answers meant s t answer → IfErr r (λ f. answer ≡ Err f) → IfErr r (λ f. t ≡ s)
 silent_left meant s t answer (Ok a) answers same = tt
@@ -141,7 +141,7 @@ left_same s t (Err f) same = same
 
 -- ---- loading jobs
 
--- what a line that is there was made of
+-- the answer that an answer with an optional line was made of
 abbrev pub IsLine : {A E : Type 0} → Result A E → Result (Option A) E → Type 0
 IsLine answer (Ok (Some line)) = answer ≡ Ok line
 IsLine answer (Ok None) = ⊥

@@ -3,6 +3,6 @@ use Rattle.std.specs.Prelude.{ℕ, List, Option, option_and_then}
 use Rattle.serde_json.specs.Data.{Data}
 use Rattle.serde_json.specs.Read.{read}
 
--- what the file's bytes are to `serde_json`; nothing, where no file is named
+-- the result of parsing the file with `serde_json`; None if no file is named
 abbrev pub object_of : Option (List ℕ) → Option Data
 object_of file = option_and_then read file

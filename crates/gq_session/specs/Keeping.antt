@@ -1,5 +1,5 @@
--- Keeping: what is true of each session: its types are whole, and the graph in use, its jobs and its store are those of its catalog.
--- And its index is one that has been built of this catalog and this store, or of earlier ones.
+-- Keeping: the invariant of a session: sound types; and graph in use, jobs, store and index that fit its catalog.
+-- The index was built of this catalog and store, or of earlier ones.
 use Rattle.std.specs.Prelude.{ℕ, ◌<◌, List, Option, length}
 use Rattle.std.specs.Option.{ForSome}
 use Rattle.gq_graph.specs.Catalog.{Schema}

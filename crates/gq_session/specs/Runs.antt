@@ -1,4 +1,4 @@
--- Runs: what the statements of a script print, one after another, by what each of them does.
+-- Runs: what the statements of a script print, one after another, by the effect of each of them.
 use Rattle.std.specs.Prelude.{◌≡◌, ℕ, List, [], ◌∷◌}
 use Rattle.gq_token.specs.Lines.{line_of}
 use Rattle.gq_tree.specs.declared.statement.Placed.{Placed}
@@ -8,13 +8,14 @@ use Rattle.gq_io.specs.Known.{Known}
 use Rattle.gq_diagnostics.specs.Effects.{Effect, Becomes, Refused}
 use Rattle.gq_session.specs.Statements.{State, Does}
 
--- what comes of a statement that begins on this line: its refusal is the last line, or its lines stand before those of the rest
+-- the outcome after a statement that begins on this line: its refusal is the last line, or its lines come before those
+-- of the rest
 abbrev pub Follows : ℕ → Effect State → (State → Outcome → Type 0) → Outcome → Type 0
 Follows line (Refused message) Rest outcome = outcome ≡ ended_by (refusal_text line message)
 Follows line (Becomes t lines) Rest outcome = (others : Outcome) × Rest t others × (outcome ≡ lines_then lines others)
 
 module _ (bytes : List ℕ) (known : Known) where
-  -- from a state, these statements of the script with these bytes print and answer so
+  -- from a state, these statements of the script with these bytes have this output and status
   abbrev pub Runs : State → List Placed → Outcome → Type 0
   Runs s [] outcome = outcome ≡ done
   Runs s (p ∷ others) outcome =

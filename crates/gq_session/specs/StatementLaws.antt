@@ -1,4 +1,4 @@
--- StatementLaws: over files that are told a statement does one thing.
+-- StatementLaws: if the listing of the files is given, a statement has exactly one effect.
 use Rattle.std.proofs.Common.{◌≡◌, sym, ap, ◌∙◌}
 use Rattle.gq_io.specs.Listing.{Listing}
 use Rattle.gq_tree.specs.declared.job.RunJobTree.{RunJobTree}

@@ -1,4 +1,4 @@
--- Statements: what each statement of a script does to a session, what it prints, and what it leaves where it doesn't run to its end.
+-- Statements: the effect of each statement on a session, what it prints, and what it leaves if it fails.
 use Rattle.std.specs.Prelude.{◌≡◌, ℕ, Bool, List, [], length, map, Option, Some, None, Result, Ok, Err, Vec, option_map}
 use Rattle.std.specs.declared.alloc.Global.{Global}
 use Rattle.gq_graph.specs.Catalog.{Schema, graph_of}
@@ -38,8 +38,9 @@ use Rattle.gq_io.specs.Known.{Known}
 use Rattle.gq_diagnostics.specs.Effects.{Effect, Becomes, Refused, lines_of}
 use Rattle.gq_session.specs.Arguments.{object_of}
 
--- what one statement leaves to the next: the catalog, the number of the graph in use, loading jobs and queries by their names, and the
--- store; and what stays the same, the bytes of the file of arguments, where one is named, and the turns of a query
+-- the state between two statements: the catalog, the number of the graph in use, loading jobs and queries by name, and
+-- the store; and what stays the same: the bytes of the file of arguments, if one is named, and the limit on turns of a
+-- query
 pub record State : Type 0 where
   pub schema : Schema
   pub in_use : Option ℕ
@@ -49,7 +50,7 @@ pub record State : Type 0 where
   pub file : Option (List ℕ)
   pub turns : ℕ
 
--- no types, no graphs and none in use, no jobs, no queries, and no rows
+-- an empty session: no types, no graphs, no graph in use, no jobs, no queries, and no rows
 abbrev pub opening : Option (List ℕ) → ℕ → State
 opening file turns = record { schema = record { vertex_types = []; edge_types = []; graphs = [] }; in_use = None; jobs = []; queries = []; store = no_rows; file = file; turns = turns }
 
@@ -100,7 +101,7 @@ with_rows s (Err r) = Err r
 abbrev pub row_made : State → InsertTree → Result State Refusal
 row_made s tree = with_rows s (row_inserted s.schema s.store tree)
 
--- what is done to the store, as what is done to the session
+-- an effect on the store, as an effect on the session
 abbrev pub store_done : State → Effect Store → Effect State
 store_done s (Becomes store lines) = Becomes (record s { store = store }) lines
 store_done s (Refused message) = Refused message
@@ -115,7 +116,7 @@ abbrev pub with_queries : State → Result (List Kept) Refusal → Result State 
 with_queries s (Ok queries) = Ok (record s { queries = queries })
 with_queries s (Err r) = Err r
 
--- CREATE QUERY, where true means OR REPLACE
+-- CREATE QUERY; true means OR REPLACE
 abbrev pub query_made : State → Bool → List ℕ → QueryTree → Result State Refusal
 query_made s replace name tree = with_queries s (query_created s.schema s.in_use s.queries replace name tree)
 
@@ -125,12 +126,13 @@ install_made s which = with_queries s (query_installed s.queries which)
 
 -- ---- statements
 
--- a statement that prints nothing
+-- the effect of a statement that prints nothing
 abbrev pub effect_of : Result State Refusal → Effect State
 effect_of (Ok s) = Becomes s []
 effect_of (Err r) = Refused (message_of r)
 
--- the session of gq_rules_meaning's definitions, and what is done to it: RUN QUERY and INTERPRET QUERY leave it as it is
+-- the session of the definitions of gq_rules_meaning, and the effect on it: RUN QUERY and INTERPRET QUERY don't change
+-- it
 abbrev pub session_in : State → sessions.Session
 session_in s = session_of s.schema s.in_use s.queries s.store
 
@@ -147,7 +149,7 @@ query_ran s tree =
 abbrev pub query_interpreted : State → QueryTree → Effect State
 query_interpreted s tree = effect_in s (interpreted (session_in s) gregorian s.turns tree.graph tree.modes (view_query tree))
 
--- what a statement does, by what is known of the files
+-- the effect of a statement, by what is known of the files
 abbrev pub Does : Known → State → Statement → Effect State → Type 0
 Does known s (top.Vertex tree) effect = effect ≡ effect_of (vertex_made s tree)
 Does known s (top.Edge tree) effect = effect ≡ effect_of (edge_made s tree)
@@ -165,20 +167,20 @@ Does known s top.End effect = effect ≡ Becomes s []
 
 -- ---- answers
 
--- the answer of a statement that leaves the session as it is; memory may be wanting at any time
+-- the answer of a statement that doesn't change the session; OutOfMemory may occur at any time
 abbrev pub Prints : State → Effect State → Result (Option (Vec ℕ Global)) StatementFault → Type 0
 Prints s effect (Ok line) = effect ≡ Becomes s (lines_of line)
 Prints s effect (Err (fault.Refused refusal)) = effect ≡ Refused (message_of refusal)
 Prints s effect (Err fault.ReadFault) = ⊥
 Prints s effect (Err fault.OutOfMemory) = Unit {0}
 
--- ---- what is left
+-- ---- the session after a fault
 
--- a loading job that ends by this fault leaves upserts in the store, and all else as it was
+-- a loading job that ends by this fault leaves upserts in the store, and everything else unchanged
 abbrev pub JobLeft : Known → State → RunJobTree → StatementFault → State → Type 0
 JobLeft known s tree fault t = (store : Store) × JobLeaves known s.schema s.jobs s.store tree fault store × (t ≡ record s { store = store })
 
--- where a statement ends by this fault, the session is as it was, the store of a loading job apart
+-- after a statement that ends by this fault the session is unchanged, except for the store of a loading job
 abbrev pub Leaves : Known → State → Statement → StatementFault → State → Type 0
 Leaves known s (top.Vertex tree) fault t = t ≡ s
 Leaves known s (top.Edge tree) fault t = t ≡ s

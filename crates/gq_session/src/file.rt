@@ -33,7 +33,7 @@ impl<'s> Model for ArgsFile<'s> {
 }
 
 impl<'s> ArgsFile<'s> {
-    /// No file is named.
+    /// Returns no file, for a run without arguments.
     pub fn none(args: &'s Args) -> ArgsFile<'s>
         requires { held args.now ≡ None }
         ensures { result ≡ None }
@@ -41,7 +41,7 @@ impl<'s> ArgsFile<'s> {
         ArgsFile { args, bytes: None }
     }
 
-    /// The file with these bytes, from which the arguments were read.
+    /// Returns the file with these bytes, from which the arguments were read.
     pub fn read(args: &'s Args, bytes: &'s [u8]) -> ArgsFile<'s>
         requires { (members : Members) × IsObject bytes.now members × (held args.now ≡ Some (object members)) }
         ensures { result ≡ Some bytes.now }
@@ -52,14 +52,14 @@ impl<'s> ArgsFile<'s> {
         }
     }
 
-    /// What the file gives to queries.
+    /// Returns the arguments that the file supplies for queries.
     pub fn given(&self) -> &'s Args
         ensures { held result.now ≡ object_of self.now }
     {
         self.args
     }
 
-    /// The bytes of the file, where one is named.
+    /// Returns the bytes of the file, if one is named.
     pub fn bytes(&self) -> Option<&'s [u8]>
         ensures { option_copied result ≡ self.now }
     {

@@ -1,4 +1,4 @@
-// One statement after another.
+// Runs one statement after another.
 ghost use Rattle.std.specs.Prelude.{◌≡◌, ◌≤◌, ◌∷◌, ℕ, List, Some, All, length, IfOk, IfSome, IfNone, OnOk, OnErr, IsErrOf};
 ghost use Rattle.std.specs.List.{concat};
 ghost use Rattle.gq_io.specs.Counts.{Rose};
@@ -20,8 +20,8 @@ use gq_tree::Placed;
 use std::alloc::Global;
 use std::thread::Threads;
 
-/// Runs the statements of the script with these bytes, from the session's state on, and writes the line of each before the next
-/// begins. A refusal is the last line.
+/// Runs the statements of the script with these bytes, starting from the session's state, and writes the line of each
+/// before the next begins. A refusal is the last line.
 pub fn run_statements<'s, R: Threads + Sync, M: RunsQueries, F: Files, K: Sink>(
     rt: &R,
     alloc: Global,
@@ -33,12 +33,13 @@ pub fn run_statements<'s, R: Threads + Sync, M: RunsQueries, F: Files, K: Sink>(
 ) -> Status
     requires { All (λ p. p.from ≤ length bytes.now) statements.now }
 
-    // Over files that are told: the lines and the answer are the script's, or a counted fault or `OutOfMemory` ended it sooner.
+    // If the listing of the files is given: the lines and the status are the script's, or a counted fault or
+    // `OutOfMemory` ended it sooner.
     ensures keeps { (pairs : Listing) → F.held files.old ≡ Some pairs → (outcome : Outcome)
         → Runs bytes.now (Told pairs) session.old statements.now outcome
         → KeepsTo outcome result (K.written out.old) (K.written out.new) (Rose (F.faults files.old) (F.faults files.new)) (Rose (K.faults out.old) (K.faults out.new)) }
 
-    // A run that comes to its end is one that the statements may have, over all files.
+    // A run that isn't cut short is one that the statements may have, over any files.
     ensures is_meant { IsFinal result → (before : ℕ) → before ≤ F.absences files.old → (outcome : Outcome)
         × Runs bytes.now (known_of (F.held files.old) before (F.absences files.new) (F.length_met files.new)) session.old statements.now outcome
         × Ends outcome result (K.written out.old) (K.written out.new) }
@@ -53,7 +54,7 @@ pub fn run_statements<'s, R: Threads + Sync, M: RunsQueries, F: Files, K: Sink>(
     Status::Done
 }
 
-// Runs a statement, and tells how the run ends, if it ends there.
+// Runs a statement, and returns how the run ends, if it ends there.
 fn run_one<'s, R: Threads + Sync, M: RunsQueries, F: Files, K: Sink>(
     rt: &R,
     alloc: Global,

@@ -1,4 +1,4 @@
-// The session, and what each statement does to it.
+// The session, and the effect of each statement on it.
 ghost use Rattle.std.specs.Prelude.{◌≡◌, ◌≤◌, ℕ, IfOk, IfErr, IfSome, IsSome, IsErrOf, Err, Result};
 ghost use Rattle.gq_io.specs.Counts.{Rose};
 ghost use Rattle.gq_diagnostics.specs.declared.refusal.Refusal.{Refusal};
@@ -32,10 +32,10 @@ use std::alloc::Global;
 use std::marker::Model;
 use std::thread::Threads;
 
-/// What the statements of a script leave to one another: the catalog, the graph in use, the loading jobs, the queries, whose trees the
-/// script lends, and the store. The file of arguments and what runs queries are lent to it too.
+/// The state between two statements of a script: the catalog, the graph in use, the loading jobs, the queries, whose
+/// trees are borrowed from the script, and the store. The file of arguments and the runner of queries are borrowed too.
 ///
-/// The store's index is kept from one query to the next, and takes in what came behind it when a query is run.
+/// The store's index is kept between queries, and is updated with what was added since when a query is run.
 #[derive(Drop)]
 pub struct Session<'s, M> {
     alloc: Global,
@@ -67,7 +67,7 @@ impl<'s, M> Model for Session<'s, M> {
 }
 
 impl<'s, M: RunsQueries> Session<'s, M> {
-    /// A session without types, graphs, jobs, queries and rows.
+    /// Returns a session without types, graphs, jobs, queries and rows.
     pub fn new(alloc: Global, file: ArgsFile<'s>, runner: &'s Runner<'s, M>) -> Session<'s, M>
         ensures { result ≡ opening file.entry runner.now.turns }
     {
@@ -84,17 +84,17 @@ impl<'s, M: RunsQueries> Session<'s, M> {
         }
     }
 
-    /// Runs a statement, on threads of this runtime, and gives the line that it prints, if any.
+    /// Runs a statement, on threads of this runtime, and returns the line that it prints, if any.
     ///
-    /// Where it doesn't run to its end the session is as it was. Only RUN LOADING JOB leaves upserts in the store: those of the LOADs
-    /// that ended, and of a LOAD that didn't those before the one that was refused, or some of them for `OutOfMemory`.
+    /// If it fails, the session is unchanged. Only RUN LOADING JOB leaves upserts in the store: those of the LOADs that
+    /// ended, and of one that didn't those before the refused one, or some of them for `OutOfMemory`.
     pub fn run<R: Threads + Sync, F: Files>(
         &mut self,
         rt: &R,
         files: &mut F,
         statement: &'s Statement,
     ) -> Result<Option<Vec<u8>>, StatementFault>
-        // A statement that runs got bytes for each file that it asked for, so that no count is needed.
+        // A statement that succeeds got bytes for each file that it asked for, so that no count is needed.
         ensures done { (before now met : ℕ) → IfOk result (λ line.
             Does (known_of (F.held files.old) before now met) self.old statement.now (Becomes self.new (lines_of line))) }
         ensures refused { (refusal : Refusal) → result ≡ Err (StatementFault.Refused refusal) → (before : ℕ) → before ≤ F.absences files.old
@@ -288,7 +288,7 @@ fn no_rows(alloc: Global) -> Store
     }
 }
 
-// The answer of a statement that prints nothing.
+// Returns the answer of a statement that prints nothing.
 fn silent(answer: Result<(), StatementFault>) -> Result<Option<Vec<u8>>, StatementFault>
     ensures done { (old new : State) (meant : Result State Refusal) → Answers meant old new answer
         → IfOk result (λ line. Becomes new (lines_of line) ≡ effect_of meant) }
@@ -300,7 +300,7 @@ fn silent(answer: Result<(), StatementFault>) -> Result<Option<Vec<u8>>, Stateme
     }
 }
 
-// The answer of a statement that prints a line.
+// Returns the answer of a statement that prints a line.
 fn with_line(answer: Result<Vec<u8>, StatementFault>) -> Result<Option<Vec<u8>>, StatementFault>
     ensures done { IfOk result (λ printed. IfSome printed (λ line. answer ≡ Ok line)) }
     ensures printed { IfOk result IsSome }

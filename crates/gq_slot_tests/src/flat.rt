@@ -5,7 +5,7 @@ use gq_value::{BaseType, Input, Kind, Value};
 use std::alloc::Global;
 use std::test::Fail;
 
-// A content of whole numbers, after inputs.
+// Returns a content of whole numbers, after inputs.
 fn after(alloc: Global, kind: &Kind, inputs: &[i64]) -> Result<Content, OutOfMemory> {
     let mut content = Content::fresh(alloc, kind)?;
     for n in inputs {

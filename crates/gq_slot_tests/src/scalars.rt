@@ -1,9 +1,9 @@
-// Sums, averages, parts and bits, once each.
+// Sums, averages, merging of parts, and bits, once each.
 use gq_accum::{Fold, OutOfRange, Scalar};
 use gq_value::{Fraction, Kind, Number, Value};
 use std::test::Fail;
 
-// What a content feeds on one by one, whatever it is.
+// Feeds inputs to any content, one by one.
 fn feed_all<F: Fold>(content: &mut F, inputs: &[F::In]) {
     for x in inputs {
         content.feed(x);

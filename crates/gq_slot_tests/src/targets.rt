@@ -1,4 +1,4 @@
-// Numbers of targets, and what stands there.
+// Numbers of targets, and their contents.
 use gq_accum::Scalar;
 use gq_base::{List, OutOfMemory};
 use gq_frame::{Accums, Slots};
@@ -7,7 +7,7 @@ use gq_value::{BaseType, Input, Kind, Number, Slot, Value};
 use std::alloc::Global;
 use std::test::Fail;
 
-// An attached sum, a set, and an attached maximum.
+// Returns three slots: an attached sum, a set, and an attached maximum.
 fn three(alloc: Global, vertices: u32) -> Result<Slots, OutOfMemory> {
     let mut declared = List::new(alloc);
     for (kind, attached) in [
@@ -36,8 +36,8 @@ fn what_is_fed_at_a_target_stands_there_alone(rt: HostRuntime) -> Result<(), Fai
     let mut accums = Accums::open(alloc, &three(alloc, 2)?)?;
     assert!(rt; accums.contents.len() == 5);
     let input = Input::One(Value::Int(9));
-    accums.at_mut(1).feed(alloc, &input)?;
-    let copy = accums.duplicate(alloc)?;
+    accums.contents.feed(alloc, 1, &input)?;
+    let copy = accums.share(alloc)?;
     assert!(rt; copy.contents.len() == 5);
     assert!(rt; matches!(copy.at(0), Content::Scalar(Scalar::SumInt(0))));
     assert!(rt; matches!(copy.at(1), Content::Scalar(Scalar::SumInt(9))));

@@ -1,4 +1,4 @@
--- CutLemmas: a script is read up to a place: begun, a `;` more, a statement more, and the end of it.
+-- CutLemmas: a script is read up to a place: the start, one more `;`, one more statement, and the end.
 use Rattle.std.proofs.Common.{◌≡◌, ℕ, zero, suc, ◌+◌, ◌<◌, ◌≤◌, List, [], ◌∷◌, ◌++◌, length, drop, get_or, Bool, true, false, Some, None, refl, sym, ap, ◌∙◌, subst, arith, length-drop}
 use Rattle.std.specs.Prelude.{slice_get}
 use Rattle.std.proofs.lemmas.List.{get_or-drop}
@@ -23,19 +23,19 @@ false_of false h = refl
 
 -- ---- one sign
 
--- what is found stands at the head of what is left, and one lexeme less is left behind it
+-- the sign is the first of the remaining lexemes, and one lexeme less remains after it
 sign_head : (k : Terminal) (l r : Lexemes) → one k l ≡ Some (tt, r) → (t : Lexeme) × (l ≡ t ∷ r) × (is_of k t ≡ true)
 unfolding One
 sign_head k l r h =
     let s = (one_reads 0 k).sound l tt r h in
     (s.derives.0, s.is ∙ ap (λ z. z ++ r) s.derives.1, s.derives.2)
 
--- what isn't found doesn't stand there
+-- if the sign isn't found, it isn't the first lexeme
 sign_other : (k : Terminal) (t : Lexeme) (l : Lexemes) → one k (t ∷ l) ≡ None → is_of k t ≡ false
 unfolding one token
 sign_other k t l h = false_of (is_of k t) (λ e. some_none (sym (ap (token_at nothing t l) e) ∙ h))
 
--- the list from a place on, by its head
+-- the list from a place on, by its first lexeme
 head_at : (all : Lexemes) (at : ℕ) (d : Lexeme) → at < length all → (r : Lexemes) × (drop at all ≡ get_or all at d ∷ r)
 head_at [] at d lt = absurd (omega arith)
 head_at (t ∷ l) zero d lt = (l, refl)
@@ -51,7 +51,7 @@ module _ (bytes : List ℕ) (tokens : List Token) where
   pub cut_begin : CutBefore [] 0
   cut_begin = record { end = 0; cuts = refl; apart = no_semicolons bytes tokens 0 (omega arith) }
 
-  -- ---- a `;` more
+  -- ---- one more `;`
 
   pub sign_next : (k : Terminal) (at next : ℕ) → Found (one k) (lexemes_of bytes tokens) at (Some (tt, next)) → next ≡ at + 1
   sign_next k at next f =
@@ -71,7 +71,7 @@ module _ (bytes : List ℕ) (tokens : List Token) where
           let z : at + 0 ≡ at = omega arith in
           sym (ap (λ i. get_or all i d) z) ∙ sym (get_or-drop at all 0 d) ∙ ap (λ l. get_or l 0 d) e
 
-  -- ---- a statement more
+  -- ---- one more statement
 
   cuts_more : (found : List Placed) (from to : ℕ) (p : Placed) (next : ℕ) → Cuts bytes tokens from found to → IsNext bytes tokens to p next → Cuts bytes tokens from (found ++ p ∷ []) next
   cuts_more [] from to p next c n = (next, subst (λ i. IsNext bytes tokens i p next) (sym c) n, refl)

@@ -13,7 +13,7 @@ use Rattle.gq_grammar.specs.Cutting.{IsSemicolon, AreSemicolons}
 
 -- ---- on lists
 
--- a prefix, and what is behind it
+-- a prefix and the rest
 pub parted : (all : Lexemes) (at to : ℕ) → at ≤ to → drop at all ≡ between all at to ++ drop to all
 parted all at to le =
     let e : at + (to - at) ≡ to = omega arith in
@@ -26,7 +26,7 @@ length_between all from to le len = length-take-le (to - from) (drop from all) (
 pub at_between : (all : Lexemes) (from to k : ℕ) (d : Lexeme) → k < to - from → get_or (between all from to) k d ≡ get_or all (from + k) d
 at_between all from to k d lt = get_or-take (to - from) (drop from all) k d lt ∙ get_or-drop from all k d
 
--- what stands at the head of a list
+-- the first lexeme of a list
 pub head_starts : (k : Terminal) (l : Lexemes) (d : Lexeme) → 0 < length l → is_of k (get_or l 0 d) ≡ true → Starts (k ∷ []) l
 head_starts k [] d some h = absurd (omega arith)
 head_starts k (t ∷ l) d some h = or_left (is_of k t) false h

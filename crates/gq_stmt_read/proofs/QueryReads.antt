@@ -1,4 +1,4 @@
--- QueryReads: Queries are read as the grammar says, a lemma for each production.
+-- QueryReads: queries are read as the grammar says, a lemma for each production.
 use Rattle.std.proofs.Common.{ℕ, [], ◌∷◌, refl}
 use Rattle.gq_tree.specs.declared.query.Mode.TheVariants as mode
 use Rattle.gq_tree.specs.declared.query.Installed.TheVariants as installed

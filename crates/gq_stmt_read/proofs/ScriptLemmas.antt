@@ -1,4 +1,4 @@
--- ScriptLemmas: a script consists of one list of statements at most, or fails at one statement.
+-- ScriptLemmas: a script consists of at most one list of statements, or fails at one statement.
 use Rattle.std.proofs.Common.{◌≡◌, ℕ, suc, ◌+◌, ◌<◌, List, [], ◌∷◌, length, drop, get_or, Bool, true, false, Some, refl, sym, ap, ◌∙◌, subst, arith, length-drop}
 use Rattle.std.specs.Prelude.{slice_get}
 use Rattle.std.proofs.lemmas.List.{get_or-drop}
@@ -39,7 +39,7 @@ placed_alike p q e f =
     let two : ℕ → Placed = λ n. record { statement = q.statement; from = n } in
     ap one e ∙ ap two f
 
--- what begins a statement is no `;`
+-- what begins a statement isn't `;`
 starts_apart : (l : Lexemes) (d : Lexeme) → 0 < length l → Starts firsts l → is_of (sign ";") (get_or l 0 d) ≡ true → ⊥
 unfolding is_reserved
 starts_apart l d some s h = clash firsts (sign ";" ∷ []) refl l s (head_starts (sign ";") l d some h)
@@ -50,7 +50,7 @@ pub record Known : Type 0 where
   pub one : HasOneTree StatementOf
 
 module _ (bytes : List ℕ) (tokens : List Token) where
-  -- from a place on, the first token that is no `;`
+  -- from a place on, the first token that isn't `;`
   record IsFirst (at start : ℕ) (t : Token) : Type 0 where
     pub apart : AreSemicolons bytes tokens at start
     pub stands : slice_get tokens start ≡ Some t
@@ -68,11 +68,11 @@ module _ (bytes : List ℕ) (tokens : List Token) where
       let y : r < s → ⊥ = not_before at r s u g f.apart in
       omega (arith, x, y)
 
-  -- not all that is left is `;`
+  -- not all remaining tokens are `;`
   first_within : (at s : ℕ) (t : Token) → IsFirst at s t → AreSemicolons bytes tokens at (length tokens) → ⊥
   first_within at s t f a = not_before at s (length tokens) t f a (slice_get_within tokens s t f.stands)
 
-  -- a place from which nothing is read, behind lone `;`
+  -- a place from which nothing is read, after lone `;`
   record Stops (at : ℕ) : Type 0 where
     pub start : ℕ
     pub token : Token
@@ -80,7 +80,7 @@ module _ (bytes : List ℕ) (tokens : List Token) where
     pub none : HasNone StatementOf (lexemes_of bytes tokens) start
 
   module _ (known : Known) where
-    -- a statement begins with the first token that is no `;`
+    -- a statement begins with the first token that isn't `;`
     next_first : (at : ℕ) (p : Placed) (n : ℕ) (x : IsNext bytes tokens at p n) → IsFirst at x.start x.place.0
     next_first at p n x =
         let all = lexemes_of bytes tokens in
@@ -104,7 +104,7 @@ module _ (bytes : List ℕ) (tokens : List Token) where
         let t : x.place.0 ≡ y.place.0 = some_inj (sym x.place.1 ∙ ap (slice_get tokens) (sym e) ∙ y.place.1) in
         (placed_alike p q l.0 (x.place.2 ∙ ap (λ t. t.from) t ∙ sym y.place.2), l.1)
 
-    -- where a statement stands, reading doesn't stop
+    -- at a statement, reading doesn't stop
     next_goes : (at : ℕ) (p : Placed) (n : ℕ) → IsNext bytes tokens at p n → Stops at → ⊥
     next_goes at p n x s =
         let e : x.start ≡ s.start = first_alike at x.start s.start x.place.0 s.token (next_first at p n x) s.first in

@@ -1,4 +1,4 @@
--- SeriesLemmas: items with commas between them, or none.
+-- SeriesLemmas: items separated by commas, or none.
 use Rattle.std.proofs.Common.{◌≡◌, ℕ, ◌≤◌, List, [], length, drop, Option, Some, None, Result, Ok, IfOk, refl, subst, arith}
 use Rattle.gq_base.specs.declared.memory.OutOfMemory.{OutOfMemory}
 use Rattle.gq_grammar.specs.Lexemes.{Lexemes, sign}
@@ -6,7 +6,7 @@ use Rattle.gq_grammar.specs.Signs.{all_of}
 use Rattle.gq_grammar.specs.Parsers.{Parser, and_then, maybe_at, both, many, after, separated, Found}
 use Rattle.gq_grammar.specs.Series.{one_and_all, chain}
 
--- the items of a series, where there are any
+-- the items of a series, if there are any
 abbrev whole : {A : Type 0} → Option ((A × List A) × Lexemes) → Option (List A × Lexemes)
 whole o = and_then o (λ a r. Some (one_and_all a, r))
 

@@ -1,4 +1,4 @@
--- StatementReads: Statements are read as the grammar says, a lemma for each production.
+-- StatementReads: statements are read as the grammar says, a lemma for each production.
 use Rattle.std.proofs.Common.{ℕ, List, [], ◌∷◌, Some, None, refl}
 use Rattle.gq_tree.specs.declared.statement.Statement.{Statement}
 use Rattle.gq_tree.specs.declared.statement.Statement.TheVariants as top
@@ -27,12 +27,12 @@ use Rattle.gq_parse_ddl.proofs.JobReads.{job_reads, run_job_reads}
 use Rattle.gq_stmt_read.proofs.QueryReads.{created_query_reads, interpret_reads, install_reads, run_reads}
 use Rattle.gq_stmt_read.specs.Statements as d
 
--- with what statements begin
+-- the terminals with which statements begin
 abbrev pub firsts : List Terminal
 firsts =
     word "CREATE" ∷ word "USE" ∷ word "RUN" ∷ word "INSTALL" ∷ word "INTERPRET" ∷ word "INSERT" ∷ word "BEGIN" ∷ word "END" ∷ []
 
--- with what they may go on
+-- the terminals that may continue them
 abbrev pub goes : List Terminal
 goes =
     word "WITH" ∷ sign "," ∷ word "WITH" ∷ word "USING" ∷ sign "," ∷ sign "(" ∷ sign "," ∷ []

@@ -1,4 +1,4 @@
--- StepLemmas: what a turn of the loop over a script does, and what the answers of the loop say.
+-- StepLemmas: the effect of an iteration of the loop over a script, and what its results say.
 use Rattle.std.proofs.Common.{◌≡◌, ◌≢◌, ℕ, ◌+◌, ◌<◌, ◌≤◌, List, [], ◌∷◌, ◌++◌, length, get_or, Option, Some, None, Result, Ok, Err, IfOk, refl, sym, ap, ◌∙◌, subst, arith, length-append}
 use Rattle.std.specs.Prelude.{IfErr}
 use Rattle.std.proofs.lemmas.Option.{slice_get-get_or}
@@ -76,10 +76,10 @@ module _ (bytes : List ℕ) (tokens : List Token) (all : Lexemes) (is : all ≡ 
       cut_fault bytes tokens found at (count + 1) (get_or tokens at d).from (get_or tokens at d) c (slice_get-get_or tokens at d lt)
       (subst (λ l. Found (one (sign ";")) l at None) is f) none (ap (λ z. z + 1) n) refl
 
--- ---- what no other answer can be
+-- ---- what no other result can be
 
 module _ {X : Type 0} (items : X → List Placed) (known : Known) (bytes : List ℕ) (tokens : List Token) where
-  -- no token nests too deep
+  -- no token nests too deeply
   abbrev IsNeverDeep : Type 0
   IsNeverDeep = (place : ℕ) → IsTooDeepAt bytes tokens place → ⊥
 
@@ -125,7 +125,7 @@ module _ {X : Type 0} (items : X → List Placed) (known : Known) (bytes : List 
   no_script (Ok found) h = h
   no_script (Err fault) h = not_this fault h
 
--- ---- what a script that nests too deep can't be
+-- ---- what a script that nests too deeply can't be
 
 module _ (bytes : List ℕ) (tokens : List Token) (at : ℕ) where
   pub deep_only : ((place : ℕ) → IsTooDeepAt bytes tokens place → Some at ≡ Some place) → (IsShallow bytes tokens → ⊥) → (other : ScriptFault) → HasFault bytes tokens other → other ≡ TooDeep at

@@ -1,4 +1,5 @@
--- Queries: what each function of the reader of queries computes, a definition for each production. `queries_are_exact` says that it is the grammar.
+-- Queries: what each function of the reader of queries computes, a definition for each production.
+-- `queries_are_exact` states that it is the grammar.
 use Rattle.std.specs.Prelude.{ℕ, List, Option, Bool}
 use Rattle.gq_tree.specs.declared.schema.Literal.{Literal}
 use Rattle.gq_tree.specs.declared.query.ParameterTree.{ParameterTree}

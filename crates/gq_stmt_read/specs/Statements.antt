@@ -1,5 +1,5 @@
--- Statements: what each function of the reader of statements computes, a definition for each production. `statements_are_exact` says that
--- it is the grammar.
+-- Statements: what each function of the reader of statements computes, a definition for each production.
+-- `statements_are_exact` states that it is the grammar.
 use Rattle.gq_tree.specs.declared.statement.Statement.{Statement}
 use Rattle.gq_tree.specs.declared.statement.Statement.TheVariants as top
 use Rattle.gq_grammar.specs.Scripts.{created_query}

@@ -13,7 +13,7 @@ pub enum ScriptFault {
     #[error("syntax error in statement {statement}")]
     Syntax { statement: u64, at: usize },
 
-    /// The token that begins at `at` is the first that raises the depth to 65.
+    /// The token that begins at `at` is the first one that raises the depth to 65.
     #[error("nested too deep at byte {at}")]
     TooDeep { at: usize },
 

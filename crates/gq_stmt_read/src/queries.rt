@@ -1,4 +1,4 @@
-// CREATE QUERY, behind its CREATE, and INTERPRET QUERY.
+// CREATE QUERY, after its CREATE, and INTERPRET QUERY.
 ghost use Rattle.std.specs.Prelude.{◌≤◌, length, IfOk, Some};
 ghost use Rattle.gq_grammar.specs.Lexemes as lexemes;
 ghost use Rattle.gq_grammar.specs.Parsers.{Found, many, maybe, after, enclosed, token};
@@ -14,7 +14,7 @@ use gq_tree::{Body, Mode, QueryTree};
 use gq_value::Txt;
 use std::alloc::Global;
 
-// What stands behind the parameters: the graph, the modes and the body.
+// What follows the parameters: the graph, the modes and the body.
 type QueryRest = (Option<Txt>, (List<Mode>, Body));
 
 // [ FOR GRAPH Name ]
@@ -103,7 +103,7 @@ fn query(alloc: Global, source: &Source<'_>, at: usize) -> Read<QueryTree>
     )))
 }
 
-// [ OR REPLACE ], and whether it stands there
+// [ OR REPLACE ], and whether it is there
 #[tactic(auto, unfolding(crate::specs::Queries::replace_parser, gq_grammar::specs::Parsers::after))]
 fn replace(source: &Source<'_>, at: usize) -> (Option<()>, usize)
     requires { at ≤ length source.now }
@@ -118,7 +118,7 @@ fn replace(source: &Source<'_>, at: usize) -> (Option<()>, usize)
     }
 }
 
-// [ OR REPLACE ] QUERY, and whether OR REPLACE stands there
+// [ OR REPLACE ] QUERY, and whether OR REPLACE is there
 #[tactic(auto, unfolding(crate::specs::Queries::query_head_parser, gq_grammar::specs::Series::ended))]
 fn query_head(source: &Source<'_>, at: usize) -> Option<(bool, usize)>
     requires { at ≤ length source.now }
@@ -131,8 +131,8 @@ fn query_head(source: &Source<'_>, at: usize) -> Option<(bool, usize)>
     }
 }
 
-/// `[ OR REPLACE ] QUERY Name "(" [ Param { "," Param } ] ")" [ FOR GRAPH Name ] { Mode } Body`, which stands behind CREATE: whether
-/// OR REPLACE stands there, the name, and the rest.
+/// `[ OR REPLACE ] QUERY Name "(" [ Param { "," Param } ] ")" [ FOR GRAPH Name ] { Mode } Body`, which follows CREATE:
+/// whether it has OR REPLACE, the name, and the rest.
 #[tactic(auto, unfolding(crate::specs::Queries::created_query_parser))]
 pub fn created_query(
     alloc: Global,

@@ -69,7 +69,7 @@ fn arguments(
     Ok((Some(arguments), end))
 }
 
-/// `QUERY Name [ "(" [ Arg { "," Arg } ] ")" ]`, which stands behind RUN.
+/// `QUERY Name [ "(" [ Arg { "," Arg } ] ")" ]`, which follows RUN.
 #[tactic(auto, unfolding(crate::specs::Queries::run_parser, gq_grammar::specs::Parsers::after))]
 pub fn run_query(alloc: Global, source: &Source<'_>, at: usize) -> Read<RunTree>
     requires { at ≤ length source.now }

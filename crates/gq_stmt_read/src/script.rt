@@ -15,10 +15,11 @@ use gq_token::{Token, too_deep};
 use gq_tree::Placed;
 use std::alloc::Global;
 
-/// The statements of a script, each with the byte place of its first token, or why it isn't read.
+/// Reads the statements of a script, each with the byte place of its first token, or returns why it can't be read.
 ///
-/// The tokens are those of the script `bytes`. A script that nests too deep is refused for that alone. Each statement is the longest
-/// prefix of the rest that is one; a lone `;` stands for nothing and isn't counted. Time is linear in the tokens.
+/// The tokens are those of the script `bytes`. A script that nests too deeply is refused for that alone. Each statement
+/// is the longest prefix of the rest that is one; a lone `;` is skipped and isn't counted. Time is linear in the
+/// tokens.
 pub fn read_script(
     alloc: Global,
     bytes: &[u8],
@@ -29,12 +30,12 @@ pub fn read_script(
     ensures only { IfOk result (λ found. (statements : List Placed) → IsRead bytes.now tokens.now statements → statements ≡ found.items) }
     ensures fault { IfErr result (λ fault. fault ≢ OutOfMemory → HasFault bytes.now tokens.now fault) }
 
-    // A script that is read has no fault, and one that has a fault has no other and isn't read.
+    // A script that is read has no fault, and one with a fault has no other fault and isn't read.
     ensures no_fault { IfOk result (λ found. (fault : ScriptFault) → HasFault bytes.now tokens.now fault → ⊥) }
     ensures only_fault { IfErr result (λ fault. fault ≢ OutOfMemory → (other : ScriptFault) → HasFault bytes.now tokens.now other → other ≡ fault) }
     ensures no_script { IfErr result (λ fault. fault ≢ OutOfMemory → (statements : List Placed) → IsRead bytes.now tokens.now statements → ⊥) }
 
-    // To refuse a script that nests too deep takes no memory.
+    // Refusing a script that nests too deeply allocates nothing.
     ensures too_deep { (at : ℕ) → IsTooDeepAt bytes.now tokens.now at → result ≡ Err (TooDeep at) }
 {
     match too_deep(bytes, tokens) {
@@ -43,7 +44,7 @@ pub fn read_script(
     }
 }
 
-// The statements, however deep they nest.
+// Reads the statements, however deeply they nest.
 fn statements(alloc: Global, bytes: &[u8], tokens: &[Token]) -> Result<Vec<Placed>, ScriptFault>
     requires { All (IsSpelledIn bytes.now) tokens.now }
     ensures script { IfOk result (λ found. IsScript bytes.now tokens.now found.items) }

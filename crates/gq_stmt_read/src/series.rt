@@ -9,7 +9,7 @@ use gq_grammar::Source;
 use gq_parse_common::list;
 use std::alloc::Global;
 
-/// The items with commas between them, or none, and the place after them.
+/// Reads items separated by commas, or none, and returns the place after them.
 pub fn series<T: Drop, F: Fn(Global, &Source<'_>, usize) -> Read<T>>(
     alloc: Global,
     source: &Source<'_>,

@@ -36,7 +36,7 @@ fn declared(alloc: Global, source: &Source<'_>, at: usize) -> Read<Statement>
     Ok(Some((Statement::Job(tree), next)))
 }
 
-// What stands behind CREATE.
+// What follows CREATE.
 #[tactic(auto, unfolding(crate::specs::Statements::created_parser))]
 fn created(alloc: Global, source: &Source<'_>, at: usize) -> Read<Statement>
     requires { at ≤ length source.now }
@@ -51,7 +51,7 @@ fn created(alloc: Global, source: &Source<'_>, at: usize) -> Read<Statement>
     }
 }
 
-// CREATE and what stands behind it
+// CREATE and what follows it
 #[tactic(auto, unfolding(gq_grammar::specs::Parsers::after))]
 fn create(alloc: Global, source: &Source<'_>, at: usize) -> Read<Statement>
     requires { at ≤ length source.now }
@@ -72,7 +72,7 @@ fn use_graph(alloc: Global, source: &Source<'_>, at: usize) -> Read<Statement>
     Ok(Some((Statement::Use(name), at)))
 }
 
-// What stands behind RUN.
+// What follows RUN.
 #[tactic(auto, unfolding(crate::specs::Statements::run_statement_parser))]
 fn ran(alloc: Global, source: &Source<'_>, at: usize) -> Read<Statement>
     requires { at ≤ length source.now }
@@ -87,7 +87,7 @@ fn ran(alloc: Global, source: &Source<'_>, at: usize) -> Read<Statement>
     }
 }
 
-// RUN and what stands behind it
+// RUN and what follows it
 #[tactic(auto, unfolding(gq_grammar::specs::Parsers::after))]
 fn run(alloc: Global, source: &Source<'_>, at: usize) -> Read<Statement>
     requires { at ≤ length source.now }
@@ -119,9 +119,9 @@ fn plain(alloc: Global, source: &Source<'_>, at: usize) -> Read<Statement>
     Ok(Some((Statement::Install(tree), next)))
 }
 
-/// The longest statement from `at` on, and the place after it.
+/// Reads the longest statement from `at` on, and returns the place after it.
 ///
-/// Each level of a body takes some frames of the stack.
+/// Each level of a body uses some stack frames.
 #[tactic(auto, unfolding(crate::specs::Statements::statement_parser, gq_grammar::specs::Parsers::stands))]
 pub fn statement(alloc: Global, source: &Source<'_>, at: usize) -> Read<Statement>
     requires { at ≤ length source.now }

@@ -1,4 +1,4 @@
--- CountLemmas: puts counted by stripes, and workers that count for nothing.
+-- CountLemmas: puts counted by stripe, and sums over workers that contribute nothing.
 use Rattle.std.proofs.Common.{◌≡◌, ℕ, zero, suc, ◌+◌, ◌*◌, ◌<◌, ◌≤◌, ◌≢◌, ◌==◌, ◌&&◌, nat_lt, Bool, true, false, List, [], ◌∷◌, ◌++◌, length, set, slice_get, Some, sym, refl, ap, ◌∙◌, subst, arith}
 use mathlib.Core.Logic.{dite}
 use native.Mathlib.Decide.{ℕ_discrete, dec_le, dec_lt}
@@ -6,7 +6,7 @@ use Rattle.gq_core.specs.declared.worker.Worker.{Worker}
 use Rattle.gq_core.specs.Accounts.{one_if, below, times, total, put_at, put_of}
 use Rattle.gq_core.proofs.TotalLemmas.{is, is_same, is_other, below_yes, below_no, below-next, first_same, total_le}
 
--- how many puts are at stripes below n
+-- the number of puts at stripes below n
 abbrev at_below : ℕ → List (ℕ × ℕ) → ℕ
 at_below n [] = 0
 at_below n (p ∷ ps) = below p.1 n + at_below n ps
@@ -43,11 +43,11 @@ at_most (suc n) k ps h =
     let r = at_most n k ps (λ j less. h j (omega arith)) in let m = at_more n ps in let e = h n (omega arith) in let up : suc n ≡ n + 1 = omega arith in let z = ap (λ (x : ℕ). at_below x ps) up in
     let t : k * suc n ≡ k * n + k = Rattle.std.proofs.Common.mul-suc k n in omega arith
 
--- puts at stripes below n, so many at each, are so many in all
+-- with k puts at each stripe below n there are k * n puts in all
 pub puts_in_all : (n k : ℕ) (ps : List (ℕ × ℕ)) → ((c j : ℕ) → n ≤ j → put_of c j ps ≡ 0) → ((j : ℕ) → j < n → put_at j ps ≡ k) → length ps ≡ k * n
 puts_in_all n k ps within each = sym (at_all n ps within) ∙ at_each n k ps each
 
--- and where there are at most so many at each, they are so many in all only where there are as many at each
+-- and with at most k at each, there are k * n in all only if there are k at each
 at_least : (n k : ℕ) (ps : List (ℕ × ℕ)) → ((j : ℕ) → j < n → put_at j ps ≤ k) → k * n ≤ at_below n ps → (j : ℕ) → j < n → put_at j ps ≡ k
 at_least zero k ps h all j less = absurd (omega arith)
 at_least (suc n) k ps h all j less =
@@ -60,7 +60,7 @@ at_least (suc n) k ps h all j less =
 pub puts_at_each : (n k : ℕ) (ps : List (ℕ × ℕ)) → ((c j : ℕ) → n ≤ j → put_of c j ps ≡ 0) → ((j : ℕ) → j < n → put_at j ps ≤ k) → k * n ≤ length ps → (j : ℕ) → j < n → put_at j ps ≡ k
 puts_at_each n k ps within few all j less = let a = at_all n ps within in at_least n k ps few (omega arith) j less
 
--- where each part is 0, a total is
+-- if each part is 0, so is the total
 pub total_none : (f : Worker → ℕ) (vs : List Worker) → ((k : ℕ) (v : Worker) → slice_get vs k ≡ Some v → f v ≡ 0) → total f vs ≡ 0
 total_none f [] h = refl
 total_none f (v ∷ vs) h = let a = h 0 v refl in let r = total_none f vs (λ k u at. h (suc k) u at) in omega arith

@@ -1,4 +1,4 @@
--- EndLemmas: what a seat knows at the end, once all puts are among its own.
+-- EndLemmas: what a seat knows at the end, when it has all puts.
 use Rattle.std.proofs.Common.{◌≡◌, ℕ, zero, suc, ◌+◌, ◌*◌, ◌%◌, ◌/◌, ◌<◌, ◌≤◌, ◌≢◌, ◌⊎◌, ⊎_elim, ◌==◌, ◌&&◌, nat_lt, Bool, true, false, min, List, [], ◌∷◌, ◌++◌, length, map, set, get_or, slice_get, Option, Some, None, sym, refl, ap, ap₂, ◌∙◌, subst, arith, length-append}
 use Rattle.std.specs.Prelude.{All, unwrap_or}
 use Rattle.std.specs.List.{sum_by}
@@ -35,7 +35,7 @@ use Rattle.gq_stripe.proofs.RuleLemmas.{ticket_owed}
 use Rattle.gq_stripe.proofs.CountLemmas.{puts_in_all, puts_at_each}
 use Rattle.gq_stripe.proofs.OrderLemmas.{FitsPut, same_content}
 
--- what is owed of one chunk is owed
+-- a put owed for one chunk is owed in all
 one_owed : (c j : ℕ) (p : Phase) → owes_of c j p ≤ owes_at j p
 one_owed c j Idle = omega arith
 one_owed c j Ended = omega arith
@@ -66,7 +66,7 @@ one_owed c j (Laid t) = both_less (c == t.chunk) (nat_lt t.stripe (j + 1))
     both_less false b = omega arith
 one_owed c j Joined = omega arith
 
--- who has a stripe away has a ticket there
+-- a seat that has a stripe away has a ticket there
 away_ticket : (j : ℕ) (p : Phase) → lifts p ≡ Some j → ticket_at j p ≡ 1
 away_ticket j Idle e = absurd (none-some j e)
 away_ticket j Ended e = absurd (none-some j e)
@@ -91,7 +91,7 @@ module _ (plan : Plan) (s : Table) (r : IsKept plan s) (id : ℕ) (v : View) (at
   there : slice_get (map worker s.views) id ≡ Some (worker v)
   there = got_mapped worker s.views id v at
 
-  -- the seat has put at no stripe more than there are chunks
+  -- the seat has put at each stripe at most as often as there are chunks
   few_at : (j : ℕ) → j < plan.stripes → put_at j (worker v).puts ≤ plan.chunks
   few_at j inside =
       let owed = (r.accounts.fair id (worker v) there).owed_all j inside in let all = r.accounts.drawn_all in
@@ -102,7 +102,7 @@ module _ (plan : Plan) (s : Table) (r : IsKept plan s) (id : ℕ) (v : View) (at
     puts_each = puts_at_each plan.stripes plan.chunks (worker v).puts (r.accounts.fair id (worker v) there).within few_at
         (subst (λ (n : ℕ). puts_wanted plan ≤ n) (sym (length-map v.puts (λ (q : Put). (q.chunk, q.stripe)))) all)
 
-    -- nobody owes anything, and nobody else has put anything
+    -- no seat owes anything, and no other seat has put anything
     nobody : (j : ℕ) → j < plan.stripes → (k : ℕ) (x : Worker) → slice_get (map worker s.views) k ≡ Some x → owes_at j x.phase ≡ 0
     nobody j inside k x got =
         let drawn = r.accounts.drawn_all in let mine = puts_each j inside in
@@ -128,7 +128,7 @@ module _ (plan : Plan) (s : Table) (r : IsKept plan s) (id : ℕ) (v : View) (at
         go (Some w) e =
             let has = (r.accounts.balanced j inside).lent w e in let a = away_ticket j has.0.phase has.2 in let b = ticket_owed j has.0.phase in let z = nobody j inside w has.0 has.1 in absurd (omega arith)
 
-    -- the tickets at a stripe are all the seat's
+    -- the seat has all tickets of the stripe
     own_tickets : (j : ℕ) → j < plan.stripes → (t : ℕ) → put_with j t v.puts ≡ below t (length (r.books j))
     own_tickets j inside t =
         let f : View → ℕ = λ (u : View). put_with j t u.puts in
@@ -161,7 +161,7 @@ module _ (plan : Plan) (s : Table) (r : IsKept plan s) (id : ℕ) (v : View) (at
             let others = Rattle.gq_stripe.proofs.CountLemmas.total_none (λ (w : Worker). times c w.draws) (set ws id (worker spent))
             (Rattle.gq_core.proofs.TotalLemmas.each_set (λ (k : ℕ) (w : Worker). times c w.draws ≡ 0) ws id (worker v) (worker spent) there refl (λ k x ne got. times_none c x.draws (none k x got ne))) in omega arith
 
-    -- the content of a target that was taken is that after all its inputs in the seat's puts
+    -- the content of a target that was taken is the one after all its inputs in the seat's puts
     stands : (stripes : List (List Content)) (xs : List Slot) → AreTaken plan.stripes xs stripes → ((k : ℕ) (y : Slot) → get_elem? s.homes k ≡ some (some y) → get_elem? xs k ≡ some y)
         → (target : ℕ) (kind : Kind) → slice_get plan.layout target ≡ Some kind
         → (content : Content) × (slice_get (unwrap_or (slice_get stripes (target % length stripes)) []) (target / length stripes) ≡ Some content) × Shows (accum_of kind) content (content_after kind target (inputs_of v.puts))
@@ -197,7 +197,7 @@ module _ (plan : Plan) (s : Table) (r : IsKept plan s) (id : ℕ) (v : View) (at
         own_fit : (p : Put) → slice_get (r.books p.stripe) p.ticket ≡ Some p → p.stripe < plan.stripes → FitsPut plan.layout plan.stripes p
         own_fit p got inside = fits_entry p.stripe inside p.ticket p got
 
-        -- each of the seat's puts is at a stripe that there is
+        -- each of the seat's puts is at an existing stripe
         put_here : (ps : List Put) (k : ℕ) (d : Put) → k < length ps → 0 < put_of (get_or ps k d).chunk (get_or ps k d).stripe (map (λ (q : Put). (q.chunk, q.stripe)) ps)
         put_here [] k d h = absurd (omega arith)
         put_here (p ∷ ps) zero d h = let a = Rattle.gq_core.proofs.TotalLemmas.first_same (p.chunk == p.chunk) (p.stripe == p.stripe) (Rattle.std.proofs.Common.eq-eqb p.chunk p.chunk refl) in let b = is_same p.stripe p.stripe refl in omega arith
@@ -214,7 +214,7 @@ pub contents_of : (plan : Plan) (id : ℕ) (v : View) (ws : List ℕ) (xs : List
     → AreTaken plan.stripes xs partials.stripes.items → HasContents plan v.puts partials
 contents_of plan id v ws xs partials f all taken = record { each = stands plan f.0 f.1.0 id v f.1.1 all partials.stripes.items xs taken f.4 }
 
--- one stripe more that was taken
+-- one more stripe was taken
 pub one_taken : (j : ℕ) (xs : List Slot) (old new : List (List Content)) (y : Slot) → get_elem? xs j ≡ some y → AreTaken j xs old → IsTakenBehind y old new → AreTaken (j + 1) xs new
 one_taken j xs old new y at before (stripe, is, fine, grown) = record {
   count = ap length grown ∙ (length-append old (stripe.contents ∷ []) ∙ ap (λ (n : ℕ). n + 1) before.count);
@@ -223,7 +223,7 @@ one_taken j xs old new y at before (stripe, is, fine, grown) = record {
       (λ ne. let t = before.each k (omega arith) in record { stripe = t.stripe; is = t.is; fine = t.fine; contents = ap (λ l. get_elem? l k) grown ∙ at_longer old (stripe.contents ∷ []) k t.stripe.contents t.contents });
 }
 
--- the same of the seat's own numbers, after a look that changed nothing
+-- the same for the seat's own numbers, after a look that changed nothing
 module _ (plan : Plan) (id : ℕ) (v w : View) (ws : List ℕ) (xs : List Slot) (same : w ≡ v) (f : Final (Seen (IsKept plan) id w) ws xs) (wanted puts : ℕ) (wanted_is : wanted ≡ puts_wanted plan) (puts_is : length v.puts ≡ puts) (all : wanted ≤ puts) where
   all_made : puts_wanted plan ≤ length v.puts
   all_made = subst (λ (z : ℕ × ℕ). z.0 ≤ z.1) (λ i. (wanted_is i, sym puts_is i)) all

@@ -43,7 +43,7 @@ given_mine target x e = ap (λ b. map given (map (λ (input : ℕ × Input). inp
 given_other : (target : ℕ) (x : ℕ × Input) → x.0 ≢ target → given_to target (x ∷ []) ≡ []
 given_other target x ne = ap (λ b. map given (map (λ (input : ℕ × Input). input.1) (Rattle.std.proofs.Common.cond b (x ∷ []) []))) (ne_eqb x.0 target ne)
 
--- all of them suit the target's kind, and they are no more than all inputs
+-- all of them fit the target's kind, and they aren't more than all inputs
 module _ (kinds : List Kind) (stripes j target : ℕ) (kind : Kind) (is : slice_get kinds target ≡ Some kind) where
   pub all_suit : (xs : Batch) → All (FitsInput kinds stripes j) xs → (list_all (suits (accum_of kind)) (given_to target xs) ≡ true) × (length (given_to target xs) ≤ length xs)
   all_suit [] h = (refl, omega arith)
@@ -60,7 +60,7 @@ module _ (kinds : List Kind) (stripes j target : ℕ) (kind : Kind) (is : slice_
       let whole : given_to target (x ∷ xs) ≡ given_to target xs = cut ∙ ap (λ l. l ++ given_to target xs) (given_other target x ne) in
       (ap (list_all (suits (accum_of kind))) whole ∙ rest.0, let l = ap length whole in let m = rest.1 in omega arith))
 
-  -- so a content after them has room for one more, while they are few
+  -- so a content after them has room for one more, as long as they are few
   pub has_room : (xs : Batch) → All (FitsInput kinds stripes j) xs → length xs < 2 ^ 62 → HasRoom (accum_of kind) (content_after kind target xs)
   has_room xs h few =
       let s = all_suit xs h in let m = s.1 in
@@ -104,6 +104,6 @@ module _ (kinds : List Kind) (stripes j : ℕ) where
         });
   }
 
-  -- where its content stands
+  -- where its content is stored
   pub stands : (inputs : Batch) (contents : List Content) (x : ℕ × Input) → HoldsAll kinds stripes j inputs contents → (fits : FitsInput kinds stripes j x) → StandsAt contents (x.0 / stripes) fits.kind (content_after fits.kind x.0 inputs)
   stands inputs contents x h fits = h.each x.0 fits.kind fits.is fits.here

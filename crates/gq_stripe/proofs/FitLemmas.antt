@@ -35,7 +35,7 @@ empty_fits plan batches is = subst (λ (bs : List Batch). FitBatches plan bs × 
   none_all plan.stripes,
 )
 
--- what isn't in a list, and what is past its end
+-- an index without an element is past the end
 outside : (xs : List Batch) (j : ℕ) → slice_get xs j ≡ None → length xs ≤ j
 outside [] j e = omega arith
 outside (x ∷ xs) zero e = absurd (none-some x (sym e))
@@ -49,7 +49,7 @@ beyond (x ∷ xs) (suc j) h = beyond xs j (omega arith)
 past : (old new : List Batch) (j : ℕ) → slice_get old j ≡ None → length new ≡ length old → slice_get new j ≡ None
 past old new j e same = beyond new j (omega (arith, outside old j e, same))
 
--- one contribution is in the batch of its stripe alone
+-- one contribution is only in the batch of its stripe
 module _ (n target : ℕ) (input : Input) where
   abbrev one : ℕ → Batch
   one j = batch_of n j ((target, input) ∷ [])
@@ -65,7 +65,7 @@ module _ (n target : ℕ) (input : Input) where
       (λ (e : target % n ≡ j). ap length (one_here j e) ∙ sym (is_same (target % n) j e))
       (λ (ne : target % n ≢ j). ap length (one_else j ne) ∙ sym (is_other (target % n) j ne))
 
-  -- so all together have one more
+  -- so all batches together have one more
   counted : (j : ℕ) (old new : List Batch) → length new ≡ length old → ((k : ℕ) (batch : Batch) → slice_get old k ≡ Some batch → slice_get new k ≡ Some (batch ++ one (j + k)))
       → contributions new + below (target % n) j ≡ contributions old + below (target % n) (j + length old)
   counted j [] [] e h = let same : j ≡ j + 0 = omega arith in let z = ap (below (target % n)) same in omega arith

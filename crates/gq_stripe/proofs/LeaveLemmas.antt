@@ -1,4 +1,4 @@
--- LeaveLemmas: a leave keeps the rule. The stripe comes back with one put more, and the next ticket is served.
+-- LeaveLemmas: a leave keeps the rule. The stripe comes back with one more put, and the next ticket is served.
 use Rattle.std.proofs.Common.{◌≡◌, ℕ, zero, suc, ◌+◌, ◌*◌, ◌%◌, ◌^◌, ◌<◌, ◌≤◌, ◌≢◌, ◌⊎◌, ⊎_elim, inl, inr, ◌==◌, ◌&&◌, ◌||◌, nat_lt, Bool, true, false, if◌then◌else◌, min, List, [], ◌∷◌, ◌++◌, length, map, set, get_or, slice_get, Option, Some, None, sym, refl, ap, ap₂, ◌∙◌, subst, arith, eq-eqb, ne_eqb, lt-ltb, le-ltb, length-set, length-append, get_or-set_same, get_or-set_other}
 use Rattle.std.specs.Prelude.{All}
 use Rattle.std.specs.List.{sum_by}
@@ -52,7 +52,7 @@ is_behind stripes t inside = dite (dec_lt (t.stripe + 1) stripes)
       quiet = quiet_idle;
     })
 
--- behind a stripe no seat has ended, and none has a stripe away
+-- after a stripe a seat hasn't ended, and has no stripe away
 behind_over : (stripes : ℕ) (t : Turn) → over (behind stripes t) ≡ 0
 behind_over stripes t = go (nat_lt (t.stripe + 1) stripes)
   where
@@ -67,7 +67,7 @@ behind_lifted stripes t u = go (nat_lt (t.stripe + 1) stripes)
     go true e = cc
     go false e = cc
 
--- the books with one put more at stripe j
+-- the books with one more put at stripe j
 abbrev grown : (ℕ → List Put) → ℕ → Put → ℕ → List Put
 grown books j p i = if i == j then books j ++ p ∷ [] else books i
 

@@ -1,4 +1,4 @@
--- ListLemmas: lists of which one element changes, both ways to read a list, and sums over lists.
+-- ListLemmas: lists in which one element changes, two ways to read a list, and sums over lists.
 use Rattle.std.proofs.Common.{◌≡◌, ℕ, zero, suc, ◌+◌, ◌<◌, ◌≤◌, ◌≢◌, ◌⊎◌, ⊎_elim, inl, inr, List, [], ◌∷◌, ◌++◌, length, map, set, get_or, slice_get, Some, None, Option, sym, refl, ap, ◌∙◌, subst, arith}
 use Rattle.std.specs.List.{sum_by}
 use Rattle.std.proofs.lemmas.List.Sums.{sum_by-cons}
@@ -13,7 +13,7 @@ module _ {X : Type 0} where
   within (y ∷ ys) zero x at = omega arith
   within (y ∷ ys) (suc k) x at = let r = within ys k x at in omega arith
 
-  -- what stands at a place, by either reading
+  -- the element at an index, by either reading
   pub got_at : (xs : List X) (k : ℕ) (x : X) → get_elem? xs k ≡ some x → slice_get xs k ≡ Some x
   got_at [] k x at = absurd (some-ne-none x (sym at))
   got_at (y ∷ ys) zero x at = ap Some (some-injective y x at)
@@ -33,7 +33,7 @@ module _ {X : Type 0} where
   pub each_more : (P : X → Type 0) (xs : List X) (u : X) → P u → ((j : ℕ) (x : X) → get_elem? xs j ≡ some x → P x) → (j : ℕ) (x : X) → get_elem? (xs ++ u ∷ []) j ≡ some x → P x
   each_more P xs u mine others j x at = ⊎_elim (others j x) (λ (t : u ≡ x). subst P t mine) (at_snoc xs u x j at)
 
-  -- what is read of a list that grew at its end
+  -- reading a list after it grew at its end
   pub get_front : (xs ys : List X) (k : ℕ) (x : X) → slice_get xs k ≡ Some x → slice_get (xs ++ ys) k ≡ Some x
   get_front [] ys k x at = absurd (none-some x at)
   get_front (y ∷ xs) ys zero x at = at
@@ -45,7 +45,7 @@ module _ {X : Type 0} where
   get_last (y ∷ xs) zero x e = absurd (omega arith)
   get_last (y ∷ xs) (suc k) x e = get_last xs k x (omega arith)
 
-  -- one of a list with one more is one of the list, or the last
+  -- an element of a list with one appended is one of the list, or the last
   pub get_split : (xs : List X) (x : X) (k : ℕ) (y : X) → slice_get (xs ++ x ∷ []) k ≡ Some y → (slice_get xs k ≡ Some y) ⊎ ((k ≡ length xs) × (x ≡ y))
   get_split [] x zero y at = inr (refl, same_Some x y at)
   get_split [] x (suc k) y at = absurd (none-some y at)
@@ -66,12 +66,12 @@ module _ {X : Type 0} where
     part_of_sum (z ∷ zs) zero x at = let e : f z ≡ f x = ap f (some-injective z x at) in omega (arith, sum_by-cons f z zs)
     part_of_sum (z ∷ zs) (suc k) x at = let r = part_of_sum zs k x at in omega (arith, sum_by-cons f z zs)
 
-    -- where each part is 0, a sum is
+    -- if each part is 0, so is the sum
     pub sum_none : (xs : List X) → ((k : ℕ) (x : X) → get_elem? xs k ≡ some x → f x ≡ 0) → sum_by f xs ≡ 0
     sum_none [] none = refl
     sum_none (z ∷ zs) none = let here = none 0 z refl in let r = sum_none zs (λ k x at. none (suc k) x at) in omega (arith, sum_by-cons f z zs)
 
-    -- one sum is at most another where each part is
+    -- a sum is at most another one if each part is
     pub sum_le : (g : X → ℕ) (xs : List X) → ((k : ℕ) (x : X) → get_elem? xs k ≡ some x → f x ≤ g x) → sum_by f xs ≤ sum_by g xs
     sum_le g [] le = omega arith
     sum_le g (z ∷ zs) le = let here = le 0 z refl in let r = sum_le g zs (λ k x at. le (suc k) x at) in omega (arith, sum_by-cons f z zs, sum_by-cons g z zs)
@@ -87,7 +87,7 @@ module _ {X Y : Type 0} (f : X → Y) where
   got_mapped (y ∷ ys) zero x at = ap (λ z. Some (f z)) (some-injective y x at)
   got_mapped (y ∷ ys) (suc k) x at = got_mapped ys k x at
 
-  -- what stands in a mapped list comes from one of the list
+  -- an element of a mapped list comes from an element of the list
   pub from_mapped : (xs : List X) (k : ℕ) (y : Y) → slice_get (map f xs) k ≡ Some y → (x : X) × (get_elem? xs k ≡ some x) × (f x ≡ y)
   from_mapped [] k y at = absurd (none-some y at)
   from_mapped (x ∷ xs) zero y at = (x, refl, same_Some (f x) y at)

@@ -1,4 +1,4 @@
--- OpenLemmas: contents laid out for one target after another, which go to the stripes in turn.
+-- OpenLemmas: contents laid out for one target after another, which are distributed over the stripes in cyclic order.
 use Rattle.std.proofs.Common.{◌≡◌, ℕ, zero, suc, ◌+◌, ◌*◌, ◌%◌, ◌/◌, ◌<◌, ◌≤◌, ◌≢◌, ◌⊎◌, ⊎_elim, false, List, [], ◌∷◌, ◌++◌, take, length, map, set, get_or, slice_get, Option, Some, None, sym, refl, ap, ap₂, ◌∙◌, subst, arith, length-append, length-set, append_assoc, append-nil, div-add-mod', mod-lt, mod-eq_of_lt, mul-le-mul_left}
 use Rattle.std.specs.Prelude.{flat_map, replicate}
 use Rattle.std.proofs.lemmas.Option.{none-some, same_Some, slice_get_within}
@@ -26,7 +26,7 @@ use Rattle.gq_stripe.proofs.ListLemmas.{found_at, get_front, get_last, get_split
 
 -- ---- numbers
 
--- a quotient is known by its product
+-- a quotient is determined by its product
 quotient : (n q m a i : ℕ) → a < n → i < n → n * q + a ≡ n * m + i → q ≡ m
 quotient n q m a i small small' e = dite (dec_lt q m)
     (λ (h : q < m). let x : n * suc q ≤ n * m = mul-le-mul_left n h in let y = more n q in absurd (omega arith))
@@ -37,7 +37,7 @@ quotient n q m a i small small' e = dite (dec_lt q m)
     more : (n q : ℕ) → n * suc q ≡ n * q + n
     more n q = Rattle.std.proofs.Common.mul-suc n q
 
--- the number t, by its remainder and quotient
+-- the number t from its remainder and quotient
 whole : (t n : ℕ) → n * (t / n) + t % n ≡ t
 whole t n = ap (λ (x : ℕ). x + t % n) (mul_comm n (t / n)) ∙ div-add-mod' t n
 
@@ -70,7 +70,7 @@ mutual
 pub record OpenTo (kinds : List Kind) (n : ℕ) (rows : List (List Content)) : Type 0 where
   pub count : length rows ≡ n
   pub each : (t : ℕ) (kind : Kind) → slice_get kinds t ≡ Some kind → (row : List Content) × (slice_get rows (t % n) ≡ Some row) × StandsAt row (t / n) kind (content_after kind t [])
-  -- the next target of stripe i has the place behind the row
+  -- the next target of stripe i is placed at the end of the row
   pub long : (i : ℕ) (row : List Content) → slice_get rows i ≡ Some row → (length kinds ≤ n * length row + i) × (n * length row + i < length kinds + n)
 
 abbrev no_rows : ℕ → List (List Content)
@@ -144,7 +144,7 @@ open_more kinds n rows new kind c at some_n place fresh (row, found, is) r =
         (λ (g : m < q). let x : n * suc m ≤ n * q = mul-le-mul_left n g in let y = Rattle.std.proofs.Common.mul-suc n m in absurd (omega arith))
         (λ (g : ¬ (m < q)). omega arith))
 
--- the next stripe in turn
+-- the next stripe in cyclic order
 pub next_stripe : (kinds : List Kind) (kind : Kind) (at n : ℕ) → at ≡ length kinds % n → (at + 1) % n ≡ length (kinds ++ kind ∷ []) % n
 next_stripe kinds kind at n is = ap (λ (x : ℕ). (x + 1) % n) is ∙ (mod-add-mod (length kinds) n 1 ∙ ap (λ (x : ℕ). x % n) (sym (length-append kinds (kind ∷ []))))
 
@@ -172,12 +172,12 @@ row_more n rows new row e f is = is ∙ ((λ i. e i ++ f i ∷ []) ∙ (no_rows-
 
 -- ---- runs
 
--- so many targets of a run
+-- the first c targets of a run
 abbrev part : Option Run → ℕ → List Kind
 part (Some run) c = replicate c run.kind
 part None c = []
 
--- the kinds of the runs before, and of some targets of this one
+-- the kinds of the earlier runs, and of the first c targets of this one
 abbrev pub kinds_to : List Run → ℕ → ℕ → List Kind
 kinds_to runs i c = kinds_in (take i runs) ++ part (slice_get runs i) c
 
@@ -195,7 +195,7 @@ replicate-snoc : (c : ℕ) (kind : Kind) → replicate c kind ++ kind ∷ [] ≡
 replicate-snoc zero kind = refl
 replicate-snoc (suc c) kind = ap (λ l. kind ∷ l) (replicate-snoc c kind)
 
--- the rows so far, and the stripe of the next target
+-- the invariant: the rows so far, and the stripe of the next target
 abbrev pub IsNext : List Kind → ℕ → ℕ → List (List Content) → Type 0
 IsNext kinds n stripe rows = OpenTo kinds n rows × (stripe ≡ length kinds % n)
 
@@ -259,7 +259,7 @@ all_runs runs kinds i n stripe rows low high is (r, place) = subst (λ (ks : Lis
 
 -- ---- stripes
 
--- the first n rows as stripes
+-- the first n rows, made into stripes
 pub record AreOpenTo (kinds : List Kind) (n k : ℕ) (slots : List Slot) : Type 0 where
   pub count : length slots ≡ k
   pub each : (j : ℕ) → j < k → (stripe : Stripe) × (get_elem? slots j ≡ some (Some stripe)) × IsLaid kinds n j [] stripe
@@ -279,7 +279,7 @@ stripe_more kinds n k rows row slots new r got is h = subst (AreOpenTo kinds n (
     one : Slot
     one = Some stripe
 
--- the first k rows were taken out, and the others still stand
+-- the first k rows were taken out, and the others are unchanged
 pub record AreTakenTo (rows now : List (List Content)) (k : ℕ) : Type 0 where
   pub count : length now ≡ length rows
   pub each : (j : ℕ) → k ≤ j → slice_get now j ≡ slice_get rows j

@@ -1,4 +1,4 @@
--- OrderLemmas: the puts of a stripe, in the order of their tickets, are those of the seat that has made all, in another order.
+-- OrderLemmas: if one seat made all puts of a stripe, the stripe's puts in ticket order are a permutation of them.
 use Rattle.std.proofs.Common.{◌≡◌, ℕ, zero, suc, ◌+◌, ◌%◌, ◌<◌, ◌≤◌, ◌≢◌, ◌==◌, ◌&&◌, Bool, true, false, List, [], ◌∷◌, ◌++◌, take, length, map, get_or, slice_get, Option, Some, None, sym, refl, ap, ap₂, ◌∙◌, subst, arith, eq-eqb, ne_eqb, append_assoc, append-nil}
 use Rattle.std.specs.Prelude.{All, filter, flat_map}
 use Rattle.std.specs.List.Sorted.{IsPermutation}
@@ -56,7 +56,7 @@ abbrev from_some : {B : Type 0} → (Put → List B) → Option Put → List B
 from_some f (Some p) = f p
 from_some f None = []
 
--- what the puts of a book stand for, by their places
+-- the parts of a book's puts, by index
 by_places : {B : Type 0} (f : Put → List B) (book : List Put) (n : ℕ) → n ≤ length book → flat_map (λ t. from_some f (slice_get book t)) (numbers n) ≡ flat_map f (take n book)
 by_places f book zero h = refl
 by_places {B} f book (suc n) h =
@@ -87,7 +87,7 @@ tickets_counted j t (p ∷ ps) = go (j == p.stripe) (tickets_counted j t ps)
     go false r = omega (arith, r)
 
 module _ {B : Type 0} (f : Put → List B) (j : ℕ) (book : List Put) where
-  -- what is known of one of the puts
+  -- what is known about one of the puts
   pub record IsOne (p : Put) : Type 0 where
     pub here : p.stripe ≡ j → slice_get book p.ticket ≡ Some p
     pub other : p.stripe ≢ j → f p ≡ []
@@ -114,19 +114,19 @@ inputs_to-inputs_of : (t : ℕ) (ps : List Put) → inputs_to t (inputs_of ps) �
 inputs_to-inputs_of t [] = refl
 inputs_to-inputs_of t (p ∷ ps) = inputs_to-append t p.batch (inputs_of ps) ∙ ap (λ l. inputs_to t p.batch ++ l) (inputs_to-inputs_of t ps)
 
--- a contribution to another target
+-- a contribution to another target adds no input
 not_to : (t : ℕ) (x : ℕ × Input) (xs : Batch) → x.0 ≢ t → inputs_to t (x ∷ xs) ≡ inputs_to t xs
 not_to t x xs ne = ap (λ b. map (λ (input : ℕ × Input). input.1) (Rattle.std.proofs.Common.cond b (x ∷ filter (λ (input : ℕ × Input). input.0 == t) xs) (filter (λ (input : ℕ × Input). input.0 == t) xs))) (ne_eqb x.0 t ne)
 
 module _ (kinds : List Kind) (stripes : ℕ) where
-  -- a batch for another stripe has nothing for the target
+  -- a batch for another stripe has no input for the target
   other_stripe : (t i : ℕ) (xs : Batch) → All (FitsInput kinds stripes i) xs → i ≢ t % stripes → inputs_to t xs ≡ []
   other_stripe t i [] h ne = refl
   other_stripe t i (x ∷ xs) h ne =
       let fits = All-head (FitsInput kinds stripes i) x xs h in
       not_to t x xs (λ e. ne (sym fits.here ∙ ap (λ (n : ℕ). n % stripes) e)) ∙ other_stripe t i xs (All-tail (FitsInput kinds stripes i) x xs h) ne
 
-  -- and a target of a kind with a ListAccum gets nothing
+  -- a target whose kind contains a ListAccum has no inputs
   no_list_input : (t i : ℕ) (kind : Kind) → slice_get kinds t ≡ Some kind → has_no_list (accum_of kind) ≡ false → (xs : Batch) → All (FitsInput kinds stripes i) xs → inputs_to t xs ≡ []
   no_list_input t i kind is lacks [] h = refl
   no_list_input t i kind is lacks (x ∷ xs) h =
@@ -144,7 +144,7 @@ module _ (kinds : List Kind) (stripes : ℕ) where
   no_list_inputs t kind is lacks (p ∷ ps) h =
       ap₂ (λ (x y : List Input). x ++ y) (no_list_input t p.stripe kind is lacks p.batch (All-head FitsPut p ps h)) (no_list_inputs t kind is lacks ps (All-tail FitsPut p ps h))
 
-  -- a target's content after the puts in its stripe's book is that after the seat's puts
+  -- a target's content after the puts in its stripe's book is the one after the seat's puts
   pub same_content : (t : ℕ) (kind : Kind) (book ps : List Put) → slice_get kinds t ≡ Some kind → All FitsPut book → All FitsPut ps
       → All (λ (p : Put). p.stripe ≡ t % stripes → slice_get book p.ticket ≡ Some p) ps → ((n : ℕ) → put_with (t % stripes) n ps ≡ below n (length book))
       → content_after kind t (inputs_of book) ≡ content_after kind t (inputs_of ps)

@@ -26,7 +26,7 @@ use Rattle.gq_stripe.specs.Steps.{Known, IsTaken, IsLook, lifted, waiting, made_
 use Rattle.gq_stripe.specs.Seats.{chunk_held, has_ended, contributions, FitBatches, ArePuts, with_puts, HasPut}
 use Rattle.gq_stripe.specs.Turns.{Place, IsAt, turn_at, HasAway, HasLaid, CanLeave, HasPutAt}
 
--- what a seat is about between two calls
+-- ---- the stage of a seat between two calls
 pub free_of : (p : Phase) (now : Stage) → p ≡ phase_of now → chunk_held p ≡ None → is_free p ≡ true
 free_of p (stage.Holds c) e h = absurd (none-some c (sym h ∙ ap chunk_held e))
 free_of p stage.Ended e h = ap is_free e
@@ -42,7 +42,7 @@ holds_of p (stage.Holds d) c e h = e ∙ ap (λ (n : ℕ). Holds n 0) (Rattle.st
 holds_of p stage.Ended c e h = absurd (none-some c (sym (ap chunk_held e) ∙ h))
 holds_of p stage.Idle c e h = absurd (none-some c (sym (ap chunk_held e) ∙ h))
 
--- where a chunk is put next: at stripe j, and after the last one nowhere
+-- where a chunk is put next: at stripe j, or nowhere after the last one
 abbrev pub from : ℕ → ℕ → ℕ → Phase
 from stripes chunk j = if nat_lt j stripes then Holds chunk j else Idle
 
@@ -60,7 +60,7 @@ puts-snoc chunk j (q ∷ ps) [] p b h c s e = absurd h
 puts-snoc chunk j (q ∷ ps) (x ∷ bs) p b h c s e =
     let n : length (x ∷ bs) ≡ length bs + 1 = omega arith in (h.0, h.1, h.2, puts-snoc chunk (j + 1) ps bs p b h.3 c (s ∙ omega arith) e)
 
--- as many puts as batches
+-- there are as many puts as batches
 pub puts_long : (chunk j : ℕ) (ps : List Put) (bs : List Batch) → ArePuts chunk j ps bs → length ps ≡ length bs
 puts_long chunk j [] [] h = refl
 puts_long chunk j [] (b ∷ bs) h = absurd h
@@ -77,7 +77,7 @@ or_turned true false = refl
 or_turned false true = refl
 or_turned false false = refl
 
--- nothing was put yet
+-- the state before anything was put
 pub put_none : (v : View) (chunk : ℕ) → v.phase ≡ Holds chunk 0 → v.batch ≡ [] → v.base ≡ [] → 0 < v.of.stripes → IsPutTo chunk 0 [] false v v
 put_none v chunk phase batch base some = (
   [],
@@ -91,7 +91,7 @@ put_none v chunk phase batch base some = (
   },
 )
 
--- one batch more was put
+-- one more batch was put
 pub put_one : (chunk j : ℕ) (bs : List Batch) (b : Batch) (spoiled now : Bool) (v w u : View) → length bs ≡ j → IsPutTo chunk j bs spoiled v w → HasPutAt chunk j b now w u → IsPutTo chunk (j + 1) (bs ++ b ∷ []) (now || spoiled) v u
 put_one chunk j bs b spoiled now v w u long (ps, are, any, is) (ticket, went) =
     let p : Put = record { chunk = chunk; stripe = j; ticket = ticket; batch = b; spoiled = now } in (
@@ -102,7 +102,7 @@ put_one chunk j bs b spoiled now v w u long (ps, are, any, is) (ticket, went) =
           ∙ (λ i. record v { phase = from v.of.stripes chunk (j + 1); batch = []; base = []; puts = append_assoc v.puts ps (p ∷ []) i })),
     )
 
--- all of them were
+-- all batches were put
 pub put_all : (chunk j : ℕ) (bs : List Batch) (spoiled : Bool) (v w : View) → v.of.stripes ≤ j → v.batch ≡ [] → v.base ≡ [] → IsPutTo chunk j bs spoiled v w → HasPut chunk bs spoiled v w
 put_all chunk j bs spoiled v w all batch base (ps, are, any, is) = (
   ps,
@@ -134,7 +134,7 @@ abbrev head_or : Slot → List (ℕ × Slot) → Slot
 head_or d [] = d
 head_or d (c ∷ cs) = c.1
 
--- the slot that was exchanged is the one that was taken
+-- the stripe that was exchanged is the one that was taken
 pub taken_stripe : (j : ℕ) (away : List (ℕ × Slot)) (x y : Stripe) (r : Slot) → away ≡ (j, Some x) ∷ [] → away ≡ (j, r) ∷ rest away → r ≡ Some y → x ≡ y
 taken_stripe j away x y r one other some = ap (stripe_or y) (ap (head_or r) (sym one) ∙ (ap (head_or r) other ∙ some))
 
@@ -154,7 +154,7 @@ can_lay plan n j base x y batch taken fits e same =
       },
     )
 
--- what was laid on it
+-- the batch was laid on it
 pub has_laid : (t : Turn) (old new : Place) (n : ℕ) (batch : Batch) (x y new_stripe : Stripe) → IsTaken old.me.0.of t.stripe old.me.0.base x → FitsBatch old.me.0.of.layout old.me.0.of.stripes t.stripe batch → old.me.0.of.stripes ≡ n → x ≡ y
     → IsLaidOn n batch y new_stripe → new.me.1 ≡ (t.stripe, Some new_stripe) ∷ [] → HasLaid t batch new_stripe.spoiled old new
 has_laid t old new n batch x y new_stripe taken fits e same on away =
@@ -169,7 +169,7 @@ has_laid t old new n batch x y new_stripe taken fits e same on away =
       scalars = λ all. laid_on.scalars plan.layout t.stripe base open_now all (taken.laid.spoiled ∙ taken.scalars all);
     }
 
--- the stripe may be left
+-- the stripe may be brought back
 pub can_leave : (t : Turn) (old new : Place) (batch : Batch) (spoiled : Bool) → HasLaid t batch spoiled old new → new.me.0 ≡ old.me.0 → old.me.0.phase ≡ Lifted t → old.me.0.batch ≡ batch → FitsBatch old.me.0.of.layout old.me.0.of.stripes t.stripe batch
     → CanLeave t spoiled new
 can_leave t old new batch spoiled h same phase batch_is fits =
@@ -193,7 +193,7 @@ one_of_all (x ∷ xs) (suc j) b got = let r = one_of_all xs j b got in omega (ar
 pub fits_at : (plan : Plan) (bs : List Batch) (j : ℕ) (b : Batch) → FitBatches plan bs → slice_get bs j ≡ Some b → FitsBatch plan.layout plan.stripes j b
 fits_at plan bs j b fit got = let few = fit.few in let one = one_of_all bs j b got in record { few = omega arith; each = fit.each j b got }
 
--- the place goes on to the next stripe
+-- the place is ready for the next stripe
 pub at_next : (book : Book) (old p : Place) (chunk j : ℕ) (bs : List Batch) (spoiled : Bool) → IsAt book old 0 → p.table_id ≡ old.table_id → IsPutTo chunk j bs spoiled old.me.0 p.me.0 → j < book.stripes → IsAt book p j
 at_next book old p chunk j bs spoiled at table (ps, are, any, is) inside =
     let stands = ap (λ (v : View). v.stands) is in let live = at.live in record {
@@ -220,7 +220,7 @@ leave_allowed plan slots id p t k spoiled h place alive of =
 
 -- ---- the wait
 
--- what a look tells that found another ticket, and one that found the seat's own
+-- the result of a look that found another ticket, and of one that found the seat's own
 pub looked_on : (t : Turn) (start before after : Known) (n : ℕ) → before ≡ start → start.0.phase ≡ Waits t → ((u : Turn) → before.0.phase ≡ Waits u → IsLook u before n after) → n ≢ t.ticket → after ≡ start
 looked_on t start before after n same phase look other = (look t (ap (λ (m : Known). m.0.phase) same ∙ phase)).other other ∙ same
 
@@ -252,7 +252,7 @@ exchanged j away away' away'' x y z e f g = g ∙ ap (λ (l : List (ℕ × Slot)
 
 -- ---- one stripe's put, step by step
 
--- the place is still one of the book, where its view is of it and stands for as many seats
+-- the place is still one of the book, if its view is of the book and represents as many seats
 pub still_at : (book : Book) (p q : Place) (j : ℕ) → IsAt book p j → q.table_id ≡ p.table_id → q.me.0.of ≡ p.me.0.of → q.me.0.stands ≡ p.me.0.stands → IsAt book q j
 still_at book p q j at table of stands = record { table = table ∙ at.table; inside = at.inside; live = subst (λ (n : ℕ). 0 < n) (sym stands) at.live; plan = of ∙ at.plan }
 
@@ -273,11 +273,11 @@ held_one p (stage.Holds d) c e h = refl
 held_one p stage.Ended c e h = absurd (none-some c (sym (ap chunk_held e) ∙ h))
 held_one p stage.Idle c e h = absurd (none-some c (sym (ap chunk_held e) ∙ h))
 
--- the batches before stripe j are j
+-- there are j batches before stripe j
 pub before_long : (bs : List Batch) (j : ℕ) (b : Batch) → slice_get bs j ≡ Some b → length (take j bs) ≡ j
 before_long bs j b got = let inside = slice_get_within bs j b got in let t = length-take j bs in omega arith
 
--- one batch of the list more
+-- with one more batch of the list
 pub put_next : (chunk j : ℕ) (bs : List Batch) (b : Batch) (spoiled now then_spoiled : Bool) (v w u : View) → slice_get bs j ≡ Some b → (now || spoiled) ≡ then_spoiled
     → IsPutTo chunk j (take j bs) spoiled v w → HasPutAt chunk j b now w u → IsPutTo chunk (j + 1) (take (j + 1) bs) then_spoiled v u
 put_next chunk j bs b spoiled now then_spoiled v w u got e puts one =

@@ -1,4 +1,4 @@
--- RuleLemmas: what the rule says of a seat, and draws.
+-- RuleLemmas: what the rule says about a seat, and draws.
 use Rattle.std.proofs.Common.{◌≡◌, ℕ, zero, suc, ◌+◌, ◌*◌, ◌%◌, ◌^◌, ◌<◌, ◌≤◌, ◌≢◌, ◌⊎◌, ⊎_elim, inl, inr, ◌==◌, ◌&&◌, nat_lt, Bool, true, false, if◌then◌else◌, min, List, [], ◌∷◌, ◌++◌, length, map, set, get_or, slice_get, Option, Some, None, sym, refl, ap, ap₂, ◌∙◌, subst, arith, eq-eqb, ne_eqb, lt-ltb, le-ltb, length-set, length-append, get_or-set_same, get_or-set_other}
 use Rattle.std.specs.List.{sum_by}
 use Rattle.std.proofs.lemmas.Option.{none-some, same_Some}
@@ -24,13 +24,13 @@ use Rattle.gq_stripe.specs.Rule.{Slot, Table, next, tickets, serving, worker, co
 use Rattle.gq_stripe.specs.Steps.{Known, got, last, drew, Draws}
 use Rattle.gq_stripe.proofs.ListLemmas.{within, each_set, sum-set, sum_same, part_of_sum, map-set, got_mapped}
 
--- a phase is one of those that a live seat has, by what its seat stands for
+-- a phase is one of those of a live seat, by the seats that it represents
 pub alive_seat : (plan : Plan) (books : ℕ → List Put) (v : View) → IsSeat plan books v → v.phase ≢ Joined → 0 < v.stands
 alive_seat plan books v s ne = dite (ℕ_discrete v.stands 0)
     (λ (e : v.stands ≡ 0). absurd (ne (ap (λ (u : View). u.phase) (s.live e))))
     (λ (n : v.stands ≢ 0). omega arith)
 
--- who has a ticket owes the put
+-- a seat with a ticket owes the put
 pub here_owed : (j i : ℕ) → one_if (j == i) ≤ below i (j + 1)
 here_owed j i = dite (ℕ_discrete j i)
     (λ (e : j ≡ i). let a = is_same j i e in let b = below_yes i (j + 1) (omega arith) in omega arith)
@@ -55,7 +55,7 @@ shown chunks stripes a s books away ws acc e w =
     (λ i. (e i, w i)) acc
 
 module _ (plan : Plan) where
-  -- a seat keeps what it tells where only its phase, draws and ended seats change
+  -- the rule for a seat holds if only its phase, draws and ended seats change
   pub seat_same : (books : ℕ → List Put) (v u : View) → IsSeat plan books v → 0 < v.stands → u.of ≡ v.of → u.stands ≡ v.stands → u.puts ≡ v.puts → u.ended + 1 ≤ u.stands + over u.phase
       → ((t : Turn) → u.phase ≡ Lifted t → u.base ≡ books t.stripe) → IsSeat plan books u
   seat_same books v u r alive of stands puts ended base = record {
@@ -66,7 +66,7 @@ module _ (plan : Plan) where
     puts = subst (λ (ps : List Put). Rattle.std.specs.Prelude.All (Rattle.gq_stripe.specs.Rule.StandsIn books) ps) (sym puts) r.puts;
   }
 
-  -- a stripe stays where its ticket that is served, the slots and the puts of the views do
+  -- the rule for a stripe holds if the served ticket, the slots and the views' puts are unchanged
   pub stripe_same : (s : Table) (id : ℕ) (v u : View) → get_elem? s.views id ≡ some v → (words : List ℕ) (j : ℕ) (book : List Put) (away : Option ℕ) → serving words j ≡ serving s.words j → u.puts ≡ v.puts
       → IsStripe plan s j book away → IsStripe plan (record { words = words; homes = s.homes; views = set s.views id u }) j book away
   stripe_same s id v u at words j book away serve puts r = record {
@@ -98,7 +98,7 @@ module _ (plan : Plan) where
           (λ (e : v.stands ≡ 0). let z = ap (λ (u : View). u.ended) (h.live e) in omega arith)
           (λ (n : v.stands ≢ 0). let a = h.ended (omega arith) in let b = over_one v.phase in omega arith)
 
-  -- a step on the number to draw next, which changes a view to one with the same puts
+  -- a step on the number to draw next that changes a view to one with the same puts
   moved : (s : Table) (r : IsKept plan s) (id n : ℕ) (v u : View) → get_elem? s.views id ≡ some v → u.puts ≡ v.puts → u.stands ≡ v.stands → u.spare ≡ v.spare → IsSeat plan r.books u
       → Accounts plan.chunks plan.stripes (core (record { words = set s.words 0 n; homes = s.homes; views = set s.views id u }) r.books r.away)
       → n ≤ plan.chunks + sum_by (λ (v : View). v.ended) (set s.views id u) → (0 < sum_by (λ (v : View). v.ended) (set s.views id u) → plan.chunks < n)
@@ -161,7 +161,7 @@ module _ (plan : Plan) where
       (omega arith)
       (λ h. omega arith)
 
-  -- a view knows no more draws than there are chunks, and no chunk that is still to be drawn
+  -- a view has at most as many draws as there are chunks, and no chunk that is still to be drawn
   pub few_draws : (s : Table) (r : IsKept plan s) (id : ℕ) (v : View) → get_elem? s.views id ≡ some v → length v.draws ≤ 2 ^ 25
   few_draws s r id v at =
       let all = r.accounts.drawn_all in let chunks = r.within.chunks in

@@ -1,4 +1,4 @@
--- SeatLemmas: a book at its start, seats that are split off and joined, and what a look tells.
+-- SeatLemmas: a book at its start, seats that are split off and joined, and what a look shows.
 use Rattle.std.proofs.Common.{◌≡◌, ℕ, zero, suc, ◌+◌, ◌*◌, ◌^◌, ◌<◌, ◌≤◌, ◌≢◌, ◌⊎◌, ⊎_elim, inl, inr, min, Bool, true, false, List, [], ◌∷◌, ◌++◌, length, map, set, get_or, slice_get, Option, Some, None, sym, refl, ap, ap₂, ◌∙◌, subst, arith, length-set, length-append}
 use Rattle.std.specs.Prelude.{All, replicate}
 use Rattle.std.specs.List.{sum_by}
@@ -197,14 +197,14 @@ module _ (plan : Plan) where
         };
       }
 
-  -- where a view stands for all seats, the others are spent
+  -- if a view represents all seats, the others are spent
   others_spent : (s : Table) (r : IsKept plan s) (id : ℕ) (v : View) → get_elem? s.views id ≡ some v → v.stands ≡ plan.seats → (k : ℕ) (u : View) → get_elem? (set s.views id spent) k ≡ some u → u ≡ spent
   others_spent s r id v at all k u there =
       let out = sum-set (λ (v : View). v.stands) s.views id v spent at in let shared = r.shared in
       let mine = part_of_sum (λ (v : View). v.stands) (set s.views id spent) k u there in
       each_set (λ (w : View). w.stands ≡ 0 → w ≡ spent) s.views id spent (λ _. refl) (λ j w at. (r.seats j w at).live) k u there (omega arith)
 
-  -- then it has all draws, once a seat has ended, and all puts, where it holds no chunk
+  -- then it has all draws, once a seat has ended, and all puts, if it holds no chunk
   whole : (s : Table) (r : IsKept plan s) (id : ℕ) (v : View) → get_elem? s.views id ≡ some v → v.stands ≡ plan.seats → 0 < v.ended → is_free v.phase ≡ true → length v.puts ≡ plan.chunks * plan.stripes
   whole s r id v at all ended free =
       let ws : List Worker = map worker s.views in let there = got_mapped worker s.views id v at in

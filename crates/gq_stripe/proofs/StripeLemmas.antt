@@ -1,4 +1,4 @@
--- StripeLemmas: a batch that is fed, input by input, and a stripe that is laid.
+-- StripeLemmas: a batch that is fed input by input, and a stripe on which a batch is laid.
 use Rattle.std.proofs.Common.{◌≡◌, ℕ, zero, suc, ◌+◌, ◌*◌, ◌/◌, ◌^◌, ◌<◌, ◌≤◌, ◌||◌, ◌&&◌, Bool, true, false, List, [], ◌∷◌, ◌++◌, take, length, set, get_or, slice_get, Some, None, sym, refl, ap, ap₂, ◌∙◌, subst, arith, length-append, append_assoc, append-nil, length-take}
 use Rattle.std.specs.Prelude.{All, flat_map}
 use Rattle.std.specs.List.{list_all}
@@ -23,14 +23,14 @@ use Rattle.gq_stripe.specs.Laid.{IsLaid}
 use Rattle.gq_stripe.specs.Feeding.{IsReady, CanFeed, CanFeedScalars, IsFed, IsOpen, CanLay, IsLaidOn}
 use Rattle.gq_stripe.proofs.FeedLemmas.{fed_one, stands}
 
--- the first n of a batch are fed
+-- the first n inputs of a batch are fed
 abbrev pub IsFedTo : ℕ → Batch → List Content → ℕ → List Content → Type 0
 IsFedTo stripes batch old n now = (kinds : List Kind) (j : ℕ) (inputs : Batch) → IsReady kinds stripes j inputs batch old → HoldsAll kinds stripes j (inputs ++ take n batch) now
 
 pub fed_none : (stripes : ℕ) (batch : Batch) (old : List Content) → IsFedTo stripes batch old 0 old
 fed_none stripes batch old kinds j inputs r = subst (λ (xs : Batch). HoldsAll kinds stripes j xs old) (sym (append-nil inputs)) r.holds
 
--- the inputs so far fit, and are few
+-- the inputs so far fit, and are few enough
 so_far : (kinds : List Kind) (stripes j : ℕ) (inputs batch : Batch) (old : List Content) (n : ℕ) → IsReady kinds stripes j inputs batch old → n < length batch
     → All (FitsInput kinds stripes j) (inputs ++ take n batch) × (length (inputs ++ take n batch) < 2 ^ 62)
 so_far kinds stripes j inputs batch old n r h =
@@ -67,7 +67,7 @@ fed_more stripes batch old now after n x was new fed less is found takes written
 pub fed_whole : (stripes : ℕ) (batch : Batch) (old now : List Content) (n : ℕ) → n ≡ length batch → IsFedTo stripes batch old n now → IsFed stripes batch old now
 fed_whole stripes batch old now n e fed kinds j inputs ready = subst (λ (l : Batch). HoldsAll kinds stripes j (inputs ++ l) now) (ap (λ (m : ℕ). take m batch) e ∙ Rattle.std.proofs.Math.Seq.take-length batch) (fed kinds j inputs ready)
 
--- ---- kinds that take no memory
+-- ---- kinds that need no memory
 
 plain_level : (k : Accum) (l : Content-F Content) → HasForm l k → is_scalar k ≡ true → plain_in l ≡ true
 plain_level k (Content-F.Scalar s) h e = refl
@@ -109,7 +109,7 @@ scalar_at (k ∷ ks) (suc t) kind all is = scalar_at ks t kind (second (is_scala
     second true b h = h
     second false b h = let d : false ≡ true = h in cc
 
--- the next one takes no memory, where all kinds are scalar
+-- the next one needs no memory, if all kinds are scalar
 pub plain_there : (stripes : ℕ) (batch : Batch) (old now : List Content) (n : ℕ) (x : ℕ × Input) (was : Content) → CanFeedScalars stripes batch old → IsFedTo stripes batch old n now → n < length batch → x ≡ get_or batch n x
     → slice_get now (x.0 / stripes) ≡ Some was → (is_plain was ≡ true) × (is_one (given x.1) ≡ true)
 plain_there stripes batch old now n x was (kinds, j, inputs, ready, all) fed less is found =
@@ -136,7 +136,7 @@ spoiled-snoc ps p = list_any-append (λ (p : Put). p.spoiled) ps (p ∷ []) ∙ 
 pub can_feed : (stripes : ℕ) (batch : Batch) (stripe : Stripe) → CanLay stripes batch stripe → stripe.spoiled ≡ false → CanFeed stripes batch stripe.contents
 can_feed stripes batch stripe (kinds, j, puts, r) fine = (kinds, j, inputs_of puts, record { holds = r.laid.holds fine; fit = r.fit; comes = r.comes; room = r.room })
 
--- a stripe that was spoiled counts the put, and nothing else
+-- a spoiled stripe only counts the put
 pub laid_spoiled : (stripes : ℕ) (batch : Batch) (old new : Stripe) → old.spoiled ≡ true → new.spoiled ≡ true → new.laid ≡ old.laid + 1 → IsLaidOn stripes batch old new
 laid_spoiled stripes batch old new was is counted = record {
   next = λ kinds j puts r p batch_is spoiled_is. record {
@@ -147,7 +147,7 @@ laid_spoiled stripes batch old new was is counted = record {
   scalars = λ kinds j puts r all fine. let d : true ≡ false = sym was ∙ fine in cc;
 }
 
--- one that was not is fed the batch, or spoiled by it
+-- another one is fed the batch, or spoiled by it
 pub laid_fed : (stripes : ℕ) (batch : Batch) (old new : Stripe) → old.spoiled ≡ false → new.laid ≡ old.laid + 1 → (new.spoiled ≡ false → IsFed stripes batch old.contents new.contents)
     → (CanFeedScalars stripes batch old.contents → new.spoiled ≡ false) → IsLaidOn stripes batch old new
 laid_fed stripes batch old new was counted fed scalars = record {

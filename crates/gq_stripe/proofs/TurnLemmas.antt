@@ -35,18 +35,18 @@ use Rattle.gq_stripe.proofs.ListLemmas.{within, each_set, sum-set, sum_same, map
 use Rattle.gq_stripe.proofs.RuleLemmas.{ticket_owed, shown, seat_same, stripe_same}
 
 module _ (plan : Plan) where
-  -- a stripe has given no more tickets than there are chunks, and fewer while one is to be taken
+  -- a stripe has issued at most as many tickets as there are chunks, and fewer while one is to be taken
   pub few_tickets : (s : Table) (r : IsKept plan s) (j : ℕ) → j < plan.stripes → tickets s.words j ≤ plan.chunks
   few_tickets s r j inside =
       let numbered = (r.accounts.balanced j inside).numbered in let all = r.accounts.drawn_all in
       let le = total_le (λ (w : Worker). put_at j w.puts + ticket_at j w.phase) (λ (w : Worker). length w.draws) (map worker s.views)
       (λ k w at. let f = (r.accounts.fair k w at).owed_all j inside in let t = ticket_owed j w.phase in omega arith) in omega arith
 
-  -- the seat's own phase, as the accounts know it
+  -- the seat's own phase, as the accounts have it
   pub known : (s : Table) (r : IsKept plan s) (id : ℕ) (v : View) → get_elem? s.views id ≡ some v → (p : Phase) → v.phase ≡ p → Knows plan.stripes (λ j. serving s.words j) p
   known s r id v at p e = subst (Knows plan.stripes (λ j. serving s.words j)) e (r.accounts.knows id (worker v) (got_mapped worker s.views id v at))
 
-  -- a step that keeps the next number, and changes a view to one that stands for the same seats
+  -- a step that keeps the next number, and changes a view to one that represents the same seats
   pub regrouped : (s : Table) (r : IsKept plan s) (id : ℕ) (v u : View) → get_elem? s.views id ≡ some v → (words : List ℕ) (homes : List (maybe.Option Slot)) (books : ℕ → List Put) (away : ℕ → Option ℕ)
       → length words ≡ length s.words → length homes ≡ length s.homes → next words ≡ next s.words → u.stands ≡ v.stands → u.spare ≡ v.spare → u.ended ≡ v.ended
       → Accounts plan.chunks plan.stripes (core (record { words = words; homes = homes; views = set s.views id u }) books away)
@@ -104,7 +104,7 @@ module _ (plan : Plan) where
       in_hand (Holds c j) = waiting me.0 c j (get_or s.words k 0) batch
       in_hand p = me.0
 
-  -- who has the stripe away has the ticket that is served
+  -- a seat that has the stripe away has the ticket that is served
   lifted_ticket : (served : ℕ → ℕ) (j : ℕ) (p : Phase) → lifts p ≡ Some j → Knows plan.stripes served p → ticket_of j (served j) p ≡ 1
   lifted_ticket served j Idle e h = absurd (none-some j e)
   lifted_ticket served j Ended e h = absurd (none-some j e)
@@ -117,7 +117,7 @@ module _ (plan : Plan) where
   lifted_ticket served j (Laid t) e h = absurd (none-some j e)
   lifted_ticket served j Joined e h = absurd (none-some j e)
 
-  -- the stripe of a ticket that is served is at home, and not all its tickets were served
+  -- the stripe of a ticket that is served is at home, and some of its tickets weren't served
   at_home : (s : Table) (r : IsKept plan s) (id : ℕ) (v : View) (t : Turn) → get_elem? s.views id ≡ some v → v.phase ≡ Waits t → t.ticket ≡ serving s.words t.stripe → r.away t.stripe ≡ None
   at_home s r id v t at phase turn = go (r.away t.stripe) refl
     where
@@ -140,13 +140,13 @@ module _ (plan : Plan) where
           absurd (none-some j (sym (ap lifts phase) ∙ (ap (λ (y : Worker). lifts y.phase) (sym same) ∙ has.2))))
           (λ (ne : w ≢ id). let two = total_two (λ (w : Worker). ticket_of j n w.phase) (map worker s.views) id w (worker v) x (got_mapped worker s.views id v at) has.1 ne in absurd (omega arith))
 
-  -- a ticket that is held is one of those that were given
+  -- a ticket that is held was issued
   pub held_below : (s : Table) (r : IsKept plan s) (id : ℕ) (v : View) (j n : ℕ) → get_elem? s.views id ≡ some v → j < plan.stripes → ticket_of j n v.phase ≡ 1 → n < tickets s.words j
   held_below s r id v j n at inside one =
       let held = (r.accounts.balanced j inside).held n in let mine = total_at (λ (w : Worker). ticket_of j n w.phase) (map worker s.views) id (worker v) (got_mapped worker s.views id v at) in
       dite (dec_lt n (tickets s.words j)) (λ h. h) (λ (h : ¬ (n < tickets s.words j)). let z = below_no n (tickets s.words j) (omega arith) in absurd (omega arith))
 
-  -- all inputs of puts that fit do
+  -- if the batches of puts fit, so do all their inputs
   fit_all : (stripes j : ℕ) (ps : List Put) → ((t : ℕ) (p : Put) → slice_get ps t ≡ Some p → FitsBatch plan.layout stripes j p.batch)
       → All (FitsInput plan.layout stripes j) (inputs_of ps) × (length (inputs_of ps) ≤ length ps * 2 ^ 35)
   fit_all stripes j [] h = (All-nil (FitsInput plan.layout stripes j), omega arith)

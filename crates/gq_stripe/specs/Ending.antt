@@ -1,4 +1,4 @@
--- Ending: what is taken out of the slots of a closed table.
+-- Ending: the contents that are taken out of the slots of a closed table.
 use Rattle.std.specs.Prelude.{◌≡◌, ℕ, ◌<◌, false, List, [], ◌∷◌, ◌++◌, length, Some}
 use mathlib.Core.Option.{some}
 use lib.ListN.{get_elem?}
@@ -18,6 +18,6 @@ pub record AreTaken (n : ℕ) (slots : List Slot) (taken : List (List Content)) 
   pub count : length taken ≡ n
   pub each : (j : ℕ) → j < n → IsTakenAt slots taken j
 
--- the contents of a slot that isn't spoiled stand last
+-- the contents of a slot that isn't spoiled were appended
 abbrev pub IsTakenBehind : Slot → List (List Content) → List (List Content) → Type 0
 IsTakenBehind slot old new = (stripe : Stripe) × (slot ≡ Some stripe) × (stripe.spoiled ≡ false) × (new ≡ old ++ stripe.contents ∷ [])

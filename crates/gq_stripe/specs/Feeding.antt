@@ -1,4 +1,4 @@
--- Feeding: what a batch does to a stripe, whatever the layout and the inputs before.
+-- Feeding: the effect of a batch on a stripe, for any layout and any earlier inputs.
 use Rattle.std.specs.Prelude.{◌≡◌, ℕ, ◌+◌, ◌^◌, ◌<◌, Bool, true, false, List, [], ◌∷◌, ◌++◌, length, All}
 use Rattle.gq_value.specs.declared.kind.Kind.{Kind}
 use Rattle.gq_nest.specs.declared.content.Content.{Content}
@@ -7,7 +7,8 @@ use Rattle.gq_stripe.specs.declared.stripe.Stripe.{Stripe}
 use Rattle.gq_stripe.specs.Contents.{Batch, FitsInput, HoldsAll, inputs_of, all_scalar}
 use Rattle.gq_stripe.specs.Laid.{IsLaid}
 
--- contents of stripe j after some inputs, which may be fed the batch: both fit, and there is room for all of them
+-- contents of stripe j after some inputs, which can be fed the batch: inputs and batch fit, and there is room for all
+-- of them
 pub record IsReady (kinds : List Kind) (stripes j : ℕ) (inputs batch : Batch) (contents : List Content) : Type 0 where
   pub holds : HoldsAll kinds stripes j inputs contents
   pub fit : All (FitsInput kinds stripes j) inputs
@@ -17,15 +18,15 @@ pub record IsReady (kinds : List Kind) (stripes j : ℕ) (inputs batch : Batch) 
 abbrev pub CanFeed : ℕ → Batch → List Content → Type 0
 CanFeed stripes batch contents = (kinds : List Kind) × (j : ℕ) × (inputs : Batch) × IsReady kinds stripes j inputs batch contents
 
--- the same of kinds that take no memory
+-- the same for kinds that need no memory
 abbrev pub CanFeedScalars : ℕ → Batch → List Content → Type 0
 CanFeedScalars stripes batch contents = (kinds : List Kind) × (j : ℕ) × (inputs : Batch) × IsReady kinds stripes j inputs batch contents × (all_scalar kinds ≡ true)
 
--- contents after the inputs before are now those after the batch too
+-- contents after the earlier inputs are now those after the batch too
 abbrev pub IsFed : ℕ → Batch → List Content → List Content → Type 0
 IsFed stripes batch old new = (kinds : List Kind) (j : ℕ) (inputs : Batch) → IsReady kinds stripes j inputs batch old → HoldsAll kinds stripes j (inputs ++ batch) new
 
--- stripe j after some puts, where one more batch may be laid
+-- stripe j after some puts, on which one more batch can be laid
 pub record IsOpen (kinds : List Kind) (stripes j : ℕ) (puts : List Put) (batch : Batch) (stripe : Stripe) : Type 0 where
   pub laid : IsLaid kinds stripes j puts stripe
   pub fit : All (FitsInput kinds stripes j) (inputs_of puts)
@@ -36,7 +37,7 @@ pub record IsOpen (kinds : List Kind) (stripes j : ℕ) (puts : List Put) (batch
 abbrev pub CanLay : ℕ → Batch → Stripe → Type 0
 CanLay stripes batch stripe = (kinds : List Kind) × (j : ℕ) × (puts : List Put) × IsOpen kinds stripes j puts batch stripe
 
--- the batch is laid behind the puts before, and kinds that take no memory are never spoiled
+-- the batch is laid after the earlier puts; kinds that need no memory are never spoiled
 pub record IsLaidOn (stripes : ℕ) (batch : Batch) (old new : Stripe) : Type 0 where
   pub next : (kinds : List Kind) (j : ℕ) (puts : List Put) → IsOpen kinds stripes j puts batch old → (p : Put) → p.batch ≡ batch → p.spoiled ≡ new.spoiled → IsLaid kinds stripes j (puts ++ p ∷ []) new
   pub scalars : (kinds : List Kind) (j : ℕ) (puts : List Put) → IsOpen kinds stripes j puts batch old → all_scalar kinds ≡ true → old.spoiled ≡ false → new.spoiled ≡ false

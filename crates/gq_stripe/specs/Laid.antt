@@ -5,7 +5,7 @@ use Rattle.gq_stripe.specs.declared.view.Put.{Put}
 use Rattle.gq_stripe.specs.declared.stripe.Stripe.{Stripe}
 use Rattle.gq_stripe.specs.Contents.{HoldsAll, inputs_of, any_spoiled}
 
--- stripe j after these puts, in the order of their tickets: it counts them, and has all their inputs, or is spoiled
+-- stripe j after these puts in ticket order: it counts them, and has all their inputs or is spoiled
 pub record IsLaid (kinds : List Kind) (stripes j : ℕ) (puts : List Put) (stripe : Stripe) : Type 0 where
   pub counts : stripe.laid ≡ length puts
   pub spoiled : stripe.spoiled ≡ any_spoiled puts

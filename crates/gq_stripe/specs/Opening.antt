@@ -14,7 +14,7 @@ pub record AreRows (kinds : List Kind) (stripes : ℕ) (rows : List (List Conten
   pub count : length rows ≡ stripes
   pub each : (j : ℕ) (row : List Content) → slice_get rows j ≡ Some row → HoldsAll kinds stripes j [] row
 
--- a stripe with these contents, where nothing was laid
+-- a stripe with these contents, on which nothing was laid
 abbrev pub opened : List Content → Slot
 opened contents = Some (record { contents = contents; laid = 0; spoiled = false })
 
@@ -23,6 +23,6 @@ pub record AreOpen (kinds : List Kind) (stripes : ℕ) (slots : List Slot) : Typ
   pub count : length slots ≡ stripes
   pub each : (j : ℕ) → j < stripes → (stripe : Stripe) × (get_elem? slots j ≡ some (Some stripe)) × IsLaid kinds stripes j [] stripe
 
--- one row has one content more
+-- one row has one more content
 abbrev pub IsPushedAt : ℕ → Content → List (List Content) → List (List Content) → Type 0
 IsPushedAt at content old new = (row : List Content) × (slice_get old at ≡ Some row) × (new ≡ slice_set old at (row ++ content ∷ []))

@@ -1,5 +1,5 @@
--- Rule: what is true of a book between any two steps. Its words, slots and views show a core of gq_core, which meets the
--- accounts, and each stripe that is at home holds what was put there. The code has no lists of draws and puts.
+-- Rule: the invariant of a book between any two steps. Its words, slots and views show a core of gq_core that meets the
+-- accounts, and each stripe that is at home holds what was put there. The code stores no lists of draws and puts.
 use Rattle.std.specs.Prelude.{◌≡◌, ℕ, ◌+◌, ◌*◌, ◌-◌, ◌^◌, ◌%◌, ◌<◌, ◌≤◌, ◌==◌, ◌&&◌, Bool, true, false, List, [], ◌∷◌, ◌++◌, length, map, sum_by, slice_get, slice_index, Option, Some, None, All}
 use mathlib.Core.Option.{some}
 use lib.ListN.{get_elem?}
@@ -23,7 +23,7 @@ Slot = Option Stripe
 abbrev pub Table : Type 0
 Table = table.State Slot View
 
--- the words: the next number to draw, and of each stripe its tickets and the one that is served
+-- the words: the next number to draw, and for each stripe the tickets issued and the one that is served
 abbrev pub next : List ℕ → ℕ
 next words = slice_index words 0
 
@@ -37,7 +37,7 @@ serving words j = slice_index words (2 * j + 2)
 abbrev pub worker : View → Worker
 worker v = record { phase = v.phase; draws = v.draws; puts = map (λ p. (p.chunk, p.stripe)) v.puts }
 
--- the core that is shown, where these puts stand at each stripe, and these workers have stripes away
+-- the core that is shown, with these puts at each stripe, and these workers having stripes away
 abbrev pub core : Table → (ℕ → List Put) → (ℕ → Option ℕ) → State
 core s books away = record {
   next = next s.words;
@@ -48,12 +48,12 @@ core s books away = record {
   workers = map worker s.views;
 }
 
--- how often a ticket of a stripe stands in these puts
+-- how often a ticket of a stripe occurs in these puts
 abbrev pub put_with : ℕ → ℕ → List Put → ℕ
 put_with j t [] = 0
 put_with j t (p ∷ ps) = one_if ((j == p.stripe) && (t == p.ticket)) + put_with j t ps
 
--- a put stands in the book of its stripe, at its ticket
+-- a put is stored in the book of its stripe, at its ticket
 abbrev pub StandsIn : (ℕ → List Put) → Put → Type 0
 StandsIn books p = slice_get (books p.stripe) p.ticket ≡ Some p
 
@@ -66,8 +66,8 @@ over _ = 0
 abbrev pub spent : View
 spent = record { of = record { layout = []; chunks = 0; stripes = 0; seats = 0 }; stands = 0; ended = 0; spare = 0; phase = Joined; batch = []; base = []; draws = []; puts = [] }
 
--- what one view tells: it is of this book or spent, at most all but one of its seats have ended while it may draw, and it
--- knows the books of its own puts, and that of the stripe that it has away
+-- what holds for one view: it is of this book or spent; not all of its seats have ended while it may draw; its puts
+-- are in the books, and its base is the book of the stripe that it has away
 pub record IsSeat (plan : Plan) (books : ℕ → List Put) (v : View) : Type 0 where
   pub same : 0 < v.stands → v.of ≡ plan
   pub live : v.stands ≡ 0 → v ≡ spent
@@ -87,9 +87,9 @@ pub record IsStripe (plan : Plan) (s : Table) (j : ℕ) (book : List Put) (away 
   pub count : length book ≡ serving s.words j
   pub entries : (t : ℕ) (p : Put) → slice_get book t ≡ Some p → IsEntry plan j t p
   pub once : (t : ℕ) → sum_by (λ v. put_with j t v.puts) s.views ≡ below t (serving s.words j)
-  -- kinds that take no memory are never spoiled
+  -- kinds that need no memory are never spoiled
   pub scalars : all_scalar plan.layout ≡ true → any_spoiled book ≡ false
-  -- what stands at home is the stripe after these puts
+  -- the stripe at home is the one after these puts
   pub home : away ≡ None → (stripe : Stripe) × (get_elem? s.homes j ≡ some (some (Some stripe))) × IsLaid plan.layout plan.stripes j book stripe
 
 -- limits of a book
@@ -117,13 +117,13 @@ pub record IsKept (plan : Plan) (s : Table) : Type 0 where
 abbrev pub first : Plan → View
 first plan = record { of = plan; stands = 1; ended = 0; spare = plan.seats - 1; phase = Idle; batch = []; base = []; draws = []; puts = [] }
 
--- the view that has handed one of its spare seats over, and that of the seat
+-- the view after one of its spare seats was handed over, and the view of that seat
 abbrev pub handed : View → View
 handed v = record v { spare = v.spare - 1 }
 
 abbrev pub fresh : View → View
 fresh v = record { of = v.of; stands = 1; ended = 0; spare = 0; phase = Idle; batch = []; base = []; draws = []; puts = [] }
 
--- the view that has taken in another one
+-- the view after another one was joined into it
 abbrev pub joined : View → View → View
 joined v w = record v { stands = v.stands + w.stands; ended = v.ended + w.ended; spare = v.spare + w.spare; draws = v.draws ++ w.draws; puts = v.puts ++ w.puts }

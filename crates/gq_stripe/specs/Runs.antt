@@ -1,4 +1,4 @@
--- Runs: the kinds that runs of targets stand for.
+-- Runs: the kinds of the targets of runs.
 use Rattle.std.specs.Prelude.{List, flat_map, replicate}
 use Rattle.gq_value.specs.declared.kind.Kind.{Kind}
 use Rattle.gq_stripe.specs.declared.layout.Run.{Run}

@@ -1,6 +1,6 @@
 -- Seats: what contracts see of a book and of its seats.
--- Here a put is a record in its seat's view, and a content is that after the whole list of inputs. The code counts, and feeds
--- each input where its stripe is at home.
+-- Here a put is a record in its seat's view, and a content is the one after the whole list of inputs. The code counts,
+-- and feeds each input while its stripe is at home.
 use Rattle.std.specs.Prelude.{◌≡◌, ℕ, ◌+◌, ◌*◌, ◌%◌, ◌/◌, ◌^◌, ◌<◌, ◌≤◌, Bool, true, false, List, [], ◌∷◌, ◌++◌, length, sum_by, slice_get, unwrap_or, Option, Some, None, All}
 use Rattle.gq_value.specs.declared.kind.Kind.{Kind}
 use Rattle.gq_value.specs.AccumViews.{accum_of}
@@ -20,11 +20,11 @@ use Rattle.gq_stripe.specs.declared.fault.CloseFault.TheVariants.{Unfinished, Ou
 use Rattle.gq_stripe.specs.Contents.{Batch, FitsInput, content_after, inputs_of, any_spoiled}
 use Rattle.gq_stripe.specs.Rule.{worker}
 
--- what a book was opened with
+-- the plan that a book was opened with
 abbrev pub plan_of : Book → Plan
 plan_of book = book.table.shared.key
 
--- what is known of a seat
+-- the view of a seat
 abbrev pub view_of : Seat → View
 view_of seat = seat.place.me.0
 
@@ -54,11 +54,12 @@ IsIdle book seat = IsSeatOf book seat × (chunk_held (view_of seat).phase ≡ No
 abbrev pub IsFree : Book → Seat → Type 0
 IsFree book seat = IsSeatOf book seat × (chunk_held (view_of seat).phase ≡ None)
 
--- how many contributions there are
+-- the number of contributions
 abbrev pub contributions : List Batch → ℕ
 contributions batches = sum_by (λ batch. length batch) batches
 
--- batches that were made for this number of stripes, for targets of the layout whose kinds hold no ListAccum and take them
+-- batches that were made for this number of stripes, for targets of the layout whose kinds contain no ListAccum and
+-- take them
 pub record FitBatches (plan : Plan) (batches : List Batch) : Type 0 where
   pub stripes : length batches ≡ plan.stripes
   pub few : contributions batches ≤ 2 ^ 35
@@ -74,11 +75,12 @@ ArePuts chunk j _ _ = ⊥
 abbrev pub with_puts : View → List Put → View
 with_puts v puts = record v { phase = Idle; puts = v.puts ++ puts }
 
--- the chunk was put once at each stripe, with its batch there; `spoiled` tells whether one of the stripes was spoiled then
+-- the chunk was put once at each stripe, with its batch there; `spoiled` says whether one of the stripes was spoiled
+-- then
 abbrev pub HasPut : ℕ → List Batch → Bool → View → View → Type 0
 HasPut chunk batches spoiled old new = (puts : List Put) × ArePuts chunk 0 puts batches × (any_spoiled puts ≡ spoiled) × (new ≡ with_puts old puts)
 
--- how many puts there are to be: each chunk at each stripe
+-- the number of puts in all: each chunk at each stripe
 abbrev pub puts_wanted : Plan → ℕ
 puts_wanted plan = plan.chunks * plan.stripes
 
@@ -86,7 +88,7 @@ puts_wanted plan = plan.chunks * plan.stripes
 abbrev pub IsWhole : Plan → View → Type 0
 IsWhole plan v = (length v.puts ≡ puts_wanted plan) × ((chunk stripe : ℕ) → chunk < plan.chunks → stripe < plan.stripes → put_of chunk stripe (worker v).puts ≡ 1)
 
--- what stands at a target
+-- the content of a target
 abbrev pub content_at : Partials → ℕ → Option Content
 content_at partials target = slice_get (unwrap_or (slice_get partials.stripes.items (target % length partials.stripes.items)) []) (target / length partials.stripes.items)
 
@@ -95,7 +97,7 @@ pub record HasContents (plan : Plan) (puts : List Put) (partials : Partials) : T
   pub each : (target : ℕ) (kind : Kind) → slice_get plan.layout target ≡ Some kind
       → (content : Content) × (content_at partials target ≡ Some content) × Shows (accum_of kind) content (content_after kind target (inputs_of puts))
 
--- why the book can't be closed: fewer puts were made than there are to be, or there was no memory
+-- why the book can't be closed: fewer puts were made than needed, or memory ran out
 abbrev pub IsFault : Book → Seat → CloseFault → Type 0
 IsFault book seat (Unfinished put of) = (put ≡ length (view_of seat).puts) × (of ≡ puts_wanted (plan_of book)) × (put < of)
 IsFault book seat OutOfMemory = puts_wanted (plan_of book) ≤ length (view_of seat).puts

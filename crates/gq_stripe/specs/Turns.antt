@@ -1,4 +1,4 @@
--- Turns: what the parts of a put do to the place that a thread takes steps with.
+-- Turns: how the parts of a put change the place of a thread.
 use Rattle.std.specs.Prelude.{◌≡◌, ℕ, ◌+◌, ◌<◌, Bool, true, false, List, [], ◌∷◌, ◌++◌, Some}
 use Rattle.atomic_table.specs.declared.shared.Seat as atomic
 use Rattle.gq_core.specs.declared.worker.Phase.TheVariants.{Lifted}
@@ -29,7 +29,7 @@ IsSamePlace old new = (new.table_id ≡ old.table_id) × (new.id ≡ old.id)
 abbrev pub turn_at : ℕ → ℕ → ℕ → Turn
 turn_at chunk j ticket = record { chunk = chunk; stripe = j; ticket = ticket }
 
--- it has its stripe away, as it was after all puts before
+-- the place has its stripe away, as it was after all earlier puts
 pub record HasAway (t : Turn) (p : Place) : Type 0 where
   pub phase : p.me.0.phase ≡ Lifted t
   pub stripe : Stripe
@@ -39,7 +39,7 @@ pub record HasAway (t : Turn) (p : Place) : Type 0 where
 abbrev pub FitsAt : Place → ℕ → Batch → Type 0
 FitsAt p j batch = FitsBatch p.me.0.of.layout p.me.0.of.stripes j batch
 
--- the stripe that is away has one put more, which was of this batch
+-- the stripe that is away has one more put, of this batch
 pub record HasLaid (t : Turn) (batch : Batch) (spoiled : Bool) (old new : Place) : Type 0 where
   pub stripe : Stripe
   pub away : new.me.1 ≡ (t.stripe, Some stripe) ∷ []

@@ -11,8 +11,8 @@ use atomic_table::Table;
 use gq_base::OutOfMemory;
 use std::alloc::Global;
 
-/// Contents for the targets of a layout, cut into stripes, which threads fill chunk by chunk. A book is shared by reference;
-/// each thread has a seat.
+/// Contents for the targets of a layout, divided into stripes, which threads fill chunk by chunk. A book is shared by
+/// reference; each thread has a seat.
 ///
 /// Word 0 is the next number to draw. Each stripe has a word for its tickets, one for the ticket that is served, and a slot.
 #[derive(Drop)]
@@ -35,7 +35,7 @@ impl Book {
     ghost use Rattle.gq_stripe.specs.Steps.{got, last};
     ghost use Rattle.gq_stripe.specs.Seats.{plan_of, view_of, IsSeatOf, IsSameSeat, chunk_held, has_ended, IsOpenedWith};
 
-    /// A book with a content before any input for each target, for at most `seats` seats.
+    /// Opens a book with a content before any input for each target, for at most `seats` seats.
     ///
     /// There are 1 to 256 stripes, 1 to 1,024 seats, and at most 2^25 chunks. The first seat is handed out; the others are
     /// split off it.
@@ -81,15 +81,15 @@ impl Book {
         Ok((book, seat))
     }
 
-    /// The next chunk, which this seat then holds. None where the number that was drawn is past the last chunk: then the
-    /// seat has ended. One atomic step, which waits for nobody; takes no memory.
+    /// Draws the next chunk, which this seat then holds. Returns None if the number that was drawn is past the last
+    /// chunk; the seat has then ended. One atomic step, which never waits; allocates nothing.
     pub fn draw(&self, seat: &mut Seat) -> Option<u64>
         requires own { IsSeatOf self.now seat.old }
         requires free { chunk_held (view_of seat.old).phase ≡ None }
         requires live { has_ended (view_of seat.old).phase ≡ false }
         ensures same { IsSameSeat seat.old seat.new }
         ensures some { IfSome result (λ chunk. (chunk < (plan_of self.now).chunks) × (view_of seat.new ≡ got (view_of seat.old) chunk)) }
-        // Nobody drew it before whose draws this seat knows.
+        // Nobody whose draws this seat knows drew it before.
         ensures fresh { IfSome result (λ chunk. times chunk (view_of seat.old).draws ≡ 0) }
         ensures none { IfNone result (view_of seat.new ≡ last (view_of seat.old)) }
     {
@@ -104,7 +104,7 @@ impl Book {
         }
     }
 
-    /// One seat more, which has drawn and put nothing. Takes no memory and waits for nobody.
+    /// Splits off another seat, which has drawn and put nothing. Allocates nothing and never waits.
     pub fn split(&self, seat: &mut Seat) -> Seat
         requires own { IsSeatOf self.now seat.old }
         requires spare { 1 ≤ (view_of seat.old).spare }
@@ -124,8 +124,8 @@ impl Book {
         }
     }
 
-    /// Takes in another seat: what it drew and put, the seats that it stands for, and those that it may still make. The seat
-    /// goes on as it was. Takes no memory and waits for nobody.
+    /// Joins another seat into this one: what it drew and put, the seats that it represents, and those that it may
+    /// still make. Otherwise the seat is unchanged. Allocates nothing and never waits.
     pub fn join(&self, seat: &mut Seat, other: Seat)
         requires own { IsSeatOf self.now seat.old }
         requires other { IsSeatOf self.now other }
@@ -146,7 +146,7 @@ impl Book {
         } = other;
         let shared = &self.table.shared;
         shared.join_seat::<Merge>(&mut seat.place, place);
-        // The rule bounds what one view can have, and a look at any word tells it: so the sums are in range.
+        // The rule bounds the numbers of a view, and a look at any word shows it: so the sums are in range.
         shared.load::<Count>(&mut seat.place, 0);
         seat.stands += stands;
         seat.spare += spare;

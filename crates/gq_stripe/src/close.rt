@@ -1,4 +1,4 @@
-// The end of a book.
+// Closing a book.
 ghost use Rattle.std.specs.Prelude.{◌≡◌, ◌+◌, ◌<◌, ◌≤◌, None, [], true, length, vec_len, vec_capacity, IfOk, IfErr};
 ghost use Rattle.std.specs.Slots.{slots_items, slots_len, IsFull};
 ghost use Rattle.gq_stripe.specs.declared.fault.CloseFault.TheVariants.{OutOfMemory};
@@ -18,14 +18,14 @@ use std::alloc::Global;
 impl Book {
     ghost use Rattle.gq_stripe.specs.Seats.{plan_of, view_of, IsSeatOf, chunk_held, IsWhole, HasContents, IsFault};
 
-    /// The contents of all chunks' inputs, where each chunk was put at each stripe through this seat or those that were
-    /// joined into it. The book is given up in any case.
+    /// Returns the contents after all chunks' inputs, if each chunk was put at each stripe through this seat or those
+    /// that were joined into it. The book is consumed in any case.
     pub fn close(self, seat: Seat) -> Result<Partials, CloseFault>
         requires { IsSeatOf self seat }
         ensures whole { IfOk result (λ _. IsWhole (plan_of self) (view_of seat)) }
         ensures contents { IfOk result (HasContents (plan_of self) (view_of seat).puts) }
         ensures fault { IfErr result (IsFault self seat) }
-        // All seats are joined into this one, and a draw has found no chunk: then no put is missing.
+        // If all seats are joined into this one and a draw has found no chunk, no put is missing.
         ensures finished { chunk_held (view_of seat).phase ≡ None → (view_of seat).stands ≡ (plan_of self).seats → 0 < (view_of seat).ended → IfErr result (λ e. e ≡ OutOfMemory) }
     {
         let Book {
@@ -62,7 +62,7 @@ impl Book {
     }
 }
 
-// The contents of all stripes. False where one is spoiled.
+// Takes the contents of all stripes. Returns false if one is spoiled.
 fn take_all(
     mut closed: Closed<Option<Stripe>, Global>,
     mut taken: Vec<List<Content>>,
@@ -82,7 +82,7 @@ fn take_all(
     (taken, fine)
 }
 
-// Puts the contents of a slot last. False where the stripe is spoiled.
+// Appends the contents of a slot. Returns false if the stripe is spoiled.
 fn keep(taken: &mut Vec<List<Content>>, slot: Option<Stripe>) -> bool
     requires { vec_len taken.old < vec_capacity taken.old }
     ensures room { vec_capacity taken.new ≡ vec_capacity taken.old }

@@ -6,15 +6,16 @@ use gq_value::Kind;
 use std::alloc::Global;
 use std::marker::Model;
 
-/// The kind of each target of a book, in order of their numbers. Contracts see it as the list of the kinds.
+/// The kind of each target of a book, in order of number. Contracts see it as the list of the kinds.
 ///
-/// Neighbours that were pushed together are kept as one run: a layout for a million vertices is as short as one for a single one.
+/// Targets that are pushed together are stored as one run: a layout for a million vertices is as short as one for a
+/// single vertex.
 #[derive(Debug, Drop)]
 pub struct Layout {
     runs: List<Run>,
 }
 
-/// So many targets of one kind.
+/// A number of targets of the same kind.
 #[derive(Debug, Drop)]
 pub(crate) struct Run {
     pub kind: Kind,
@@ -38,7 +39,7 @@ impl Model for Layout {
 impl Layout {
     ghost use Rattle.gq_stripe.specs.Runs.{kinds_in};
 
-    /// A layout of no targets, which takes no memory.
+    /// Returns a layout without targets, which takes no memory.
     pub fn new(alloc: Global) -> Layout
         ensures { result ≡ [] }
     {
@@ -47,7 +48,7 @@ impl Layout {
         }
     }
 
-    /// Puts a target of this kind last. After `OutOfMemory` the layout is as it was.
+    /// Appends a target of this kind. After `OutOfMemory` the layout is unchanged.
     pub fn push(&mut self, kind: Kind) -> Result<(), OutOfMemory>
         ensures ok { OnOk result (self.new ≡ self.old ++ kind ∷ []) }
         ensures err { OnErr result (self.new ≡ self.old) }
@@ -55,7 +56,8 @@ impl Layout {
         self.push_all(kind, 1)
     }
 
-    /// Puts so many targets of this kind last, as one for each vertex. After `OutOfMemory` the layout is as it was.
+    /// Appends a number of targets of this kind, such as one for each vertex. After `OutOfMemory` the layout is
+    /// unchanged.
     pub fn push_all(&mut self, kind: Kind, targets: u32) -> Result<(), OutOfMemory>
         ensures ok { OnOk result (self.new ≡ self.old ++ replicate targets kind) }
         ensures err { OnErr result (self.new ≡ self.old) }
@@ -63,14 +65,14 @@ impl Layout {
         self.runs.push(Run { kind, targets })
     }
 
-    /// The runs, in order.
+    /// Returns the runs, in order.
     pub(crate) fn runs(&self) -> &[Run]
         ensures { kinds_in result.now ≡ self.now }
     {
         self.runs.as_slice()
     }
 
-    /// The same layout with memory of its own.
+    /// Returns a copy of the layout.
     pub fn duplicate(&self, alloc: Global) -> Result<Layout, OutOfMemory>
         ensures { IfOk result (λ copy. copy ≡ self.now) }
     {

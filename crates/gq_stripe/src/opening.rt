@@ -1,4 +1,4 @@
-// What a table is opened with.
+// The initial contents of a table.
 ghost use Rattle.std.specs.Prelude.{◌≡◌, ◌+◌, ◌*◌, ◌<◌, ◌≤◌, [], length, replicate, slice_get, slice_set, Some, IfOk, OnOk};
 ghost use Rattle.gq_value.specs.declared.kind.Kind.{Kind};
 ghost use Rattle.gq_value.specs.AccumViews.{accum_of};
@@ -13,7 +13,7 @@ use gq_nest::Content;
 use std::alloc::Global;
 use std::mem;
 
-/// Nothing is drawn yet, and no ticket taken or served.
+/// Returns the initial words: nothing is drawn, and no ticket is taken or served.
 pub(crate) fn first_words(alloc: Global, stripes: u32) -> Result<Vec<u64>, OutOfMemory>
     requires { stripes ≤ 256 }
     ensures { IfOk result (λ v. v.items ≡ replicate (2 * stripes + 1) 0) }
@@ -21,7 +21,7 @@ pub(crate) fn first_words(alloc: Global, stripes: u32) -> Result<Vec<u64>, OutOf
     Ok(vec![in alloc; 0u64; 2 * stripes as usize + 1]?)
 }
 
-/// Each stripe with the contents of its targets before any input.
+/// Returns each stripe with the contents of its targets before any input.
 pub(crate) fn first_stripes(
     alloc: Global,
     layout: &Layout,
@@ -42,7 +42,8 @@ pub(crate) fn first_stripes(
     Ok(slots)
 }
 
-/// A row of contents for each stripe: one pass over the targets, which go to the stripes in turn.
+/// Returns a row of contents for each stripe, in one pass over the targets, which are distributed over the stripes in
+/// cyclic order.
 fn first_rows(
     alloc: Global,
     layout: &Layout,
@@ -63,7 +64,7 @@ fn first_rows(
     Ok(rows)
 }
 
-/// A row without contents for each stripe.
+/// Returns an empty row for each stripe.
 fn empty_rows(alloc: Global, stripes: u32) -> Result<Vec<List<Content>>, OutOfMemory>
     ensures { IfOk result (λ v. v.items ≡ replicate stripes []) }
 {
@@ -74,7 +75,7 @@ fn empty_rows(alloc: Global, stripes: u32) -> Result<Vec<List<Content>>, OutOfMe
     Ok(rows)
 }
 
-/// Takes a row out, and leaves an empty one.
+/// Takes a row out, and leaves an empty one in its place.
 fn take_row(alloc: Global, rows: &mut Vec<List<Content>>, at: usize) -> List<Content>
     requires { at < length rows.old.items }
     ensures row { slice_get rows.old.items at ≡ Some result }
@@ -83,7 +84,7 @@ fn take_row(alloc: Global, rows: &mut Vec<List<Content>>, at: usize) -> List<Con
     mem::replace(&mut rows[at], List::new(alloc))
 }
 
-/// Puts a content behind those of a row.
+/// Appends a content to a row.
 fn push_at(rows: &mut Vec<List<Content>>, at: usize, content: Content) -> Result<(), OutOfMemory>
     requires { at < length rows.old.items }
     ensures { OnOk result (IsPushedAt at content rows.old.items rows.new.items) }

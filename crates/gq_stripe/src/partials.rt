@@ -1,10 +1,10 @@
-// What a closed book gives.
+// The result of a closed book.
 ghost use Rattle.std.specs.Prelude.{◌≡◌, ◌<◌, length, Some};
 
 use gq_base::List;
 use gq_nest::Content;
 
-/// The content of each target after all its inputs, without an opening: stripe by stripe, as the book had them.
+/// The content of each target after all its inputs, without the initial value: by stripe, as the book stored them.
 #[derive(Drop)]
 pub struct Partials {
     pub(crate) stripes: Vec<List<Content>>,
@@ -14,7 +14,7 @@ impl Partials {
     ghost use Rattle.gq_nest.specs.declared.content.Content.{Content};
     ghost use Rattle.gq_stripe.specs.Seats.{content_at};
 
-    /// What a target was fed in all, where the target is one of the book's layout. Takes no memory.
+    /// Returns the content of a target of the book's layout after all its inputs. Allocates nothing.
     pub fn at(&self, target: u64) -> &Content
         requires { (content : Content) × (content_at self.now target ≡ Some content) }
         ensures { content_at self.now target ≡ Some result.now }

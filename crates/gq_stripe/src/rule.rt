@@ -1,4 +1,4 @@
-// The rule of the table below, and what each kind of step tells.
+// The rule of the table below, and what each kind of step shows.
 ghost use Rattle.std.specs.Prelude.{ℕ, List, []};
 ghost use Rattle.gq_value.specs.declared.kind.Input.{Input};
 ghost use Rattle.gq_stripe.specs.Rule.{IsKept, first, spent, joined, handed, fresh};
@@ -24,7 +24,7 @@ impl Play<Option<Stripe>, View> for Draw {
     ghost then = { Draws };
 }
 
-/// Names the batch in hand. Each call of `ticket` picks it.
+/// Names the current batch. Each call of `ticket` chooses it.
 pub(crate) trait InHand {
     ghost batch: { List (ℕ × Input) };
 }
@@ -41,7 +41,7 @@ impl<B: InHand> Play<Option<Stripe>, View> for Ticket<B> {
     ghost then = { Queues B.batch };
 }
 
-/// A look at the ticket that is served. Where it is the seat's own, the seat takes the stripe away.
+/// A look at the ticket that is served. If it is the seat's own, the seat takes the stripe away.
 pub(crate) struct Look;
 
 impl Play<Option<Stripe>, View> for Look {

@@ -5,13 +5,13 @@ ghost use Rattle.gq_stripe.specs.Phases.{phase_of, held_by};
 use crate::stripe::Stripe;
 use crate::view::{Stage, View};
 
-/// What a thread takes steps with.
+/// The place of a thread, through which it takes steps.
 pub(crate) type Place = atomic_table::Seat<Option<Stripe>, View>;
 
 /// A thread's seat at some `Book`.
 ///
-/// Seats move between threads and are joined at the end. What was put through one that was dropped stays in the stripes,
-/// and the book can't be closed.
+/// Seats move between threads and are joined at the end. What was put through a seat that is dropped stays in the
+/// stripes, and the book can't be closed.
 #[derive(Drop)]
 pub struct Seat {
     pub(crate) place: Place,
@@ -35,7 +35,7 @@ pub struct Seat {
 impl Seat {
     ghost use Rattle.gq_stripe.specs.Seats.{view_of, chunk_held, has_ended};
 
-    /// The chunk that was drawn and is still to be put.
+    /// Returns the chunk that was drawn and is still to be put.
     pub fn holds(&self) -> Option<u64>
         ensures { result ≡ chunk_held (view_of self.now).phase }
     {
@@ -52,7 +52,7 @@ impl Seat {
         matches!(self.stage, Stage::Ended)
     }
 
-    /// How many seats may still be split off this one.
+    /// Returns how many seats may still be split off this one.
     pub fn spare(&self) -> u32
         ensures { result ≡ (view_of self.now).spare }
     {

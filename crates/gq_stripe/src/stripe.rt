@@ -1,4 +1,4 @@
-// One stripe, and what a batch does to it.
+// One stripe, and the effect of a batch on it.
 ghost use Rattle.std.specs.Prelude.{◌<◌, OnOk, IsOk};
 ghost use Rattle.gq_stripe.specs.Feeding.{CanFeed, CanFeedScalars, IsFed, CanLay, IsLaidOn};
 
@@ -7,9 +7,9 @@ use gq_nest::Content;
 use gq_value::Input;
 use std::alloc::Global;
 
-/// The contents of a stripe's targets, and how many batches were laid there.
+/// The contents of a stripe's targets, and the number of batches that were laid there.
 ///
-/// A batch that finds no memory spoils its stripe: from then on nothing more is fed.
+/// A batch that runs out of memory spoils its stripe: from then on nothing more is fed.
 #[derive(Drop)]
 pub(crate) struct Stripe {
     pub contents: List<Content>,
@@ -18,7 +18,7 @@ pub(crate) struct Stripe {
 }
 
 impl Stripe {
-    /// Feeds a batch, and counts it. A stripe that was spoiled stays so.
+    /// Feeds a batch, and counts it. A spoiled stripe stays spoiled.
     pub fn lay(&mut self, alloc: Global, stripes: u32, batch: &[(u64, Input)])
         requires some { 0 < stripes }
         requires fits { CanLay stripes batch.now self.old }
@@ -35,7 +35,7 @@ impl Stripe {
     }
 }
 
-/// Feeds each target of the batch, whose place is the quotient. After `OutOfMemory` some may be fed.
+/// Feeds each target of the batch, whose place is the quotient. After `OutOfMemory` some may have been fed.
 fn feed_all(
     alloc: Global,
     contents: &mut List<Content>,

@@ -1,4 +1,4 @@
-// A chunk's turn at each stripe: a ticket, the wait for it, the batch laid there, and the leave.
+// A chunk's turn at each stripe: take a ticket, wait for it, lay the batch, and leave.
 ghost use Rattle.std.specs.Prelude.{◌≡◌, ◌+◌, ◌<◌, [], true, false, Some, IsOk, MatchResult};
 
 use crate::book::Book;
@@ -19,7 +19,7 @@ impl Book {
     ghost use Rattle.gq_stripe.specs.Seats.{plan_of, view_of, IsSeatOf, IsSameSeat, chunk_held, FitBatches, HasPut};
     ghost use Rattle.gq_stripe.specs.Turns.{IsAt, IsSamePlace, HasAway, turn_at, FitsAt, HasLaid, CanLeave, HasPutAt};
 
-    // Takes a ticket for the batch in hand.
+    // Takes a ticket for the current batch.
     fn ticket<B: InHand>(
         &self,
         place: &mut Place,
@@ -59,7 +59,7 @@ impl Book {
         unreachable!()
     }
 
-    // Lays the batch on the stripe that is away. True where the stripe is spoiled then.
+    // Lays the batch on the stripe that is away. Returns whether the stripe is spoiled then.
     fn lay(&self, place: &mut Place, turn: Turn, batch: &[(u64, Input)]) -> bool
         requires at { IsAt self.now place.old turn.stripe }
         requires away { HasAway turn place.old }
@@ -91,7 +91,7 @@ impl Book {
             .fetch_add::<Leave>(place, 2 * turn.stripe as usize + 2, 1);
     }
 
-    // Puts one batch at its stripe. True where the stripe is spoiled then.
+    // Puts one batch at its stripe. Returns whether the stripe is spoiled then.
     fn put_at<R: Wait>(
         &self,
         rt: &R,
@@ -119,7 +119,7 @@ impl Book {
         spoiled
     }
 
-    // Puts a batch at each stripe in order. True where one of them is spoiled then.
+    // Puts a batch at each stripe in order. Returns whether one of them is spoiled then.
     fn put_all<R: Wait>(&self, rt: &R, place: &mut Place, chunk: u64, batches: &Batches) -> bool
         requires at { IsAt self.now place.old 0 }
         requires holds { (place.old.me.0.phase ≡ Holds chunk 0) × (place.old.me.1 ≡ []) }
@@ -138,10 +138,10 @@ impl Book {
 
     /// Waits for the chunk's turn at each stripe in order, and lays its batch there.
     ///
-    /// The chunk is put at each stripe in any case. A batch that finds no memory spoils its stripe; this put and each later
-    /// one there then answers `OutOfMemory`, and the book can't be closed. On a layout of numbers, truths and averages alone it
-    /// takes no memory. A batch fits where it was made for this number of stripes, for targets of the layout whose kinds
-    /// hold no ListAccum and take it; there are at most 2^35 contributions.
+    /// The chunk is put at each stripe in any case. A batch that runs out of memory spoils its stripe; this put and
+    /// each later one there then returns `OutOfMemory`, and the book can't be closed. On a layout of only numbers,
+    /// truth values and averages it allocates nothing. A batch fits if it was made for this number of stripes, for
+    /// targets of the layout whose kinds contain no ListAccum and take it; there are at most 2^35 contributions.
     pub fn put<R: Wait>(
         &self,
         rt: &R,

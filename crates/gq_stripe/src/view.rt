@@ -1,26 +1,26 @@
-// What is known of a book and of a seat. Only contracts speak of both.
+// Ghost data of a book and of a seat. Only contracts mention both.
 use crate::layout::Layout;
 use gq_base::List;
 use gq_core::Phase;
 use gq_value::Input;
 
-/// What a book is opened with.
+/// The data that a book is opened with.
 #[derive(Drop)]
 pub(crate) struct Plan {
     /// The kind of each target.
     pub layout: Layout,
 
-    /// How many chunks there are.
+    /// The number of chunks.
     pub chunks: u64,
 
-    /// How many stripes there are.
+    /// The number of stripes.
     pub stripes: u32,
 
-    /// How many seats there may be.
+    /// The maximum number of seats.
     pub seats: u32,
 }
 
-/// What a seat is about between two calls.
+/// The stage of a seat between two calls.
 #[derive(Clone, Copy)]
 pub(crate) enum Stage {
     /// It may draw a chunk.
@@ -38,7 +38,7 @@ pub(crate) struct Put {
     pub chunk: u64,
     pub stripe: u32,
 
-    /// The ticket that it had there.
+    /// The put's ticket there.
     pub ticket: u64,
 
     /// The contributions of the chunk to this stripe.
@@ -48,27 +48,27 @@ pub(crate) struct Put {
     pub spoiled: bool,
 }
 
-/// What is known of a seat. No value of it is made.
+/// The ghost view of a seat. No value of it is ever made.
 pub(crate) struct View {
-    /// What the book was opened with, since a step can't read it elsewhere.
+    /// The plan of the book, since a step can't read it elsewhere.
     pub of: Plan,
 
-    /// The seats that it stands for: itself, and those that were joined into it.
+    /// The number of seats that it represents: itself, and those that were joined into it.
     pub stands: u32,
 
-    /// How many of these have ended.
+    /// The number of these that have ended.
     pub ended: u32,
 
-    /// The seats that may still be split off.
+    /// The number of seats that may still be split off.
     pub spare: u32,
 
-    /// What it is about.
+    /// Its phase.
     pub phase: Phase,
 
     /// The batch that waits for its turn.
     pub batch: List<(u64, Input)>,
 
-    /// What was put before at the stripe that it has away.
+    /// The earlier puts at the stripe that it has away.
     pub base: List<Put>,
 
     /// The chunks that were drawn through these seats.

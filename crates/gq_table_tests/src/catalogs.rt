@@ -8,7 +8,8 @@ use gq_value::Txt;
 use std::alloc::Global;
 use std::test::Fail;
 
-// Each helper lends the catalog, and each test owns one and asks little: proofs of tests grow with what a return drops.
+// Each helper borrows the catalog, and each test owns one and does little: proofs of tests grow with what a return
+// drops.
 
 fn none(alloc: Global) -> Attributes
     ensures { All (λ a. is_plain a ≡ true) result }
@@ -56,7 +57,7 @@ fn fill(catalog: &mut Catalog, alloc: Global) -> Result<(), SchemaFault> {
     Ok(())
 }
 
-// Whether an edge type finds no room among the types.
+// Whether there is no room among the types for an edge type.
 fn has_no_room(catalog: &mut Catalog, alloc: Global, reverse: Option<&str>) -> bool {
     matches!(
         edge(catalog, alloc, "x", "v0", reverse),
@@ -132,7 +133,7 @@ fn is_vertex_added(catalog: &mut Catalog, alloc: Global, name: &str) -> bool {
     vertex(catalog, alloc, name).is_ok()
 }
 
-// Adds a vertex type; where a growth is refused, the catalog has to be as it was, and takes the type then.
+// Adds a vertex type; if an allocation fails, the catalog must be unchanged and accept the type on a retry.
 fn adds_or_stays(catalog: &mut Catalog, alloc: Global, name: &str) -> bool {
     let before = catalog.type_count();
     if is_vertex_added(catalog, alloc, name) {

@@ -48,7 +48,7 @@ fn a_directed_edge_and_the_one_back_are_two(rt: HostRuntime) -> Result<(), Fail>
     Ok(())
 }
 
-// Adds an edge of a type that has rows; where a growth is refused, the table has to be as it was, and takes the edge then.
+// Adds an edge of a type that has rows; if an allocation fails, the table must be unchanged and accept it on a retry.
 fn adds_or_stays(edges: &mut Edges, alloc: Global, to: u32) -> Result<bool, Fail>
     requires { naming_of edges.old.namings 3 ≡ Some (naming_with 3 true 0) }
     ensures { IfOk result (λ _. edges.new.namings ≡ edges.old.namings) }

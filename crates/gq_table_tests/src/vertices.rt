@@ -64,7 +64,7 @@ fn a_cut_frees_the_names_of_the_last_vertices(rt: HostRuntime) -> Result<(), Fai
     Ok(())
 }
 
-// Adds a vertex; where a growth is refused, the table has to be as it was, and takes the vertex then.
+// Adds a vertex; if an allocation fails, the table must be unchanged and accept the vertex on a retry.
 fn adds_or_stays(vertices: &mut Vertices, alloc: Global, id: &str) -> Result<bool, Fail> {
     let (before, mut first, mut second) = (vertices.len(), row(alloc, 1)?, row(alloc, 1)?);
     let added = vertices.upsert(0, id, &mut first);

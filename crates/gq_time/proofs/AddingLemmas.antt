@@ -1,4 +1,4 @@
--- Months later there is one moment at most, and the month tells whether there is one.
+-- Adding months gives at most one moment, and the month determines whether there is one.
 use Rattle.std.proofs.Common.{◌≡◌, ℕ, refl, sym, ap, ◌∙◌, arith, ℤ, pos, ◌+ℤ◌, ◌≤ℤ◌, min, FitsSigned, w64}
 use Rattle.jiff_core.specs.declared.civil.date.Date.{Date}
 use Rattle.jiff_core.specs.declared.civil.datetime.DateTime.{DateTime}
@@ -12,7 +12,7 @@ use Rattle.gq_time.specs.Moments.{IsMoment}
 use Rattle.gq_time.specs.Adding.{month_number, IsMonthsLater, AreMonthsLater}
 use Rattle.gq_time.proofs.MomentLemmas.{civil_seconds-parts, same_date, same_day_and_time}
 
--- a month's number tells the year and the month
+-- a month's number determines the year and the month
 same_month : (a b : Date) → month_number a ≡ month_number b → (a.year ≡ b.year) × (a.month ≡ b.month)
 same_month a b e = omega (arith, signed_arith)
 
@@ -24,7 +24,7 @@ constrained d y m n year month day = rw (year, month) day
 same_seconds : (a b : DateTime) → epoch_day a.date ≡ epoch_day b.date → time_seconds a.time ≡ time_seconds b.time → civil_seconds a ≡ civil_seconds b
 same_seconds a b day time = omega (arith, signed_arith, civil_seconds-parts a, civil_seconds-parts b)
 
--- so many months after one moment is one moment
+-- adding a number of months to a moment gives one moment
 months_later_same : (months : ℤ) (a b p q : DateTime) → civil_seconds a ≡ civil_seconds b → IsMonthsLater months a p → IsMonthsLater months b q → civil_seconds p ≡ civil_seconds q
 months_later_same months a b p q same ap_ bq =
     let date = same_date a b same in
@@ -39,7 +39,7 @@ pub months_later_one : (months s x y : ℤ) → AreMonthsLater months s x → Ar
 months_later_one months s x y p q =
     p.of_to.are ∙ months_later_same months p.from q.from p.to q.to (sym p.of_from.are ∙ q.of_from.are) p.later q.later ∙ sym q.of_to.are
 
--- the month so many months later is one from 0000-01 to 9999-12
+-- the month after adding `months` is from 0000-01 to 9999-12
 pub months_later_bound : (months s x : ℤ) (m : DateTime) → IsMoment s m → AreMonthsLater months s x → (pos 1 ≤ℤ (month_number m.date +ℤ months)) × ((month_number m.date +ℤ months) ≤ℤ pos 120_000)
 months_later_bound months s x m of h =
     let date = same_date m h.from (sym of.are ∙ h.of_from.are) in

@@ -8,12 +8,12 @@ use Rattle.gq_time.specs.Reading.{is_blank, without_first_blanks, trimmed, Tells
 use Rattle.gq_time.proofs.DigitLemmas.{length-digits, digits_byte}
 use Rattle.gq_time.proofs.TimeLemmas.{length-date_text, length-clock_text}
 
--- a text that begins with another byte than a blank or a tab keeps its beginning
+-- a text that begins with a byte other than a blank or a tab keeps its beginning
 kept : (text : List ℕ) → 33 ≤ get_or text 0 0 → without_first_blanks text ≡ text
 kept [] h = refl
 kept (c ∷ text) h = let no : is_blank c ≡ false = grind (arith, nat_tests) in rw no refl
 
--- and one that ends so too keeps both ends
+-- and one that also ends so keeps both ends
 kept_whole : (text : List ℕ) → 33 ≤ get_or text 0 0 → 1 ≤ length text → 33 ≤ get_or text (length text - 1) 0 → trimmed text ≡ text
 kept_whole text first some last =
     let back : 33 ≤ get_or (reverse text) 0 0 = rw (get_or-reverse text 0 0 (omega arith)) (subst (λ i. 33 ≤ get_or text i 0) (omega arith) last) in

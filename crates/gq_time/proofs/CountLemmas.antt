@@ -1,4 +1,4 @@
--- Counts of seconds: how long they are, which bytes they have, and that they tell one number.
+-- Counts of seconds: their length, their bytes, and that each denotes one number.
 use Rattle.std.proofs.Common.{◌≡◌, ℕ, ◌<◌, ◌≤◌, ◌^◌, Bool, true, false, List, ◌∷◌, length, get_or, sym, ap, subst, ◌∙◌, arith, inl, inr, ℤ, pos, neg_ℤ}
 use Rattle.std.specs.Prelude.{if◌then◌else◌}
 use Rattle.gq_time.specs.Texts.{digits}
@@ -61,7 +61,7 @@ tells_count_byte text s (inr (digits, is, h)) long =
     let same = ap (λ l. get_or l 4 0) is in
     (omega arith, omega arith)
 
--- no count where neither what stands behind a `-` is one
+-- no count if what follows a `-` isn't one
 pub no_signed_count : (text rest : List ℕ) (s : ℤ) → text ≡ 45 ∷ rest → (IsCount true rest s → ⊥) → TellsCount text s → ⊥
 no_signed_count text rest s is none (inl h) = count_no_sign false rest s (subst (λ l. IsCount false l s) is h)
 no_signed_count text rest s is none (inr (digits, are, h)) =
@@ -69,7 +69,7 @@ no_signed_count text rest s is none (inr (digits, are, h)) =
     let same : digits ≡ rest = cc in
     none (subst (λ l. IsCount true l s) same h)
 
--- nor where no `-` stands in front
+-- nor without a leading `-`, if the text isn't one
 pub no_count : (text : List ℕ) (s : ℤ) → (get_or text 0 0 ≡ 45 → ⊥) → (IsCount false text s → ⊥) → TellsCount text s → ⊥
 no_count text s signed none (inl h) = none h
 no_count text s signed none (inr (rest, is, h)) = signed (ap (λ l. get_or l 0 0) is)

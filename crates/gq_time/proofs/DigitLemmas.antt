@@ -1,4 +1,4 @@
--- The digits of a number: how many, which bytes, that they tell the number, and that they are ordered as numbers are.
+-- The digits of a number: their count, their bytes, that they determine the number, and that they are ordered like it.
 use Rattle.std.proofs.Common.{◌≡◌, ℕ, zero, suc, ◌+◌, ◌-◌, ◌*◌, ◌/◌, ◌%◌, ◌^◌, ◌<◌, ◌≤◌, List, [], ◌∷◌, ◌++◌, length, get_or, take, refl, sym, ap, ◌∙◌, arith, inl, inr}
 use Rattle.std.proofs.Math.Nat.{pow-succ', pow-le-pow_right}
 use Rattle.std.proofs.lemmas.List.{same_from_push, take_more, length_push, get_or_push, get_or_append_left}
@@ -40,7 +40,7 @@ digits_byte (suc n) k i h =
 pub power_more : (n : ℕ) → 10 ^ (n + 1) ≡ 10 * 10 ^ n
 power_more n = let is : n + 1 ≡ suc n = omega arith in rw is (pow-succ' 10 n)
 
--- the digits tell the number
+-- the digits determine the number
 pub digits_injective : (n a b : ℕ) → a < 10 ^ n → b < 10 ^ n → digits n a ≡ digits n b → a ≡ b
 unfolding digits
 digits_injective zero a b h k e = omega arith

@@ -30,7 +30,7 @@ year_in_range m h =
     (λ lt. absurd (omega (arith, signed_arith, civil_seconds-parts m, days_from_civil-day_count m.date.year m.date.month m.date.day, day_count-lt_year m.date.year m.date.month m.date.day (pos 0) 1 1 (civil m.date) (omega arith) lt, day_count-year_0)))
     (λ ge. ge)
 
--- a date with a year from 0 on has so many days before it at least
+-- a date with a year from 0 on has at least this many days before it
 day_count-from_year_0 : (d : Date) → pos 0 ≤ℤ d.year → 3_652_425 ≤ day_count d.year d.month d.day
 day_count-from_year_0 d h =
     by_lt_z (pos 0) d.year

@@ -25,7 +25,7 @@ part_from text part mark rest size below h =
     sym (take-append-drop size text) ∙ ap (λ l. l ++ drop size text) h.front ∙ ap (λ l. part ++ l) (drop_more text size 0 below)
     ∙ ap (λ b. part ++ b ∷ drop (size + 1) text) h.at ∙ ap (λ l. part ++ mark ∷ l) h.behind
 
--- what stands where in the text of three numbers
+-- the parts of the text of three numbers, by their places
 pub record HasThree (text : List ℕ) (size mark a b c : ℕ) : Type 0 where
   pub long : length text ≡ size + 6
   pub first : take size text ≡ digits size a
@@ -74,7 +74,7 @@ three_injective size mark a b c mark' a' b' c' ha ha' hb hb' hc hc' e =
       digits_injective 2 c c' hc hc' (sym left.third ∙ right.third),
     )
 
--- digits of some size are as many as they are
+-- the size of digits is their length
 pub sized : (part : List ℕ) (size n : ℕ) → part ≡ digits size n → part ≡ digits (length part) n
 sized part size n is = is ∙ ap (λ i. digits i n) (sym (ap length is ∙ length-digits size n))
 
@@ -85,7 +85,7 @@ unsized part size n long is = is ∙ ap (λ i. digits i n) long
 pub two_bytes : (text : List ℕ) (size : ℕ) → take ((size + 3) - (size + 1)) (drop (size + 1) text) ≡ take 2 (drop (size + 1) text)
 two_bytes text size = let two : (size + 3) - (size + 1) ≡ 2 = omega arith in ap (λ i. take i (drop (size + 1) text)) two
 
--- what the parts of a text are, found at their places
+-- the parts of a text are those found at their places
 pub three_found : (text : List ℕ) (size mark : ℕ) (three : ℕ × ℕ × ℕ) → length text ≡ size + 6 → get_or text size 0 ≡ mark → get_or text (size + 3) 0 ≡ mark
     → IsNumber (take size text) three.0 → IsNumber (take 2 (drop (size + 1) text)) three.1 → IsNumber (drop (size + 4) text) three.2 → IsThree text size mark three
 three_found text size mark three long one two first second third =
@@ -106,17 +106,17 @@ three_found text size mark three long one two first second third =
       third = subst (λ i. three.2 < 10 ^ i) long_third third.fits;
     }
 
--- the first byte and what stands behind it, as a slice's pattern names them
+-- the first byte and the rest, as a slice's pattern names them
 pub first_and_rest : (text : List ℕ) (b : ℕ) → 1 ≤ length text → get_or text 0 0 ≡ b → text ≡ b ∷ take (length text - 1) (drop 1 text)
 first_and_rest text b some is = drop_more text 0 0 some ∙ ap (λ c. c ∷ drop 1 text) is ∙ ap (λ l. b ∷ l) (sym (take_rest text 1))
 
--- the last byte and what stands before it
+-- the last byte and what comes before it
 pub front_and_last : (text : List ℕ) (b : ℕ) → 1 ≤ length text → get_or text (length text - 1) 0 ≡ b → text ≡ take (length text - 1) text ++ b ∷ []
 front_and_last text b some is =
     let all : length text ≡ length text - 1 + 1 = omega arith in
     sym (take_all (length text) text (omega arith)) ∙ ap (λ i. take i text) all ∙ take_more text (length text - 1) 0 (omega arith) ∙ ap (λ c. take (length text - 1) text ++ c ∷ []) is
 
--- what None says, and what follows from it
+-- a consequence of what None states
 pub none_then : {X : Type 0} (r : Option X) {P Q : Type 0} → IfNone r P → (P → Q) → IfNone r Q
 none_then None h f = f h
 none_then (Some x) h f = tt

@@ -7,7 +7,7 @@ use Rattle.gq_time.proofs.MomentLemmas.{in_range_from_year}
 use Rattle.gq_time.proofs.CountLemmas.{tells_count_same, tells_count_byte}
 use Rattle.gq_time.proofs.TimeLemmas.{has_date, date_mark, moment_same}
 
--- a moment is no count, since a mark is no digit
+-- a moment isn't a count, since a mark isn't a digit
 apart : (text : List ℕ) (m : DateTime) (s : ℤ) → TellsMoment text m → TellsCount text s → ⊥
 apart text m s h k =
     let date = has_date text h.mark m.date h.behind h.whole in

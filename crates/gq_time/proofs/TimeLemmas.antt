@@ -1,4 +1,4 @@
--- Dates and times of day as texts: where their parts stand, and that they tell one date and one time of day.
+-- Dates and times of day as texts: the places of their parts, and that they denote one date and one time of day.
 use Rattle.std.proofs.Common.{◌≡◌, ◌⊎◌, ℕ, suc, ◌+◌, ◌-◌, ◌/◌, ◌%◌, ◌<◌, ◌≤◌, List, [], ◌∷◌, ◌++◌, length, get_or, take, drop, refl, sym, ap, subst, ◌∙◌, arith, append_assoc, inl, inr, ℤ, pos, negsuc, ◌≤ℤ◌, unsigned_abs}
 use Rattle.std.proofs.lemmas.List.{append-nil, length-append, length_push, take_at, drop_at, get_or_append_left, get_or_push, same_from_push}
 use Rattle.jiff_core.specs.declared.civil.date.Date.{Date}
@@ -61,7 +61,7 @@ pub is_time : (t : Time) (h m s : ℤ) → h ≡ pos t.hour → m ≡ pos t.minu
 is_time t h m s hour minute second =
     ((omega (arith, signed_arith), omega (arith, signed_arith, t.hour_in)), (omega (arith, signed_arith), omega (arith, signed_arith, t.minute_in)), (omega (arith, signed_arith), omega (arith, signed_arith, t.second_in)), (omega (arith, signed_arith), omega (arith, signed_arith)))
 
--- a time of day and what stands behind it, by their places
+-- a time of day and what follows it, by their places
 pub record HasClock (text : List ℕ) (t : Time) (end : List ℕ) : Type 0 where
   pub long : 8 ≤ length text
   pub front : take 8 text ≡ clock_text t
@@ -74,7 +74,7 @@ has_clock text t end is = record {
   behind = ap (drop 8) is ∙ drop_at (clock_text t) end 8 (length-clock_text t);
 }
 
--- a date and what stands behind it, by their places
+-- a date and what follows it, by their places
 pub record HasDate (text : List ℕ) (mark : ℕ) (d : Date) (behind : List ℕ) : Type 0 where
   pub long : 10 ≤ length text
   pub front : take 10 text ≡ date_text mark d
@@ -87,7 +87,7 @@ has_date text mark d behind is = record {
   rest = ap (drop 10) is ∙ drop_at (date_text mark d) behind 10 (length-date_text mark d);
 }
 
--- the mark of a date stands at the fifth place
+-- the mark of a date is at the fifth place
 pub date_mark : (text : List ℕ) (mark : ℕ) (d : Date) (behind : List ℕ) → text ≡ date_text mark d ++ behind → get_or text 4 0 ≡ mark
 date_mark text mark d behind is =
     ap (λ l. get_or l 4 0) is ∙ get_or_append_left (date_text mark d) behind 0 4 (omega (arith, length-date_text mark d))
@@ -109,7 +109,7 @@ clock_end_same text a b h k =
     let right = has_clock (clock_text a ++ h.end) b k.end same in
     clock_same a b (sym left.front ∙ right.front)
 
--- what stands behind a date tells one time of day
+-- the text after a date denotes one time of day
 time_same : (text : List ℕ) (a b : Time) → TellsTime text a → TellsTime text b → time_seconds a ≡ time_seconds b
 time_same text a b (inl h) (inl k) = h.1 ∙ sym k.1
 time_same text a b (inl h) (inr (inl k)) = absurd (let e = sym h.0 ∙ k in cc)
@@ -134,7 +134,7 @@ moment_same text a b h k =
     let time : time_seconds a.time ≡ time_seconds b.time = time_same h.behind a.time b.time h.time (subst (λ l. TellsTime l b.time) (sym right.rest ∙ left.rest) k.time) in
     omega (arith, signed_arith, civil_seconds-parts a, civil_seconds-parts b, day, time)
 
--- the end of a text that is told by a zone is told by what stands before the zone
+-- a fraction ends in a digit
 fraction_last : (text : List ℕ) → IsFraction text → (1 ≤ length text) × (get_or text (length text - 1) 0 ≤ 57)
 fraction_last text (digits, few, is) =
     let size = ap length few.3 ∙ length-digits few.0 few.1 in
@@ -167,7 +167,7 @@ end_before_zone text front b is high h = by h.is_zone
     by (inr (inl big)) = before 90 big
     by (inr (inr small)) = before 122 small
 
--- and a zone may stand behind a fraction, or alone
+-- and a zone may follow a fraction, or occur without one
 pub zone_after : (text front : List ℕ) (b : ℕ) → text ≡ front ++ b ∷ [] → (b ≡ 90) ⊎ (b ≡ 122) → (front ≡ []) ⊎ IsFraction front → IsEnd text
 zone_after text front b is zone fraction = record {
   fraction = front;
@@ -177,13 +177,13 @@ zone_after text front b is zone fraction = record {
   whole = is;
 }
 
--- no time of day behind `T` where none stands there
+-- no time of day with `T` if none follows it
 pub no_time : (text rest : List ℕ) (t : Time) → text ≡ 84 ∷ rest → (ShowsClockWithEnd rest t → ⊥) → TellsTime text t → ⊥
 no_time text rest t is none (inl h) = let e = sym is ∙ h.0 in cc
 no_time text rest t is none (inr (inl h)) = let e = ap (λ l. get_or l 0 0) (sym is ∙ h) in omega arith
 no_time text rest t is none (inr (inr h)) = none (record { end = h.end; is_end = h.is_end; whole = tail_same 84 84 _ _ (sym is ∙ h.whole) })
 
--- pieces put one behind another
+-- pieces appended one after another
 pieces : (year month day hour minute second : List ℕ) → ((((year ++ 45 ∷ month) ++ 45 ∷ day) ++ 32 ∷ hour) ++ 58 ∷ minute) ++ 58 ∷ second ≡ (year ++ 45 ∷ (month ++ 45 ∷ day)) ++ 32 ∷ (hour ++ 58 ∷ (minute ++ 58 ∷ second))
 pieces year month day hour minute second =
     let date = year ++ 45 ∷ (month ++ 45 ∷ day) in

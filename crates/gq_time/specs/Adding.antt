@@ -1,4 +1,4 @@
--- Adding: what so many units after a moment is. Months and years keep the time of day and, where they can, the day of the month.
+-- Adding: the moment n units after another. Months and years keep the time of day and, if possible, the day of month.
 -- The code checks for overflow on the way; here numbers have no bound.
 use Rattle.std.specs.Prelude.{◌≡◌, min, ℤ, pos, ◌+ℤ◌, ◌*ℤ◌}
 use Rattle.jiff_core.specs.declared.civil.date.Date.{Date}
@@ -12,13 +12,13 @@ use Rattle.gq_time.specs.Moments.{IsDatetime, IsMoment}
 abbrev pub month_number : Date → ℤ
 month_number date = date.year *ℤ pos 12 +ℤ pos date.month
 
--- so many months later at the same time of day: on the same day of the month, or on the month's last where it has no such day
+-- `months` later at the same time of day: on the same day of the month, or on the month's last if it has no such day
 pub record IsMonthsLater (months : ℤ) (before after : DateTime) : Type 0 where
   pub month : month_number after.date ≡ month_number before.date +ℤ months
   pub day : after.date.day ≡ min before.date.day (month_length after.date)
   pub time : after.time ≡ before.time
 
--- the seconds of the moment so many months after that of other seconds
+-- the seconds of the moment that is `months` after that of other seconds
 pub record AreMonthsLater (months seconds after : ℤ) : Type 0 where
   pub from : DateTime
   pub to : DateTime
@@ -26,11 +26,11 @@ pub record AreMonthsLater (months seconds after : ℤ) : Type 0 where
   pub of_to : IsMoment after to
   pub later : IsMonthsLater months from to
 
--- so many seconds later, in range
+-- `more` seconds later, in range
 abbrev pub AreSecondsLater : ℤ → ℤ → ℤ → Type 0
 AreSecondsLater more seconds after = (after ≡ seconds +ℤ more) × IsDatetime after
 
--- so many units later, in range
+-- n units later, in range
 abbrev pub IsAdded : Unit → ℤ → ℤ → ℤ → Type 0
 IsAdded Year n = AreMonthsLater (n *ℤ pos 12)
 IsAdded Month n = AreMonthsLater n

@@ -1,4 +1,4 @@
--- Places: what the functions that read digits at fixed places find there. No public clause cites this.
+-- Places: the results of the functions that read digits at fixed places. No public clause refers to it.
 use Rattle.std.specs.Prelude.{◌≡◌, ℕ, ◌<◌, ◌^◌, List, ◌++◌, length, pos, ◌≤ℤ◌}
 use Rattle.jiff_core.specs.declared.civil.date.Date.{Date}
 use Rattle.jiff_core.specs.declared.civil.time.Time.{Time}
@@ -25,7 +25,7 @@ ShowsDate text mark date = (text ≡ date_text mark date) × (pos 0 ≤ℤ date.
 abbrev pub ShowsAnyDate : List ℕ → Date → Type 0
 ShowsAnyDate text date = (mark : ℕ) × IsMark mark × ShowsDate text mark date
 
--- the text is that of a time of day, and what may stand behind it
+-- the text is that of a time of day, and what may follow it
 pub record ShowsClockWithEnd (text : List ℕ) (time : Time) : Type 0 where
   pub end : List ℕ
   pub is_end : IsEnd end

@@ -1,5 +1,5 @@
 -- Reading: which texts are DATETIMEs, and of which seconds. Four forms read: a date, a date and a time of day, the same with
--- `T` and what may stand behind it, and a count of seconds.
+-- `T` and what may follow it, and a count of seconds.
 -- The code reads fixed places; here a text is put together from its parts.
 use Rattle.std.specs.Prelude.{◌≡◌, ◌⊎◌, ℕ, ◌<◌, ◌^◌, Bool, true, false, ◌==◌, ◌||◌, List, [], ◌∷◌, ◌++◌, reverse, ℤ, pos, neg_ℤ, ◌≤ℤ◌, if◌then◌else◌}
 use Rattle.std.specs.Int.{IsInRange}
@@ -23,7 +23,7 @@ without_first_blanks (c ∷ text) = if is_blank c then without_first_blanks text
 abbrev pub trimmed : List ℕ → List ℕ
 trimmed text = reverse (without_first_blanks (reverse (without_first_blanks text)))
 
--- what may stand between the parts of a date: `-` or `/`
+-- a separator of the parts of a date: `-` or `/`
 abbrev pub IsMark : ℕ → Type 0
 IsMark c = (c ≡ 45) ⊎ (c ≡ 47)
 
@@ -39,7 +39,7 @@ IsFraction text = (digits : List ℕ) × IsFewDigits digits × (text ≡ 46 ∷ 
 abbrev pub IsZone : List ℕ → Type 0
 IsZone text = (text ≡ 90 ∷ []) ⊎ (text ≡ 122 ∷ [])
 
--- what may stand behind a time of day with `T`, without effect: a fraction, a zone, a fraction and then a zone, or nothing
+-- what may follow a time of day with `T`, without effect: a fraction, a zone, a fraction and then a zone, or nothing
 pub record IsEnd (text : List ℕ) : Type 0 where
   pub fraction : List ℕ
   pub zone : List ℕ
@@ -47,17 +47,17 @@ pub record IsEnd (text : List ℕ) : Type 0 where
   pub is_zone : (zone ≡ []) ⊎ IsZone zone
   pub whole : text ≡ fraction ++ zone
 
--- behind `T`, a time of day and what may stand behind it
+-- after `T`: a time of day and what may follow it
 pub record TellsTimeWithEnd (text : List ℕ) (time : Time) : Type 0 where
   pub end : List ℕ
   pub is_end : IsEnd end
   pub whole : text ≡ 84 ∷ (clock_text time ++ end)
 
--- what stands behind a date tells the time of day; nothing tells midnight
+-- the text after a date denotes the time of day; an empty text denotes midnight
 abbrev pub TellsTime : List ℕ → Time → Type 0
 TellsTime text time = ((text ≡ []) × (time_seconds time ≡ 0)) ⊎ ((text ≡ 32 ∷ clock_text time) ⊎ TellsTimeWithEnd text time)
 
--- a date from the year 0 on, of one mark, and what tells the time of day
+-- a date from the year 0 on, of one mark, and a text that denotes the time of day
 pub record TellsMoment (text : List ℕ) (moment : DateTime) : Type 0 where
   pub mark : ℕ
   pub behind : List ℕ
@@ -66,7 +66,7 @@ pub record TellsMoment (text : List ℕ) (moment : DateTime) : Type 0 where
   pub whole : text ≡ date_text mark moment.date ++ behind
   pub time : TellsTime behind moment.time
 
--- one to twelve digits that count seconds in range, which are negative where it is said so
+-- one to twelve digits that count seconds in range, negated if `negative`
 pub record IsCount (negative : Bool) (text : List ℕ) (seconds : ℤ) : Type 0 where
   pub size : ℕ
   pub number : ℕ
@@ -76,11 +76,11 @@ pub record IsCount (negative : Bool) (text : List ℕ) (seconds : ℤ) : Type 0 
   pub are : seconds ≡ (if negative then neg_ℤ (pos number) else pos number)
   pub in_range : IsDatetime seconds
 
--- a count of seconds, behind `-` where it is negative
+-- a count of seconds, after a `-` if it is negative
 abbrev pub TellsCount : List ℕ → ℤ → Type 0
 TellsCount text seconds = IsCount false text seconds ⊎ ((digits : List ℕ) × (text ≡ 45 ∷ digits) × IsCount true digits seconds)
 
--- the text tells these seconds, as a moment or as their count
+-- the text denotes these seconds, as a moment or as their count
 abbrev pub Tells : List ℕ → ℤ → Type 0
 Tells text seconds = ((moment : DateTime) × TellsMoment text moment × (seconds ≡ civil_seconds moment)) ⊎ TellsCount text seconds
 

@@ -15,7 +15,7 @@ digits (suc n) number = digits n (number / 10) ++ (48 + number % 10) ∷ []
 abbrev pub three_text : ℕ → ℕ → ℕ → ℕ → ℕ → List ℕ
 three_text size mark first second third = digits size first ++ mark ∷ (digits 2 second ++ mark ∷ digits 2 third)
 
--- a date: `YYYY-MM-DD` where the mark is `-`
+-- a date: `YYYY-MM-DD` if the mark is `-`
 abbrev pub date_text : ℕ → Date → List ℕ
 date_text mark date = three_text 4 mark (unsigned_abs date.year) date.month date.day
 
@@ -23,11 +23,11 @@ date_text mark date = three_text 4 mark (unsigned_abs date.year) date.month date
 abbrev pub clock_text : Time → List ℕ
 clock_text time = three_text 2 58 time.hour time.minute time.second
 
--- a moment as it is written: `YYYY-MM-DD HH:MM:SS`
+-- a moment as a text: `YYYY-MM-DD HH:MM:SS`
 abbrev pub moment_text : DateTime → List ℕ
 moment_text moment = date_text 45 moment.date ++ 32 ∷ clock_text moment.time
 
--- the text of these seconds as it is written
+-- the text as which these seconds are written
 pub record IsWritten (seconds : ℤ) (text : List ℕ) : Type 0 where
   pub moment : DateTime
   pub of_moment : IsMoment seconds moment

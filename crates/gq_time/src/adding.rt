@@ -8,7 +8,7 @@ ghost use Rattle.gq_time.specs.Adding.{IsAdded, AreMonthsLater, AreSecondsLater,
 use crate::moment::{in_range, moment_of};
 use jiff_core::civil::{Date, DateTime};
 
-/// What is added to a DATETIME.
+/// The units that can be added to a DATETIME.
 #[derive(Clone, Copy, Debug, PartialEq, Eq)]
 pub enum Unit {
     Year,
@@ -19,10 +19,10 @@ pub enum Unit {
     Second,
 }
 
-/// The seconds of the DATETIME that is `n` units later, or earlier where `n` is negative. Takes no memory.
+/// The seconds of the DATETIME that is `n` units later, or earlier if `n` is negative. Takes no memory.
 ///
-/// Months and years keep the time of day and the day of the month, or take the month's last day where it has no such day.
-/// None exactly where the result isn't in range.
+/// Months and years keep the time of day and the day of the month, or take the month's last day if it has no such day.
+/// None exactly if the result isn't in range.
 pub fn add(seconds: i64, n: i64, unit: Unit) -> Option<i64>
     requires { IsDatetime seconds }
     ensures some { IfSome result (IsAdded unit n seconds) }
@@ -43,7 +43,7 @@ pub fn add(seconds: i64, n: i64, unit: Unit) -> Option<i64>
     }
 }
 
-// The seconds of so many units of this size later.
+// Adds `n` units of `size` seconds.
 fn add_seconds(seconds: i64, n: i64, size: i64) -> Option<i64>
     requires { IsDatetime seconds }
     ensures some { IfSome result (AreSecondsLater (n *ℤ size) seconds) }
@@ -59,7 +59,7 @@ fn add_seconds(seconds: i64, n: i64, size: i64) -> Option<i64>
     }
 }
 
-// The seconds of so many months later.
+// Adds `months` months.
 fn add_months(seconds: i64, months: i64) -> Option<i64>
     requires { IsDatetime seconds }
     ensures some { IfSome result (AreMonthsLater months seconds) }

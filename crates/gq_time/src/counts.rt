@@ -16,7 +16,7 @@ pub fn count(text: &[u8]) -> Option<i64>
     }
 }
 
-// The seconds that digits count, which are negative where it is said so.
+// The seconds that digits count, negated if `negative`.
 fn counted(text: &[u8], negative: bool) -> Option<i64>
     ensures some { IfSome result (IsCount negative text.now) }
     ensures none { IfNone result ((seconds : ℤ) → ¬ (IsCount negative text.now seconds)) }

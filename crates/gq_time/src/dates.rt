@@ -55,7 +55,7 @@ fn date(text: &[u8], mark: u8) -> Option<Date>
     }
 }
 
-// The time of day that a text behind a date shows; nothing shows midnight.
+// The time of day in the text after a date; an empty text is midnight.
 fn time(text: &[u8]) -> Option<Time>
     ensures some { IfSome result (TellsTime text.now) }
     ensures none { IfNone result ((time : Time) → ¬ (TellsTime text.now time)) }
@@ -68,7 +68,7 @@ fn time(text: &[u8]) -> Option<Time>
     }
 }
 
-// The time of day that a text shows, whatever may stand behind it.
+// The time of day that a text shows, with whatever may follow it.
 fn clock_with_end(text: &[u8]) -> Option<Time>
     ensures some { IfSome result (ShowsClockWithEnd text.now) }
     ensures none { IfNone result ((time : Time) → ¬ (ShowsClockWithEnd text.now time)) }

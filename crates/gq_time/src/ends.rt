@@ -1,10 +1,10 @@
-// What may stand behind a time of day with `T`.
+// What may follow a time of day with `T`.
 ghost use Rattle.std.specs.Prelude.{◌≡◌, ◌⊎◌, ◌↔◌, [], IsTrue};
 ghost use Rattle.gq_time.specs.Reading.{IsEnd, IsFraction, IsFewDigits};
 
 use crate::numbers::number;
 
-// Whether a text may stand there.
+// Whether a text may follow there.
 pub fn is_end(text: &[u8]) -> bool
     ensures { IsTrue result ↔ IsEnd text.now }
 {

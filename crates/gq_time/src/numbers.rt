@@ -3,7 +3,7 @@ ghost use Rattle.std.specs.Prelude.{◌≡◌, ◌≢◌, ℕ, ◌≤◌, length
 ghost use Rattle.gq_time.specs.Texts.{digits, three_text};
 ghost use Rattle.gq_time.specs.Places.{IsNumber, IsThree};
 
-// The number that a text of digits alone writes; no digits write 0.
+// The number that a text of digits denotes; the empty text denotes 0.
 pub fn number(text: &[u8]) -> Option<u64>
     requires { length text.now ≤ 12 }
     ensures some { IfSome result (IsNumber text.now) }
@@ -19,7 +19,7 @@ pub fn number(text: &[u8]) -> Option<u64>
     Some(number)
 }
 
-// Three numbers with this mark between them, the first of so many digits and the others of two.
+// Three numbers separated by `mark`, the first of `size` digits and the others of two.
 pub fn three(text: &[u8], size: usize, mark: u8) -> Option<(u64, u64, u64)>
     requires { size ≤ 4 }
     ensures some { IfSome result (IsThree text.now size mark) }

@@ -7,7 +7,7 @@ use crate::blanks::trimmed;
 use crate::counts::count;
 use crate::dates::moment;
 
-/// The seconds of a text, or None exactly where it doesn't read as a DATETIME. Takes no memory.
+/// The seconds of a text, or None exactly if it doesn't read as a DATETIME. Takes no memory.
 ///
 /// A text is a date, `2016-02-29` or `2016/02/29`; a date and a time of day, `2016-02-29 23:59:59`; the same with `T` in
 /// place of the blank, and then perhaps a fraction, `.123`, and a `Z` or `z`, neither of which has an effect; or the

@@ -27,7 +27,7 @@ pub fn write_time(alloc: Global, seconds: i64) -> Result<Txt, OutOfMemory>
     Ok(Txt::from_string(text))
 }
 
-// A mark and a number of two digits, put behind a text.
+// Appends a mark and a number of two digits to a text.
 fn push_part(text: &mut String, mark: u8, number: u8) -> Result<(), OutOfMemory>
     requires mark { mark < 128 }
     requires number { number < 100 }
@@ -37,7 +37,7 @@ fn push_part(text: &mut String, mark: u8, number: u8) -> Result<(), OutOfMemory>
     push_two(text, number)
 }
 
-// A number of two digits, put behind a text.
+// Appends a number of two digits to a text.
 fn push_two(text: &mut String, number: u8) -> Result<(), OutOfMemory>
     requires { number < 100 }
     ensures { OnOk result (string_bytes text.new ≡ string_bytes text.old ++ digits 2 number) }

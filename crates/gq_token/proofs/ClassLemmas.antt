@@ -1,4 +1,4 @@
--- ClassLemmas: what a text spells, by its first byte or its first two.
+-- ClassLemmas: what a text spells, given its first byte or its first two.
 use Rattle.std.proofs.Common.{◌≡◌, ℕ, ◌<◌, Bool, true, false, List, [], ◌∷◌, Some, None, refl, sym, subst, arith, get_or, ◌⊎◌}
 use Rattle.std.specs.Prelude.{if◌then◌else◌, nat_eq, option_map, not, ◌==◌, ◌||◌, ◌&&◌}
 use mathlib.Core.Bool.{beq}
@@ -22,25 +22,25 @@ begins c (d ∷ ds) = nat_eq c d
 unfoldable pub begins_symbol : ℕ → Bool
 begins_symbol c = list_any (begins c) symbols
 
--- a text isn't the first of others, where another byte begins it, and none of those behind
+-- a text isn't the first of others if another byte begins that one, and it isn't any of the rest
 none_with : (c : ℕ) (cs : List ℕ) (d : ℕ) (ds : List ℕ) (others : List (List ℕ)) (b : Bool) → nat_eq c d ≡ b
     → (list_any (begins c) others ≡ false → list_any (bytes_eq (c ∷ cs)) others ≡ false)
     → list_any (begins c) ((d ∷ ds) ∷ others) ≡ false → list_any (bytes_eq (c ∷ cs)) ((d ∷ ds) ∷ others) ≡ false
 none_with c cs d ds others true is behind none = cc (rw is at none)
 none_with c cs d ds others false is behind none = rw is (behind (rw is at none))
 
--- a text is none of others where none of them begins with its first byte
+-- a text is none of others if none of them begins with its first byte
 none_equal : (c : ℕ) (cs : List ℕ) (others : List (List ℕ)) → list_any (begins c) others ≡ false → list_any (bytes_eq (c ∷ cs)) others ≡ false
 none_equal c cs [] none = refl
 none_equal c cs ([] ∷ others) none = none_equal c cs others none
 none_equal c cs ((d ∷ ds) ∷ others) none = none_with c cs d ds others (nat_eq c d) refl (none_equal c cs others) none
 
--- so a text is no symbol where none begins with its first byte
+-- so a text isn't a symbol if none begins with its first byte
 pub no_symbol : (c : ℕ) (cs : List ℕ) → begins_symbol c ≡ false → is_symbol (c ∷ cs) ≡ false
 unfolding symbols begins_symbol
 no_symbol c cs none = none_equal c cs symbols none
 
--- what a byte begins, of blanks, words and numbers, and that it begins nothing else
+-- what a byte begins: a blank, a word or a number, and nothing else
 pub record Begins (c : ℕ) (blank word digit : Bool) : Type 0 where
   pub blanks : is_blank c ≡ blank
   pub words : is_word_start c ≡ word
@@ -57,14 +57,14 @@ begins_only blank word digit c =
     beq (is_blank c) blank && (beq (is_word_start c) word && (beq (is_digit c) digit
     && (not (nat_eq 35 c) && (not (nat_eq 47 c) && (not (nat_eq 64 c) && (not (nat_eq c 34) && not (begins_symbol c)))))))
 
--- two tests that are alike have one answer
+-- two equal tests have one result
 same_bool : (a b : Bool) → beq a b ≡ true → a ≡ b
 same_bool true true is = refl
 same_bool true false is = cc
 same_bool false true is = cc
 same_bool false false is = refl
 
--- the test tells it
+-- the test establishes it
 begins_from_test : (blank word digit : Bool) (c : ℕ) → begins_only blank word digit c ≡ true → Begins c blank word digit
 begins_from_test blank word digit c is =
     let p1 = and_parts _ _ is in
@@ -85,7 +85,7 @@ begins_from_test blank word digit c is =
       no_mark = not-true (begins_symbol c) p7.1;
     }
 
--- a test that passes begins_only at each byte below 128
+-- a test that implies begins_only for each byte below 128
 from_table : (test : ℕ → Bool) (blank word digit : Bool) (c : ℕ) → c < 128 → agree_below (λ n. not (test n) || begins_only blank word digit n) (λ n. true) 128 ≡ true
     → test c ≡ true → Begins c blank word digit
 from_table test blank word digit c below table is =
@@ -242,7 +242,7 @@ class_other c d is = record {
   no_quote = grind (arith, nat_tests);
 }
 
--- a `/` of that class stands before no `/` and no `*`
+-- a `/` of that class isn't followed by `/` or `*`
 pub slash_other : (d : ℕ) → class_of 47 d ≡ class.Other → (nat_eq 47 d ≡ false) × (nat_eq 42 d ≡ false)
 slash_other d is = (grind (arith, nat_tests), grind (arith, nat_tests))
 

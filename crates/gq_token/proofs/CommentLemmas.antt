@@ -10,7 +10,7 @@ use Rattle.gq_token.specs.Items.{IsItem, EndsAt, NeverEnds}
 use Rattle.gq_token.proofs.ClassLemmas.{class_block, spelled_block}
 use Rattle.gq_token.proofs.ItemLemmas.{NoLonger, item_from}
 
--- a closed comment isn't closed again by more bytes
+-- more bytes don't close a closed comment again
 ends_once : (bytes : List ℕ) (m n : ℕ) → ends_at_close (take m bytes) ≡ true → m < n → n ≤ length bytes → ends_at_close (take n bytes) ≡ false
 ends_once [] m n ends more below = absurd (omega arith)
 ends_once (c ∷ cs) zero n ends more below = cc
@@ -31,7 +31,7 @@ ends_once (c ∷ d ∷ cs) (suc (suc m)) (suc (suc n)) ends more below =
     by true star is later = rw star (filled cs n (omega arith) (omega arith))
     by false star is later = rw star (later is)
 
--- a place with two bytes behind it
+-- bytes of the class of block comments begin with `/*`
 two_bytes : (rest : List ℕ) → 0 < length rest → class_of (get_or rest 0 0) (get_or rest 1 0) ≡ class.BlockComment → (cs : List ℕ) × (rest ≡ 47 ∷ 42 ∷ cs)
 two_bytes [] some is = absurd (omega arith)
 two_bytes (c ∷ []) some is = absurd (omega (arith, (class_block c 0 is).1))

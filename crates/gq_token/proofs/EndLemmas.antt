@@ -1,4 +1,4 @@
--- EndLemmas: where a comment and a text end, as a search from the left finds it.
+-- EndLemmas: where a comment and a text end, as a search from the left finds.
 use Rattle.std.proofs.Common.{◌≡◌, ℕ, zero, suc, ◌+◌, ◌-◌, ◌<◌, ◌≤◌, Bool, true, false, List, [], ◌∷◌, length, take, drop, get_or, refl, ap, sym, ◌∙◌, ◌≢◌, arith, inl, inr, ◌⊎◌}
 use Rattle.std.specs.Prelude.{nat_eq, ◌&&◌}
 use Rattle.std.proofs.lemmas.Bool.{cases_lt, ne_eqb}
@@ -7,18 +7,18 @@ use Rattle.gq_token.specs.Texts.{closes}
 use Rattle.gq_token.specs.Spelling.{ends_at_close}
 use Rattle.gq_token.specs.Items.{EndsAt, NeverEnds}
 
--- no prefix up to a place passes the test, and from there on the rest alone tells
+-- no prefix up to a place passes the test, and from there on only the rest matters
 pub record NotYet (test : List ℕ → Bool) (bytes : List ℕ) (at : ℕ) : Type 0 where
   pub same : (n : ℕ) → test (take (at + n) bytes) ≡ test (take n (drop at bytes))
   pub before : (n : ℕ) → n < at → test (take n bytes) ≡ false
 
--- so it is at the start
+-- it holds at the start
 pub not_yet_start : (test : List ℕ → Bool) (bytes : List ℕ) → NotYet test bytes 0
 not_yet_start test bytes = record { same = λ n. ap (λ k. test (take k bytes)) (omega arith); before = λ n below. absurd (omega arith) }
 
--- the bytes from a place on, of which some first ones pass the test with nothing behind them
+-- the bytes from a place on, with prefixes of them tested alone
 module _ (test : List ℕ → Bool) (bytes : List ℕ) (at : ℕ) (yet : NotYet test bytes at) where
-  -- some bytes are passed by
+  -- some bytes are skipped
   pub not_yet_more : (step next : ℕ) → next ≡ at + step → ((n : ℕ) → n < step → test (take n (drop at bytes)) ≡ false)
       → ((n : ℕ) → test (take (step + n) (drop at bytes)) ≡ test (take n (drop next bytes))) → NotYet test bytes next
   not_yet_more step next is none moves = record { same = same; before = before }
@@ -81,7 +81,7 @@ comment_more bytes at next yet below is plain = not_yet_more ends_at_close bytes
         ap (λ k. ends_at_close (take k (drop at bytes))) one ∙ ap (λ l. ends_at_close (take (suc n) l)) whole
         ∙ comment_plain (get_or bytes at 0) (drop next bytes) (ap (λ d. nat_eq (get_or bytes at 0) 42 && nat_eq d 47) second ∙ plain) n
 
--- the place of `*/` is the end
+-- the end is after `*/`
 pub comment_end : (bytes : List ℕ) (at next : ℕ) → NotYet ends_at_close bytes at → at < length bytes → next ≡ at + 2
     → get_or bytes at 0 ≡ 42 → get_or bytes (at + 1) 0 ≡ 47 → EndsAt ends_at_close bytes next
 comment_end bytes at next yet below is star slash = ends_here ends_at_close bytes at yet 2 next is (omega (arith, more)) ends
@@ -99,14 +99,14 @@ comment_end bytes at next yet below is star slash = ends_here ends_at_close byte
     ends : ends_at_close (take 2 (drop at bytes)) ≡ true
     ends = ap (λ l. ends_at_close (take 2 l)) whole
 
--- a byte that is no quote and no backslash
+-- a byte that is neither a quote nor a backslash
 text_plain : (c : ℕ) (cs : List ℕ) → nat_eq c 34 ≡ false → nat_eq c 92 ≡ false → (n : ℕ) → closes (c ∷ take n cs) ≡ closes (take n cs)
 text_plain c [] quote slash zero = quote
 text_plain c [] quote slash (suc n) = quote
 text_plain c (d ∷ ds) quote slash zero = quote
 text_plain c (d ∷ ds) quote slash (suc n) = rw (quote, slash) refl
 
--- a backslash takes the next byte with it
+-- a backslash and the next byte are skipped together
 text_escape : (cs : List ℕ) (n : ℕ) → closes (take (suc (suc n)) (92 ∷ cs)) ≡ closes (take n (drop 1 cs))
 text_escape [] zero = refl
 text_escape [] (suc n) = refl
@@ -130,7 +130,7 @@ text_more bytes at next yet below is quote slash = not_yet_more closes bytes at 
         ap (λ k. closes (take k (drop at bytes))) one ∙ ap (λ l. closes (take (suc n) l)) whole
         ∙ text_plain (get_or bytes at 0) (drop next bytes) (ne_eqb (get_or bytes at 0) 34 quote) (ne_eqb (get_or bytes at 0) 92 slash) n
 
--- a step over a backslash and the byte behind it
+-- a step over a backslash and the byte after it
 pub text_more_escape : (bytes : List ℕ) (at next : ℕ) → NotYet closes bytes at → at < length bytes → next ≡ at + 2 → get_or bytes at 0 ≡ 92
     → NotYet closes bytes next
 text_more_escape bytes at next yet below is slash = not_yet_more closes bytes at yet 2 next is none moves
@@ -150,7 +150,7 @@ text_more_escape bytes at next yet below is slash = not_yet_more closes bytes at
         ∙ text_escape (drop (at + 1) bytes) n ∙ ap (λ l. closes (take n l)) (drop-drop 1 (at + 1) bytes)
         ∙ ap (λ k. closes (take n (drop k bytes))) {x = at + 1 + 1} {y = next} (omega arith)
 
--- the place of the closing quote is the end
+-- the end is after the closing quote
 pub text_end : (bytes : List ℕ) (at next : ℕ) → NotYet closes bytes at → at < length bytes → next ≡ at + 1 → get_or bytes at 0 ≡ 34 → EndsAt closes bytes next
 text_end bytes at next yet below is quote = ends_here closes bytes at yet 1 next is (omega arith) ends
   where

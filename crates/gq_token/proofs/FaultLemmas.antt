@@ -1,4 +1,4 @@
--- FaultLemmas: where an item is at fault no next one can be cut, and it has no other fault.
+-- FaultLemmas: at a faulty item no next item can be cut, and it has no other fault.
 use Rattle.std.proofs.Common.{◌≡◌, ℕ, zero, suc, ◌^◌, ◌<◌, ◌≤◌, Bool, true, false, List, [], ◌∷◌, length, take, drop, Option, Some, None, ◌≢◌, IsSome, refl, ap, sym, subst, ◌∙◌, arith, inl, inr, ◌⊎◌}
 use Rattle.std.specs.Prelude.{if◌then◌else◌, nat_eq, codes, option_map, ◌&&◌}
 use Rattle.std.specs.List.{starts_with}
@@ -43,11 +43,11 @@ starts_text (c ∷ cs) opens =
 longest_spells : (bytes text : List ℕ) → IsLongest bytes text → IsSome (spelled (take (length text) bytes))
 longest_spells bytes text longest = subst (λ t. IsSome (spelled t)) (sym longest.prefix) longest.is_item
 
--- nothing is None and something
+-- an option isn't both None and Some
 not_both : (o : Option Item) → o ≡ None → IsSome o → ⊥
 not_both o none some = let no : IsSome {T = Item} None = subst IsSome none some in cc
 
--- what begins with `/*` spells a gap or a symbol, and a gap only where it is a closed comment
+-- what begins with `/*` spells a gap or a symbol, and a gap only if it is a closed comment
 comment_gap : (cs : List ℕ) (n : ℕ) → spelled (take n (47 ∷ 42 ∷ cs)) ≡ Some Gap → is_block_comment (take n (47 ∷ 42 ∷ cs)) ≡ true
 comment_gap cs zero is = cc (sym spelled_nothing ∙ is)
 comment_gap cs (suc zero) is = cc (sym spelled_slash ∙ is)
@@ -57,7 +57,7 @@ comment_gap cs (suc (suc m)) is = by (ends_at_close (take m cs)) refl (sym (spel
     by true ends same = ends
     by false ends same = cc
 
--- what begins with a quote spells an item only where it says something
+-- what begins with a quote spells an item only if it is a closed text
 text_says : (cs : List ℕ) (n : ℕ) → IsSome (spelled (take n (34 ∷ cs))) → (m : ℕ) × (ys : List ℕ) × (said (take m cs) ≡ Some ys)
 text_says cs zero some = absurd (not_both (spelled []) spelled_nothing some)
 text_says cs (suc m) some = by (said (take m cs)) refl (subst IsSome (spelled_text (take m cs)) some)
@@ -67,7 +67,7 @@ text_says cs (suc m) some = by (said (take m cs)) refl (subst IsSome (spelled_te
     by None is some = cc
     by (Some ys) is some = (m, ys, is)
 
--- two prefixes that are closed texts are one
+-- two prefixes that are closed texts are equal
 one_text : (cs : List ℕ) (m n : ℕ) → closes (take m cs) ≡ true → closes (take n cs) ≡ true → take m cs ≡ take n cs
 one_text cs m n p q = by (cases_lt m n) (cases_lt n m) (cases_lt (length cs) n) (cases_lt (length cs) m)
   where
@@ -94,7 +94,7 @@ one_text cs m n p q = by (cases_lt m n) (cases_lt n m) (cases_lt (length cs) n) 
     by (inr _) (inl less) over_n over_m = sym (shorter n m q p less over_m (other n over_n))
     by (inr a) (inr b) over_n over_m = ap (λ k. take k cs) {x = m} {y = n} (omega arith)
 
--- behind an open comment
+-- at an open comment
 open_comment_stops : (rest : List ℕ) → BeginsOpenComment rest → HasNoNext rest
 open_comment_stops rest fault text next =
     let starts = starts_comment rest fault.opens in
@@ -105,7 +105,7 @@ open_comment_stops rest fault text next =
     subst (λ b. is_block_comment (take (length text) b) ≡ false) starts.1 (fault.unclosed (length text)) in
     cc
 
--- what stands behind the quote, where a text says something
+-- the value of the bytes after the quote, if they are a text
 said_behind : (rest text : List ℕ) → starts_with nat_eq rest (codes "\"") ≡ true → IsLongest rest text
     → (m : ℕ) × (ys : List ℕ) × (said (take m (drop 1 rest)) ≡ Some ys)
 said_behind rest text opens longest =
@@ -113,7 +113,7 @@ said_behind rest text opens longest =
     let found = text_says starts.0 (length text) (subst (λ b. IsSome (spelled (take (length text) b))) starts.1 (longest_spells rest text longest)) in
     (found.0, found.1, subst (λ b. said (take found.0 (drop 1 b)) ≡ Some found.1) (sym starts.1) found.2)
 
--- behind an open text
+-- at an open text
 open_text_stops : (rest : List ℕ) → BeginsOpenText rest → HasNoNext rest
 open_text_stops rest fault text next =
     let found = said_behind rest text fault.opens next.is_longest in
@@ -121,7 +121,7 @@ open_text_stops rest fault text next =
     let none : closes (take found.0 (drop 1 rest)) ≡ false = fault.unclosed found.0 in
     cc
 
--- where nothing begins
+-- if nothing begins
 nothing_stops : (rest : List ℕ) → BeginsNothing rest → HasNoNext rest
 nothing_stops rest fault text next =
     not_both (spelled (take (length text) rest)) (fault.no_item (length text) (prefix_within rest text next.is_longest.prefix)) (longest_spells rest text next.is_longest)
@@ -137,18 +137,18 @@ bad_escape_stops rest n fault text next =
     let bad = fault.bad.1 in
     cc
 
--- at a number too big
+-- at a number that is too big
 too_big_stops : (rest : List ℕ) → BeginsTooBig rest → HasNoNext rest
 too_big_stops rest big text next =
     let same : text ≡ big.text = longest_unique rest text big.text next.is_longest big.is_longest in
     let fits : big.number < 2 ^ 64 = next.fits (TokenOf (Number big.number)) (ap spelled same ∙ big.is_number) in
     omega (arith, fits, big.too_big)
 
--- a fault that was found, and isn't OutOfMemory
+-- a fault that was found, not OutOfMemory
 abbrev pub IsFound : LexFault → Type 0
 IsFound fault = fault ≢ OutOfMemory
 
--- so at each fault
+-- so it is at each fault
 pub fault_stops : (rest : List ℕ) (at : ℕ) (fault : LexFault) → FaultHere rest at fault → IsFound fault → HasNoNext rest
 fault_stops rest at (NotUtf8 place) is found = absurd is
 fault_stops rest at (BadToken place) is found = by is.0 is.1
@@ -169,7 +169,7 @@ comment_no_text rest comment text =
     let same : 47 ∷ 42 ∷ a.0 ≡ 34 ∷ b.0 = sym a.1 ∙ b.1 in
     cc
 
--- what begins with `/*` is no number
+-- what begins with `/*` isn't a number
 comment_no_number : (cs : List ℕ) (k n : ℕ) → spelled (take k (47 ∷ 42 ∷ cs)) ≡ Some (TokenOf (Number n)) → ⊥
 comment_no_number cs zero n is = cc (sym spelled_nothing ∙ is)
 comment_no_number cs (suc zero) n is = cc (sym spelled_slash ∙ is)
@@ -179,7 +179,7 @@ comment_no_number cs (suc (suc m)) n is = by (ends_at_close (take m cs)) (sym (s
     by true same = cc
     by false same = cc
 
--- what begins with a quote is no number
+-- what begins with a quote isn't a number
 text_no_number : (cs : List ℕ) (k n : ℕ) → spelled (take k (34 ∷ cs)) ≡ Some (TokenOf (Number n)) → ⊥
 text_no_number cs zero n is = cc (sym spelled_nothing ∙ is)
 text_no_number cs (suc m) n is = by (said (take m cs)) (sym (spelled_text (take m cs)) ∙ is)
@@ -188,29 +188,29 @@ text_no_number cs (suc m) n is = by (said (take m cs)) (sym (spelled_text (take 
     by None same = cc
     by (Some ys) same = cc
 
--- the number of a number too big is a prefix
+-- the digits of a number that is too big are a prefix
 big_prefix : (rest : List ℕ) (big : BeginsTooBig rest) → spelled (take (length big.text) rest) ≡ Some (TokenOf (Number big.number))
 big_prefix rest big = ap spelled big.is_longest.prefix ∙ big.is_number
 
--- an item that begins with `/*` isn't at fault as a number
+-- an item that begins with `/*` isn't a number that is too big
 comment_not_big : (rest : List ℕ) → starts_with nat_eq rest (codes "/*") ≡ true → BeginsTooBig rest → ⊥
 comment_not_big rest opens big =
     let starts = starts_comment rest opens in
     comment_no_number starts.0 (length big.text) big.number (subst (λ b. spelled (take (length big.text) b) ≡ Some (TokenOf (Number big.number))) starts.1 (big_prefix rest big))
 
--- the same of a text
+-- nor is a text
 text_not_big : (rest : List ℕ) → starts_with nat_eq rest (codes "\"") ≡ true → BeginsTooBig rest → ⊥
 text_not_big rest opens big =
     let starts = starts_text rest opens in
     text_no_number starts.0 (length big.text) big.number (subst (λ b. spelled (take (length big.text) b) ≡ Some (TokenOf (Number big.number))) starts.1 (big_prefix rest big))
 
--- where nothing begins no number does
+-- if nothing begins, no number does
 nothing_not_big : (rest : List ℕ) → BeginsNothing rest → BeginsTooBig rest → ⊥
 nothing_not_big rest nothing big =
     not_both (spelled (take (length big.text) rest)) (nothing.no_item (length big.text) (prefix_within rest big.text big.is_longest.prefix))
     (longest_spells rest big.text big.is_longest)
 
--- two bad tokens stand at one place
+-- two bad tokens are at one place
 bad_unique : (rest : List ℕ) (m n : ℕ) → BeginsBadToken rest m → BeginsBadToken rest n → m ≡ n
 bad_unique rest m n (inl a) (inl b) = a.1 ∙ sym b.1
 bad_unique rest m n (inl a) (inr b) = let yes = b.opens in let no = a.0.no_text in cc
@@ -221,7 +221,7 @@ bad_unique rest m n (inr a) (inr b) =
     let place : a.bad.0 ≡ b.bad.0 = cc in
     omega (arith, place, a.bad.2, b.bad.2)
 
--- a bad token is no open comment
+-- a bad token isn't an open comment
 bad_not_comment : (rest : List ℕ) (n : ℕ) → BeginsBadToken rest n → BeginsOpenComment rest → ⊥
 bad_not_comment rest n (inl a) b = let yes = b.opens in let no = a.0.no_comment in cc
 bad_not_comment rest n (inr a) b = comment_no_text rest b.opens a.opens
@@ -231,12 +231,12 @@ bad_not_text : (rest : List ℕ) (n : ℕ) → BeginsBadToken rest n → BeginsO
 bad_not_text rest n (inl a) b = let yes = b.opens in let no = a.0.no_text in cc
 bad_not_text rest n (inr a) b = let yes = a.closed in let no = b.unclosed a.size in cc
 
--- nor a number too big
+-- nor a number that is too big
 bad_not_big : (rest : List ℕ) (n : ℕ) → BeginsBadToken rest n → BeginsTooBig rest → ⊥
 bad_not_big rest n (inl a) b = nothing_not_big rest a.0 b
 bad_not_big rest n (inr a) b = text_not_big rest a.opens b
 
--- an item has one fault
+-- an item has only one fault
 pub fault_unique : (rest : List ℕ) (at : ℕ) (e f : LexFault) → FaultHere rest at e → FaultHere rest at f → IsFound e → IsFound f → e ≡ f
 fault_unique rest at (NotUtf8 a) f p q found_e found_f = absurd p
 fault_unique rest at (BadToken a) (NotUtf8 b) p q found_e found_f = absurd q

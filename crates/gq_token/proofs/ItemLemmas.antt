@@ -1,4 +1,4 @@
--- ItemLemmas: the next item, from what its prefixes spell.
+-- ItemLemmas: the next item, given what its prefixes spell.
 use Rattle.std.proofs.Common.{◌≡◌, ℕ, zero, suc, ◌+◌, ◌-◌, ◌<◌, ◌≤◌, Bool, true, false, List, [], ◌∷◌, ◌++◌, length, take, get_or, Some, None, IsSome, refl, ap, sym, subst, ◌∙◌, arith, length-take, length-append}
 use Rattle.std.specs.Prelude.{if◌then◌else◌, nat_eq, codes}
 use Rattle.std.specs.List.{list_all, starts_with}
@@ -9,11 +9,11 @@ use Rattle.gq_token.specs.Cut.{IsLongest}
 use Rattle.gq_token.specs.Class.{IsRun}
 use Rattle.gq_token.specs.Items.{IsItem}
 
--- no longer prefix than of this size spells an item
+-- no prefix longer than this size spells an item
 abbrev pub NoLonger : List ℕ → ℕ → Type 0
 NoLonger rest size = (m : ℕ) → size < m → m ≤ length rest → spelled (take m rest) ≡ None
 
--- a prefix that spells an item, and is the longest, is what it says
+-- a prefix that spells an item, and is the longest, is that item
 pub longest_from : (rest : List ℕ) (size : ℕ) (item : Item) → size ≤ length rest → spelled (take size rest) ≡ Some item → NoLonger rest size
     → IsLongest rest (take size rest)
 longest_from rest size item within spells longest =
@@ -42,13 +42,13 @@ item_from rest size item some within spells longest fits comment = record {
     fitting : (other : Item) → spelled (take size rest) ≡ Some other → Fits other
     fitting other says = let same : item ≡ other = cc (sym spells ∙ says) in subst Fits same fits
 
--- so many bytes as stand before others, and some of those
+-- a prefix that is longer than `pre`
 take_behind : (n : ℕ) (pre tail : List ℕ) (m : ℕ) → n ≡ length pre + m → take n (pre ++ tail) ≡ pre ++ take m tail
 take_behind n [] tail m is = ap (λ k. take k tail) {x = n} {y = m} (omega arith)
 take_behind zero (c ∷ pre) tail m is = absurd (omega arith)
 take_behind (suc n) (c ∷ pre) tail m is = ap (λ l. c ∷ l) (take_behind n pre tail m (omega arith))
 
--- behind some first bytes a run, with which each prefix that has enough bytes of it spells an item or not
+-- a run after some first bytes, where the run alone decides whether a long enough prefix spells an item
 module _ (pre tail : List ℕ) (low size total : ℕ) (goes : ℕ → Bool) (item : List ℕ → Item) where
   -- what the prefixes spell
   abbrev pub SpelledByRun : Type 0
@@ -59,7 +59,7 @@ module _ (pre tail : List ℕ) (low size total : ℕ) (goes : ℕ → Bool) (ite
     pub run_spelled : spelled (take total (pre ++ tail)) ≡ Some (item (pre ++ take size tail))
     run_spelled = ap spelled (take_behind total pre tail size is) ∙ by_run size enough ∙ rw run.inside refl
 
-    -- with more bytes nothing
+    -- with more bytes it spells nothing
     longer_spelled : (m : ℕ) → size < m → m ≤ length tail → spelled (pre ++ take m tail) ≡ None
     longer_spelled m more below =
         let here : get_or (take m tail) size 0 ≡ get_or tail size 0 = get_or-take m tail size 0 more in
@@ -81,7 +81,7 @@ module _ (pre tail : List ℕ) (low size total : ℕ) (goes : ℕ → Bool) (ite
         → IsItem (pre ++ tail) total (item (pre ++ take size tail))
     run_item some fits comment = item_from (pre ++ tail) total (item (pre ++ take size tail)) some run_within run_spelled run_longest fits comment
 
--- a run of bytes whose first one goes on is no empty one
+-- a run whose first byte passes isn't empty
 pub run_some : (goes : ℕ → Bool) (c : ℕ) (cs : List ℕ) (size : ℕ) → IsRun goes (c ∷ cs) size → goes c ≡ true → 1 ≤ size
 run_some goes c cs zero run go = let stop : goes c ≡ false = run.behind (omega arith) in cc
 run_some goes c cs (suc n) run go = omega arith

@@ -1,4 +1,4 @@
--- LawLemmas: a script has one fault at most, and none beside tokens.
+-- LawLemmas: a script has at most one fault, and no tokens if it has one.
 use Rattle.std.proofs.Common.{◌≡◌, ℕ, ◌<◌, List, [], ◌∷◌, length, drop, refl, ap, sym, subst, ◌∙◌, arith, length-drop, inl, inr, ◌⊎◌}
 use Rattle.std.specs.Str.{IsUtf8}
 use Rattle.std.specs.Str.Lossy.{utf8_valid_len}
@@ -11,7 +11,7 @@ use Rattle.gq_token.specs.Items.{FaultHere}
 use Rattle.gq_token.proofs.CutLemmas.{longest_unique, rest_cut}
 use Rattle.gq_token.proofs.FaultLemmas.{HasNoNext, IsFound, fault_stops, fault_unique}
 
--- where the cut is stuck before the end, the bytes aren't cut whole
+-- if the cut is stuck before the end, the bytes have no tokens
 no_tokens_where_stuck : (bytes : List ℕ) (at : ℕ) (texts : List (List ℕ)) → Cuts bytes texts (drop at bytes) → at < length bytes → HasNoNext (drop at bytes)
     → (tokens : List Token) → HasTokens bytes tokens → ⊥
 no_tokens_where_stuck bytes at texts cuts below none tokens has = stuck (rest_cut bytes texts (drop at bytes) has.texts cuts has.cuts)
@@ -20,7 +20,7 @@ no_tokens_where_stuck bytes at texts cuts below none tokens has = stuck (rest_cu
     stuck ([], over) = let empty : length (drop at bytes) ≡ 0 = ap length over in omega (arith, length-drop at bytes)
     stuck (text ∷ more, cut) = none text cut.0
 
--- two cuts that are stuck leave one rest
+-- two cuts that are stuck leave the same rest
 stuck_unique : (bytes : List ℕ) (xs ys : List (List ℕ)) (a b : List ℕ) → Cuts bytes xs a → Cuts bytes ys b → HasNoNext a → HasNoNext b → a ≡ b
 stuck_unique bytes [] [] a b p q none_a none_b = sym p ∙ q
 stuck_unique bytes [] (y ∷ ys) a b p q none_a none_b = absurd (none_a y (subst (λ rest. IsNext rest y) p q.0))
@@ -39,7 +39,7 @@ pub record FaultIn (bytes : List ℕ) (fault : LexFault) : Type 0 where
   pub here : FaultHere (drop at bytes) at fault
   pub found : IsFound fault
 
--- a fault of UTF-8 is one of an item
+-- a fault of bytes that are UTF-8 is one of an item
 fault_in : (bytes : List ℕ) (fault : LexFault) → IsUtf8 bytes → HasFault bytes fault → FaultIn bytes fault
 fault_in bytes (NotUtf8 at) utf8 is = absurd (is.0 utf8)
 fault_in bytes (BadToken at) utf8 is =
@@ -50,7 +50,7 @@ fault_in bytes (OpenText at) utf8 is = record { utf8 = utf8; at = at; below = is
 fault_in bytes (TooBig at) utf8 is = record { utf8 = utf8; at = at; below = is.below; texts = is.texts; cuts = is.cuts; here = (is.fault, refl); found = λ e. cc }
 fault_in bytes OutOfMemory utf8 is = absurd is
 
--- and the other way round
+-- and the converse
 pub has_fault : (bytes : List ℕ) (fault : LexFault) → FaultIn bytes fault → HasFault bytes fault
 has_fault bytes (NotUtf8 place) is = absurd is.here
 has_fault bytes (BadToken place) is = (is.at, is.here.0, record { utf8 = is.utf8; below = is.below; texts = is.texts; cuts = is.cuts; fault = is.here.1 }, is.here.2)
@@ -66,7 +66,7 @@ has_fault bytes OutOfMemory is = absurd (is.found refl)
 stops : (bytes : List ℕ) (fault : LexFault) (is : FaultIn bytes fault) → HasNoNext (drop is.at bytes)
 stops bytes fault is = fault_stops (drop is.at bytes) is.at fault is.here is.found
 
--- bytes of UTF-8 have one fault
+-- bytes that are UTF-8 have one fault
 one_in : (bytes : List ℕ) (e f : LexFault) → FaultIn bytes e → FaultIn bytes f → e ≡ f
 one_in bytes e f p q =
     let rest : drop p.at bytes ≡ drop q.at bytes =
@@ -74,7 +74,7 @@ one_in bytes e f p q =
     let place : p.at ≡ q.at = omega (arith, ap length rest, length-drop p.at bytes, length-drop q.at bytes, p.below, q.below) in
     fault_unique (drop q.at bytes) q.at e f (subst (λ n. FaultHere (drop n bytes) n e) place p.here) q.here p.found q.found
 
--- bytes at fault are UTF-8, or their fault is that they aren't
+-- faulty bytes are UTF-8, or their fault is that they aren't
 kind : (bytes : List ℕ) (fault : LexFault) → HasFault bytes fault → IsUtf8 bytes ⊎ ((¬ IsUtf8 bytes) × (fault ≡ NotUtf8 (utf8_valid_len bytes)))
 kind bytes (NotUtf8 at) is = inr (is.0, ap NotUtf8 is.1)
 kind bytes (BadToken at) is = inl is.2.utf8
@@ -83,7 +83,7 @@ kind bytes (OpenText at) is = inl is.utf8
 kind bytes (TooBig at) is = inl is.utf8
 kind bytes OutOfMemory is = absurd is
 
--- the bytes have one fault at most
+-- the bytes have at most one fault
 pub one_fault_at_most : (bytes : List ℕ) (e f : LexFault) → HasFault bytes e → HasFault bytes f → e ≡ f
 one_fault_at_most bytes e f p q = by (kind bytes e p) (kind bytes f q)
   where
@@ -93,7 +93,7 @@ one_fault_at_most bytes e f p q = by (kind bytes e p) (kind bytes f q)
     by (inr not_utf8) (inl utf8) = absurd (not_utf8.0 utf8)
     by (inr a) (inr b) = a.1 ∙ sym b.1
 
--- and none beside tokens
+-- and none if they have tokens
 pub no_fault_beside : (bytes : List ℕ) (e : LexFault) (tokens : List Token) → HasFault bytes e → HasTokens bytes tokens → ⊥
 no_fault_beside bytes e tokens fault has =
     let in_cut = fault_in bytes e has.utf8 fault in

@@ -1,4 +1,4 @@
--- NestingLemmas: the depth behind the first tokens, one token after another.
+-- NestingLemmas: the depth after the first tokens, one token after another.
 use Rattle.std.proofs.Common.{◌≡◌, ℕ, ◌+◌, ◌-◌, ◌<◌, ◌≤◌, Bool, true, false, List, [], ◌∷◌, ◌++◌, length, take, drop, get_or, refl, ap, sym, subst, ◌∙◌, arith, length-take, take-append-drop, inl, inr, ◌⊎◌}
 use Rattle.std.specs.Prelude.{if◌then◌else◌, codes}
 use Rattle.std.proofs.lemmas.Bool.{cases_lt}
@@ -8,20 +8,20 @@ use Rattle.gq_token.specs.declared.token.Token.{Token}
 use Rattle.gq_token.specs.Kinds.{is_keyword}
 use Rattle.gq_token.specs.Nesting.{opens, shuts, is_behind_else, depth_with, level_with, level_of, depth_of, IsTooDeepAt, IsShallow}
 
--- the depth behind so many tokens, and whether the last of them is ELSE
+-- the depth after the first tokens, and whether the last of them is ELSE
 pub record IsNested (bytes : List ℕ) (tokens : List Token) (count depth : ℕ) (behind_else : Bool) : Type 0 where
   pub depth_is : depth ≡ (level_of bytes (take count tokens)).depth
   pub behind_is : behind_else ≡ is_behind_else bytes (level_of bytes (take count tokens)).last
   pub shallow : (n : ℕ) → n ≤ count → depth_of bytes (take n tokens) ≤ 64
 
--- before all
+-- before all tokens
 pub nested_start : (bytes : List ℕ) (tokens : List Token) → IsNested bytes tokens 0 0 false
 nested_start bytes tokens = record { depth_is = refl; behind_is = refl; shallow = none }
   where
     none : (n : ℕ) → n ≤ 0 → depth_of bytes (take n tokens) ≤ 64
     none n below = subst (λ k. depth_of bytes (take k tokens) ≤ 64) {x = 0} {y = n} (omega arith) (omega arith)
 
--- a step is one level at most
+-- a step changes the depth by at most one level
 step_small : (bytes : List ℕ) (behind_else : Bool) (depth : ℕ) (token : Token) → depth_with bytes behind_else depth token ≤ depth + 1
 step_small bytes behind_else depth token = by (opens bytes behind_else token) (shuts bytes token)
   where
@@ -32,7 +32,7 @@ step_small bytes behind_else depth token = by (opens bytes behind_else token) (s
 
 module _ (bytes : List ℕ) (tokens : List Token) (count depth : ℕ) (behind_else : Bool) (nested : IsNested bytes tokens count depth behind_else)
     (token default : Token) (below : count < length tokens) (is : token ≡ get_or tokens count default) where
-  -- the level behind the next token
+  -- the level after the next token
   level_next : level_of bytes (take (count + 1) tokens) ≡ level_with bytes (level_of bytes (take count tokens)) token
   level_next = fold_more (level_with bytes) _ tokens count default below ∙ ap (level_with bytes (level_of bytes (take count tokens))) (sym is)
 
@@ -41,7 +41,7 @@ module _ (bytes : List ℕ) (tokens : List Token) (count depth : ℕ) (behind_el
   depth_next = ap (λ level. level.depth) level_next ∙ ap (λ b. depth_with bytes b (level_of bytes (take count tokens)).depth token) (sym nested.behind_is)
       ∙ ap (λ d. depth_with bytes behind_else d token) (sym nested.depth_is)
 
-  -- the token is one more of them
+  -- the next token isn't too deep
   pub nested_more : (next : ℕ) → next ≡ depth_with bytes behind_else depth token → next ≤ 64
       → IsNested bytes tokens (count + 1) next (is_keyword bytes (codes "ELSE") token)
   nested_more next step small = record {

@@ -1,4 +1,4 @@
--- PlaceLemmas: the places that faults name stand within the script, and there is one place at most that is too deep.
+-- PlaceLemmas: the places of faults are within the script, and at most one place is too deep.
 use Rattle.std.proofs.Common.{◌≡◌, ◌≢◌, ℕ, zero, suc, ◌+◌, ◌-◌, ◌<◌, ◌≤◌, Bool, true, false, All, List, [], ◌∷◌, ◌++◌, length, take, drop, get_or, Option, Some, None, inl, inr, refl, ap, sym, subst, ◌∙◌, arith, length-take, length-drop, length-append}
 use Rattle.std.specs.Prelude.{if◌then◌else◌, option_map, ◌==◌, unwrap_or}
 use Rattle.std.proofs.lemmas.Str.{utf8_valid_len_le}
@@ -13,7 +13,7 @@ use Rattle.gq_token.specs.Nesting.{depth_of, IsTooDeepAt, IsShallow}
 
 -- ---- faults
 
--- a place that is so much further on
+-- a place that is shifted
 further : (later : Option ℕ) (more n size : ℕ) → option_map (λ x. x + more) later ≡ Some n → ((x : ℕ) → later ≡ Some x → x < size) → n < size + more
 further None more n size is small = cc is
 further (Some x) more n size is small = let same : x + more ≡ n = ap (λ o. unwrap_or o 0) is in omega (arith, same, small x refl)
@@ -26,7 +26,7 @@ either_further : (b : Bool) (escape behind after : Option ℕ) (n size : ℕ) �
 either_further true escape behind after n size is small large = let less = escape_further escape behind n size is small in omega (arith, less)
 either_further false escape behind after n size is small large = let less = further after 1 n (suc size) is large in omega (arith, less)
 
--- a bad escape stands within its text
+-- a bad escape is within its text
 bad_escape_within : (cs : List ℕ) (n : ℕ) → bad_escape cs ≡ Some n → n < length cs
 bad_escape_within [] n is = cc is
 bad_escape_within (c ∷ []) n is = cc is
@@ -54,7 +54,7 @@ place_within bytes OutOfMemory has = omega arith
 
 -- ---- the one place at which a script is too deep
 
--- tokens of which some are followed by one begin with these and the one
+-- a list of tokens that is split at one begins with the part before and that one
 front_of : (tokens before behind : List Token) (token : Token) → tokens ≡ before ++ token ∷ behind → take (length before + 1) tokens ≡ before ++ token ∷ []
 front_of tokens before behind token whole = ap (take (length before + 1)) whole ∙ cut before
   where
@@ -63,11 +63,11 @@ front_of tokens before behind token whole = ap (take (length before + 1)) whole 
     cut (t ∷ front) = let more : suc (length front) + 1 ≡ suc (length front + 1) = omega arith in rw more (ap (λ l. t ∷ l) (cut front))
 
 module _ (bytes : List ℕ) (tokens : List Token) where
-  -- the tokens to the place are too many
+  -- the depth of the tokens up to the place is 65
   raised : (a : ℕ) (deep : IsTooDeepAt bytes tokens a) → depth_of bytes (take (length deep.before + 1) tokens) ≡ 65
   raised a deep = ap (depth_of bytes) (front_of tokens deep.before deep.behind deep.token deep.whole) ∙ deep.raises
 
-  -- a shorter prefix of the tokens before the place isn't
+  -- the depth of a prefix of the tokens before the place is at most 64
   shallow_before : (a : ℕ) (deep : IsTooDeepAt bytes tokens a) (n : ℕ) → n ≤ length deep.before → depth_of bytes (take n tokens) ≤ 64
   shallow_before a deep n le = subst (λ l. depth_of bytes l ≤ 64) (sym (ap (take n) deep.whole ∙ take-append-le n deep.before (deep.token ∷ deep.behind) le)) (deep.first n le)
 
@@ -87,11 +87,11 @@ module _ (bytes : List ℕ) (tokens : List Token) where
   deep_below : (a : ℕ) (deep : IsTooDeepAt bytes tokens a) → length deep.before < length tokens
   deep_below a deep = omega (arith, ap length deep.whole, length-append deep.before (deep.token ∷ deep.behind))
 
-  -- where no prefix is too deep there is no such place
+  -- if no prefix is too deep there is no such place
   pub never_deep : (i : ℕ) → length tokens ≤ i → ((n : ℕ) → n ≤ i → depth_of bytes (take n tokens) ≤ 64) → (a : ℕ) → IsTooDeepAt bytes tokens a → ⊥
   never_deep i all shallow a deep = omega (arith, raised a deep, shallow (length deep.before + 1) (omega (arith, all, deep_below a deep)))
 
-  -- the place stands within the script
+  -- the place is within the script
   pub too_deep_within : (a : ℕ) → All (IsSpelledIn bytes) tokens → IsTooDeepAt bytes tokens a → a ≤ length bytes
   too_deep_within a spelled deep =
       let within = deep_below a deep in

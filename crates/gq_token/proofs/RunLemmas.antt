@@ -13,7 +13,7 @@ use Rattle.gq_token.specs.Items.{IsItem}
 use Rattle.gq_token.proofs.ClassLemmas.{class_blank, class_word, class_line, word_begins, digit_begins, spelled_blank, spelled_word, spelled_number, spelled_hash, spelled_slashes, spelled_global, spelled_attached, spelled_sign, spelled_nothing}
 use Rattle.gq_token.proofs.ItemLemmas.{longest_from, run_item, run_some, run_spelled, run_longest, SpelledByRun}
 
--- what begins with another byte than `/` begins no comment
+-- what doesn't begin with `/` isn't a comment
 pub no_comment : (c : ℕ) (cs : List ℕ) → nat_eq 47 c ≡ false → starts_with nat_eq (c ∷ cs) (codes "/*") ≡ false
 no_comment c cs other = rw other refl
 
@@ -90,7 +90,7 @@ line_item (c ∷ cs) size some is run = by (class_line c (get_or cs 0 0) is)
     by (inl same) = subst (λ n. IsItem (n ∷ cs) size Gap) (sym same) (hash cs (subst (λ n. IsRun (λ c. not (c == 10)) (n ∷ cs) size) same run))
     by (inr both) = subst (λ n. IsItem (n ∷ cs) size Gap) (sym both.0) (slashes cs both.1 (subst (λ n. IsRun (λ c. not (c == 10)) (n ∷ cs) size) both.0 run))
 
--- digits, of which the value is told
+-- digits, with their value
 module _ (c : ℕ) (cs : List ℕ) (size : ℕ) (digit : is_digit c ≡ true) (run : IsRun is_digit (c ∷ cs) size) where
   -- the item that they spell
   abbrev number : List ℕ → Item
@@ -108,7 +108,7 @@ module _ (c : ℕ) (cs : List ℕ) (size : ℕ) (digit : is_digit c ≡ true) (r
       let none = no_comment c cs (digit_begins c digit).no_slash in
       run_item [] (c ∷ cs) 1 size size is_digit number run digits_by_run enough (omega arith) (omega arith) fits (λ opens. cc (sym none ∙ opens))
 
-  -- a number that doesn't
+  -- a number that doesn't fit
   pub number_too_big : 2 ^ 64 ≤ number_of (take size (c ∷ cs)) → BeginsTooBig (c ∷ cs)
   number_too_big big =
       let enough = run_some is_digit c cs size run digit in
@@ -133,7 +133,7 @@ global_item c cs size word run =
     by_run zero low = absurd (omega arith)
     by_run (suc m) low = spelled_global (c ∷ take m cs) ∙ rw word refl
 
--- a byte of a word is no `@`
+-- a byte of a word isn't `@`
 no_sign : (c : ℕ) → is_word_start c ≡ true → nat_eq 64 c ≡ false
 no_sign c word = (word_begins c word).no_sign
 
@@ -147,7 +147,7 @@ attached_item c cs size word run =
     by_run zero low = absurd (omega arith)
     by_run (suc m) low = spelled_attached c (take m cs) (no_sign c word) ∙ rw word refl
 
--- a text that doesn't begin with a letter is no word
+-- a text that doesn't begin with a letter isn't a word
 no_word : (cs : List ℕ) → is_word_start (get_or cs 0 0) ≡ false → (m : ℕ) → is_word (take m cs) ≡ false
 no_word [] none zero = refl
 no_word [] none (suc m) = refl
@@ -177,19 +177,19 @@ attached_alone cs other none = record { no_item = by; no_comment = refl; no_text
     by zero below = spelled_nothing
     by (suc m) below = behind cs other none m
 
--- a number that fits, at the beginning of all that remains
+-- a number that fits, at the beginning of the remaining bytes
 pub digits_item : (rest : List ℕ) (size : ℕ) → 0 < length rest → is_digit (get_or rest 0 0) ≡ true → IsRun is_digit rest size
     → number_of (take size rest) < 2 ^ 64 → IsItem rest size (TokenOf (Number (number_of (take size rest))))
 digits_item [] size some digit run fits = absurd (omega arith)
 digits_item (c ∷ cs) size some digit run fits = number_item c cs size digit run fits
 
--- and where it doesn't fit
+-- and one that doesn't fit
 pub digits_too_big : (rest : List ℕ) (size : ℕ) → 0 < length rest → is_digit (get_or rest 0 0) ≡ true → IsRun is_digit rest size
     → 2 ^ 64 ≤ number_of (take size rest) → BeginsTooBig rest
 digits_too_big [] size some digit run big = absurd (omega arith)
 digits_too_big (c ∷ cs) size some digit run big = number_too_big c cs size digit run big
 
--- `@@` before a word
+-- `@@` followed by a word
 pub sign_global : (rest : List ℕ) (size total : ℕ) → 0 < length rest → get_or rest 0 0 ≡ 64 → get_or rest 1 0 ≡ 64 → is_word_start (get_or rest 2 0) ≡ true
     → IsRun is_word_byte (drop 2 rest) size → total ≡ 2 + size → IsItem rest total (TokenOf Global)
 sign_global [] size total some first second word run is = absurd (omega arith)
@@ -197,21 +197,21 @@ sign_global (c ∷ []) size total some first second word run is = absurd (omega 
 sign_global (c ∷ d ∷ []) size total some first second word run is = cc
 sign_global (c ∷ d ∷ e ∷ es) size total some first second word run is = rw (first, second, is) (global_item e es size word run)
 
--- `@@` before no word
+-- `@@` not followed by a word
 pub sign_global_alone : (rest : List ℕ) → 0 < length rest → get_or rest 0 0 ≡ 64 → get_or rest 1 0 ≡ 64 → is_word_start (get_or rest 2 0) ≡ false
     → BeginsNothing rest
 sign_global_alone [] some first second none = absurd (omega arith)
 sign_global_alone (c ∷ []) some first second none = absurd (omega (arith, second))
 sign_global_alone (c ∷ d ∷ ds) some first second none = rw (first, second) (global_alone ds none)
 
--- `@` before a word
+-- `@` followed by a word
 pub sign_attached : (rest : List ℕ) (size total : ℕ) → 0 < length rest → get_or rest 0 0 ≡ 64 → is_word_start (get_or rest 1 0) ≡ true
     → IsRun is_word_byte (drop 1 rest) size → total ≡ 1 + size → IsItem rest total (TokenOf Attached)
 sign_attached [] size total some first word run is = absurd (omega arith)
 sign_attached (c ∷ []) size total some first word run is = cc
 sign_attached (c ∷ d ∷ ds) size total some first word run is = rw (first, is) (attached_item d ds size word run)
 
--- `@` before no word
+-- `@` not followed by a word
 pub sign_attached_alone : (rest : List ℕ) → 0 < length rest → get_or rest 0 0 ≡ 64 → get_or rest 1 0 ≢ 64 → is_word_start (get_or rest 1 0) ≡ false
     → BeginsNothing rest
 sign_attached_alone [] some first other none = absurd (omega arith)

@@ -15,11 +15,11 @@ use Rattle.gq_token.proofs.CutLemmas.{CutBefore, cut_more}
 use Rattle.gq_token.proofs.LawLemmas.{has_fault, no_fault_beside}
 
 module _ (bytes : List ℕ) (at : ℕ) where
-  -- what the code passes on, which is all that remains
+  -- the slice that the code passes on: all remaining bytes
   abbrev pub remains : List ℕ
   remains = take (length bytes - at) (drop at bytes)
 
-  -- where a quote stands first, it is UTF-8
+  -- if they begin with a quote, the remaining bytes are UTF-8
   pub remains_utf8 : IsUtf8 bytes → at < length bytes → get_or remains 0 0 ≡ 34 → IsUtf8 remains
   remains_utf8 utf8 below quote =
       let same : remains ≡ drop at bytes = take_rest bytes at in
@@ -41,7 +41,7 @@ module _ (bytes : List ℕ) (at : ℕ) where
         ∙ is.spells;
   }
 
-  -- and all before it is cut
+  -- all bytes before the place are cut
   module _ (found : List Token) (had : CutBefore bytes at found) where
     -- an item there is cut too
     pub step_cut : (size : ℕ) (item : Item) (longer : List Token) → IsItem remains size item → longer ≡ found ++ placed (Some item) at (at + size) []
@@ -59,7 +59,7 @@ module _ (bytes : List ℕ) (at : ℕ) where
         has_fault bytes fault record
         { utf8 = utf8; at = at; below = below; texts = had.texts; cuts = had.cuts; here = subst (λ l. FaultHere l at fault) (take_rest bytes at) is; found = other }
 
-    -- beside which they have no tokens
+    -- and then they have no tokens
     pub step_apart : (fault : LexFault) → IsUtf8 bytes → at < length bytes → FaultHere remains at fault → fault ≢ OutOfMemory → (tokens : List Token)
         → HasTokens bytes tokens → ⊥
     step_apart fault utf8 below is other tokens has = no_fault_beside bytes fault tokens (step_fault fault utf8 below is other) has

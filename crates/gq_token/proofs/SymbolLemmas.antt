@@ -1,4 +1,4 @@
--- SymbolLemmas: the longest symbol that some bytes begin with.
+-- SymbolLemmas: the longest symbol with which some bytes begin.
 use Rattle.std.proofs.Common.{◌≡◌, ℕ, zero, suc, ◌<◌, ◌≤◌, Bool, true, false, List, [], ◌∷◌, length, take, get_or, Some, None, ◌≢◌, refl, ap, sym, subst, ◌∙◌, arith}
 use Rattle.std.specs.Prelude.{if◌then◌else◌, nat_eq, codes, not, ◌&&◌, ◌||◌}
 use Rattle.std.specs.List.{list_all, list_any, starts_with}
@@ -16,7 +16,7 @@ use Rattle.gq_token.specs.Items.{IsItem}
 use Rattle.gq_token.proofs.ClassLemmas.{spelled_other, spelled_nothing, class_other, slash_other}
 use Rattle.gq_token.proofs.ItemLemmas.{NoLonger, item_from}
 
--- a text is none of others that pass a test that it doesn't pass
+-- a text that fails a test is none of others that pass it
 none_passing : (test : List ℕ → Bool) (text : List ℕ) → test text ≡ false → (others : List (List ℕ)) → list_all test others ≡ true
     → list_any (bytes_eq text) others ≡ false
 none_passing test text fails [] all = refl
@@ -42,7 +42,7 @@ or_false : (b : Bool) → (b || false) ≡ b
 or_false true = refl
 or_false false = refl
 
--- three tests, of which one is to pass
+-- a disjunction of three tests is associative
 or_assoc : (a b d : Bool) → ((a || b) || d) ≡ (a || (b || d))
 or_assoc true b d = refl
 or_assoc false b d = refl
@@ -59,14 +59,14 @@ no_long_symbol : (c d e : ℕ) (es : List ℕ) → is_symbol (c ∷ d ∷ e ∷ 
 unfolding symbols
 no_long_symbol c d e es = none_passing is_short (c ∷ d ∷ e ∷ es) refl symbols refl
 
--- none has a second byte 0
+-- no symbol has a second byte 0
 no_zero_symbol : (c : ℕ) → is_symbol (c ∷ 0 ∷ []) ≡ false
 unfolding symbols
 no_zero_symbol c = none_passing is_short (c ∷ 0 ∷ []) refl symbols refl
 
--- a byte of the class that symbols have
+-- a byte of the class of symbols
 module _ (c : ℕ) (cs : List ℕ) (other : class_of c (get_or cs 0 0) ≡ class.Other) where
-  -- `/*` isn't there
+  -- `/*` isn't here
   no_opening : starts_with nat_eq (c ∷ cs) (codes "/*") ≡ false
   no_opening = by (nat_eq 47 c) refl
     where
@@ -96,17 +96,17 @@ module _ (c : ℕ) (cs : List ℕ) (other : class_of c (get_or cs 0 0) ≡ class
   spelled_prefix : (m : ℕ) → spelled (c ∷ take m cs) ≡ (if is_symbol (c ∷ take m cs) then Some (TokenOf Symbol) else None)
   spelled_prefix m = spelled_other c (take m cs) (other_prefix m)
 
-  -- a prefix that is no symbol spells nothing
+  -- a prefix that isn't a symbol spells nothing
   spells_none : (m : ℕ) → is_symbol (c ∷ take m cs) ≡ false → spelled (c ∷ take m cs) ≡ None
   spells_none m none = spelled_prefix m ∙ rw none refl
 
--- nothing longer than two bytes is a symbol
+-- a prefix longer than two bytes isn't a symbol
 long_none : (c : ℕ) (cs : List ℕ) (m : ℕ) → suc m < length cs → is_symbol (c ∷ take (suc (suc m)) cs) ≡ false
 long_none c [] m below = absurd (omega arith)
 long_none c (d ∷ []) m below = absurd (omega arith)
 long_none c (d ∷ e ∷ es) m below = no_long_symbol c d e (take m es)
 
--- the prefixes of more than one byte, where two aren't a symbol
+-- the prefixes of more than one byte, if two bytes aren't a symbol
 module _ (c : ℕ) (cs : List ℕ) (other : class_of c (get_or cs 0 0) ≡ class.Other) (two : is_symbol (c ∷ get_or cs 0 0 ∷ []) ≡ false) where
   -- they spell nothing
   two_none : (m : ℕ) → suc m ≤ length cs → spelled (c ∷ take (suc m) cs) ≡ None
@@ -127,7 +127,7 @@ single_is : (c : ℕ) → is_symbol (c ∷ []) ≡ is_single c
 unfolding symbols
 single_is c = simp (and_true, and_false, or_false, or_assoc) refl
 
--- the size is told by two tests
+-- two tests determine the size
 module _ (c d size : ℕ) (is : symbol_size c d ≡ size) where
   -- two bytes
   size_two : is_symbol (c ∷ d ∷ []) ≡ true → 2 ≡ size
@@ -155,7 +155,7 @@ module _ (c d size : ℕ) (is : symbol_size c d ≡ size) where
       by false true fails other same = cc
       by false false fails other same = same
 
--- two bytes are the next item
+-- a symbol of two bytes is the next item
 symbol_of_two : (c : ℕ) (cs : List ℕ) → class_of c (get_or cs 0 0) ≡ class.Other → is_symbol (c ∷ get_or cs 0 0 ∷ []) ≡ true → IsItem (c ∷ cs) 2 (TokenOf Symbol)
 symbol_of_two c [] other two = let none : is_symbol (c ∷ 0 ∷ []) ≡ false = no_zero_symbol c in cc
 symbol_of_two c (d ∷ ds) other two =
@@ -170,7 +170,7 @@ symbol_of_two c (d ∷ ds) other two =
     longer (suc (suc zero)) more below = absurd (omega arith)
     longer (suc (suc (suc m))) more below = spells_none c (d ∷ ds) other (suc (suc m)) (long_none c (d ∷ ds) m (omega arith))
 
--- one byte is
+-- a symbol of one byte is the next item
 symbol_of_one : (c : ℕ) (cs : List ℕ) → class_of c (get_or cs 0 0) ≡ class.Other → is_symbol (c ∷ get_or cs 0 0 ∷ []) ≡ false → is_symbol (c ∷ []) ≡ true
     → IsItem (c ∷ cs) 1 (TokenOf Symbol)
 symbol_of_one c cs other two one =
@@ -184,7 +184,7 @@ symbol_of_one c cs other two one =
     longer (suc zero) more below = absurd (omega arith)
     longer (suc (suc m)) more below = two_none c cs other two m (omega arith)
 
--- no byte is
+-- no symbol is the next item
 nothing_here : (c : ℕ) (cs : List ℕ) → class_of c (get_or cs 0 0) ≡ class.Other → is_symbol (c ∷ get_or cs 0 0 ∷ []) ≡ false → is_symbol (c ∷ []) ≡ false
     → BeginsNothing (c ∷ cs)
 nothing_here c cs other two one = record {
@@ -198,7 +198,7 @@ nothing_here c cs other two one = record {
     by (suc zero) below = spells_none c cs other 0 one
     by (suc (suc m)) below = two_none c cs other two m (omega arith)
 
--- a symbol of the size that was told is the next item
+-- a symbol of the determined size is the next item
 pub symbol_item : (rest : List ℕ) (size : ℕ) → 0 < length rest → class_of (get_or rest 0 0) (get_or rest 1 0) ≡ class.Other
     → symbol_size (get_or rest 0 0) (get_or rest 1 0) ≡ size → size ≢ 0 → IsItem rest size (TokenOf Symbol)
 symbol_item [] size some other is more = absurd (omega arith)
@@ -209,7 +209,7 @@ symbol_item (c ∷ cs) size some other is more = by (is_symbol (c ∷ get_or cs 
     by false true two one = subst (λ n. IsItem (c ∷ cs) n (TokenOf Symbol)) (size_one c (get_or cs 0 0) size is two one) (symbol_of_one c cs other two one)
     by false false two one = absurd (more (sym (size_none c (get_or cs 0 0) size is two one)))
 
--- where it was 0, nothing begins
+-- if the size is 0, nothing begins
 pub no_symbol_item : (rest : List ℕ) → 0 < length rest → class_of (get_or rest 0 0) (get_or rest 1 0) ≡ class.Other
     → symbol_size (get_or rest 0 0) (get_or rest 1 0) ≡ 0 → BeginsNothing rest
 no_symbol_item [] some other is = absurd (omega arith)

@@ -1,4 +1,4 @@
--- TextLemmas: what a text in quotes says, and where it is closed.
+-- TextLemmas: the value of a quoted text, and where it is closed.
 use Rattle.std.proofs.Common.{◌≡◌, ℕ, zero, suc, ◌+◌, ◌<◌, ◌≤◌, Bool, true, false, List, [], ◌∷◌, ◌++◌, length, take, drop, get_or, Option, Some, None, ◌≢◌, refl, ap, sym, subst, ◌∙◌, arith, length-drop, inr}
 use Rattle.std.specs.Prelude.{if◌then◌else◌, nat_eq, option_map}
 use Rattle.std.proofs.lemmas.List.{drop_more, append-nil, append_assoc}
@@ -13,14 +13,14 @@ use Rattle.gq_token.proofs.ClassLemmas.{spelled_text}
 use Rattle.gq_token.proofs.ItemLemmas.{NoLonger, item_from}
 use Rattle.gq_token.specs.Texts.{closes, said, bad_escape, escape_of, byte_then}
 
--- the parts of a byte before others
+-- the parts of a byte and the bytes after it
 pub byte_then_parts : (o : Option ℕ) (p : Option (List ℕ)) (ys : List ℕ) → byte_then o p ≡ Some ys
     → (c : ℕ) × (cs : List ℕ) × (o ≡ Some c) × (p ≡ Some cs) × (ys ≡ c ∷ cs)
 byte_then_parts None p ys is = cc
 byte_then_parts (Some c) None ys is = cc
 byte_then_parts (Some c) (Some cs) ys is = (c, cs, refl, refl, cc)
 
--- a text that says something is closed
+-- a text with a value is closed
 pub said_closes : (bytes ys : List ℕ) → said bytes ≡ Some ys → closes bytes ≡ true
 said_closes [] ys is = cc
 said_closes (c ∷ []) ys is = by (nat_eq c 34) refl is
@@ -51,7 +51,7 @@ said_good (c ∷ d ∷ cs) ys is = by (nat_eq c 34) (nat_eq c 92) refl refl is (
     by false true quote slash is escaped plain = let p = byte_then_parts (escape_of d) (said cs) ys is in rw (slash, p.2, escaped p.1 p.3) refl
     by false false quote slash is escaped plain = let p = byte_then_parts (Some c) (said (d ∷ cs)) ys is in rw (slash, plain p.1 p.3) refl
 
--- a closed text isn't closed again by more bytes
+-- more bytes don't close a closed text again
 pub closes_once : (bytes : List ℕ) (m n : ℕ) → closes (take m bytes) ≡ true → m < n → n ≤ length bytes → closes (take n bytes) ≡ false
 closes_once [] m n closed more below = absurd (omega arith)
 closes_once (c ∷ cs) zero n closed more below = cc
@@ -71,7 +71,7 @@ closes_once (c ∷ d ∷ cs) (suc (suc m)) (suc (suc n)) closed more below =
     by false true quote slash is escaped plain = rw (quote, slash) (escaped is)
     by false false quote slash is escaped plain = rw (quote, slash) (plain is)
 
--- a text behind its opening quote is the next item
+-- a text after its opening quote is the next item
 pub text_item : (rest : List ℕ) (size total : ℕ) (ys : List ℕ) → 0 < length rest → get_or rest 0 0 ≡ 34 → EndsAt closes (drop 1 rest) size → total ≡ 1 + size
     → said (take size (drop 1 rest)) ≡ Some ys → IsItem rest total (TokenOf (Text ys))
 text_item [] size total ys some quote ends is says = absurd (omega arith)
@@ -107,7 +107,7 @@ pub text_bad : (rest : List ℕ) (size n : ℕ) → 0 < length rest → get_or r
 text_bad [] size n some quote ends bad = absurd (omega arith)
 text_bad (c ∷ cs) size n some quote ends bad = record { opens = rw quote refl; size = size; closed = ends.ends; bad = (n, bad, refl) }
 
--- so far the bytes of a closed text are read, these were written, and the rest tells what is to come
+-- so far the bytes of a closed text are read, `wrote` is written, and the rest determines what follows
 pub record IsReadTo (body : List ℕ) (at : ℕ) (wrote : List ℕ) : Type 0 where
   pub closed : closes (drop at body) ≡ true
   pub says : said body ≡ option_map (λ ys. wrote ++ ys) (said (drop at body))
@@ -125,12 +125,12 @@ read_start body closed = record { closed = closed; says = whole (said body); bad
     same None = refl
     same (Some n) = ap Some (omega arith)
 
--- what is written before more
+-- what is written, before more
 wrote_more : (wrote : List ℕ) (c : ℕ) (o : Option (List ℕ)) → option_map (λ ys. wrote ++ ys) (byte_then (Some c) o) ≡ option_map (λ ys. (wrote ++ c ∷ []) ++ ys) o
 wrote_more wrote c None = refl
 wrote_more wrote c (Some ys) = ap Some (sym (append_assoc wrote (c ∷ []) ys))
 
--- a place counted from one further on
+-- a place that is counted from one further on
 count_more : (at step next : ℕ) → next ≡ at + step → (o : Option ℕ) → option_map (λ n. at + n) (option_map (λ n. n + step) o) ≡ option_map (λ n. next + n) o
 count_more at step next is None = refl
 count_more at step next is (Some n) = ap Some {x = at + (n + step)} {y = next + n} (omega arith)
@@ -149,7 +149,7 @@ module _ (body : List ℕ) (at : ℕ) (wrote : List ℕ) (read : IsReadTo body a
   two : drop at body ≡ first ∷ second ∷ drop (at + 1 + 1) body
   two = drop_more body at 0 (omega arith) ∙ ap (λ l. first ∷ l) (drop_more body (at + 1) 0 more)
 
-  -- the first is no quote, since the text goes on
+  -- the first isn't a quote, since the text continues
   no_quote : nat_eq first 34 ≡ false
   no_quote = by (nat_eq first 34) refl (subst (λ l. closes l ≡ true) two read.closed)
     where
@@ -159,7 +159,7 @@ module _ (body : List ℕ) (at : ℕ) (wrote : List ℕ) (read : IsReadTo body a
       by true quote is = cc
       by false quote is = quote
 
-  -- a byte that stands for itself
+  -- a byte that is read as itself
   pub read_plain : (next : ℕ) → next ≡ at + 1 → first ≢ 92 → IsReadTo body next (wrote ++ first ∷ [])
   read_plain next is other = record {
     closed = subst (λ l. closes l ≡ true) (sym rest) (rw (no_quote, slash) at (subst (λ l. closes l ≡ true) two read.closed));
@@ -191,13 +191,13 @@ module _ (body : List ℕ) (at : ℕ) (wrote : List ℕ) (read : IsReadTo body a
       rest : drop next body ≡ drop (at + 1 + 1) body
       rest = ap (λ n. drop n body) {x = next} {y = at + 1 + 1} (omega arith)
 
-  -- an escape that is none
+  -- an unknown escape
   pub read_bad : first ≡ 92 → escape_of second ≡ None → bad_escape body ≡ Some at
   read_bad slash none =
       let escaped : drop at body ≡ 92 ∷ second ∷ drop (at + 1 + 1) body = two ∙ ap (λ c. c ∷ second ∷ drop (at + 1 + 1) body) slash in
       read.bad ∙ ap (λ l. option_map (λ n. at + n) (bad_escape l)) escaped ∙ rw none (ap Some {x = at + 0} {y = at} (omega arith))
 
--- where one byte remains, all is said
+-- if one byte remains, all is read
 pub read_whole : (body : List ℕ) (at : ℕ) (wrote : List ℕ) → IsReadTo body at wrote → length body ≤ at + 1 → said body ≡ Some wrote
 read_whole body at wrote read over = by (drop at body) refl
   where
@@ -208,7 +208,7 @@ read_whole body at wrote read over = by (drop at body) refl
         read.says ∙ ap (λ l. option_map (λ ys. wrote ++ ys) (said l)) is ∙ rw quote (ap Some (append-nil wrote))
     by (c ∷ d ∷ cs) is = absurd (omega (arith, ap length is, length-drop at body))
 
--- the fault of the body is one of the text
+-- the fault of the body is that of the text
 pub text_fault : (rest : List ℕ) (size at : ℕ) (fault : LexFault) → 0 < length rest → get_or rest 0 0 ≡ 34 → EndsAt closes (drop 1 rest) size
     → BodyFault (take size (drop 1 rest)) (at + 1) fault → FaultHere rest at fault
 text_fault rest size at (NotUtf8 place) some quote ends is = is

@@ -1,4 +1,4 @@
--- Utf8Lemmas: a text within a script of UTF-8 is UTF-8, and so is what it says.
+-- Utf8Lemmas: a text in a script that is UTF-8 is UTF-8, and so is its value.
 use Rattle.std.proofs.Common.{◌≡◌, ℕ, zero, suc, ◌+◌, ◌<◌, ◌≤◌, Bool, true, false, List, [], ◌∷◌, ◌++◌, length, take, drop, get_or, Option, Some, None, refl, ap, sym, subst, ◌∙◌, arith, length-take, inl, inr, ◌⊎◌}
 use Rattle.std.specs.Prelude.{if◌then◌else◌, nat_eq, option_map}
 use Rattle.std.specs.Str.{IsUtf8, IsAscii}
@@ -25,7 +25,7 @@ closes_last (c ∷ d ∷ cs) closed = by (nat_eq c 34) (nat_eq c 92) closed (λ 
     by false true is escaped plain = let last = escaped is in (suc (suc last.0), ap (λ n. suc (suc n)) last.1, last.2)
     by false false is escaped plain = let last = plain is in (suc last.0, ap suc last.1, last.2)
 
--- the text behind a quote is UTF-8 up to its closing one
+-- the bytes from an opening quote up to the closing one are UTF-8
 pub body_utf8 : (rest : List ℕ) (size : ℕ) → 0 < length rest → IsUtf8 rest → get_or rest 0 0 ≡ 34 → EndsAt closes (drop 1 rest) size
     → IsUtf8 (take size (drop 1 rest))
 body_utf8 rest size some utf8 quote ends =
@@ -36,12 +36,12 @@ body_utf8 rest size some utf8 quote ends =
     let cut = IsCharBoundary-after_ascii (drop 1 rest) last.0 behind (omega (arith, ends.within)) (omega (arith, at)) in
     subst (λ n. IsUtf8 (take n (drop 1 rest))) (sym total) (IsUtf8-take (drop 1 rest) (last.0 + 1) behind cut)
 
--- what a byte above ASCII says is itself
+-- a byte above ASCII is read as itself
 said_high : (p : ℕ) (rest : List ℕ) → 128 ≤ p → said (p ∷ rest) ≡ byte_then (Some p) (said rest)
 said_high p [] high = rw (ne_eqb p 34 (λ e. omega arith)) refl
 said_high p (d ∷ ds) high = rw (ne_eqb p 34 (λ e. omega arith), ne_eqb p 92 (λ e. omega arith)) refl
 
--- so it is with several
+-- and so are several
 said_highs : (ps rest : List ℕ) → ((k : ℕ) → k < length ps → 128 ≤ get_or ps k 0) → said (ps ++ rest) ≡ option_map (λ ys. ps ++ ys) (said rest)
 said_highs [] rest high = by (said rest)
   where
@@ -55,7 +55,7 @@ said_highs (p ∷ ps) rest high =
     by None = refl
     by (Some ys) = refl
 
--- all bytes of a character above ASCII are above it
+-- all bytes of a character above ASCII are above ASCII
 high_bytes : (c : ℕ) → 128 ≤ c → (k : ℕ) → k < length (encode c) → 128 ≤ get_or (encode c) k 0
 high_bytes c high k below = by (cases_lt (get_or (encode c) k 0) 128)
   where
@@ -71,7 +71,7 @@ ascii_before c ys low utf8 = IsUtf8-append (c ∷ []) ys (IsUtf8-from_ascii (c �
     ascii zero = low
     ascii (suc i) = omega arith
 
--- an escape stands for an ASCII byte
+-- an escape means an ASCII byte
 escape_low : (d meant : ℕ) → escape_of d ≡ Some meant → meant < 128
 escape_low d meant is = grind (arith, nat_tests)
 
@@ -80,11 +80,11 @@ no_high_escape : (d : ℕ) → 128 ≤ d → escape_of d ≡ None
 no_high_escape d high =
     rw (ne_eqb d 34 (λ e. omega arith), ne_eqb d 92 (λ e. omega arith), ne_eqb d 110 (λ e. omega arith), ne_eqb d 116 (λ e. omega arith), ne_eqb d 114 (λ e. omega arith)) refl
 
--- what characters say from here on
+-- the value of the bytes from here on is UTF-8
 abbrev SaysUtf8 : List ℕ → Type 0
 SaysUtf8 bytes = (ys : List ℕ) → said bytes ≡ Some ys → IsUtf8 ys
 
--- a byte that stands for itself
+-- a byte that is read as itself
 plain_says : (c : ℕ) (e : List ℕ) → c < 128 → nat_eq c 34 ≡ false → nat_eq c 92 ≡ false → SaysUtf8 e → SaysUtf8 (c ∷ e)
 plain_says c [] low quote slash says ys is = cc (rw quote at is)
 plain_says c (d ∷ ds) low quote slash says ys is =
@@ -111,7 +111,7 @@ high_says c e high utf8 says ys is = by (said e) refl (sym (said_highs (encode c
     by None s same = cc
     by (Some zs) s same = let whole : encode c ++ zs ≡ ys = cc in subst IsUtf8 whole (IsUtf8-append (encode c) zs utf8 (says zs s))
 
--- a backslash before a character above ASCII says nothing
+-- a backslash before a character above ASCII has no value
 high_escape_says : (d : ℕ) (e : List ℕ) → 128 ≤ d → SaysUtf8 (92 ∷ (encode d ++ e))
 high_escape_says d e high = by (encode d) refl
   where
@@ -144,7 +144,7 @@ slash_says d e says = by (cases_lt d 128)
     by (inl below) = subst (λ l. SaysUtf8 (92 ∷ (l ++ e))) (sym (encode_ascii d below)) (escape_says d e says)
     by (inr above) = high_escape_says d e above
 
--- what characters say is UTF-8, also behind a backslash
+-- the value of characters is UTF-8, also after a backslash
 chars_say : (cs : List ℕ) → scalars cs ≡ true → SaysUtf8 (encodes cs) × SaysUtf8 (92 ∷ encodes cs)
 chars_say [] ok = ((λ ys is. cc), (λ ys is. cc))
 chars_say (c ∷ cs) ok =
@@ -152,6 +152,6 @@ chars_say (c ∷ cs) ok =
     let behind = chars_say cs parts.1 in
     (char_says c (encodes cs) (IsUtf8-encode c parts.0) behind.0 behind.1, slash_says c (encodes cs) behind.0)
 
--- what a text of UTF-8 says is UTF-8
+-- the value of a text that is UTF-8 is UTF-8
 pub said_utf8 : (bytes ys : List ℕ) → IsUtf8 bytes → said bytes ≡ Some ys → IsUtf8 ys
 said_utf8 bytes ys utf8 is = (chars_say utf8.0 utf8.1.0).0 ys (subst (λ b. said b ≡ Some ys) (sym utf8.1.1) is)

@@ -18,7 +18,7 @@ use Rattle.gq_token.specs.Spelling.{Gap, TokenOf, spelled, is_gap, is_word, are_
 word_byte_ascii : (c : ℕ) → is_word_byte c ≡ true → c < 128
 word_byte_ascii c word = grind (arith, nat_tests)
 
--- so is its first
+-- so is its first byte
 word_start_ascii : (c : ℕ) → is_word_start c ≡ true → c < 128
 word_start_ascii c word = grind (arith, nat_tests)
 
@@ -28,7 +28,7 @@ word_bytes_ascii [] all i = omega arith
 word_bytes_ascii (c ∷ cs) all zero = word_byte_ascii c (and_parts (is_word_byte c) (list_all is_word_byte cs) all).0
 word_bytes_ascii (c ∷ cs) all (suc i) = word_bytes_ascii cs (and_parts (is_word_byte c) (list_all is_word_byte cs) all).1 i
 
--- the test of words is the one that finds a word
+-- only the test of words yields a word
 found_word : (gap word global attached digits mark : Bool) (n : ℕ) (text : Option (List ℕ))
     → (if gap then Some Gap
     else (if word then Some (TokenOf Word)
@@ -46,13 +46,13 @@ found_word false false false false false true n text is = cc
 found_word false false false false false false n None is = cc
 found_word false false false false false false n (Some said) is = cc
 
--- a text that spells a word is a word
+-- a text that spells a word passes the test of words
 spelled_is_word : (text : List ℕ) → spelled text ≡ Some (TokenOf Word) → is_word text ≡ true
 spelled_is_word text is =
     found_word (is_gap text) (is_word text) (starts_with nat_eq text (codes "@@") && is_word (drop 2 text)) (starts_with nat_eq text (codes "@") && is_word (drop 1 text))
     (are_all is_digit text) (is_symbol text) (number_of text) (text_spelled text) is
 
--- so is the test of words behind `@@`
+-- only the test of words after `@@` yields a global name
 found_global : (gap word global attached digits mark : Bool) (n : ℕ) (text : Option (List ℕ))
     → (if gap then Some Gap
     else (if word then Some (TokenOf Word)
@@ -70,7 +70,7 @@ found_global false false false false false true n text is = cc
 found_global false false false false false false n None is = cc
 found_global false false false false false false n (Some said) is = cc
 
--- and that behind `@`
+-- and only that after `@` an attached name
 found_attached : (gap word global attached digits mark : Bool) (n : ℕ) (text : Option (List ℕ))
     → (if gap then Some Gap
     else (if word then Some (TokenOf Word)
@@ -94,7 +94,7 @@ word_is_ascii [] word i = cc
 word_is_ascii (c ∷ cs) word zero = word_start_ascii c (and_parts (is_word_start c) (list_all is_word_byte cs) word).0
 word_is_ascii (c ∷ cs) word (suc i) = word_bytes_ascii cs (and_parts (is_word_start c) (list_all is_word_byte cs) word).1 i
 
--- so is a sign before it
+-- so is a `@` or `@@` and a word
 at_ascii : (text : List ℕ) → starts_with nat_eq text (codes "@") ≡ true → is_word (drop 1 text) ≡ true → IsAscii text
 at_ascii [] sign word i = cc
 at_ascii (c ∷ cs) sign word zero = grind (arith, nat_tests, sign)
@@ -126,7 +126,7 @@ attached_ascii text is =
 pub word_ascii : (text : List ℕ) → spelled text ≡ Some (TokenOf Word) → IsAscii text
 word_ascii text is = word_is_ascii text (spelled_is_word text is)
 
--- a word whose spelling passes is the keyword
+-- a word whose spelling matches is the keyword
 pub keyword_is : (shape : TokenKind) (text bytes word : List ℕ) (same : Bool) → shape ≡ Word → text ≡ bytes
     → Decides same (map to_ascii_lowercase text ≡ map to_ascii_lowercase word)
     → same ≡ (is_word_shape shape && str_eq_ignore_ascii_case bytes word)

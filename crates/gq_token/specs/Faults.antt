@@ -10,7 +10,7 @@ use Rattle.gq_token.specs.Texts.{closes, bad_escape}
 use Rattle.gq_token.specs.Spelling.{TokenOf, spelled, is_block_comment}
 use Rattle.gq_token.specs.Cut.{IsLongest, Cuts}
 
--- the bytes aren't UTF-8, and so many of them are the longest prefix that is
+-- the bytes aren't UTF-8, and their longest prefix that is has this length
 abbrev pub HasNotUtf8At : List ℕ → ℕ → Type 0
 HasNotUtf8At bytes at = (¬ IsUtf8 bytes) × (at ≡ utf8_valid_len bytes)
 
@@ -30,14 +30,14 @@ pub record BeginsNothing (bytes : List ℕ) : Type 0 where
   pub no_comment : starts_with nat_eq bytes (codes "/*") ≡ false
   pub no_text : starts_with nat_eq bytes (codes "\"") ≡ false
 
--- a text that is closed, with a backslash at this place that begins no escape
+-- a text that is closed, with a backslash at this place that doesn't begin an escape
 pub record BeginsBadEscape (bytes : List ℕ) (place : ℕ) : Type 0 where
   pub opens : starts_with nat_eq bytes (codes "\"") ≡ true
   pub size : ℕ
   pub closed : closes (take size (drop 1 bytes)) ≡ true
   pub bad : (n : ℕ) × (bad_escape (take size (drop 1 bytes)) ≡ Some n) × (place ≡ n + 1)
 
--- a byte at this place that is no part of a gap or token
+-- a byte at this place isn't part of a gap or token
 abbrev pub BeginsBadToken : List ℕ → ℕ → Type 0
 BeginsBadToken bytes place = (BeginsNothing bytes × (place ≡ 0)) ⊎ BeginsBadEscape bytes place
 
@@ -49,7 +49,7 @@ pub record BeginsTooBig (bytes : List ℕ) : Type 0 where
   pub is_number : spelled text ≡ Some (TokenOf (Number number))
   pub too_big : 2 ^ 64 ≤ number
 
--- the bytes are UTF-8, those before a place are cut into items, and what begins there is at fault
+-- the bytes are UTF-8, those before a place are cut into items, and what begins there is faulty
 pub record HasFaultAt (Fault : List ℕ → Type 0) (bytes : List ℕ) (at : ℕ) : Type 0 where
   pub utf8 : IsUtf8 bytes
   pub below : at < length bytes
@@ -57,7 +57,7 @@ pub record HasFaultAt (Fault : List ℕ → Type 0) (bytes : List ℕ) (at : ℕ
   pub cuts : Cuts bytes texts (drop at bytes)
   pub fault : Fault (drop at bytes)
 
--- the byte at this place, which may stand within a text, is at fault
+-- the byte at this place, which may be within a text, is faulty
 abbrev pub HasBadTokenAt : List ℕ → ℕ → Type 0
 HasBadTokenAt bytes at = (from : ℕ) × (place : ℕ) × HasFaultAt (λ rest. BeginsBadToken rest place) bytes from × (at ≡ from + place)
 
@@ -70,7 +70,7 @@ HasFault bytes (OpenText at) = HasFaultAt BeginsOpenText bytes at
 HasFault bytes (TooBig at) = HasFaultAt BeginsTooBig bytes at
 HasFault bytes OutOfMemory = ⊥
 
--- the byte at which a fault is
+-- the byte at which a fault occurs
 abbrev pub place_of : LexFault → ℕ
 place_of (NotUtf8 at) = at
 place_of (BadToken at) = at

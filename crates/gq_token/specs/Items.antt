@@ -13,14 +13,14 @@ abbrev pub item_with : Option TokenKind → Item
 item_with None = Gap
 item_with (Some shape) = TokenOf shape
 
--- the next item of the bytes that remain has this size
+-- the next item of the remaining bytes, and its size
 pub record IsItem (rest : List ℕ) (size : ℕ) (item : Item) : Type 0 where
   pub some : 0 < size
   pub within : size ≤ length rest
   pub spells : spelled (take size rest) ≡ Some item
   pub is_next : IsNext rest (take size rest)
 
--- what begins with the bytes that remain, at this place, is at fault
+-- what begins at this place, with the remaining bytes, is faulty
 abbrev pub FaultHere : List ℕ → ℕ → LexFault → Type 0
 FaultHere rest at (NotUtf8 place) = ⊥
 FaultHere rest at (BadToken place) = (n : ℕ) × BeginsBadToken rest n × (place ≡ at + n)
@@ -29,7 +29,7 @@ FaultHere rest at (OpenText place) = BeginsOpenText rest × (place ≡ at)
 FaultHere rest at (TooBig place) = BeginsTooBig rest × (place ≡ at)
 FaultHere rest at OutOfMemory = Unit {0}
 
--- so many of the bytes pass a test that tells their end
+-- the first `size` bytes pass a test that recognizes their end
 pub record EndsAt (test : List ℕ → Bool) (bytes : List ℕ) (size : ℕ) : Type 0 where
   pub within : size ≤ length bytes
   pub ends : test (take size bytes) ≡ true
@@ -38,7 +38,7 @@ pub record EndsAt (test : List ℕ → Bool) (bytes : List ℕ) (size : ℕ) : T
 abbrev pub NeverEnds : (List ℕ → Bool) → List ℕ → Type 0
 NeverEnds test bytes = (n : ℕ) → test (take n bytes) ≡ false
 
--- the fault of a closed text, whose first byte stands at this place
+-- the fault of a closed text, whose first byte is at this place
 abbrev pub BodyFault : List ℕ → ℕ → LexFault → Type 0
 BodyFault body at (NotUtf8 place) = ⊥
 BodyFault body at (BadToken place) = (n : ℕ) × (bad_escape body ≡ Some n) × (place ≡ at + n)

@@ -1,4 +1,4 @@
--- Kinds: what kind of token a shape says, and which keyword or symbol a token is.
+-- Kinds: which kind of token a shape is, and which keyword or symbol a token is.
 use Rattle.std.specs.Prelude.{ℕ, Bool, true, false, ◌&&◌, List}
 use Rattle.std.specs.Str.{bytes_eq, str_eq_ignore_ascii_case}
 use Rattle.gq_token.specs.declared.token.Token.{Token}
@@ -24,7 +24,7 @@ is_symbol_shape (Number n) = false
 is_symbol_shape (Text said) = false
 is_symbol_shape Symbol = true
 
--- the token is this word, in whatever case
+-- the token is this word, in any letter case
 abbrev pub is_keyword : List ℕ → List ℕ → Token → Bool
 is_keyword bytes word token = is_word_shape token.shape && str_eq_ignore_ascii_case (text_of bytes token) word
 

@@ -1,4 +1,4 @@
--- Lines: on which line a place of a script stands.
+-- Lines: the line of a place of a script.
 use Rattle.std.specs.Prelude.{ℕ, ◌+◌, ◌==◌, List, take}
 use Rattle.std.specs.List.{count_by}
 

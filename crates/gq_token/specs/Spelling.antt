@@ -1,4 +1,4 @@
--- Spelling: what a whole text spells, of the gaps and tokens that a script is cut into.
+-- Spelling: what a whole text spells, among the gaps and tokens into which a script is cut.
 use Rattle.std.specs.Prelude.{ℕ, ◌^◌, ◌<◌, Bool, false, not, ◌&&◌, ◌||◌, ◌==◌, List, [], ◌∷◌, Option, Some, None, option_map, drop, codes, if◌then◌else◌, nat_eq}
 use Rattle.std.specs.List.{list_all, starts_with}
 use Rattle.gq_token.specs.declared.token.TokenKind.{TokenKind}
@@ -11,7 +11,7 @@ pub data Item : Type 0 where
   Gap : Item
   TokenOf : TokenKind → Item
 
--- the text has bytes, and all of them pass
+-- the text isn't empty, and all of its bytes pass
 abbrev pub are_all : (ℕ → Bool) → List ℕ → Bool
 are_all test [] = false
 are_all test (c ∷ cs) = test c && list_all test cs
@@ -37,17 +37,17 @@ is_block_comment text = starts_with nat_eq text (codes "/*") && ends_at_close (d
 abbrev pub is_gap : List ℕ → Bool
 is_gap text = are_all is_blank text || is_line_comment text || is_block_comment text
 
--- an ASCII letter or `_`, and ASCII letters, digits and `_`
+-- an ASCII letter or `_`, followed by ASCII letters, digits and `_`
 abbrev pub is_word : List ℕ → Bool
 is_word [] = false
 is_word (c ∷ cs) = is_word_start c && list_all is_word_byte cs
 
--- `"`, and what is said up to the closing `"`
+-- `"`, and the value up to the closing `"`
 abbrev pub text_spelled : List ℕ → Option (List ℕ)
 text_spelled [] = None
 text_spelled (c ∷ cs) = if c == 34 then said cs else None
 
--- what a whole text spells, where it spells an item
+-- what a whole text spells, if it spells an item
 abbrev pub spelled : List ℕ → Option Item
 spelled text =
     if is_gap text then Some Gap
@@ -58,7 +58,7 @@ spelled text =
     else (if is_symbol text then Some (TokenOf Symbol)
     else option_map (λ bytes. TokenOf (Text bytes)) (text_spelled text))))))
 
--- a number that an item writes has at most 64 bits
+-- the number of an item has at most 64 bits
 abbrev pub Fits : Item → Type 0
 Fits Gap = Unit {0}
 Fits (TokenOf (Number n)) = n < 2 ^ 64

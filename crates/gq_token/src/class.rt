@@ -1,9 +1,9 @@
-// What a byte begins, and which bytes go on with it.
+// What a byte begins, and which bytes belong to a run.
 ghost use Rattle.std.specs.Prelude.{◌≡◌, slice_index};
 ghost use Rattle.gq_token.specs.Bytes.{is_word_start};
 ghost use Rattle.gq_token.specs.Class.{class_of, goes_on, IsRun};
 
-// What an item is, by its first two bytes.
+// The kind of an item, by its first two bytes.
 #[derive(Clone, Copy)]
 pub enum Class {
     Blank,
@@ -16,7 +16,7 @@ pub enum Class {
     Other,
 }
 
-// A kind of bytes that stand in a row.
+// A kind of bytes that form a run.
 #[derive(Clone, Copy)]
 pub enum ByteRun {
     Blank,
@@ -61,7 +61,7 @@ pub fn begins_word(byte: u8) -> bool
     matches!(byte, b'A'..=b'Z' | b'a'..=b'z' | b'_')
 }
 
-// How many of the first bytes go on with a run.
+// The number of first bytes that belong to a run.
 pub fn run_size(bytes: &[u8], run: ByteRun) -> usize
     ensures { IsRun (goes_on run) bytes.now result }
 {
@@ -72,7 +72,7 @@ pub fn run_size(bytes: &[u8], run: ByteRun) -> usize
     size
 }
 
-// The byte at a place, or 0 where there is none.
+// The byte at a place, or 0 if there is none.
 pub fn byte_at(bytes: &[u8], at: usize) -> u8
     ensures { result ≡ slice_index bytes.now at }
 {

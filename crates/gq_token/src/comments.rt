@@ -9,7 +9,7 @@ use crate::class::byte_at;
 use crate::fault::LexFault;
 use crate::item::LexItem;
 
-// The comment that the bytes begin with. The first of them stands at the place `at` of the script.
+// Cuts the comment with which the bytes begin. The first byte is at the place `at` of the script.
 pub fn block_comment(rest: &[u8], at: usize) -> Result<LexItem, LexFault>
     requires some { 0 < length rest.now }
     requires opens { class_of (slice_index rest.now 0) (slice_index rest.now 1) ≡ BlockComment }
@@ -25,7 +25,7 @@ pub fn block_comment(rest: &[u8], at: usize) -> Result<LexItem, LexFault>
     }
 }
 
-// How many of the bytes behind a `/*` end with the first `*/`.
+// The number of bytes after a `/*` up to the end of the first `*/`.
 fn end(behind: &[u8]) -> Option<usize>
     ensures some { IfSome result (λ size. EndsAt ends_at_close behind.now size) }
     ensures none { IfNone result (NeverEnds ends_at_close behind.now) }

@@ -11,16 +11,17 @@ use crate::item::next_item;
 use crate::token::Token;
 use std::alloc::Global;
 
-/// The tokens of a script, in order.
+/// Cuts a script into its tokens, in order.
 ///
-/// A script has one list of tokens or one fault: that it isn't UTF-8, or else the leftmost one. Time is linear in the bytes.
+/// A script has either one list of tokens or one fault: that it isn't UTF-8, or else the leftmost one. Time is linear
+/// in the bytes.
 pub fn tokens(alloc: Global, bytes: &[u8]) -> Result<Vec<Token>, LexFault>
     ensures cut { IfOk result (λ found. HasTokens bytes.now found.items) }
     ensures only { IfOk result (λ found. (tokens : List Token) → HasTokens bytes.now tokens → tokens ≡ found.items) }
     ensures spelled { IfOk result (λ found. All (IsSpelledIn bytes.now) found.items) }
     ensures fault { IfErr result (λ fault. fault ≢ OutOfMemory → HasFault bytes.now fault) }
 
-    // A script that has tokens has no fault, and one that has a fault has no other and no tokens.
+    // A script with tokens has no fault, and one with a fault has no other fault and no tokens.
     ensures no_fault { IfOk result (λ found. (fault : LexFault) → HasFault bytes.now fault → ⊥) }
     ensures only_fault { IfErr result (λ fault. fault ≢ OutOfMemory → (other : LexFault) → HasFault bytes.now other → other ≡ fault) }
     ensures no_cut { IfErr result (λ fault. fault ≢ OutOfMemory → (tokens : List Token) → HasTokens bytes.now tokens → ⊥) }

@@ -12,7 +12,7 @@ pub enum LexFault {
     #[error("not UTF-8 at byte {at}")]
     NotUtf8 { at: usize },
 
-    /// The byte at `at` begins neither a gap nor a token, or is the backslash of an escape that a text doesn't have.
+    /// The byte at `at` begins neither a gap nor a token, or is the backslash of an unknown escape in a text.
     #[error("bad token at byte {at}")]
     BadToken { at: usize },
 

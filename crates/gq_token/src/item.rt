@@ -1,4 +1,4 @@
-// The next item of a script: its kind goes by its first two bytes.
+// The next item of a script, whose first two bytes determine its kind.
 ghost use Rattle.std.specs.Prelude.{◌≡◌, ◌+◌, ◌<◌, ◌^◌, length, slice_index, IfOk, IfErr};
 ghost use Rattle.std.specs.Str.{IsUtf8};
 ghost use Rattle.gq_token.specs.Items.{IsItem, item_with, FaultHere};
@@ -13,14 +13,14 @@ use crate::token::TokenKind;
 use crate::words::sign_word;
 use std::alloc::Global;
 
-// An item: how many bytes it has, and its shape, where it is no gap.
+// An item: its length in bytes, and its shape, unless it is a gap.
 #[derive(Drop)]
 pub struct LexItem {
     pub size: usize,
     pub shape: Option<TokenKind>,
 }
 
-// The item that the bytes begin with. The first of them stands at the place `at` of the script.
+// Cuts the item with which the bytes begin. The first byte is at the place `at` of the script.
 pub fn next_item(alloc: Global, rest: &[u8], at: usize) -> Result<LexItem, LexFault>
     requires some { 0 < length rest.now }
     requires place { at + length rest.now < 2 ^ 64 }

@@ -1,11 +1,11 @@
-// How deep a script nests.
+// How deeply a script nests.
 ghost use Rattle.std.specs.Prelude.{◌≡◌, ◌≤◌, All, IfSome, IfNone, ℕ, Some, None, length};
 ghost use Rattle.gq_token.specs.Cut.{IsSpelledIn};
 ghost use Rattle.gq_token.specs.Nesting.{depth_with, opens, shuts, IsTooDeepAt, IsShallow};
 
 use crate::token::Token;
 
-/// The place of the first token that raises the depth to 65, where one does.
+/// The place of the first token that raises the depth to 65, if there is one.
 ///
 /// A level begins at `(`, `[`, `{`, IF, WHILE and FOREACH, and ends at `)`, `]`, `}` and END. ELSE IF begins none.
 pub fn too_deep(bytes: &[u8], tokens: &[Token]) -> Option<usize>
@@ -13,7 +13,7 @@ pub fn too_deep(bytes: &[u8], tokens: &[Token]) -> Option<usize>
     ensures some { IfSome result (λ place. IsTooDeepAt bytes.now tokens.now place) }
     ensures none { IfNone result (IsShallow bytes.now tokens.now) }
 
-    // There is one such place at most, it stands within the script, and then the script isn't shallow.
+    // There is at most one such place, it is within the script, and then the script isn't shallow.
     ensures only { (place : ℕ) → IsTooDeepAt bytes.now tokens.now place → result ≡ Some place }
     ensures within { IfSome result (λ place. place ≤ length bytes.now) }
     ensures not_shallow { IsShallow bytes.now tokens.now → result ≡ None }
@@ -30,7 +30,7 @@ pub fn too_deep(bytes: &[u8], tokens: &[Token]) -> Option<usize>
     None
 }
 
-// The depth behind a token, from the depth before it.
+// The depth after a token, given the depth before it.
 fn depth_with(bytes: &[u8], behind_else: bool, depth: u64, token: &Token) -> u64
     requires spelled { IsSpelledIn bytes.now token.now }
     requires shallow { depth ≤ 64 }

@@ -9,7 +9,7 @@ use crate::fault::LexFault;
 use crate::item::LexItem;
 use crate::token::TokenKind;
 
-// The number that the bytes begin with. The first of them stands at the place `at` of the script.
+// Cuts the number with which the bytes begin. The first byte is at the place `at` of the script.
 pub fn number(rest: &[u8], at: usize) -> Result<LexItem, LexFault>
     requires some { 0 < length rest.now }
     requires digit { is_digit (slice_index rest.now 0) ≡ true }
@@ -26,7 +26,7 @@ pub fn number(rest: &[u8], at: usize) -> Result<LexItem, LexFault>
     }
 }
 
-// The number that decimal digits write, where it has at most 64 bits.
+// The number that decimal digits write, if it has at most 64 bits.
 fn value(digits: &[u8]) -> Option<u64>
     ensures { SomeIff result (number_of digits.now < 2 ^ 64) (number_of digits.now) }
 {

@@ -9,7 +9,7 @@ use crate::fault::LexFault;
 use crate::item::LexItem;
 use crate::token::TokenKind;
 
-// The symbol that the bytes begin with. The first of them stands at the place `at` of the script.
+// Cuts the symbol with which the bytes begin. The first byte is at the place `at` of the script.
 pub fn symbol(rest: &[u8], at: usize) -> Result<LexItem, LexFault>
     requires some { 0 < length rest.now }
     requires other { class_of (slice_index rest.now 0) (slice_index rest.now 1) ≡ Other }
@@ -25,7 +25,7 @@ pub fn symbol(rest: &[u8], at: usize) -> Result<LexItem, LexFault>
     }
 }
 
-// How many of two bytes are the longest symbol, or 0 where none is. A second byte 0 stands for none.
+// The length of the longest symbol of two bytes, or 0 if there is none. A second byte of 0 means that there is none.
 fn symbol_size(first: u8, second: u8) -> usize
     ensures { result ≡ symbol_size first second }
 {

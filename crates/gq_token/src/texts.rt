@@ -1,4 +1,4 @@
-// Texts in quotes.
+// Quoted texts.
 ghost use Rattle.std.specs.Prelude.{◌≡◌, ◌+◌, ◌<◌, ◌≤◌, ◌^◌, true, length, slice_index, Some, IfOk, IfErr, IfSome, IfNone};
 ghost use Rattle.std.specs.Str.{IsUtf8};
 ghost use Rattle.gq_token.specs.Texts.{closes, said, escape_of};
@@ -10,7 +10,7 @@ use crate::token::TokenKind;
 use gq_value::Txt;
 use std::alloc::Global;
 
-// The text that the bytes begin with. The first of them stands at the place `at` of the script.
+// Cuts the text with which the bytes begin. The first byte is at the place `at` of the script.
 pub fn text(alloc: Global, rest: &[u8], at: usize) -> Result<LexItem, LexFault>
     requires some { 0 < length rest.now }
     requires quote { slice_index rest.now 0 ≡ 34 }
@@ -33,7 +33,7 @@ pub fn text(alloc: Global, rest: &[u8], at: usize) -> Result<LexItem, LexFault>
     }
 }
 
-// How many of the bytes behind an opening quote its text has, with the closing quote.
+// The length of a text after its opening quote, including the closing quote.
 fn body_size(behind: &[u8]) -> Option<usize>
     ensures some { IfSome result (λ size. EndsAt closes behind.now size) }
     ensures none { IfNone result (NeverEnds closes behind.now) }
@@ -49,7 +49,7 @@ fn body_size(behind: &[u8]) -> Option<usize>
     None
 }
 
-// What the bytes of a text say up to the closing quote. The first of them stands at the place `at` of the script.
+// The value of a text up to the closing quote. The first byte is at the place `at` of the script.
 fn resolved(alloc: Global, body: &[u8], at: usize) -> Result<Txt, LexFault>
     requires closed { closes body.now ≡ true }
     requires place { at + length body.now < 2 ^ 64 }
@@ -78,7 +78,7 @@ fn resolved(alloc: Global, body: &[u8], at: usize) -> Result<Txt, LexFault>
     }
 }
 
-// The byte that the escape of a backslash and this byte stands for.
+// The byte that a backslash and this byte mean.
 fn escape_of(byte: u8) -> Option<u8>
     ensures { result ≡ escape_of byte }
 {

@@ -7,7 +7,7 @@ ghost use Rattle.gq_token.specs.Kinds.{is_keyword, is_mark};
 
 use gq_value::Txt;
 
-/// What kind of token it is, with what it tells beside its bytes.
+/// The kind of a token, with its value if the bytes alone don't give it.
 #[derive(Drop)]
 pub enum TokenKind {
     /// An ASCII letter or `_`, and the ASCII letters, digits and `_` after it. Keywords and names are words.
@@ -22,7 +22,7 @@ pub enum TokenKind {
     /// The value of ASCII digits.
     Number(u64),
 
-    /// What a text in quotes says, each escape as the byte that it stands for.
+    /// The value of a quoted text, with each escape replaced by the byte that it means.
     Text(Txt),
 
     /// One of `->` `==` `!=` `<>` `<=` `>=` `+=` `=` `<` `>` `+` `-` `*` `/` `%` `(` `)` `{` `}` `[` `]` `,` `;` `:` `.` `|`
@@ -30,7 +30,7 @@ pub enum TokenKind {
     Symbol,
 }
 
-/// A token, and the places of its bytes in the script: from `from` to before `to`.
+/// A token, and the places of its bytes in the script: from `from` up to, but not including, `to`.
 #[derive(Drop)]
 pub struct Token {
     pub shape: TokenKind,
@@ -39,7 +39,7 @@ pub struct Token {
 }
 
 impl Token {
-    /// The bytes of the token in the script `bytes` that it was cut from.
+    /// The bytes of the token in the script `bytes` from which it was cut.
     pub fn text<'a>(&self, bytes: &'a [u8]) -> &'a [u8]
         requires { IsSpelledIn bytes.now self.now }
         ensures { result.now ≡ text_of bytes.now self.now }
@@ -47,7 +47,7 @@ impl Token {
         &bytes[self.from..self.to]
     }
 
-    /// The spelling of a word, or None where the token is no word.
+    /// The spelling of a word, or None if the token isn't a word.
     pub fn word<'a>(&self, bytes: &'a [u8]) -> Option<&'a str>
         requires { IsSpelledIn bytes.now self.now }
         ensures word { IfSome result (λ text. (self.now.shape ≡ Word) × (text.now ≡ text_of bytes.now self.now)) }
@@ -59,7 +59,7 @@ impl Token {
         }
     }
 
-    /// The spelling of `@@` and a word, or None where the token is no such.
+    /// The spelling of `@@` and a word, or None if the token is something else.
     pub fn global<'a>(&self, bytes: &'a [u8]) -> Option<&'a str>
         requires { IsSpelledIn bytes.now self.now }
         ensures global { IfSome result (λ text. (self.now.shape ≡ Global) × (text.now ≡ text_of bytes.now self.now)) }
@@ -71,7 +71,7 @@ impl Token {
         }
     }
 
-    /// The spelling of `@` and a word, or None where the token is no such.
+    /// The spelling of `@` and a word, or None if the token is something else.
     pub fn attached<'a>(&self, bytes: &'a [u8]) -> Option<&'a str>
         requires { IsSpelledIn bytes.now self.now }
         ensures attached { IfSome result (λ text. (self.now.shape ≡ Attached) × (text.now ≡ text_of bytes.now self.now)) }
@@ -83,7 +83,7 @@ impl Token {
         }
     }
 
-    /// Whether the token is this word, in letters of any case.
+    /// Whether the token is this word, in any letter case.
     pub fn is_keyword(&self, bytes: &[u8], word: &str) -> bool
         requires { IsSpelledIn bytes.now self.now }
         ensures { result ≡ is_keyword bytes.now word.now self.now }
@@ -106,7 +106,7 @@ impl Token {
     }
 }
 
-// Bytes of ASCII as a text, without a copy.
+// Views ASCII bytes as a text, without a copy.
 fn ascii(bytes: &[u8]) -> &str
     requires { IsAscii bytes.now }
     ensures { result.now ≡ bytes.now }

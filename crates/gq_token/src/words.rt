@@ -1,4 +1,4 @@
-// Words behind `@` and `@@`.
+// Words after `@` and `@@`.
 ghost use Rattle.std.specs.Prelude.{◌≡◌, ◌<◌, length, slice_index, IfOk, IfErr};
 ghost use Rattle.gq_token.specs.Items.{IsItem, item_with, FaultHere};
 
@@ -7,7 +7,8 @@ use crate::fault::LexFault;
 use crate::item::LexItem;
 use crate::token::TokenKind;
 
-// The sign that the bytes begin with and the word directly behind it. The `@` stands at the place `at` of the script.
+// Cuts the `@` or `@@` with which the bytes begin and the word directly after it. The `@` is at the place `at` of the
+// script.
 pub fn sign_word(rest: &[u8], at: usize) -> Result<LexItem, LexFault>
     requires some { 0 < length rest.now }
     requires sign { slice_index rest.now 0 ≡ 64 }

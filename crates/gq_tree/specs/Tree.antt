@@ -1,5 +1,5 @@
 -- Tree: expressions as plain data, on which the definitions of types and of meaning match.
--- N is what stands for a name: its bytes in a query, and what it was resolved to in a plan.
+-- N is the representation of a name: its bytes in a query, and what it was resolved to in a plan.
 use Rattle.std.specs.Prelude.{ℕ, Bool, List}
 use Rattle.gq_tree.specs.declared.expr.AddSign.{AddSign}
 use Rattle.gq_tree.specs.declared.expr.MulSign.{MulSign}
@@ -22,7 +22,7 @@ mutual
     And : Tree N → Trees N → Tree N
     Or : Tree N → Trees N → Tree N
 
-  -- what stands behind a dot
+  -- the part after a dot
   pub data Behind (N : Type 0) : Type 0 where
     Field : N → Behind N
     Method : N → Trees N → Behind N

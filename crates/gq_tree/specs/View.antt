@@ -28,7 +28,7 @@ abbrev pub terms_of : {N : Type 0} → List (AddSign × Tree N) → Terms N
 terms_of [] = no_term
 terms_of (t ∷ ts) = term t.0 t.1 (terms_of ts)
 
--- ---- one layer, where what is within has been viewed
+-- ---- one layer, given the views of what is within
 
 abbrev pub node_step : Node-F (Tree Named) (Behind Named) → Tree Named
 node_step (Node-F.Number n) = Number n

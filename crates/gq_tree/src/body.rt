@@ -37,7 +37,7 @@ pub enum SetOp {
     Minus,
 }
 
-/// A written set, or several in a chain. A name alone is no set.
+/// A written set, or several in a chain. A name alone isn't a set.
 #[derive(Drop)]
 pub struct SetsTree {
     pub first: SetTermTree,
@@ -51,7 +51,7 @@ pub enum SetTypesTree {
     Of(Txt),
 }
 
-/// The right side of `=` behind a name.
+/// The right side of `=` after a name.
 #[derive(Drop)]
 pub enum RightTree {
     Select(SelectTree),
@@ -59,7 +59,7 @@ pub enum RightTree {
     Value(Node),
 }
 
-/// What FOREACH goes over.
+/// What FOREACH iterates over.
 #[derive(Drop)]
 pub enum OverTree {
     Elements(Node),
@@ -69,7 +69,7 @@ pub enum OverTree {
 /// The key that a value is printed under.
 #[derive(Drop)]
 pub enum Label {
-    /// The name behind AS.
+    /// The name after AS.
     Named(Txt),
 
     /// Without AS: the spellings of the value's tokens, joined.
@@ -81,7 +81,7 @@ pub enum Label {
 pub enum ItemTree {
     Value(Node, Label),
 
-    /// A vertex set with columns, and the name behind AS.
+    /// A vertex set with columns, and the name after AS.
     Columns(Txt, List<(Node, Label)>, Option<Txt>),
 }
 
@@ -89,14 +89,14 @@ pub enum ItemTree {
 #[cycle(body)]
 #[derive(Drop)]
 pub enum Stmt {
-    /// New variables, each with its value where one is given.
+    /// New variables, each with its value if one is given.
     Local(BaseTree, List<(Txt, Option<Node>)>),
     Assign(Txt, Option<SetTypesTree>, RightTree),
 
     /// A change of the global accumulator of this name.
     Global(Txt, ChangeTree),
 
-    /// IF and each ELSE IF with its condition, and what stands behind ELSE.
+    /// IF and each ELSE IF with its condition, and the statements after ELSE.
     If(List<(Node, List<Stmt>)>, Option<List<Stmt>>),
 
     /// WHILE: the condition, the LIMIT and the body.

@@ -36,7 +36,7 @@ pub enum CmpSign {
 pub enum Node {
     Number(u64),
 
-    /// What a text in quotes says.
+    /// The contents of a text in quotes.
     Text(Txt),
     Truth(bool),
 
@@ -47,22 +47,22 @@ pub enum Node {
     /// A function of this name, or a tuple type.
     Call(Txt, List<Node>),
 
-    /// What stands before the first dot, and the part behind each dot; there is one at least.
+    /// The operand before the first dot, and the part after each dot; there is at least one.
     Post(Boxed<Node>, List<Part>),
 
-    /// So many minus signs, one at least, before an operand.
+    /// One or more minus signs before an operand.
     Neg(usize, Boxed<Node>),
     Mul(Boxed<Node>, List<(MulSign, Node)>),
     Sum(Boxed<Node>, List<(AddSign, Node)>),
     Cmp(Boxed<Node>, CmpSign, Boxed<Node>),
 
-    /// So many NOTs, one at least, before an operand.
+    /// One or more NOTs before an operand.
     Not(usize, Boxed<Node>),
     And(Boxed<Node>, List<Node>),
     Or(Boxed<Node>, List<Node>),
 }
 
-/// What stands behind a dot.
+/// The part after a dot.
 #[cycle(tree)]
 #[derive(Drop)]
 pub enum Part {
@@ -72,6 +72,6 @@ pub enum Part {
     /// The name of an accumulator of a vertex, with its `@`.
     Attached(Txt),
 
-    /// The same with a `'`: what it held before the block.
+    /// The same with a `'`: its value before the block.
     Before(Txt),
 }

@@ -38,7 +38,7 @@ pub struct Destination {
     pub columns: List<Column>,
 }
 
-/// The name of an option behind USING.
+/// The name of an option after USING.
 #[derive(Clone, Copy, Debug, PartialEq, Eq)]
 pub enum LoadOption {
     Separator,
@@ -58,7 +58,7 @@ pub struct LoadTree {
 /// A line of a job.
 #[derive(Drop)]
 pub enum JobLine {
-    /// DEFINE FILENAME: a name, and its path where one is given.
+    /// DEFINE FILENAME: a name, and its path if one is given.
     Define(Txt, Option<Txt>),
     Load(LoadTree),
 }

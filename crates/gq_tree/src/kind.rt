@@ -1,4 +1,4 @@
-// The trees of what a body declares: tuple types and accumulators.
+// The trees of a body's declarations: tuple types and accumulators.
 use crate::expr::Node;
 use crate::query::BaseTree;
 use gq_base::{Boxed, List};
@@ -57,7 +57,7 @@ pub enum EntryTree {
     Kind(Boxed<KindTree>),
 }
 
-/// An accumulator with its `@` or `@@`, and what it opens with.
+/// An accumulator with its `@` or `@@`, and its initial value.
 #[derive(Drop)]
 pub struct AccumTree {
     pub attached: bool,

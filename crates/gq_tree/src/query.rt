@@ -34,7 +34,7 @@ pub enum Mode {
     Syntax(Txt),
 }
 
-/// What CREATE QUERY and INTERPRET QUERY have alike. INTERPRET has no parameters.
+/// What CREATE QUERY and INTERPRET QUERY have in common. INTERPRET has no parameters.
 #[derive(Drop)]
 pub struct QueryTree {
     pub parameters: List<ParameterTree>,
@@ -60,7 +60,7 @@ pub enum Argument {
     Vertex(Txt, Txt),
 }
 
-/// RUN QUERY: the query, and its arguments where there are parentheses.
+/// RUN QUERY: the query, and its arguments if there are parentheses.
 #[derive(Drop)]
 pub struct RunTree {
     pub name: Txt,

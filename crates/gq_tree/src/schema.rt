@@ -1,4 +1,4 @@
-// The trees of what declares types and graphs, and of INSERT.
+// The trees of the declarations of types and graphs, and of INSERT.
 use gq_base::List;
 use gq_graph::IdKind;
 use gq_value::Txt;
@@ -6,10 +6,10 @@ use gq_value::Txt;
 /// A value as a script writes it.
 #[derive(Drop)]
 pub enum Literal {
-    /// A number, and whether a minus sign stands before it.
+    /// A number, and whether a minus sign precedes it.
     Number(bool, u64),
 
-    /// What a text in quotes says.
+    /// The contents of a text in quotes.
     Text(Txt),
     Truth(bool),
 }
@@ -22,7 +22,7 @@ pub enum AttributeKind {
     Bool,
     Text,
 
-    /// DATETIME, which has no DEFAULT and is no discriminator.
+    /// DATETIME, which has no DEFAULT and can't be a discriminator.
     Time,
 }
 
@@ -34,7 +34,7 @@ pub struct AttributeTree {
     pub default: Option<Literal>,
 }
 
-/// What stands behind the WITH of a vertex type: the text of an option.
+/// The text of an option after the WITH of a vertex type.
 #[derive(Drop)]
 pub enum VertexOption {
     Stats(Txt),
@@ -51,7 +51,7 @@ pub struct VertexTree {
     pub options: List<VertexOption>,
 }
 
-/// What an edge type consists of beside its direction and its reverse type.
+/// The parts of an edge type besides its direction and its reverse type.
 #[derive(Drop)]
 pub struct EndsTree {
     pub name: Txt,
@@ -64,7 +64,7 @@ pub struct EndsTree {
 /// CREATE DIRECTED EDGE and CREATE UNDIRECTED EDGE.
 #[derive(Drop)]
 pub enum EdgeTree {
-    /// With the text of REVERSE_EDGE, where there is one.
+    /// With the text of REVERSE_EDGE, if there is one.
     Directed(EndsTree, Option<Txt>),
     Undirected(EndsTree),
 }

@@ -3,7 +3,7 @@ use crate::expr::Node;
 use gq_base::List;
 use gq_value::Txt;
 
-/// What `+=` feeds an accumulator.
+/// The input that `+=` feeds to an accumulator.
 #[cycle(input)]
 #[derive(Drop)]
 pub enum InputTree {
@@ -13,7 +13,7 @@ pub enum InputTree {
     Keyed(List<Node>, List<InputTree>),
 }
 
-/// What happens to an accumulator.
+/// A change of an accumulator.
 #[derive(Drop)]
 pub enum ChangeTree {
     /// `+=`.
@@ -33,7 +33,7 @@ pub enum ActTree {
     /// A change of the global accumulator of this name.
     Global(Txt, ChangeTree),
 
-    /// IF and each ELSE IF with its condition, and what stands behind ELSE.
+    /// IF and each ELSE IF with its condition, and the acts after ELSE.
     If(List<(Node, List<ActTree>)>, Option<List<ActTree>>),
 }
 
@@ -76,7 +76,7 @@ pub struct StepTree {
     pub target_alias: Option<Txt>,
 }
 
-/// The pattern of a SELECT, behind its source.
+/// The pattern of a SELECT, after its source.
 #[derive(Drop)]
 pub enum PatternTree {
     Hop(HopTree),
@@ -97,7 +97,7 @@ pub struct SelectTree {
     pub post: Option<List<ActTree>>,
     pub having: Option<Node>,
 
-    /// The values to order by, each with whether it descends; there is one at least.
+    /// The values to order by, each with whether it descends; there is at least one.
     pub order: Option<List<(Node, bool)>>,
     pub limit: Option<Node>,
 }

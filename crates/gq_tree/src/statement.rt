@@ -14,7 +14,7 @@ pub enum Statement {
     Job(JobTree),
     RunJob(RunJobTree),
 
-    /// CREATE QUERY: whether OR REPLACE stands there, the name, and the rest.
+    /// CREATE QUERY: whether it has OR REPLACE, the name, and the rest.
     Query(bool, Txt, QueryTree),
     Install(Installed),
     Run(RunTree),

@@ -1,4 +1,4 @@
--- ArgumentLemmas: what stands before a dot, and lists that are judged from the left.
+-- ArgumentLemmas: the operand before a dot, and lists that are typed from left to right.
 use Rattle.std.proofs.Common.{ℕ, ◌+◌, ◌<◌, ◌≡◌, List, [], ◌∷◌, ◌++◌, length, get_or, drop, map, Option, Some, None, Result, Ok, Err, refl, ap, sym, ◌∙◌}
 use Rattle.std.proofs.lemmas.List.{append_assoc, append-nil}
 use Rattle.gq_tree.specs.Tree.{Tree, Name}
@@ -18,9 +18,9 @@ dot_other names _ j is = refl
 
 pub ruleset dot_laws = (dot_named, dot_other)
 
--- ---- lists from the left
+-- ---- lists from left to right
 
--- what came before, with what is left
+-- the earlier results, with those of the rest
 abbrev pub after : {A : Type 0} → List A → Judged (List A) → Judged (List A)
 after done j = j >>= λ rest. Ok (done ++ rest)
 

@@ -1,4 +1,4 @@
--- CallLemmas: functions and methods by how many arguments there are.
+-- CallLemmas: functions and methods by the number of their arguments.
 use Rattle.std.proofs.Common.{ℕ, zero, suc, ◌+◌, ◌<◌, ◌≤◌, ◌≡◌, ◌==◌, Bool, true, false, ◌&&◌, cond, List, [], ◌∷◌, length, get_or, map, Option, Some, None, Ok, Err, refl, ap, sym, ◌∙◌, subst, arith}
 use Rattle.gq_value.specs.Accums.{Base, INT, UINT, BOOL, STRING, DATETIME, VERTEX, VERTEX_OF, TUPLE}
 use Rattle.gq_tree.specs.Tree.{Tree, Trees, Text, no_tree, tree}
@@ -100,7 +100,7 @@ diff_is ts (b ∷ []) = diff_short ts b
 diff_is ts (b ∷ c ∷ []) = diff_both ts b c
 diff_is ts (b ∷ c ∷ d ∷ rest) = diff_more ts b c d rest
 
--- the unit is a text that names one
+-- the unit is a text literal that names one
 unit_text : {N : Type 0} (x n t : Tree N) → unit_known (tree x (tree n (tree t no_tree))) ≡ unit_of (text_in t)
 unit_text x n (Text u) = refl
 unit_text x n _ = refl
@@ -143,7 +143,7 @@ add_is ts (b ∷ c ∷ d ∷ e ∷ rest) = add_more ts b c d e rest
 
 pub ruleset function_laws = (abs_is, said_is, epoch_is, text_is, time_is, part_is, diff_is, add_is)
 
--- ---- how many there are
+-- ---- the number of arguments
 
 pub only_some : {A B : Type 0} (f : A → B) (ts : List A) (d : A) → length ts ≡ 1 → Some (f (get_or ts 0 d)) ≡ only (map f ts)
 only_some f [] d is = absurd (omega arith)

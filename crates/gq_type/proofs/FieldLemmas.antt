@@ -41,7 +41,7 @@ in_place {A = A} xs n m long = step (ltb n m) refl
     step true is = refl
     step false is = sym (slice_get_past xs n (omega (arith, ltb-false n m is, long)))
 
--- what stands under a name is what stands at the name's place
+-- the value of a name is the one at the name's place
 pub by_place : {A : Type 0} (f : Bytes) (xs : List (Bytes × A)) → at_place (map (λ x. x.1) xs) (place_of (map (λ x. x.0) xs) f) ≡ first_named xs f
 by_place f xs =
     in_place (map (λ x. x.1) xs) (position_or_len (bytes_eq f) (map (λ x. x.0) xs)) (length (map (λ x. x.0) xs)) (length-map xs (λ x. x.1) ∙ sym (length-map xs (λ x. x.0)))
@@ -158,7 +158,7 @@ one_chain b (Some c ∷ bs) = ap (agreed (Some b)) (one_chain c bs) ∙ step (ch
 behind : (F : ℕ → Option Base) (t : ℕ) (ts : List ℕ) → map F (take (length (t ∷ ts) - 1) (drop 1 (t ∷ ts))) ≡ map F ts
 behind F t ts = ap (λ n. map F (take n ts)) (let e : suc (length ts) - 1 ≡ length ts = omega arith in e) ∙ ap (map F) (take-length ts)
 
--- there are some, where they aren't empty
+-- there are some types if the list isn't empty
 pub some_types : (ts : List ℕ) (t : Bool) → t ≡ (length ts == 0) → t ≡ false → 0 < length ts
 some_types [] t is not = absurd (let e : true ≡ false = cc in cc)
 some_types (x ∷ xs) t is not = omega arith

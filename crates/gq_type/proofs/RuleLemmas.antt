@@ -1,4 +1,4 @@
--- RuleLemmas: rules on pairs and lists of types, as the code goes through them.
+-- RuleLemmas: rules on pairs and lists of types, in the order of the code's loops.
 use Rattle.std.proofs.Common.{ℕ, zero, suc, ◌+◌, ◌<◌, ◌≤◌, ◌≡◌, ◌==◌, Bool, true, false, ◌&&◌, cond, List, [], ◌∷◌, length, get_or, drop, map, Option, Some, None, refl, ap, sym, ◌∙◌, subst, arith}
 use Rattle.std.specs.List.{slice_get}
 use Rattle.std.proofs.lemmas.List.{drop_more, get_or-map}
@@ -8,7 +8,7 @@ use Rattle.gq_value.specs.AccumViews.{bases}
 use Rattle.gq_rules_typing.specs.Types.{same_base, same_bases, converts, convert_all, vertex_base}
 use Rattle.gq_scope.specs.Parts.{form_of}
 
--- two types, of which the first is VERTEX or no vertex and no tuple, are the same where their forms are
+-- two types, the first of which is VERTEX or neither a vertex nor a tuple, are the same if their forms are
 pub same_form : (b c : Base) → form_of b < 6 → same_base b c ≡ (form_of b == form_of c)
 same_form (VERTEX_OF t) c low = absurd (omega arith)
 same_form (TUPLE n ts) c low = absurd (omega arith)
@@ -63,7 +63,7 @@ same_short [] (c ∷ cs) not = refl
 same_short (b ∷ bs) [] not = refl
 same_short (b ∷ bs) (c ∷ cs) not = sym (ap (λ s. same_base b c && s) (sym (same_short bs cs (λ e. not (ap suc e)))) ∙ false_both (same_base b c))
 
--- ---- what converts
+-- ---- conversions
 
 convert_one : (bs cs : List Base) (i : ℕ) (b c : Base) → slice_get bs i ≡ Some b → slice_get cs i ≡ Some c → convert_rest bs cs i ≡ (converts b c && convert_rest bs cs (i + 1))
 convert_one bs cs i b c at there =

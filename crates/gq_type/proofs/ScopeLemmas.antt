@@ -1,4 +1,4 @@
--- ScopeLemmas: names in a scope whose names are bytes.
+-- ScopeLemmas: names in a scope over bytes.
 use Rattle.std.proofs.Common.{◌≡◌, Bool, true, false, not, Option, Some, None, Ok, Err, codes, refl}
 use Rattle.std.specs.Str.{bytes_eq}
 use Rattle.gq_rules_typing.specs.Statements.{Bytes}

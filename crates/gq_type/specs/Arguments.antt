@@ -1,4 +1,5 @@
--- Arguments: what a call and a part behind a dot give, once the arguments have types. Each is a line of gq_rules_typing's rules.
+-- Arguments: the types of a call and of a part after a dot, given the types of the arguments.
+-- Each is a line of gq_rules_typing's rules.
 use Rattle.std.specs.Prelude.{Bool, true, false, List, Option, Ok}
 use Rattle.gq_value.specs.Accums as plain
 use Rattle.gq_tree.specs.Tree.{Tree, Trees, Neg, Mul, Sum, Cmp, Not, And, Or}
@@ -11,7 +12,7 @@ use Rattle.gq_rules_typing.specs.Kinds.{read_type}
 use Rattle.gq_rules_typing.specs.CallTypes.{function_type, method_type}
 use Rattle.gq_rules_typing.specs.ExpressionTypes.{Names}
 
--- arguments that are values each
+-- arguments, each of which is a value
 abbrev pub all_bases : List judging.Typed → Judged (List plain.Base)
 all_bases xs = each_judged as_base xs
 

@@ -1,4 +1,4 @@
--- Calls: what the code's functions and methods are, and rules on their arguments by how many there are.
+-- Calls: the functions and methods of the code, and the rules on their arguments by their number.
 use Rattle.std.specs.Prelude.{ℕ, Bool, true, false, ◌&&◌, List, [], ◌∷◌, map, Option, Some, None, Ok, Err}
 use Rattle.gq_tree.specs.Tree.{Trees, no_tree, tree}
 use Rattle.gq_scope.specs.Parts.{text_in}
@@ -28,7 +28,7 @@ abbrev pub function_is : CheckedFunction → words.Function
 function_is (function.Makes n fields) = words.Makes n (map (λ f. base_of f.1) fields.now)
 function_is (function.Own builtin) = builtin_is builtin
 
--- one type alone
+-- the single type, if there is just one
 abbrev pub only : {A : Type 0} → List A → Option A
 only [] = None
 only (a ∷ []) = Some a
@@ -39,17 +39,17 @@ only (a ∷ b ∷ rest) = None
 abbrev pub degree_of_all : Typed → Judged Typed
 degree_of_all x = unless Mismatch (stands_for_vertex x) >> Ok (Of INT)
 
--- of the edge type that a text names; what is no text is a mismatch
+-- for the edge type that a text literal names; anything else is a mismatch
 abbrev pub degree_of : Sorts → Typed → Option Bytes → Judged Typed
 degree_of sorts x None = Err Mismatch
 degree_of sorts x (Some e) = unless Mismatch (stands_for_vertex x) >> or_fault (UnknownName e) (edge_quoted sorts e) >> Ok (Of INT)
 
--- ---- arguments by how many there are
+-- ---- arguments by their number
 
 abbrev pub one : List Base → Judged Base
 one bs = or_fault Mismatch (only bs)
 
--- two alone, and three
+-- exactly two arguments, and exactly three
 abbrev pub pair : {A : Type 0} → List A → Option (A × A)
 pair (a ∷ b ∷ []) = Some (a, b)
 pair _ = None
@@ -89,7 +89,7 @@ number_of_time bs = one bs >>= λ b. unless Mismatch (is_time b) >> Ok (Of INT)
 abbrev pub difference : List Base → Judged Typed
 difference bs = or_fault Mismatch (pair bs) >>= λ p. unless Mismatch (is_time p.0 && is_time p.1) >> Ok (Of INT)
 
--- the third argument, where there are three and it is a text
+-- the third argument, if there are three and it is a text literal
 abbrev pub third_text : {N : Type 0} → Trees N → Option Bytes
 third_text (tree x (tree n (tree t no_tree))) = text_in t
 third_text ts = None

@@ -1,4 +1,4 @@
-// Calls of functions and methods once their arguments have types, and what stands behind a dot.
+// Calls of functions and methods, given the types of their arguments, and parts after a dot.
 ghost use Rattle.std.specs.Prelude.{◌≡◌, ◌≢◌, map, Ok, Err, MatchResult};
 ghost use Rattle.std.specs.Option.{option_map};
 ghost use Rattle.gq_tree.specs.View.{views};
@@ -17,7 +17,7 @@ use gq_scope::{Base, Scope, TypeFault, Typed, allowed, read_type, unknown};
 use gq_tree::Node;
 use std::alloc::Global;
 
-/// The types of arguments that are values each.
+/// The types of arguments, each of which must be a value.
 #[tactic(auto, using(crate::proofs::ArgumentLemmas::all_laws))]
 fn bases<'s>(alloc: Global, typed: &[Typed<'s>]) -> Result<Vec<Base<'s>>, TypeFault>
     ensures { MatchResult result
@@ -32,7 +32,7 @@ fn bases<'s>(alloc: Global, typed: &[Typed<'s>]) -> Result<Vec<Base<'s>>, TypeFa
     Ok(bases)
 }
 
-/// A call of a function.
+/// Types a call of a function.
 #[tactic(auto, using(crate::proofs::ScopeLemmas::call_laws))]
 pub(crate) fn called<'s>(
     alloc: Global,
@@ -74,7 +74,7 @@ fn known_method(
     }
 }
 
-/// A call of a method of x.
+/// Types a call of a method of x.
 #[tactic(auto, using(crate::proofs::ScopeLemmas::call_laws))]
 pub(crate) fn method_called<'s>(
     alloc: Global,
@@ -92,7 +92,7 @@ pub(crate) fn method_called<'s>(
     method_type(alloc, scope, method, x, arguments, &types)
 }
 
-/// `x.f` and `x.type`.
+/// Types `x.f` and `x.type`.
 #[tactic(auto, using(crate::proofs::ScopeLemmas::call_laws))]
 pub(crate) fn field<'s>(
     alloc: Global,
@@ -105,7 +105,7 @@ pub(crate) fn field<'s>(
     behind_dot(alloc, scope, x, name)
 }
 
-/// `x.@a`.
+/// Types `x.@a`.
 pub(crate) fn read_attached<'s>(
     alloc: Global,
     scope: &'s Scope<'_>,
@@ -119,7 +119,7 @@ pub(crate) fn read_attached<'s>(
     Ok(read_type(kind))
 }
 
-/// `x.@a'`.
+/// Types `x.@a'`.
 pub(crate) fn read_before<'s>(
     alloc: Global,
     scope: &'s Scope<'_>,

@@ -22,7 +22,7 @@ use gq_tree::Node;
 use gq_value::{BaseType, Kind, Txt};
 use std::alloc::Global;
 
-/// What may stand behind a dot with arguments.
+/// A method: what may follow a dot and has arguments.
 #[derive(Clone, Copy)]
 pub(crate) enum CheckedMethod {
     Size,
@@ -32,14 +32,14 @@ pub(crate) enum CheckedMethod {
     Outdegree,
 }
 
-/// A function: it makes a tuple of a type, or is one of the language's own.
+/// A function: it makes a tuple of a type, or is built in.
 #[derive(Clone, Copy)]
 pub(crate) enum CheckedFunction<'a> {
     Makes(u32, &'a [(Txt, BaseType)]),
     Own(Builtin),
 }
 
-/// The method of a name.
+/// Finds the method of a name.
 pub(crate) fn method_named(name: &str) -> Option<CheckedMethod>
     ensures { option_map method_is result ≡ words.under bytes_eq name.now words.methods }
 {
@@ -58,7 +58,7 @@ pub(crate) fn method_named(name: &str) -> Option<CheckedMethod>
     }
 }
 
-/// The language's own function of a name.
+/// Finds the built-in function of a name.
 fn own_function<'a>(name: &str) -> Option<CheckedFunction<'a>>
     ensures { option_map function_is result ≡ words.under bytes_eq name.now words.functions }
 {
@@ -68,7 +68,7 @@ fn own_function<'a>(name: &str) -> Option<CheckedFunction<'a>>
     }
 }
 
-/// The function of a name: a tuple type goes before one of the language's own.
+/// Finds the function of a name: a tuple type takes precedence over a built-in function.
 pub(crate) fn function_named<'s>(scope: &'s Scope<'_>, name: &str) -> Option<CheckedFunction<'s>>
     ensures { option_map function_is result ≡ words.function_named (setting_in scope.now) name.now }
 {
@@ -83,7 +83,7 @@ pub(crate) fn function_named<'s>(scope: &'s Scope<'_>, name: &str) -> Option<Che
 
 // ---- methods
 
-/// Collections and sets have a size.
+/// Whether x has a size: collections and sets do.
 fn has_size(x: Typed<'_>) -> bool
     ensures { result ≡ spec.has_size (typed_is x.entry) }
 {
@@ -94,7 +94,7 @@ fn has_size(x: Typed<'_>) -> bool
     }
 }
 
-/// A Set, Bag or List, and one argument that converts to its element type.
+/// Whether x is a Set, Bag or List, with a single argument that converts to its element type.
 fn may_contain(x: Typed<'_>, types: &[Base<'_>]) -> bool
     ensures { result ≡ spec.may_contain (typed_is x.entry) (map base_is types.now) }
 {
@@ -117,7 +117,7 @@ fn converts_to(types: &[Base<'_>], want: Option<Base<'_>>) -> bool
     }
 }
 
-/// The one type, where there is one alone.
+/// The single type, if there is just one.
 pub(crate) fn only<'a>(types: &[Base<'a>]) -> Option<Base<'a>>
     ensures { option_map base_is result ≡ calls.only (map base_is types.now) }
 {
@@ -128,7 +128,7 @@ pub(crate) fn only<'a>(types: &[Base<'a>]) -> Option<Base<'a>>
     }
 }
 
-/// A Map or a GroupBy, and arguments that convert to all its keys; a group gives a row.
+/// The type of `get`, for a Map or a GroupBy with arguments that convert to all its keys; a group gives a row.
 #[tactic(auto, using(gq_value::proofs::AccumLemmas::accum_laws))]
 fn got_type<'s>(x: Typed<'s>, types: &[Base<'_>]) -> Result<Typed<'s>, TypeFault>
     ensures { Judges typed_is (spec.got_type (typed_is x.entry) (map base_is types.now)) result }
@@ -161,7 +161,7 @@ fn got_from<'s>(kind: &'s Kind, types: &[Base<'_>]) -> Result<Typed<'s>, TypeFau
     }
 }
 
-/// Of all edge types of the graph, or of one that is named by a text.
+/// The type of an outdegree: over all edge types of the graph, or over one that a text literal names.
 fn outdegree_type<'s>(
     alloc: Global,
     scope: &Scope<'_>,
@@ -207,7 +207,7 @@ fn degree_of<'s>(
     }
 }
 
-/// What a method of x gives, for arguments of these types.
+/// The type of a method of x for arguments of these types.
 pub(crate) fn method_type<'s>(
     alloc: Global,
     scope: &'s Scope<'_>,

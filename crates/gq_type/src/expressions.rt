@@ -1,5 +1,5 @@
-// The types of expressions, a function for each list of operands. A rule is judged at the end of its form, what is within first,
-// from left to right; in a chain each operation is judged behind its right operand.
+// The types of expressions, a function for each list of operands. A rule is checked at the end of its form, after its
+// operands, from left to right; in a chain each operation is checked after its right operand.
 ghost use Rattle.std.specs.Prelude.{◌≡◌, ◌≢◌, true, map, Ok, Err, MatchResult};
 ghost use Rattle.std.specs.Option.{option_map};
 ghost use Rattle.gq_tree.specs.View.{view, views, view_part, view_parts, view_factors, view_terms};
@@ -17,15 +17,15 @@ use gq_scope::{Base, Scope, TypeFault, Typed, name_of, read_type};
 use gq_tree::{AddSign, MulSign, Node, Part};
 use std::alloc::Global;
 
-/// The type of an expression at the scope's place, or the fault of the first rule that fails in order of text. OutOfMemory may come
-/// at any time.
+/// Returns the type of an expression at the scope's place, or the fault of the first rule that fails in the order of
+/// the text. May return OutOfMemory at any time.
 pub fn type_of<'s>(alloc: Global, scope: &'s Scope<'_>, node: &Node) -> Result<Typed<'s>, TypeFault>
     ensures { Judges typed_is (typing (names_in scope.now) (view node.now)) result }
 {
     typed(node, alloc, scope)
 }
 
-/// Up to 9223372036854775807 INT, a larger one UINT.
+/// The type of a number: INT up to 9223372036854775807, and UINT above.
 fn literal<'s>(n: u64) -> Base<'s>
     ensures { base_is result ≡ literal_type n }
 {
@@ -132,7 +132,7 @@ fn typed_all<'s>(
     Ok(types)
 }
 
-/// What stands before the first dot, with the parts behind each dot.
+/// The type of the operand before the first dot, with the parts after each dot.
 #[cycle(typing)]
 fn typed_parts<'s>(
     parts: &[Part],
@@ -170,7 +170,7 @@ fn typed_part<'s>(
     }
 }
 
-/// A product, from the type of what stands before.
+/// The type of a product, given the type of the operand before.
 #[cycle(typing)]
 fn typed_factors<'s>(
     factors: &[(MulSign, Node)],
@@ -188,7 +188,7 @@ fn typed_factors<'s>(
     Ok(x)
 }
 
-/// A sum, likewise.
+/// The type of a sum, likewise.
 #[cycle(typing)]
 fn typed_terms<'s>(
     terms: &[(AddSign, Node)],
@@ -206,7 +206,7 @@ fn typed_terms<'s>(
     Ok(x)
 }
 
-/// A chain of AND, or of OR.
+/// The type of a chain of AND, or of OR.
 #[cycle(typing)]
 fn typed_bools<'s>(
     others: &[Node],

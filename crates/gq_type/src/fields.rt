@@ -1,4 +1,4 @@
-// What stands behind a dot: fields of vertices, edges, tuples and group rows, and `type`.
+// Parts after a dot: fields of vertices, edges, tuples and group rows, and `type`.
 ghost use Rattle.std.specs.Prelude.{◌≡◌, ◌≢◌, ℕ, map, true, false, List, length, slice_get, Ok};
 ghost use Rattle.std.specs.Option.{option_copied, option_map};
 ghost use Rattle.gq_value.specs.AccumViews.{base_of, accum_of};
@@ -42,7 +42,7 @@ fn id_type<'s>(kind: IdKind) -> Base<'s>
     }
 }
 
-/// A shown id is the first field.
+/// The type of a field of a vertex type; a shown id is the first field.
 fn vertex_type_field<'s>(id: &IdShape, attributes: &'s [Attribute], name: &str) -> Option<Base<'s>>
     ensures { option_map base_is result ≡ first_named (sorts.with_id id.now (sorts.attribute_fields attributes.now)) name.now }
 {
@@ -91,7 +91,7 @@ fn field_in<'s>(scope: &'s Scope<'_>, edges: bool, t: u32, name: &str) -> Option
 
 // ---- a field of several types
 
-/// Whether all the types have the field, each with the type that the one before has.
+/// Whether all the types have the field, each with the same type as the one before it.
 fn all_have(scope: &Scope<'_>, edges: bool, base: Base<'_>, types: &[u32], name: &str) -> bool
     ensures { result ≡ chained (base_is base.entry) (map (type_field (setting_in scope.now) edges name.now) types.now) }
 {
@@ -110,7 +110,7 @@ fn all_have(scope: &Scope<'_>, edges: bool, base: Base<'_>, types: &[u32], name:
     true
 }
 
-/// The one type that the field has in all these types, where all have it.
+/// The common type of the field in all these types, if all have it.
 fn one_field<'s>(scope: &'s Scope<'_>, edges: bool, types: &[u32], name: &str) -> Option<Base<'s>>
     ensures { option_map base_is result ≡ spec.one_base (map (type_field (setting_in scope.now) edges name.now) types.now) }
 {
@@ -129,7 +129,7 @@ fn one_field<'s>(scope: &'s Scope<'_>, edges: bool, types: &[u32], name: &str) -
     }
 }
 
-/// An attribute of vertices, or of edges, of these types.
+/// The type of an attribute of vertices, or of edges, of these types.
 #[tactic(auto, using(crate::proofs::ScopeLemmas::setting_laws))]
 fn of_types<'s>(
     alloc: Global,
@@ -186,7 +186,7 @@ fn part_kind<'s>(parts: &'s [(Txt, Kind)], name: &str) -> Option<&'s Kind>
     None
 }
 
-/// The type of a tuple's field, by the number of its type.
+/// The type of a tuple's field, by the number of the tuple's type.
 fn tuple_type<'s>(scope: &'s Scope<'_>, number: u32, name: &str) -> Option<Base<'s>>
     ensures { option_map base_is result
         ≡ spec.field_base (setting_in scope.now) (OfTupleType number) (spec.tuple_fields (setting_in scope.now) number) name.now }
@@ -217,9 +217,9 @@ fn part_read<'s>(alloc: Global, name: &str, kind: Option<&'s Kind>) -> Result<Ty
     }
 }
 
-// ---- behind a dot
+// ---- after a dot
 
-/// The type of a field of what stands before the dot.
+/// The type of a field of the operand before the dot.
 #[tactic(auto, using(crate::proofs::ScopeLemmas::setting_laws))]
 fn field_type<'s>(
     alloc: Global,
@@ -261,7 +261,7 @@ fn base_field_type<'s>(
     }
 }
 
-/// Vertices and edges have a type, whose name `x.type` is.
+/// Whether `x.type` exists: vertices and edges have a type, and it is the type's name.
 fn has_type_name(x: Typed<'_>) -> bool
     ensures { result ≡ spec.has_type_name (typed_is x.entry) }
 {
@@ -273,7 +273,7 @@ fn has_type_name(x: Typed<'_>) -> bool
     }
 }
 
-/// The type of `x.f`, and of `x.type`, whatever attributes there are.
+/// The type of `x.f`, and of `x.type`, which takes precedence over attributes.
 #[tactic(auto, using(crate::proofs::ScopeLemmas::setting_laws))]
 pub(crate) fn behind_dot<'s>(
     alloc: Global,

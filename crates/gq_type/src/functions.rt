@@ -1,4 +1,4 @@
-// What functions give.
+// The result types of functions.
 ghost use Rattle.std.specs.Prelude.{◌≡◌, map, true};
 ghost use Rattle.gq_value.specs.AccumViews.{base_of};
 ghost use Rattle.std.specs.Option.{option_copied, option_map};
@@ -17,9 +17,9 @@ use gq_tree::Node;
 use gq_value::{BaseType, Txt};
 use std::alloc::Global;
 
-// ---- arguments by how many there are
+// ---- arguments by their number
 
-/// The one argument's type, or type mismatch where there isn't one alone.
+/// The type of the single argument, or type mismatch if there isn't exactly one.
 fn one<'a>(types: &[Base<'a>]) -> Result<Base<'a>, TypeFault>
     ensures { Judges base_is (calls.one (map base_is types.now)) result }
 {
@@ -156,7 +156,7 @@ fn later<'s>(alloc: Global, arguments: &[Node], types: &[Base<'_>]) -> Result<Ty
     }
 }
 
-/// The third argument, where there are three and it is a text.
+/// The third argument, if there are three and it is a text literal.
 fn third_text(arguments: &[Node]) -> Option<&str>
     ensures { option_copied result ≡ calls.third_text (views arguments.now) }
 {
@@ -179,7 +179,7 @@ fn unit_known<'s>(alloc: Global, unit: Option<&str>) -> Result<Typed<'s>, TypeFa
     }
 }
 
-/// What a function gives, for arguments of these types.
+/// The result type of a function for arguments of these types.
 pub(crate) fn function_type<'s>(
     alloc: Global,
     function: CheckedFunction<'s>,
@@ -194,7 +194,7 @@ pub(crate) fn function_type<'s>(
     }
 }
 
-/// What a function of the language's own gives.
+/// The result type of a built-in function.
 #[tactic(auto, using(crate::proofs::CallLemmas::function_laws))]
 fn builtin_type<'s>(
     alloc: Global,

@@ -4,7 +4,7 @@
 //! Each function implements one rule of `gq_rules_typing`, or one list of operands. Rules are tried in the
 //! order of the text, so that the first fault is always the same.
 //!
-//! Read `ExpressionTypes.antt` of `gq_rules_typing` first, then `Views.antt` of `gq_scope` (when an answer is
+//! Read `ExpressionTypes.antt` of `gq_rules_typing` first, then `Views.antt` of `gq_scope` (when a result is
 //! that of a rule), `specs/Calls.antt` and `specs/Arguments.antt`. The code begins in `src/expressions.rt`;
 //! operators are in `src/operators.rt`, functions and methods in `src/calls.rt`, fields in `src/fields.rt`.
 #![tactic(auto)]

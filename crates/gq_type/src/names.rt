@@ -1,4 +1,4 @@
-// What names stand for where an expression stands.
+// The types of names at an expression's place.
 ghost use Rattle.std.specs.Prelude.{◌≡◌, true, false};
 ghost use Rattle.std.specs.Option.{option_copied, option_map};
 ghost use Rattle.gq_value.specs.AccumViews.{accum_of};
@@ -10,7 +10,7 @@ use gq_scope::{Base, Entry, Place, Scope, TypeFault, Typed, unknown};
 use gq_value::Kind;
 use std::alloc::Global;
 
-/// What a name stands for, before a dot too.
+/// The type of a name, which may be followed by a dot.
 #[tactic(auto, using(crate::proofs::ScopeLemmas::here_laws))]
 pub(crate) fn named<'s>(
     alloc: Global,
@@ -45,7 +45,7 @@ fn name_at<'s>(
     }
 }
 
-/// Within `S[..]` S is the vertex in turn too.
+/// The type of a set variable. Within the brackets of `S[..]`, S is also the current vertex.
 #[tactic(auto, using(crate::proofs::ScopeLemmas::scope_laws))]
 fn set_at<'s>(scope: &Scope<'_>, place: Place<'_>, name: &str, types: &'s [u32]) -> Typed<'s>
     ensures { typed_is result ≡ typing.set_at (scope_in scope.now) (place_of place.entry) name.now types.now }
@@ -63,7 +63,7 @@ fn set_at<'s>(scope: &Scope<'_>, place: Place<'_>, name: &str, types: &'s [u32])
     }
 }
 
-/// HAVING and ORDER BY name the selected alias alone, LIMIT none.
+/// The type of a vertex alias. HAVING and ORDER BY may name only the selected alias, LIMIT none.
 #[tactic(auto, using(crate::proofs::ScopeLemmas::scope_laws))]
 fn alias_at<'s>(
     scope: &Scope<'_>,
@@ -87,7 +87,7 @@ fn alias_at<'s>(
     }
 }
 
-/// POST-ACCUM, HAVING, ORDER BY, LIMIT and openings name no edge.
+/// The type of an edge alias. POST-ACCUM, HAVING, ORDER BY, LIMIT and initial values may name none.
 fn edge_at<'s>(place: Place<'_>, types: &'s [u32]) -> Result<Typed<'s>, TypeFault>
     ensures { Judges typed_is (typing.edge_at (place_of place.entry) types.now) result }
 {
@@ -100,7 +100,7 @@ fn edge_at<'s>(place: Place<'_>, types: &'s [u32]) -> Result<Typed<'s>, TypeFaul
 
 // ---- accumulators
 
-/// The kind of a declared accumulator; `attached` is true for one that each vertex has.
+/// The kind of a declared accumulator; `attached` is true for one that belongs to each vertex.
 #[tactic(auto, using(crate::proofs::ScopeLemmas::scope_laws))]
 pub fn declared_kind<'s>(
     alloc: Global,
@@ -128,7 +128,7 @@ pub fn declared_kind<'s>(
     }
 }
 
-/// A global accumulator; an opening names none.
+/// The type of a global accumulator; an initial value may name none.
 #[tactic(auto, using(crate::proofs::ScopeLemmas::here_laws))]
 pub(crate) fn global<'s>(
     alloc: Global,
@@ -151,7 +151,7 @@ fn global_at<'s>(place: Place<'_>, kind: &'s Kind) -> Result<&'s Kind, TypeFault
     }
 }
 
-/// An accumulator of a vertex.
+/// The type of an accumulator of a vertex.
 #[tactic(auto, using(crate::proofs::ScopeLemmas::here_laws))]
 pub(crate) fn attached<'s>(
     alloc: Global,
@@ -163,7 +163,7 @@ pub(crate) fn attached<'s>(
     declared_kind(alloc, scope, true, name)
 }
 
-/// The same with a `'`, which stands in POST-ACCUM alone.
+/// The same with a `'`, which is allowed only in POST-ACCUM.
 #[tactic(auto, using(crate::proofs::ScopeLemmas::here_laws))]
 pub(crate) fn before<'s>(
     alloc: Global,

@@ -1,4 +1,4 @@
-// What operators take and give.
+// Operand and result types of operators.
 ghost use Rattle.std.specs.Prelude.{◌≡◌};
 ghost use Rattle.gq_value.specs.Accums.{UINT, BOOL, STRING, DATETIME};
 ghost use Rattle.gq_rules_typing.specs.Types as spec;
@@ -12,7 +12,7 @@ use gq_tree::{AddSign, CmpSign};
 
 // ---- numbers and texts
 
-/// Two UINT give UINT, other numbers INT.
+/// The result type of arithmetic: two UINT give UINT, other numbers INT.
 pub fn number_of_both<'a>(b: Base<'_>, c: Base<'_>) -> Base<'a>
     ensures { base_is result ≡ spec.number_of_both (base_is b.entry) (base_is c.entry) }
 {
@@ -33,7 +33,7 @@ fn number_with<'a>(c: Base<'_>) -> Base<'a>
     }
 }
 
-/// Two numbers.
+/// The result type for two numbers.
 fn calculated<'a>(b: Base<'_>, c: Base<'_>) -> Result<Typed<'a>, TypeFault>
     ensures { Judges typed_is (spec.calculated (base_is b.entry) (base_is c.entry)) result }
 {
@@ -41,7 +41,7 @@ fn calculated<'a>(b: Base<'_>, c: Base<'_>) -> Result<Typed<'a>, TypeFault>
     Ok(Typed::Of(number_of_both(b, c)))
 }
 
-/// Two numbers, or two texts.
+/// The result type for two numbers or two texts.
 fn added<'a>(b: Base<'_>, c: Base<'_>) -> Result<Typed<'a>, TypeFault>
     ensures { Judges typed_is (spec.added (base_is b.entry) (base_is c.entry)) result }
 {
@@ -62,7 +62,7 @@ fn added_to_text<'a>(c: Base<'_>) -> Result<Typed<'a>, TypeFault>
     }
 }
 
-/// An operation of a product, on both operands' types.
+/// Types an operation of a product, given the types of both operands.
 pub fn multiplied<'a>(x: Typed<'_>, y: Typed<'_>) -> Result<Typed<'a>, TypeFault>
     ensures { Judges typed_is (forms.operated spec.calculated (typed_is x.entry) (typed_is y.entry)) result }
 {
@@ -71,7 +71,7 @@ pub fn multiplied<'a>(x: Typed<'_>, y: Typed<'_>) -> Result<Typed<'a>, TypeFault
     calculated(b, c)
 }
 
-/// An operation of a sum.
+/// Types an operation of a sum.
 pub fn summed<'a>(sign: AddSign, x: Typed<'_>, y: Typed<'_>) -> Result<Typed<'a>, TypeFault>
     ensures { Judges typed_is (forms.operated (forms.summed sign) (typed_is x.entry) (typed_is y.entry)) result }
 {
@@ -83,7 +83,7 @@ pub fn summed<'a>(sign: AddSign, x: Typed<'_>, y: Typed<'_>) -> Result<Typed<'a>
     }
 }
 
-/// So many minus signs before a number; one at least makes an INT of it.
+/// Types `minuses` minus signs before a number; with one or more, the result is an INT.
 pub fn negated<'a>(minuses: usize, x: Typed<'a>) -> Result<Typed<'a>, TypeFault>
     ensures { Judges typed_is (on_value (forms.negated minuses) (typed_is x.entry)) result }
 {
@@ -104,7 +104,7 @@ fn negated_base(minuses: usize, b: Base<'_>) -> Result<Typed<'_>, TypeFault>
 
 // ---- truths
 
-/// A BOOL.
+/// Types an operand that must be a BOOL.
 pub fn truth<'a>(x: Typed<'_>) -> Result<Typed<'a>, TypeFault>
     ensures { Judges typed_is (on_value forms.a_bool (typed_is x.entry)) result }
 {
@@ -113,7 +113,7 @@ pub fn truth<'a>(x: Typed<'_>) -> Result<Typed<'a>, TypeFault>
     Ok(Typed::Of(Base::Bool))
 }
 
-/// An operation of AND or OR.
+/// Types an operation of AND or OR.
 pub fn joined<'a>(x: Typed<'_>, y: Typed<'_>) -> Result<Typed<'a>, TypeFault>
     ensures { Judges typed_is (forms.operated forms.both_bool (typed_is x.entry) (typed_is y.entry)) result }
 {
@@ -135,7 +135,7 @@ fn is_equality(sign: CmpSign) -> bool
     }
 }
 
-/// STRING and DATETIME by every sign; BOOL and vertices by `==` and `!=` alone.
+/// Whether two base types can be compared: STRING and DATETIME by every sign; BOOL and vertices only by `==` and `!=`.
 fn comparable_bases(sign: CmpSign, b: Base<'_>, c: Base<'_>) -> bool
     ensures { result ≡ spec.comparable_bases sign (base_is b.entry) (base_is c.entry) }
 {
@@ -180,7 +180,7 @@ fn bool_and(sign: CmpSign, c: Base<'_>) -> bool
     }
 }
 
-/// What a sign compares: numbers and averages, and what base types allow.
+/// Whether a sign can compare two types: numbers and averages, and what base types allow.
 pub fn comparable(sign: CmpSign, x: Typed<'_>, y: Typed<'_>) -> bool
     ensures { result ≡ spec.comparable sign (typed_is x.entry) (typed_is y.entry) }
 {
@@ -199,7 +199,7 @@ fn both_comparable(sign: CmpSign, x: Typed<'_>, y: Typed<'_>) -> bool
     }
 }
 
-/// A comparison.
+/// Types a comparison.
 pub fn compared<'a>(sign: CmpSign, x: Typed<'_>, y: Typed<'_>) -> Result<Typed<'a>, TypeFault>
     ensures { Judges typed_is (views.compared sign (typed_is x.entry) (typed_is y.entry)) result }
 {

@@ -1,4 +1,4 @@
-// The rules on types alone: what converts, what an operator takes and gives.
+// The rules on types alone: conversions, and which types an operator accepts and returns.
 ghost use Rattle.std.specs.Prelude.{◌≡◌, ◌<◌, map};
 ghost use Rattle.gq_value.specs.Accums.{VERTEX_OF, TUPLE};
 ghost use Rattle.gq_value.specs.AccumViews.{bases, base_of};
@@ -11,7 +11,7 @@ use gq_value::BaseType;
 
 // ---- one type
 
-/// INT and UINT.
+/// Whether a type is INT or UINT.
 pub fn is_number(base: Base<'_>) -> bool
     ensures { result ≡ spec.is_number (base_is base.entry) }
 {
@@ -22,7 +22,7 @@ pub fn is_number(base: Base<'_>) -> bool
     }
 }
 
-/// BOOL.
+/// Whether a type is BOOL.
 pub fn is_bool(base: Base<'_>) -> bool
     ensures { result ≡ spec.is_bool (base_is base.entry) }
 {
@@ -33,7 +33,7 @@ pub fn is_bool(base: Base<'_>) -> bool
     }
 }
 
-/// A vertex of any type, or of one.
+/// Whether a type is a vertex of any type, or of one.
 pub fn is_vertex(base: Base<'_>) -> bool
     ensures { result ≡ spec.is_vertex (base_is base.entry) }
 {
@@ -73,7 +73,7 @@ pub fn same(a: Base<'_>, b: Base<'_>) -> bool
     }
 }
 
-/// The same, where the first is no tuple.
+/// Whether two types are the same, if the first isn't a tuple.
 fn same_simple(a: Base<'_>, b: Base<'_>) -> bool
     requires { form_of (base_is a) < 7 }
     ensures { result ≡ spec.same_base (base_is a.entry) (base_is b.entry) }
@@ -121,7 +121,7 @@ fn same_types(a: TupleFieldTypes<'_>, b: TupleFieldTypes<'_>) -> bool
     true
 }
 
-/// Whether two types, as they are kept, are the same.
+/// Whether two kept types are the same.
 #[cycle(kept)]
 #[tactic(auto, using(gq_scope::proofs::BaseLemmas::base_laws))]
 fn same_kept(a: &BaseType, b: &BaseType) -> bool
@@ -156,7 +156,7 @@ fn same_all(a: &[BaseType], b: &[BaseType]) -> bool
 
 // ---- what converts
 
-/// A type converts to itself, INT and UINT to each other, and VERTEX<T> to VERTEX.
+/// Whether a type converts to another: each to itself, INT and UINT to each other, and VERTEX<T> to VERTEX.
 pub fn converts(from: Base<'_>, to: Base<'_>) -> bool
     ensures { result ≡ spec.converts (base_is from.entry) (base_is to.entry) }
 {
@@ -180,7 +180,7 @@ fn vertex_converts(t: u32, to: Base<'_>) -> bool
     }
 }
 
-/// Whether these convert to those, one after the other, and there are as many of both.
+/// Whether the types convert pairwise, and there are as many of both.
 pub fn convert_all(from: &[Base<'_>], to: TupleFieldTypes<'_>) -> bool
     ensures { result ≡ spec.convert_all (map base_is from.now) (types_are to.entry) }
 {
@@ -195,7 +195,7 @@ pub fn convert_all(from: &[Base<'_>], to: TupleFieldTypes<'_>) -> bool
     true
 }
 
-/// The type of a vertex that is of one of these types.
+/// The type of a vertex of one of these types.
 pub fn vertex_of<'a>(types: &[u32]) -> Base<'a>
     ensures { base_is result ≡ spec.vertex_base types.now }
 {
@@ -208,7 +208,7 @@ pub fn vertex_of<'a>(types: &[u32]) -> Base<'a>
 
 // ---- what an expression's type allows
 
-/// The type of an expression that is one value; None is type mismatch.
+/// The type of an expression that is a single value; None means type mismatch.
 pub fn value(typed: Typed<'_>) -> Option<Base<'_>>
     ensures { IsValue (spec.as_base (typed_is typed.entry)) result }
 {
@@ -220,7 +220,7 @@ pub fn value(typed: Typed<'_>) -> Option<Base<'_>>
     }
 }
 
-/// The type of an expression that is one value.
+/// The type of an expression that is a single value, or type mismatch.
 pub fn as_base(typed: Typed<'_>) -> Result<Base<'_>, TypeFault>
     ensures { Judges base_is (spec.as_base (typed_is typed.entry)) result }
 {
@@ -230,7 +230,7 @@ pub fn as_base(typed: Typed<'_>) -> Result<Base<'_>, TypeFault>
     }
 }
 
-/// A value that has an exact number: an average too.
+/// Whether it is a value with an exact number; an average is one too.
 pub fn is_numeric(typed: Typed<'_>) -> bool
     ensures { result ≡ spec.is_numeric (typed_is typed.entry) }
 {
@@ -242,7 +242,7 @@ pub fn is_numeric(typed: Typed<'_>) -> bool
     }
 }
 
-/// A vertex, as a value, an alias or the set of an `S[..]`.
+/// Whether it is a vertex: as a value, an alias or the set of an `S[..]`.
 pub fn stands_for_vertex(typed: Typed<'_>) -> bool
     ensures { result ≡ spec.stands_for_vertex (typed_is typed.entry) }
 {
@@ -254,7 +254,7 @@ pub fn stands_for_vertex(typed: Typed<'_>) -> bool
     }
 }
 
-/// What may stand before the accumulator of a vertex: a vertex alias, or the set of an `S[..]`.
+/// Whether it may precede the accumulator of a vertex: a vertex alias, or the set of an `S[..]`.
 pub fn has_accums(typed: Typed<'_>) -> bool
     ensures { result ≡ spec.has_accums (typed_is typed.entry) }
 {
@@ -265,7 +265,7 @@ pub fn has_accums(typed: Typed<'_>) -> bool
     }
 }
 
-/// An edge alias isn't allowed alone, nor is a set.
+/// Refuses an edge alias or a set that isn't followed by a dot.
 pub fn alone(typed: Typed<'_>) -> Result<Typed<'_>, TypeFault>
     ensures { Judges typed_is (spec.alone (typed_is typed.entry)) result }
 {
@@ -276,7 +276,7 @@ pub fn alone(typed: Typed<'_>) -> Result<Typed<'_>, TypeFault>
     }
 }
 
-/// A whole group row isn't printed.
+/// Refuses a whole group row, which can't be printed.
 pub fn printable(typed: Typed<'_>) -> Result<Typed<'_>, TypeFault>
     ensures { Judges typed_is (spec.printable (typed_is typed.entry)) result }
 {

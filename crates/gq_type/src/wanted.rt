@@ -1,4 +1,4 @@
-// What a place wants of an expression.
+// What a place requires of an expression.
 ghost use Rattle.std.specs.Prelude.{◌≡◌, true};
 ghost use Rattle.gq_tree.specs.View.{view};
 ghost use Rattle.gq_rules_typing.specs.ExpressionTypes as spec;
@@ -11,7 +11,7 @@ use gq_scope::{Base, Scope, TypeFault, matched};
 use gq_tree::Node;
 use std::alloc::Global;
 
-/// A value of a type.
+/// The type of an expression that must be a value.
 pub fn base_type<'s>(
     alloc: Global,
     scope: &'s Scope<'_>,
@@ -23,7 +23,7 @@ pub fn base_type<'s>(
     as_base(x)
 }
 
-/// A BOOL.
+/// Checks that an expression is a BOOL.
 pub fn condition(alloc: Global, scope: &Scope<'_>, node: &Node) -> Result<(), TypeFault>
     ensures { Judges (λ _. true) (spec.condition (names_in scope.now) (view node.now)) result }
 {
@@ -31,7 +31,7 @@ pub fn condition(alloc: Global, scope: &Scope<'_>, node: &Node) -> Result<(), Ty
     matched(is_bool(base))
 }
 
-/// A number; its type.
+/// The type of an expression that must be a number.
 pub fn number<'s>(alloc: Global, scope: &'s Scope<'_>, node: &Node) -> Result<Base<'s>, TypeFault>
     ensures { Judges base_is (spec.number (names_in scope.now) (view node.now)) result }
 {
@@ -40,7 +40,7 @@ pub fn number<'s>(alloc: Global, scope: &'s Scope<'_>, node: &Node) -> Result<Ba
     Ok(base)
 }
 
-/// A value that converts to a type.
+/// Checks that an expression is a value that converts to a type.
 pub fn converting(
     alloc: Global,
     scope: &Scope<'_>,

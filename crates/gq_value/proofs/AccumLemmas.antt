@@ -1,4 +1,4 @@
--- AccumLemmas: what a kind, a type and an input of each variant stand for.
+-- AccumLemmas: the plain data of a kind, a type and an input of each variant.
 use Rattle.std.proofs.Common.{◌≡◌, ℕ, Bool, List, map, refl, sym, ap, ◌∙◌}
 use Rattle.gq_value.specs.declared.kind.Number.{Number}
 use Rattle.gq_value.specs.declared.value.Value.{Value}

@@ -13,7 +13,7 @@ plain_agrees : (a b : Val) → tag a ≡ tag b → count a ≡ count b → plain
 plain_agrees a b t c = ap (λ o. ordering_then (nat_cmp (rank a) (rank b)) (ordering_then (exactly (ratio a) (ratio b)) (ordering_then (nat_cmp (index a) (index b)) (ordering_then (slice_cmp nat_cmp (bytes a) (bytes b)) o))))
     (ap₂ ordering_then (tie_agrees (tag a) (tag b) t) (tie_agrees (count a) (count b) c))
 
--- a tuple stands to each value by their ranks, or field by field
+-- a tuple compares with a value by rank, or field by field
 tuple_agrees : (row : Vals) (b : Val) → plain true (Tuple row) b ≡ plain false (Tuple row) b
 tuple_agrees row (Int k) = refl
 tuple_agrees row (UInt k) = refl

@@ -27,14 +27,14 @@ kept_int z h = rw (within_int z h) refl
 pub kept_uint : (n : ℕ) → n < 2 ^ 64 → in_type number.UInt (pos n) ≡ Ok (UInt n)
 kept_uint n h = let e : is_within number.UInt (pos n) ≡ true = grind (arith, nat_tests) in rw e refl
 
--- what 128 bits can't hold no type can
+-- a number that 128 bits can't hold is in no type
 pub refused : (t : Number) (z : ℤ) → (FitsSigned w128 z → ⊥) → in_type t z ≡ Err Range
 refused number.Int (pos n) h = let k : n < 2 ^ 127 → ⊥ = λ p. h (record { sfits = p }) in let e : is_within number.Int (pos n) ≡ false = grind (arith, nat_tests, k) in rw e refl
 refused number.Int (negsuc n) h = let k : n < 2 ^ 127 → ⊥ = λ p. h (record { sfits = p }) in let e : is_within number.Int (negsuc n) ≡ false = grind (arith, nat_tests, k) in rw e refl
 refused number.UInt (pos n) h = let k : n < 2 ^ 127 → ⊥ = λ p. h (record { sfits = p }) in let e : is_within number.UInt (pos n) ≡ false = grind (arith, nat_tests, k) in rw e refl
 refused number.UInt (negsuc n) h = refl
 
--- what the code answers where its type holds the number
+-- the code's answer if the type holds the number
 pub int_answer : (t : Number) (z x : ℤ) → t ≡ number.Int → FitsSigned w64 z → x ≡ z → in_type t z ≡ Ok (val (value.Int (to_z w64 (of_z w64 x))))
 int_answer t z x e h k = rw (e, k, to_z-of_z w64 z h, val-Int z) (kept_int z h)
 
@@ -57,7 +57,7 @@ mag-neg : (n : ℕ) → mag (neg_ℤ (pos n)) ≤ n
 mag-neg zero = omega arith
 mag-neg (suc n) = omega arith
 
--- a quotient is no wider than what is divided
+-- a quotient is no wider than its dividend
 pub quotient_fits : (a d : ℤ) → IsWide a → FitsSigned w128 (int_div a d)
 quotient_fits (pos a) (pos b) h = let k : a ≤ 2 ^ 64 = omega (arith, ints, h.1) in record { sfits = omega (arith, div-le_self a b) }
 quotient_fits (pos a) (negsuc b) h = let k : a ≤ 2 ^ 64 = omega (arith, ints, h.1) in record { sfits = omega (arith, mag-neg (a / suc b), div-le_self a (suc b)) }
@@ -68,7 +68,7 @@ pub wide_fits : (z : ℤ) → IsWide z → FitsSigned w128 z
 wide_fits (pos n) h = record { sfits = omega (arith, ints, h.1) }
 wide_fits (negsuc n) h = record { sfits = omega (arith, ints, h.0) }
 
--- an answer on what the code divides is one on the numbers themselves
+-- the answer for the operands in the code's bits is the answer for the numbers themselves
 pub quotient_answer : (t : Number) (r : Result Value EvalFault) (a d : ℤ) → IsWide a → IsWide d → Gives ⊥ r (in_type t (to_z w128 (of_z w128 (int_div (to_z w128 (of_z w128 a)) (to_z w128 (of_z w128 d)))))) → Gives ⊥ r (in_type t (int_div a d))
 quotient_answer t r a d h k g = subst (λ z. Gives ⊥ r (in_type t z)) (quot_is w128 a d (wide_fits a h) (wide_fits d k) (quotient_fits a d h)) g
 

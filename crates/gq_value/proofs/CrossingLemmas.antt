@@ -1,4 +1,4 @@
--- CrossingLemmas: texts, values, kinds and inputs may go to another thread, and threads may share them. The check makes what a ring of types
+-- CrossingLemmas: threads can send and share texts, values, kinds and inputs. The checker makes what a cycle of types
 -- needs (`TheKnot`); the rest is search, a type at a time.
 use denote.Param.Send.{IsSend, IsSync, sendable}
 use Rattle.std.proofs.Crossing.{crosses}

@@ -56,7 +56,7 @@ pub fractions : (strict : Bool) (s t : ℤ) (m n : ℕ) → plain strict (Fracti
 fractions true s t m n = refl
 fractions false s t m n = refl
 
--- the order the other way round
+-- the order with its operands exchanged
 pub turned : (strict : Bool) (a b : Val) (o : Ordering) → o ≡ plain strict a b → ordering_reverse o ≡ plain strict b a
 turned strict a b o h = ap ordering_reverse h ∙ sym ((plain_total strict).antisymm b a)
 

@@ -1,4 +1,4 @@
--- AccumViews: what the code's types, kinds and inputs stand for.
+-- AccumViews: the code's types, kinds and inputs as plain data.
 use Rattle.std.specs.Prelude.{ℕ, Bool, List, [], ◌∷◌, map}
 use Rattle.gq_value.specs.Val.{Val}
 use Rattle.gq_value.specs.Views.{val}

@@ -1,5 +1,5 @@
 -- Accums: types, kinds of accumulators and their inputs, as plain data. The code's kinds and inputs own memory: AccumViews
--- says what they stand for.
+-- maps them to this data.
 use Rattle.std.specs.Prelude.{ℕ, Bool, List}
 use Rattle.gq_value.specs.Val.{Val}
 use Rattle.gq_value.specs.declared.kind.Number.{Number}

@@ -1,5 +1,5 @@
--- Arithmetic: what the operations on whole numbers give. They are exact: the result is the true number as a value of its
--- type, or the fault Range where its type can't hold that. A divisor of zero is the fault Zero, whatever is divided.
+-- Arithmetic: the results of operations on whole numbers. They are exact: the true number as a value of its
+-- type, or the fault Range if its type can't hold it. A zero divisor is the fault Zero, whatever the dividend.
 -- The code computes in 64 or 128 bits; here numbers have no bounds until the result is judged.
 use Rattle.std.specs.Prelude.{zero, ◌^◌, ◌-◌, ℤ, pos, negsuc, ◌+ℤ◌, ◌-ℤ◌, ◌*ℤ◌, neg_ℤ, unsigned_abs, int_le, ◌≤ℤ◌, int_div, int_rem, Bool, true, false, ◌&&◌, if◌then◌else◌, ◌++◌, Result, Ok, Err}
 use Rattle.gq_value.specs.declared.kind.Number.{Number}
@@ -19,12 +19,12 @@ abbrev pub IsText : Val → Type 0
 IsText (Text bytes) = Unit {0}
 IsText _ = ⊥
 
--- what can be added: two whole numbers, or two texts
+-- operands that can be added: two whole numbers, or two texts
 abbrev pub IsSummable : Val → Val → Type 0
 IsSummable (Text s) b = IsText b
 IsSummable a b = IsWhole a × IsWhole b
 
--- its number; what is no whole number has none, and counts as 0 here
+-- its number; a value that isn't a whole number counts as 0 here
 abbrev pub whole : Val → ℤ
 whole (Int z) = z
 whole (UInt n) = pos n
@@ -97,7 +97,7 @@ remainder a b = if is_zero (whole b) then Err Zero else in_type (type_of_both a 
 abbrev pub negated : Val → Result Val Wrong
 negated a = in_type number.Int (neg_ℤ (whole a))
 
--- how far a is from 0, in its own type
+-- the absolute value of a, in the type of a
 abbrev pub absolute : Val → Result Val Wrong
 absolute a = in_type (type_of a) (pos (unsigned_abs (whole a)))
 

@@ -1,7 +1,7 @@
 -- Order: the order of values: by GSQL's comparisons, and as keys, where only the same value is equal. Numbers and averages
 -- come first, by their exact value; then false and true; then texts by their bytes; then vertices by their number; then
--- tuples, field by field. The code looks at the two variants and compares what they hold; here all values are compared part
--- by part.
+-- tuples, field by field. The code matches on the two variants and compares their contents; here all values are
+-- compared part by part.
 use Rattle.std.specs.Prelude.{◌≡◌, ℕ, ℤ, pos, ◌*ℤ◌, max, Bool, true, false}
 use Rattle.std.specs.declared.cmp.Ordering.{Ordering}
 use Rattle.std.specs.Ordering.{nat_cmp, int_cmp, ordering_then, on, then_cmp}
@@ -17,7 +17,7 @@ exactly p q = int_cmp (p.0 *ℤ pos (max q.1 1)) (q.0 *ℤ pos (max p.1 1))
 abbrev pub ratio : Val → ℤ × ℕ
 ratio v = (above v, count v)
 
--- what parts numbers of one exact value, if anything is to part them
+-- the tie-break between numbers of one exact value, if ties are to be broken
 abbrev pub tie_cmp : Bool → ℕ → ℕ → Ordering
 tie_cmp true m n = nat_cmp m n
 tie_cmp false m n = Equal
@@ -36,13 +36,13 @@ abbrev mutual
   order_within strict (Tuple row) bs = order_rows strict row bs
   order_within strict a bs = empty_cmp bs
 
-  -- two rows: the first place where they differ counts, and else the shorter stands first
+  -- two rows: the first difference decides; without one, the shorter row comes first
   pub order_rows : Bool → Vals → Vals → Ordering
   order_rows strict none bs = empty_cmp bs
   order_rows strict (more a row) none = Greater
   order_rows strict (more a row) (more b bs) = ordering_then (ordering_then (plain strict a b) (order_within strict a (fields b))) (order_rows strict row bs)
 
--- strict: numbers of one exact value are parted by their type, and fractions by their count; else they are equal
+-- strict: numbers of one exact value are ordered by their type, and fractions by their count; else they are equal
 abbrev pub order : Bool → Val → Val → Ordering
 order strict a b = ordering_then (plain strict a b) (order_within strict a (fields b))
 

@@ -21,7 +21,7 @@ tie_total false = never
 pub plain_total : (strict : Bool) → IsTotalOrder (plain strict)
 plain_total strict = then_total (on_total rank nat_cmp_total) (then_total (on_total ratio exactly_total) (then_total (on_total index nat_cmp_total) (then_total (on_total bytes nat_list_cmp_total) (then_total (on_total tag (tie_total strict)) (on_total count (tie_total strict))))))
 
--- the order of values whose tuples stand less than n deep
+-- the order of values whose tuples are nested less than n deep
 layered : Bool → ℕ → Val → Val → Ordering
 layered strict zero = plain strict
 layered strict (suc n) = then_cmp (plain strict) (on (λ v. list_of (fields v)) (slice_cmp (layered strict n)))

@@ -1,4 +1,4 @@
--- SameLaws: what is equal in the strict order is the same value, since a value can be built anew from its parts.
+-- SameLaws: values that are equal in the strict order are the same, since a value can be rebuilt from its parts.
 use Rattle.std.proofs.Common.{◌≡◌, ℕ, zero, suc, ℤ, pos, ◌*ℤ◌, max, Bool, true, false, List, [], ◌∷◌, nat_cmp, int_cmp, Ordering, Less, Equal, Greater, nat_abs, refl, sym, ap, ap₂, ◌∙◌}
 use Rattle.std.specs.Ordering.{ordering_then}
 use Rattle.std.specs.Cmp.Lexicographic.{slice_cmp}
@@ -13,7 +13,7 @@ less_apart h = cc
 greater_apart : Greater ≡ Equal → ⊥
 greater_apart h = cc
 
--- two orders after one another find equal what both do
+-- two orders in sequence compare equal only if both do
 pub then_equal : (o p : Ordering) → ordering_then o p ≡ Equal → (o ≡ Equal) × (p ≡ Equal)
 then_equal Less p h = (h, absurd (less_apart h))
 then_equal Equal p h = (refl, h)
@@ -28,7 +28,7 @@ bytes_same [] (y ∷ ys) h = absurd (less_apart h)
 bytes_same (x ∷ xs) [] h = absurd (greater_apart h)
 bytes_same (x ∷ xs) (y ∷ ys) h = let s = then_equal (nat_cmp x y) (slice_cmp nat_cmp xs ys) h in ap₂ ◌∷◌ (nat_same x y s.0) (bytes_same xs ys s.1)
 
--- fractions of one count are equal where their sums are
+-- equal fractions of one count have equal sums
 above_same : (a b : Val) → exactly (ratio a) (ratio b) ≡ Equal → count a ≡ count b → above a ≡ above b
 above_same a b h c = int_same (above a) (above b) (sym (scaled (above a) (above b) (count b)) ∙ ap (λ n. int_cmp (above a *ℤ pos (max (count b) 1)) (above b *ℤ pos (max n 1))) (sym c) ∙ h)
 

@@ -1,4 +1,4 @@
--- Val: values as plain data, for definitions to speak of. The code's values stand in memory, and `val` gives what one holds.
+-- Val: values as plain data, for the definitions. The code's values own memory; `val` maps one to its plain data.
 use Rattle.std.specs.Prelude.{ℕ, ℤ, pos, Bool, true, false, List, [], ◌∷◌}
 
 mutual
@@ -25,7 +25,7 @@ abbrev pub vals_of : List Val → Vals
 vals_of [] = none
 vals_of (v ∷ vs) = more v (vals_of vs)
 
--- which values stand before which, whatever they are: numbers, truth, texts, vertices, tuples
+-- the rank of a value by its form: numbers come first, then truths, texts, vertices, tuples
 abbrev pub rank : Val → ℕ
 rank (Truth b) = 1
 rank (Text bytes) = 2
@@ -33,14 +33,14 @@ rank (Vertex n) = 3
 rank (Tuple row) = 4
 rank _ = 0
 
--- a number is a fraction: its part above the line
+-- the numerator of a number as a fraction
 abbrev pub above : Val → ℤ
 above (Int n) = n
 above (UInt n) = pos n
 above (Fraction s n) = s
 above _ = pos 0
 
--- and its part below it
+-- and its denominator
 abbrev pub count : Val → ℕ
 count (Fraction s n) = n
 count _ = 1

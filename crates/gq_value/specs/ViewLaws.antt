@@ -1,4 +1,4 @@
--- ViewLaws: what a value of each variant holds, as equations for proofs.
+-- ViewLaws: the plain data of a value of each variant, as equations for proofs.
 use Rattle.std.proofs.Common.{◌≡◌, ℕ, ℤ, Bool, List, sym, ap, ◌∙◌}
 use Rattle.gq_value.specs.declared.value.Value.{Value, Value-F, fold-roll-Value}
 use Rattle.gq_value.specs.declared.value.Value.TheVariants as value

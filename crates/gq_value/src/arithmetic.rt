@@ -13,8 +13,8 @@ use crate::value::{EvalFault, Value, Wrong};
 use gq_base::OutOfMemory;
 use std::alloc::Global;
 
-/// `a + b`: of whole numbers a UINT where both are UINT, else an INT; of two texts, the one followed by the other. Takes memory
-/// for texts alone.
+/// `a + b`: of whole numbers, a UINT if both are UINT, else an INT; of two texts, their concatenation. Takes memory
+/// only for texts.
 #[tactic(auto, using(crate::proofs::ArithmeticLemmas::sum_steps))]
 pub fn add(alloc: Global, a: &Value, b: &Value) -> Result<Value, EvalFault>
     requires { IsSummable (val a.now) (val b.now) }
@@ -52,7 +52,7 @@ fn joined(alloc: Global, left: &str, right: &str) -> Result<Txt, OutOfMemory>
     Ok(Txt::from_string(text))
 }
 
-/// `a - b`, of whole numbers: a UINT where both are UINT, else an INT. Takes no memory.
+/// `a - b`, of whole numbers: a UINT if both are UINT, else an INT. Takes no memory.
 pub fn sub(a: &Value, b: &Value) -> Result<Value, EvalFault>
     requires left { IsWhole (val a.now) }
     requires right { IsWhole (val b.now) }
@@ -74,7 +74,7 @@ pub fn mul(a: &Value, b: &Value) -> Result<Value, EvalFault>
     }
 }
 
-/// `a / b`, truncated towards zero, with the type of `sub`. Zero where `b` is 0. Takes no memory.
+/// `a / b`, truncated towards zero, with the type of `sub`. The fault Zero if `b` is 0. Takes no memory.
 #[tactic(auto, using(crate::proofs::ArithmeticLemmas::zero_is))]
 pub fn div(a: &Value, b: &Value) -> Result<Value, EvalFault>
     requires left { IsWhole (val a.now) }
@@ -88,7 +88,7 @@ pub fn div(a: &Value, b: &Value) -> Result<Value, EvalFault>
     in_type(type_of_both(a, b), whole(a) / divisor)
 }
 
-/// `a % b`, with the sign of `a` and the type of `sub`. Zero where `b` is 0. Takes no memory.
+/// `a % b`, with the sign of `a` and the type of `sub`. The fault Zero if `b` is 0. Takes no memory.
 #[tactic(auto, using(crate::proofs::ArithmeticLemmas::zero_is))]
 pub fn rem(a: &Value, b: &Value) -> Result<Value, EvalFault>
     requires left { IsWhole (val a.now) }
@@ -110,7 +110,7 @@ pub fn negate(a: &Value) -> Result<Value, EvalFault>
     in_type(Number::Int, -whole(a))
 }
 
-/// How far the number `a` is from 0, in the type of `a`. Takes no memory.
+/// The absolute value of the number `a`, in the type of `a`. Takes no memory.
 pub fn absolute(a: &Value) -> Result<Value, EvalFault>
     requires { IsWhole (val a.now) }
     ensures { Gives ⊥ result (absolute (val a.now)) }

@@ -1,4 +1,4 @@
-// Types of values, kinds of accumulators, and what they are fed.
+// Types of values, kinds of accumulators, and their inputs.
 use crate::txt::Txt;
 use crate::value::{Row, Value};
 use gq_base::{Boxed, List};
@@ -23,7 +23,7 @@ pub enum BaseType {
     VertexOf(u32),
     /// A tuple type, by its number among those of its query, with the types of its fields.
     Tuple(u32, Fields),
-    /// DATETIME: whole seconds since 1970-01-01 00:00:00, kept as an INT.
+    /// DATETIME: whole seconds since 1970-01-01 00:00:00, stored as an INT.
     Time,
 }
 
@@ -51,7 +51,7 @@ pub enum Kind {
     Heap(HeapShape),
 }
 
-/// What a GroupByAccum is: the names and types of its keys, and the names and kinds of its parts.
+/// The shape of a GroupByAccum: the names and types of its keys, and the names and kinds of its parts.
 #[cycle(kinds)]
 #[derive(Debug, Drop)]
 pub struct GroupShape {
@@ -59,7 +59,7 @@ pub struct GroupShape {
     pub parts: List<(Txt, Kind)>,
 }
 
-/// What a HeapAccum is: its tuple type, how many tuples it keeps, and by which fields it orders them.
+/// The shape of a HeapAccum: its tuple type, how many tuples it keeps, and by which fields it orders them.
 #[derive(Debug, Drop)]
 pub struct HeapShape {
     /// The number of the tuple type among those of its query.
@@ -72,7 +72,7 @@ pub struct HeapShape {
     pub order: List<(u32, bool)>,
 }
 
-/// What an accumulator is fed: one value, or keys with one input for each part.
+/// An input of an accumulator: one value, or keys with one input for each part.
 #[derive(Debug, Drop)]
 pub enum Input {
     One(Value),
@@ -82,7 +82,7 @@ pub enum Input {
 /// Inputs in order.
 pub type Inputs = List<Input>;
 
-/// One declared accumulator: its kind, and whether each vertex has one of its own.
+/// One declared accumulator: its kind, and whether each vertex has its own.
 #[derive(Debug, Drop)]
 pub struct Slot {
     pub kind: Kind,

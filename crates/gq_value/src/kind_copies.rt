@@ -1,4 +1,4 @@
-// Copies of types and kinds, with memory of their own.
+// Deep copies of types and kinds.
 ghost use Rattle.std.specs.Prelude.{◌≡◌, IfOk};
 
 use crate::kind::{BaseType, Fields, GroupShape, HeapShape, Kind};
@@ -7,7 +7,7 @@ use gq_base::{Boxed, List, OutOfMemory};
 use std::alloc::Global;
 
 impl BaseType {
-    /// An equal type with memory of its own. Takes memory for tuples alone.
+    /// A deep copy of the type. Takes memory only for tuples.
     #[cycle(type_copies)]
     pub fn duplicate(&self, alloc: Global) -> Result<BaseType, OutOfMemory>
         ensures { IfOk result (λ copy. copy ≡ self.now) }
@@ -40,7 +40,7 @@ fn duplicate_fields(alloc: Global, fields: &[BaseType]) -> Result<Fields, OutOfM
 }
 
 impl Kind {
-    /// An equal kind with memory of its own. A scalar kind takes none.
+    /// A deep copy of the kind. A scalar kind takes no memory.
     #[cycle(kind_copies)]
     pub fn duplicate(&self, alloc: Global) -> Result<Kind, OutOfMemory>
         ensures { IfOk result (λ copy. copy ≡ self.now) }

@@ -23,8 +23,8 @@ pub fn same(a: &Value, b: &Value) -> bool
     order(false, a, b) == Ordering::Equal
 }
 
-/// That order; where `strict`, numbers of one exact value are parted too, by their type and by a fraction's count. Most
-/// values that are compared are INTs, which don't pay for what others need.
+/// The order of `compare`; if `strict`, numbers of one exact value are also ordered, by type and by a fraction's count.
+/// Most values that are compared are INTs, so these are compared here, inlined.
 #[inline]
 #[tactic(auto, using(crate::proofs::PairLemmas::order_steps))]
 pub(crate) fn order(strict: bool, a: &Value, b: &Value) -> Ordering
@@ -39,7 +39,7 @@ pub(crate) fn order(strict: bool, a: &Value, b: &Value) -> Ordering
     }
 }
 
-/// The same, of values of any types.
+/// The same for values of any types.
 #[inline(never)]
 #[cycle(order)]
 #[tactic(auto, using(crate::proofs::PairLemmas::order_steps))]
@@ -94,7 +94,7 @@ fn order_any(strict: bool, a: &Value, b: &Value) -> Ordering
     }
 }
 
-/// Rows field by field; of two where one begins the other, the shorter stands first.
+/// Compares rows field by field; if one is a prefix of the other, the shorter comes first.
 #[cycle(order)]
 #[tactic(auto, using(crate::proofs::PairLemmas::row_steps))]
 fn order_rows(strict: bool, a: &[Value], b: &[Value]) -> Ordering
@@ -116,7 +116,7 @@ fn order_rows(strict: bool, a: &[Value], b: &[Value]) -> Ordering
     }
 }
 
-/// What parts numbers of one exact value, where `strict`: the places of their types, INT before UINT before averages, or
+/// Orders numbers of one exact value if `strict`: by the places of their types, INT before UINT before averages, or by
 /// the counts of two averages.
 fn tie(strict: bool, m: u64, n: u64) -> Ordering
     ensures { result ≡ tie_cmp strict m n }

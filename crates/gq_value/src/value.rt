@@ -42,7 +42,7 @@ pub enum Wrong {
     Zero,
 }
 
-/// What an operation on values answers where it gives no value.
+/// The error of an operation on values.
 #[derive(Clone, Copy, Debug, Error, PartialEq, Eq)]
 pub enum EvalFault {
     #[error("{0}")]
@@ -62,7 +62,7 @@ impl From<OutOfMemory> for EvalFault {
 }
 
 impl Value {
-    /// An equal value with memory of its own. Takes memory for texts and tuples alone.
+    /// A deep copy of the value. Takes memory only for texts and tuples.
     #[cycle(copies)]
     pub fn duplicate(&self, alloc: Global) -> Result<Value, OutOfMemory>
         ensures { IfOk result (λ copy. copy ≡ self.now) }
@@ -79,7 +79,7 @@ impl Value {
     }
 }
 
-/// Equal values in the same order, with memory of their own.
+/// Deep copies of the values, in the same order.
 #[cycle(copies)]
 pub fn duplicate_row(alloc: Global, row: &[Value]) -> Result<Row, OutOfMemory>
     ensures { IfOk result (λ copy. copy ≡ row.now) }
@@ -91,5 +91,5 @@ pub fn duplicate_row(alloc: Global, row: &[Value]) -> Result<Row, OutOfMemory>
     Ok(copy)
 }
 
-// Values are kept in the millions, in rows and in contents.
+// Rows and contents hold millions of values.
 const _: () = prove!(size_of::<Value>() <= 32);

@@ -26,8 +26,8 @@ fn shown(value: Option<Value>) -> i128 {
     }
 }
 
-/// What a field reads as, of an attribute of that kind whose default is 5: a number, 1 or 0, 1000 and the length of a text,
-/// and -77 where it can't be read.
+/// The value of a field, read as an attribute of that kind whose default is 5: a number, 1 or 0, 1000 and the length of
+/// a text, and -77 if it can't be read.
 fn read(alloc: Global, kind: u8, key: bool, field: &[u8]) -> Result<i128, OutOfMemory> {
     let attribute = Attribute {
         name: Txt::of(alloc, "a")?,

@@ -1,5 +1,5 @@
-// What no clause says: that lines are written where there is memory, and that the definitions of the texts mean what a reader
-// of the documents would expect. Expected lines are written out here.
+// What no contract states: that lines are written if there is memory, and that the definitions of the texts mean what a
+// reader of the documents would expect. Expected lines are written out here.
 use gq_base::OutOfMemory;
 use gq_json::{Members, Out, Outs, Printed, error_line, json_line};
 use gq_value::{Fraction, Txt};

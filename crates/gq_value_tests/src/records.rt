@@ -3,7 +3,7 @@ use gq_load_csv::{Record, Records};
 use std::alloc::Global;
 use std::test::Fail;
 
-/// The records of a text, each as its fields with `|` behind each, and `;` behind each record.
+/// The records of a text, each as its fields with `|` after each, and `;` after each record.
 fn shown(
     alloc: Global,
     separator: u8,

@@ -1,4 +1,4 @@
-// What no clause can show: that the definitions mean what a reader of DATETIMEs expects.
+// What no contract can state: that the definitions mean what a reader of DATETIMEs expects.
 use gq_time::{Unit, add, in_range, parts, read_time, write_time};
 use std::test::Fail;
 

@@ -1,4 +1,4 @@
-// What no clause says, and the program doesn't reach: that a tree is copied where there is memory.
+// What no contract states, and the program doesn't reach: that a tree is copied if there is memory.
 use gq_base::{Boxed, List};
 use gq_tree::{CmpSign, Node, Part};
 use gq_value::Txt;
@@ -9,7 +9,7 @@ fn name(alloc: Global, text: &str) -> Result<Node, Fail> {
     Ok(Node::Name(Txt::of(alloc, text)?))
 }
 
-// `NOT a.f(1) == -b`, by hand.
+// `NOT a.f(1) == -b`, built by hand.
 fn sample(alloc: Global) -> Result<Node, Fail> {
     let mut arguments = List::new(alloc);
     arguments.push(Node::Number(1))?;

@@ -1,4 +1,4 @@
--- JoinLemmas: rows as vertices without attributes, and their attributes beside them.
+-- JoinLemmas: rows as vertices without attributes, with their attributes in a second list.
 use Rattle.std.proofs.Common.{ℕ, zero, suc, ◌+◌, ◌<◌, ◌≤◌, ◌≡◌, ◌==◌, ◌&&◌, Bool, true, false, cond, List, [], ◌∷◌, ◌++◌, length, get_or, set, take, map, Option, Some, None, refl, ap, sym, ◌∙◌, subst, arith}
 use Rattle.std.specs.Prelude.{Result, Ok, Err, OnOk, OnErr, is_ok}
 use Rattle.std.specs.Option.{unwrap_or}
@@ -10,7 +10,7 @@ use Rattle.gq_value.specs.declared.value.Value.{Value}
 use Rattle.gq_vertex.specs.Joined.{joined, head_of}
 use Rattle.gq_vertex.proofs.VertexLemmas.{number_low}
 
--- a vertex with other attributes
+-- a vertex with its attributes replaced
 abbrev pub with : VertexRow → List Value → VertexRow
 with head row = record head { attributes = row }
 
@@ -46,7 +46,7 @@ joined_take (suc n) [] rows long = refl
 joined_take (suc n) (h ∷ heads) [] long = absurd (omega (arith, long))
 joined_take (suc n) (h ∷ heads) (r ∷ rows) long = ap (λ l. with h r ∷ l) (joined_take n heads rows (omega (arith, long)))
 
--- a name is looked for in vertices without attributes
+-- a name is looked up in the vertices without attributes
 number_joined : (heads : List VertexRow) (rows : List (List Value)) (kind : ℕ) (id : List ℕ) → length heads ≡ length rows
     → vertex_number (joined heads rows) kind id ≡ vertex_number heads kind id
 number_joined heads rows kind id long =
@@ -57,7 +57,7 @@ number_joined heads rows kind id long =
     by i (h ∷ hs) [] long = absurd (omega (arith, long))
     by i (h ∷ hs) (r ∷ rs) long = ap (λ o. cond (is_vertex kind id h) (Some i) o) (by (i + 1) hs rs (omega (arith, long)))
 
--- ---- what the table's rows are
+-- ---- the rows of the table
 
 pub view_long : (heads : List VertexRow) (rows : List (List Value)) (all : List VertexRow) → joined heads rows ≡ all → length heads ≡ length rows → length heads ≡ length all
 view_long heads rows all view long = sym (length_joined heads rows long) ∙ ap length view
@@ -71,7 +71,7 @@ pub view_number : (heads : List VertexRow) (rows : List (List Value)) (all : Lis
     → vertex_number heads kind id ≡ vertex_number all kind id
 view_number heads rows all kind id view long = sym (number_joined heads rows kind id long) ∙ ap (λ l. vertex_number l kind id) view
 
--- an upsert of a name that is there
+-- an upsert of an existing name
 pub replaced_is : (heads : List VertexRow) (rows now : List (List Value)) (all : List VertexRow) (kind n : ℕ) (id : List ℕ) (row : List Value) → joined heads rows ≡ all → length heads ≡ length rows
     → vertex_number heads kind id ≡ Some n → now ≡ set rows n row
     → (n ≡ unwrap_or (vertex_number all kind id) (length all)) × (joined heads now ≡ upsert_vertex all (record { kind = kind; id = id; attributes = row }))
@@ -89,7 +89,7 @@ replaced_is heads rows now all kind n id row view long found done =
     made : ℕ → List ℕ → VertexRow
     made k i = record { kind = k; id = i; attributes = row }
 
--- and of a new one
+-- an upsert of a new name
 pub added_is : (heads after : List VertexRow) (rows now : List (List Value)) (all : List VertexRow) (kind : ℕ) (id : List ℕ) (row : List Value) → joined heads rows ≡ all → length heads ≡ length rows
     → vertex_number heads kind id ≡ None → after ≡ heads ++ head_of kind id ∷ [] → now ≡ rows ++ row ∷ []
     → (length heads ≡ unwrap_or (vertex_number all kind id) (length all)) × (joined after now ≡ upsert_vertex all (record { kind = kind; id = id; attributes = row }))
@@ -108,7 +108,7 @@ pub cut_is : (n : ℕ) (heads after : List VertexRow) (rows now : List (List Val
 cut_is n heads after rows now all view long a b =
     ap (λ l. joined l now) a ∙ ap (joined (take n heads)) b ∙ joined_take n heads rows long ∙ ap (take n) view
 
--- ---- answers that are tested
+-- ---- results of tests
 
 pub when_ok : {T E P : Type 0} (r : Result T E) → OnOk r P → is_ok r ≡ true → P
 when_ok (Ok x) h is = h

@@ -1,4 +1,4 @@
--- Keys of vertices: two ids of one exact key are one id.
+-- Keys of vertices: ids with the same exact key are equal.
 use Rattle.std.proofs.Common.{ℕ, zero, suc, ◌+◌, ◌*◌, ◌%◌, ◌<◌, ◌≤◌, ◌≡◌, Bool, true, false, cond, leb, List, [], ◌∷◌, length, fold, refl, ap, sym, ◌∙◌, arith}
 use Rattle.std.proofs.lemmas.Bool.Decides.{nat_tests}
 use Rattle.gq_vertex.specs.Keyed.{packed_with, packed, mixed, word, vertex_key, IsBytes}
@@ -10,7 +10,7 @@ by_test false x y P one other = other refl
 is_short : (n : ℕ) → leb n 7 ≡ true → n ≤ 7
 is_short n is = grind (arith, nat_tests)
 
--- so many digits more don't fill seven bytes
+-- that many more digits don't fill seven bytes
 abbrev Room : ℕ → ℕ → Type 0
 Room m zero = Unit
 Room m (suc n) = (m * 256 ≤ 72057594037927936) × Room (m * 256) n
@@ -42,7 +42,7 @@ packed_low : (xs : List ℕ) (a : ℕ) → a < 72057594037927936 → fold packed
 packed_low [] a low = low
 packed_low (x ∷ xs) a low = packed_low xs (packed_with a x) (omega arith)
 
--- an exact word is that of a short id
+-- an exact word belongs to a short id
 short_is : (id : List ℕ) → word id < 9223372036854775808 → (length id ≤ 7) × (word id ≡ packed id * 8 + length id)
 short_is id = by_test (leb (length id) 7) (packed id * 8 + length id) (9223372036854775808 + mixed id % 9223372036854775808)
     (λ w. w < 9223372036854775808 → (length id ≤ 7) × (w ≡ packed id * 8 + length id))
@@ -59,7 +59,7 @@ parts_same k m u v first second is = (omega arith, omega arith)
 length_same : (p q m n : ℕ) → m ≤ 7 → n ≤ 7 → p * 8 + m ≡ q * 8 + n → (p ≡ q) × (m ≡ n)
 length_same p q m n first second is = (omega arith, omega arith)
 
--- the type and the id of an exact key
+-- an exact key determines the type and the id
 pub exact_same : (kind type : ℕ) (i j : List ℕ) → IsBytes i → IsBytes j → word j < 9223372036854775808 → vertex_key kind i ≡ vertex_key type j → (kind ≡ type) × (i ≡ j)
 exact_same kind type i j ones others low is =
     let parts = parts_same kind type (word i) (word j) (word_low i) (word_low j) is in

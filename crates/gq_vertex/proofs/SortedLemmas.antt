@@ -1,4 +1,4 @@
--- The tree of names: what a change of it gives, and what it finds after one row more or less.
+-- The tree of names: the effect of a change, and what it finds after a row is added or removed.
 use Rattle.std.proofs.Common.{ℕ, ◌+◌, ◌<◌, ◌≡◌, ◌==◌, ◌&&◌, Bool, true, false, cond, List, [], ◌∷◌, ◌++◌, length, take, set, get_or, Option, Some, None, OnOk, Result, Ok, Err, refl, ap, sym, ◌∙◌, subst, arith, length-set, eq-eqb}
 use Rattle.std.specs.Str.{bytes_eq}
 use Rattle.std.specs.Option.{option_or}
@@ -34,7 +34,7 @@ and_true false b is = absurd (cc)
 is_equal : (a b : ℕ) → (a == b) ≡ true → a ≡ b
 is_equal a b h = grind (arith, nat_tests)
 
--- a test that holds of one text alone, whichever is written first
+-- the test of two texts for equality is symmetric
 turned : (a b : List ℕ) → bytes_eq a b ≡ bytes_eq b a
 turned a b = by (bytes_eq a b) refl
   where
@@ -42,7 +42,7 @@ turned a b = by (bytes_eq a b) refl
     by true is = sym ((bytes_eq-Decides b a).1 (sym ((bytes_eq-Decides a b).0 is)))
     by false is = sym (missed (bytes_eq b a) (λ hit. let own : bytes_eq a b ≡ true = (bytes_eq-Decides a b).1 (sym ((bytes_eq-Decides b a).0 hit)) in absurd (cc (own, is))))
 
--- the ids of one type changed
+-- after the ids of one type changed
 reached : (old new : Names) (kind : ℕ) (ids : Ids) → UpdatesBy nat_cmp (nat_cmp kind) old new (Some ids) → (k : ℕ) (i : List ℕ)
     → number_of new k i ≡ cond (kind == k) (get_by_text ids i) (number_of old k i)
 reached old new kind ids h k i =
@@ -60,7 +60,7 @@ given old new kind id number ids h inner = λ k i. reached old new kind ids h k 
     by k i true is = inner i ∙ ap (λ n. cond (bytes_eq id i) number (number_of old n i)) (is_equal kind k is)
     by k i false is = refl
 
--- an id more among those of a type that has ids
+-- one more id of a type that has ids
 pub put_there : (old new : Names) (kind : ℕ) (id : List ℕ) (key : String Global) (number : ℕ) (was ids : Ids) → string_bytes key ≡ id
     → Some was ≡ get nat_cmp old kind → UpdatesBy nat_cmp (nat_cmp kind) old new (Some ids) → Updates string_cmp was ids key (Some number)
     → Gives old kind id (Some number) new
@@ -84,7 +84,7 @@ pub on_ok : {T E P Q : Type 0} (r : Result T E) → OnOk r P → (P → Q) → O
 on_ok (Ok x) h f = f h
 on_ok (Err e) h f = h
 
--- the first row that passes, after one row more
+-- the first row that passes, after a row is appended
 position_push : {X : Type 0} (p : X → Bool) (xs : List X) (y : X) → (p y ≡ true → position p xs ≡ None)
     → position p (xs ++ y ∷ []) ≡ cond (p y) (Some (length xs)) (position p xs)
 position_push p xs y new = position_from-zero p (xs ++ y ∷ []) ∙ more 0 xs ∙ by (p y) refl
@@ -112,7 +112,7 @@ position_push p xs y new = position_from-zero p (xs ++ y ∷ []) ∙ more 0 xs �
         at_last (position_from p 0 xs) (0 + length xs) (sym (position_from-zero p xs) ∙ new is) ∙ ap Some e
     by false is = nothing (position_from p 0 xs) ∙ sym (position_from-zero p xs)
 
--- and after another row in the place of one that is like it
+-- and after a row is replaced by one that passes the same test
 pub position_set : {X : Type 0} (p : X → Bool) (xs : List X) (n : ℕ) (y d : X) → p y ≡ p (get_or xs n d) → position p (set xs n y) ≡ position p xs
 position_set p xs n y d same =
     ap (λ m. cond (nat_lt m (length (set xs n y))) (Some m) None) (position_or_len-set p xs n y d same)
@@ -133,7 +133,7 @@ absent rows row kind id none is =
     let so = named_so kind id row is in
     sym (ap (λ k. vertex_number rows k row.id) so.0 ∙ ap (vertex_number rows kind) so.1) ∙ none
 
--- the name of a row isn't that of a row before it
+-- the name of a row isn't that of an earlier row
 fresh : (rows : List VertexRow) (n : ℕ) → VerticesApart rows → n < length rows → vertex_number (take n rows) (vertex_at rows n).kind (vertex_at rows n).id ≡ None
 fresh rows n apart low =
     let row = vertex_at rows n in let count : length (take n rows) ≡ n = length-take-le n rows (omega (arith, low)) in
@@ -147,7 +147,7 @@ fresh rows n apart low =
 pub sorted_none : (names : Names) → IsEmpty names → IsSorted [] names
 sorted_none names empty = λ kind id. ap (λ es. in_type id (lookup (is_at (nat_cmp kind)) es)) empty
 
--- one row more
+-- one row added
 pub sorted_push : (rows : List VertexRow) (row : VertexRow) (n : ℕ) (old new : Names) → vertex_number rows row.kind row.id ≡ None → n ≡ length rows
     → IsSorted rows old → Gives old row.kind row.id (Some n) new → IsSorted (rows ++ row ∷ []) new
 sorted_push rows row n old new none at sorted gives = λ kind id.
@@ -163,7 +163,7 @@ sorted_next rows n row old new apart low read sorted gives =
     (sorted_push (take n rows) (vertex_at rows n) n old new (fresh rows n apart low) (sym (length-take-le n rows (omega (arith, low)))) sorted
     (subst (λ (r : VertexRow). Gives old r.kind r.id (Some n) new) (get_or_read rows n row low read no_vertex) gives))
 
--- one row less
+-- the last row removed
 pub sorted_pop : (rows : List VertexRow) (n : ℕ) (row : VertexRow) (old new : Names) → VerticesApart rows → n < length rows → row ≡ get_or rows n row
     → IsSorted (take (n + 1) rows) old → Gives old row.kind row.id None new → IsSorted (take n rows) new
 sorted_pop rows n row old new apart low read sorted gives = λ kind id.

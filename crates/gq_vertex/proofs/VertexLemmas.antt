@@ -1,4 +1,4 @@
--- Rows of vertices under their names.
+-- Rows of vertices by their names.
 use Rattle.std.proofs.Common.{inl, inr, ℕ, ◌+◌, ◌<◌, ◌≤◌, ◌≡◌, ◌≢◌, ◌==◌, ◌&&◌, Bool, true, false, List, [], ◌∷◌, ◌++◌, length, get_or, set, take, map, Option, Some, None, refl, ap, sym, ◌∙◌, subst, arith, eq-eqb}
 use Rattle.std.specs.Str.{bytes_eq}
 use Rattle.std.proofs.lemmas.Bool.Decides.{nat_tests}
@@ -47,7 +47,7 @@ hits rows keys kind id keyed k low is =
     ap (λ h. get_or h k 0) keyed ∙ get_or-map row_key rows k no_vertex 0 low
     ∙ ap (λ x. vertex_key x (get_or rows k no_vertex).id) so.0 ∙ ap (vertex_key kind) so.1
 
--- two rows that are the vertex are one
+-- two rows with one name are one row
 pub one_vertex : (rows : List VertexRow) (kind : ℕ) (id : List ℕ) → VerticesApart rows → (i j : ℕ) → i < j → j < length rows
     → is_vertex kind id (get_or rows i no_vertex) ≡ true → is_vertex kind id (get_or rows j no_vertex) ≡ true → ⊥
 one_vertex rows kind id apart i j low there a b =
@@ -70,7 +70,7 @@ number_low rows kind n id is =
     let at = position-Some (is_vertex kind id) rows n no_vertex is in
     let so = named_so kind id (get_or rows n no_vertex) at.1 in (at.0, so.0, so.1)
 
--- what stands of the walk for a vertex
+-- what the walk for a vertex has established
 abbrev pub SeeksVertex : List VertexRow → List ℕ → ℕ → List ℕ → Option ℕ → Type 0
 SeeksVertex rows keys kind id next = Seeks (is_vertex kind id) no_vertex rows keys (vertex_key kind id) next
 
@@ -113,7 +113,7 @@ pub vertex_missing : (rows : List VertexRow) (keys : List ℕ) (kind : ℕ) (id 
 vertex_missing rows keys kind id old here at =
     sym (seek_none (is_vertex kind id) no_vertex rows (subst (SeeksVertex rows keys kind id) at here))
 
--- fewer rows
+-- only the first rows
 pub named_cut : (n : ℕ) (rows : List VertexRow) (index new : Index) → n ≤ length rows → AreNamed rows index → Finds (take n rows) new → AreNamed (take n rows) new
 named_cut n rows index new low named finds =
     let count : length (take n rows) ≡ n = length-take-le n rows low in
@@ -128,13 +128,13 @@ named_cut n rows index new low named finds =
       few = omega (arith, count, named.few);
     }
 
--- no row is a vertex that has no number
+-- if a vertex has no number, no row is that vertex
 pub not_there : (rows : List VertexRow) (kind : ℕ) (id : List ℕ) (i : ℕ) → vertex_number rows kind id ≡ None → i < length rows
     → (vertex_at rows i).kind ≡ kind → (vertex_at rows i).id ≢ id
 not_there rows kind id i none low k same =
     nowhere (is_vertex kind id) no_vertex rows i none low (is_named kind id (vertex_at rows i) k same)
 
--- one row more, of a new name
+-- one row added, with a new name
 pub named_added : (rows : List VertexRow) (index new : Index) (row : VertexRow) → vertex_number rows row.kind row.id ≡ None → length rows < most_vertices
     → IsBytes row.id → AreNamed rows index → Finds (rows ++ row ∷ []) new → AreNamed (rows ++ row ∷ []) new
 named_added rows index new row none room bytes named finds = record {

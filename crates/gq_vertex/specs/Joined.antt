@@ -1,4 +1,4 @@
--- Joined: vertices without attributes and their attributes, as rows.
+-- Joined: rows as two lists, one of vertices without attributes and one of their attributes.
 use Rattle.std.specs.Prelude.{ℕ, List, [], ◌∷◌}
 use Rattle.gq_graph.specs.declared.rows.VertexRow.{VertexRow}
 use Rattle.gq_value.specs.declared.value.Value.{Value}

@@ -1,4 +1,4 @@
--- Named: what the table of vertices keeps beside its rows, namely what finds each row by its name.
+-- Named: what the table of vertices keeps beside its rows: the index that finds each row by its name.
 use Rattle.std.specs.Prelude.{ℕ, ◌≡◌, ◌<◌, ◌≤◌, List, length, map}
 use Rattle.gq_graph.specs.declared.rows.VertexRow.{VertexRow}
 use Rattle.gq_graph.specs.Vertices.{VerticesApart, vertex_at, vertex_number, most_vertices}
@@ -11,7 +11,7 @@ use Rattle.gq_vertex.specs.Sorted.{Names, number_of}
 abbrev pub row_key : VertexRow → ℕ
 row_key row = vertex_key row.kind row.id
 
--- the tree has the number of each row under its name, and no other names
+-- the tree maps the name of each row to its number, and has no other names
 abbrev pub IsSorted : List VertexRow → Names → Type 0
 IsSorted rows names = (kind : ℕ) (id : List ℕ) → number_of names kind id ≡ vertex_number rows kind id
 
@@ -20,7 +20,7 @@ abbrev pub Finds : List VertexRow → Index → Type 0
 Finds rows (Hashed keys) = keys ≡ map row_key rows
 Finds rows (Sorted names) = IsSorted rows names
 
--- the index finds the rows, each name has one row, and there are not too many
+-- the index finds the rows, no two rows have one name, and their number is within the limit
 pub record AreNamed (rows : List VertexRow) (index : Index) : Type 0 where
   pub finds : Finds rows index
   pub bytes : (k : ℕ) → k < length rows → IsBytes (vertex_at rows k).id

@@ -1,4 +1,4 @@
-// Vertices by name.
+// Lookup of vertices by name.
 ghost use Rattle.std.specs.Prelude.{◌≡◌};
 ghost use Rattle.gq_graph.specs.Vertices.{is_vertex, vertex_number};
 ghost use Rattle.gq_vertex.specs.Named as spec;
@@ -10,7 +10,7 @@ use crate::key::{is_exact, vertex_key};
 use crate::names::number_of;
 use gq_base::KeyIndex;
 
-/// The number of the vertex of a type and an id.
+/// Finds the number of the vertex of a type and an id.
 pub(crate) fn find(rows: &[VertexHead], index: &Index, kind: u32, id: &str) -> Option<u32>
     requires { spec.AreNamed rows.now index.now }
     ensures { result ≡ vertex_number rows.now kind id.now }
@@ -21,7 +21,7 @@ pub(crate) fn find(rows: &[VertexHead], index: &Index, kind: u32, id: &str) -> O
     }
 }
 
-/// The same by the keys of the rows. No row is read where the key is the whole name.
+/// The same by the keys of the rows. If the key is the whole name, no row is read.
 fn find_by_key(rows: &[VertexHead], keys: &KeyIndex, kind: u32, id: &str) -> Option<u32>
     requires { spec.AreNamed rows.now (Hashed keys.now) }
     ensures { result ≡ vertex_number rows.now kind id.now }

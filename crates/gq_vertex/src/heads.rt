@@ -28,14 +28,14 @@ impl Model for VertexHead {
 }
 
 impl VertexHead {
-    /// A vertex of a type and an id.
+    /// Returns a vertex of a type and an id.
     pub fn new(kind: u32, id: Txt) -> VertexHead
         ensures { result ≡ head_of kind id }
     {
         VertexHead { kind, id }
     }
 
-    /// An equal vertex with memory of its own.
+    /// Copies the vertex into newly allocated memory.
     pub fn duplicate(&self, alloc: Global) -> Result<VertexHead, OutOfMemory>
         ensures { IfOk result (λ copy. copy ≡ self.now) }
     {

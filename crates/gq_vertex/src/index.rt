@@ -1,4 +1,4 @@
-// How a table finds its rows.
+// How a table finds rows by name.
 ghost use Rattle.std.specs.Prelude.{◌≡◌, ◌<◌, ◌≤◌, ◌++◌, ◌∷◌, [], length, take, None, IfOk, OnOk, OnErr};
 ghost use Rattle.gq_graph.specs.Vertices.{vertex_number, VerticesApart, most_vertices};
 ghost use Rattle.gq_vertex.specs.Named.{Finds, IsSorted, AreNamed};
@@ -10,15 +10,15 @@ use gq_base::{Key, KeyIndex, OutOfMemory};
 use std::alloc::Global;
 use std::collections::BTreeMap;
 
-/// What finds the row of a name: keys in buckets, until so many rows share a bucket that their ids must have been chosen
-/// for it, and from then on a tree, in which no name is far away.
+/// The index from names to rows: a hash index of keys, until one bucket is so crowded that the ids must have been
+/// chosen for it; from then on a tree, whose lookups are logarithmic.
 #[derive(Drop)]
 pub(crate) enum Index {
     Hashed(KeyIndex),
     Sorted(Names),
 }
 
-/// Where the search for a key begins; 0 in a tree, of which nothing is read ahead.
+/// The entry at which the search for a key begins; 0 for a tree, of which nothing is prefetched.
 pub(crate) fn first(index: &Index, key: Key) -> u32 {
     match index {
         Index::Hashed(keys) => keys.first(key),
@@ -26,7 +26,7 @@ pub(crate) fn first(index: &Index, key: Key) -> u32 {
     }
 }
 
-/// Reads what stands where a search begins, and gives some of it, so that the read isn't left out.
+/// Reads the entry at which a search begins and returns part of it, so that the compiler keeps the read.
 pub(crate) fn touch(index: &Index, place: u32) -> u32 {
     match index {
         Index::Hashed(keys) => keys.touch(place),
@@ -34,7 +34,7 @@ pub(crate) fn touch(index: &Index, place: u32) -> u32 {
     }
 }
 
-/// Puts in the name of a new row, which is to stand behind `rows`. After OutOfMemory all rows are found as before.
+/// Inserts the name of a new row, which will follow `rows`. After `OutOfMemory` all rows are found as before.
 pub(crate) fn insert(
     index: &mut Index,
     alloc: Global,
@@ -55,7 +55,7 @@ pub(crate) fn insert(
     }
 }
 
-/// Makes a tree of the names of all rows where the bucket of a key is crowded.
+/// Switches to a tree of all names if the bucket of a key is crowded.
 fn change_if_crowded(
     index: &mut Index,
     alloc: Global,
@@ -78,7 +78,7 @@ fn is_crowded(index: &Index, key: Key) -> bool {
     }
 }
 
-/// The names of all rows.
+/// Builds the tree of the names of all rows.
 fn sorted(alloc: Global, rows: &[VertexHead]) -> Result<Names, OutOfMemory>
     requires apart { VerticesApart rows.now }
     requires few { length rows.now ≤ most_vertices }
@@ -91,7 +91,7 @@ fn sorted(alloc: Global, rows: &[VertexHead]) -> Result<Names, OutOfMemory>
     Ok(names)
 }
 
-/// Forgets the rows from number `len` on.
+/// Removes the rows from number `len` on.
 pub(crate) fn cut(index: &mut Index, rows: &[VertexHead], len: usize)
     requires named { AreNamed rows.now index.old }
     requires within { len ≤ length rows.now }
@@ -117,7 +117,7 @@ fn cut_names(names: &mut Names, rows: &[VertexHead], len: usize)
     }
 }
 
-/// An index of the same rows, with memory of its own.
+/// Copies the index of the same rows into newly allocated memory.
 pub(crate) fn duplicate(
     index: &Index,
     alloc: Global,

@@ -5,7 +5,7 @@ ghost use Rattle.gq_vertex.specs.Keyed as spec;
 
 use gq_base::Key;
 
-/// What a vertex is found by: the type is the tag, and a short id is the word itself.
+/// The key by which a vertex is found: the type is the tag, and a short id is the word itself.
 pub(crate) fn vertex_key(kind: u32, id: &str) -> Key
     ensures number { number_of result ≡ spec.vertex_key kind id.now }
     ensures word { result.word ≡ spec.word id.now }
@@ -17,7 +17,7 @@ pub(crate) fn vertex_key(kind: u32, id: &str) -> Key
     }
 }
 
-/// Whether a key is the whole name.
+/// Whether a key determines the whole name.
 pub(crate) fn is_exact(key: Key) -> bool
     ensures { IsTrue result ↔ (key.word < 9223372036854775808) }
 {

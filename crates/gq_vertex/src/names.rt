@@ -1,4 +1,4 @@
-// Vertices by name, in order.
+// A tree of vertices by name.
 ghost use Rattle.std.specs.Prelude.{◌≡◌, ℕ, List, if◌then◌else◌, None, Some, OnOk, OnErr};
 ghost use Rattle.std.specs.BTreeMap.{get_by_text, Updates, IsUnchanged};
 ghost use Rattle.std.specs.Prelude.{bytes_eq};
@@ -14,14 +14,14 @@ pub(crate) type Names = BTreeMap<u32, Ids>;
 /// The numbers of the vertices of one type, by id.
 pub(crate) type Ids = BTreeMap<String, u32>;
 
-/// The number of the vertex of a type and an id.
+/// Finds the number of the vertex of a type and an id.
 pub(crate) fn number_of(names: &Names, kind: u32, id: &str) -> Option<u32>
     ensures { result ≡ number_of names.now kind id.now }
 {
     names.get(&kind)?.get(id).copied()
 }
 
-/// Gives a name that number. After OutOfMemory each name has the number that it had.
+/// Maps a name to that number. After `OutOfMemory` all names keep their numbers.
 pub(crate) fn put(
     alloc: Global,
     names: &mut Names,
@@ -57,7 +57,7 @@ fn put_entry<K: Ord + Drop, X: Drop>(
     }
 }
 
-/// Takes a name out.
+/// Removes a name.
 pub(crate) fn take_out(names: &mut Names, kind: u32, id: &str)
     ensures { Gives names.old kind id.now None names.new }
 {

@@ -15,7 +15,7 @@ use gq_value::{Row, Txt, Value};
 use std::alloc::Global;
 use std::marker::Model;
 
-/// How many vertices a store holds at most.
+/// The maximum number of vertices in a store.
 pub const MOST_VERTICES: usize = 4_194_304;
 
 /// The vertices of a store. Contracts see them as the list of their rows.
@@ -47,7 +47,7 @@ impl Model for Vertices {
 }
 
 impl Vertices {
-    /// No vertices.
+    /// Returns an empty table.
     pub fn new(alloc: Global) -> Vertices
         ensures { result ≡ [] }
     {
@@ -66,25 +66,26 @@ impl Vertices {
         self.heads.len() as u32
     }
 
-    /// The number of the vertex of a type and an id. Takes no memory; its time doesn't grow with the table, or as the
-    /// logarithm of its size where ids were chosen to share a bucket.
+    /// Finds the number of the vertex of a type and an id. Allocates nothing. Its time doesn't grow with the table, or
+    /// grows as the logarithm of its size if ids were chosen to share a bucket.
     pub fn find(&self, kind: u32, id: &str) -> Option<u32>
         ensures { result ≡ vertex_number self.now kind id.now }
     {
         find(&self.heads, &self.index, kind, id)
     }
 
-    /// Where the search for a vertex begins. It is for reading ahead, with `touch`, and tells nothing of the vertices.
+    /// The entry at which the search for a vertex begins, for prefetching with `touch`. It says nothing about the
+    /// vertices.
     pub fn first(&self, kind: u32, id: &str) -> u32 {
         first(&self.index, vertex_key(kind, id))
     }
 
-    /// Reads what stands where a search begins, and gives some of it, so that the read isn't left out.
+    /// Reads the entry at which a search begins and returns part of it, so that the compiler keeps the read.
     pub fn touch(&self, place: u32) -> u32 {
         touch(&self.index, place)
     }
 
-    /// How many attributes the row of a vertex has.
+    /// The number of attributes in the row of a vertex.
     pub fn width(&self, vertex: u32) -> usize
         requires { vertex < length self.now }
         ensures { result ≡ length (vertex_at self.now vertex).attributes }
@@ -117,8 +118,8 @@ impl Vertices {
         item(self.attributes.at(vertex), place as usize)
     }
 
-    /// Gives the vertex of that name the attributes, or puts it last. The values are moved out of the row, of whose content nothing is
-    /// said then. Unchanged after a refusal.
+    /// Replaces the attributes of the vertex of that name, or appends a new vertex. Moves the values out of the row,
+    /// whose content is unspecified afterwards. A refusal leaves the table unchanged.
     pub fn upsert(&mut self, kind: u32, id: &str, attributes: &mut Row) -> Result<u32, StoreFault>
         ensures done { MatchResult result
             (λ n. (n ≡ unwrap_or (vertex_number self.old kind id.now) (length self.old))
@@ -153,7 +154,8 @@ impl Vertices {
         }
     }
 
-    /// Drops the vertices from number `len` on. Takes no memory, and time for each that goes.
+    /// Removes the vertices from number `len` on. Allocates nothing; the time is proportional to the number of removed
+    /// vertices.
     pub fn cut(&mut self, len: u32)
         requires { len ≤ length self.old }
         ensures { self.new ≡ take len self.old }
@@ -163,7 +165,7 @@ impl Vertices {
         self.attributes.truncate(len as usize);
     }
 
-    /// An equal table with memory of its own.
+    /// Copies the table into newly allocated memory.
     pub fn duplicate(&self) -> Result<Vertices, OutOfMemory>
         ensures { IfOk result (λ copy. copy ≡ self.now) }
     {
@@ -194,7 +196,7 @@ fn item(values: &[Value], place: usize) -> &Value
     &values[place]
 }
 
-/// Puts a row of a new name last.
+/// Appends a row with a new name.
 fn add(
     rows: &mut Vec<VertexHead>,
     all: &mut Rows,
@@ -220,7 +222,8 @@ fn add(
     Ok(number)
 }
 
-/// Puts the attributes of a new row last, and its name into the index. After OutOfMemory all rows are found as before.
+/// Appends the attributes of a new row and inserts its name into the index. After `OutOfMemory` all rows are found as
+/// before.
 fn insert_with(
     all: &mut Rows,
     index: &mut Index,
@@ -247,7 +250,7 @@ fn insert_with(
     }
 }
 
-/// Gives a vertex other attributes, if there is memory for them.
+/// Replaces a vertex's attributes; `false` if there is no memory for them.
 fn replace(all: &mut Rows, number: u32, attributes: &mut Row) -> bool
     requires { number < length all.old }
     ensures done { result ≡ true → all.new ≡ slice_set all.old number attributes.old }
@@ -256,7 +259,7 @@ fn replace(all: &mut Rows, number: u32, attributes: &mut Row) -> bool
     all.set(number, attributes).is_ok()
 }
 
-/// Puts a row last where there is room for it.
+/// Appends a row if there is room for it.
 fn put(rows: &mut Vec<VertexHead>, row: VertexHead)
     requires { vec_len rows.old < vec_capacity rows.old }
     ensures { rows.new.items ≡ rows.old.items ++ row ∷ [] }

@@ -2,8 +2,8 @@
 //!
 //! They are a separate crate, so that the libraries aren't proved a second time with their tests.
 //!
-//! The tests are in `src/walks.rt`, `src/paths.rt` and `src/puts.rt`; `src/world.rt` has the persons that walks and paths
-//! go between.
+//! The tests are in `src/walks.rt`, `src/paths.rt` and `src/puts.rt`; `src/world.rt` has the persons that walks and
+//! paths connect.
 #![tactic(auto)]
 
 #[cfg(test)]

@@ -1,4 +1,4 @@
-// Each helper owns little, and gives numbers: proofs of tests grow with what a return drops.
+// Each helper owns little, and returns numbers: proofs of tests grow with what a return drops.
 ghost use Rattle.std.specs.Prelude.{◌≡◌};
 ghost use Rattle.gq_index.specs.Sights.{sight_of};
 ghost use Rattle.gq_index.specs.Walks.{adjacency};
@@ -13,8 +13,8 @@ use gq_tree::Way;
 use std::alloc::Global;
 use std::test::Fail;
 
-// A set, the steps from it, and the bindings in order: of each its source, its last row and where that leads, as one number of three
-// digits.
+// A set, the steps from it, and the bindings in order: each as its source, its last row and its end, as one number of
+// three digits.
 #[derive(Clone, Copy)]
 struct Case<'a> {
     set: &'a [u32],
@@ -22,7 +22,7 @@ struct Case<'a> {
     wanted: &'a [u32],
 }
 
-// How many bindings there are, and whether they are those that are wanted.
+// How many bindings there are, and whether they are the expected ones.
 #[derive(Clone, Copy)]
 struct Found {
     count: u64,
@@ -63,7 +63,7 @@ fn are(paths: &Paths, wanted: &[u32]) -> bool {
     true
 }
 
-// None where there are too many.
+// None if there are too many.
 fn listed(
     alloc: Global,
     graph: &Graph<'_>,
@@ -119,7 +119,7 @@ fn holds(alloc: Global, joined: Joined<'_>, case: Case<'_>) -> Result<bool, Fail
     }
 }
 
-// How many cases hold before the first that doesn't.
+// How many cases succeed before the first failure.
 fn holding(alloc: Global, joined: Joined<'_>, cases: &[Case<'_>]) -> Result<u32, Fail> {
     let mut count = 0u32;
     for case in cases {
@@ -328,7 +328,7 @@ fn rows_of(alloc: Global, leaves: u32) -> Result<Vec<(u32, u32)>, OutOfMemory> {
     Ok(rows)
 }
 
-// How many paths of two steps lead from all to all of a hub and its leaves; None where there are too many.
+// The number of paths of two steps from all to all of a hub and its leaves; None if there are too many.
 fn star(alloc: Global, leaves: u32) -> Result<Option<u64>, Fail> {
     let rows = rows_of(alloc, leaves)?;
     let all: Vec<u32> = (0..leaves.wrapping_add(1)).collect(alloc)?;
@@ -348,7 +348,7 @@ fn star(alloc: Global, leaves: u32) -> Result<Option<u64>, Fail> {
     }
 }
 
-// Of one leaf more than the root of the bound there are too many.
+// With one leaf more than the root of the bound, there are too many.
 #[test]
 fn a_star_has_at_most_as_many_paths_as_the_bound_lets(rt: HostRuntime) -> Result<(), Fail> {
     assert_eq!(rt; star(rt.alloc(), 2047)?, Some(4192256));

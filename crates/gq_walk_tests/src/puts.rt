@@ -34,7 +34,7 @@ fn persons(alloc: Global, store: &mut Store) -> Result<(), Fail>
     Ok(())
 }
 
-/// An edge of an undirected type, whose ends have age 0 where they aren't there.
+/// An edge of an undirected type; ends that don't exist yet get age 0.
 fn near(alloc: Global, store: &mut Store, from: &str, to: &str, w: i64) -> Result<(), StoreFault>
     requires { (kind : ℕ) → Agrees store.old.edges.namings (naming_with kind false 0) }
     ensures { (kind : ℕ) → Agrees store.new.edges.namings (naming_with kind false 0) }
@@ -93,7 +93,7 @@ fn weights(alloc: Global, edges: &Edges) -> Result<Vec<i64>, OutOfMemory> {
     Ok(weights)
 }
 
-/// The number of a vertex, or -1 where it isn't there.
+/// The number of a vertex, or -1 if it doesn't exist.
 fn place(store: &Store, id: &str) -> i64 {
     match store.vertices.find(0, id) {
         Some(vertex) => i64::from(vertex),

@@ -1,4 +1,4 @@
-// Helpers own what is built, and give numbers: proofs of tests grow with what a return drops.
+// Helpers own what is built, and return numbers: proofs of tests grow with what a return drops.
 use crate::world::{Joined, catalog_of, set_of, store_of};
 use gq_base::List;
 use gq_graph::{Candidate, Pattern, Steps};

@@ -13,7 +13,7 @@ use gq_vertex::Vertices;
 use std::alloc::Global;
 use std::test::Fail;
 
-// Persons 0, 1 and so on, and edges of type 0 between them; type 1 is the reverse type where they are directed.
+// Persons 0, 1 and so on, and edges of type 0 between them; type 1 is the reverse type if they are directed.
 #[derive(Clone, Copy)]
 pub(crate) struct Joined<'a> {
     pub(crate) directed: bool,

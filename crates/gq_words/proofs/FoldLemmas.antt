@@ -1,4 +1,4 @@
--- What feeds make of a word is the same in whatever order they come, and from whichever seats.
+-- The fold of a word's feeds doesn't depend on their order, or on the seats through which they come.
 use Rattle.std.proofs.Common.{◌≡◌, ℕ, zero, suc, Bool, true, false, cond, ◌==◌, bit_and, bit_or, List, [], ◌∷◌, ◌++◌, map, set, sym, refl, ap, ◌∙◌, ◌≢◌, append-nil, arith}
 use Rattle.std.specs.List.{fold, filter, Contains}
 use Rattle.std.proofs.lemmas.Nat.Bits.{bit_at_or, bit_at_and, same_from_bits}
@@ -80,7 +80,7 @@ module _ (op : Op) (i : ℕ) where
       ∙ (folded_swap (after f w) fs gs
       ∙ (ap (λ (a : ℕ). folded op a i fs) (folded_over f w gs) ∙ sym (folded-cons (folded op w i gs) f fs)))
 
-  -- a feed that comes anyway
+  -- a feed that is contained in the others anyway
   absorbed : (w : ℕ) (fs : List Feed) (f : Feed) → Contains fs f → folded op (after f w) i fs ≡ folded op w i fs
   absorbed w [] f (k, inside, is) = absurd (omega arith)
   absorbed w (x ∷ xs) f (zero, inside, is) =
@@ -90,18 +90,18 @@ module _ (op : Op) (i : ℕ) where
       folded-cons (after f w) x xs
       ∙ (ap (λ (a : ℕ). folded op a i xs) (after_swap f x w) ∙ (absorbed (after x w) xs f (k, omega arith, is) ∙ sym (folded-cons w x xs)))
 
-  -- feeds that all come anyway
+  -- feeds that are all contained in the others
   all_absorbed : (w : ℕ) (fs gs : List Feed) → ((f : Feed) → Contains gs f → Contains fs f) → folded op (folded op w i gs) i fs ≡ folded op w i fs
   all_absorbed w fs [] among = refl
   all_absorbed w fs (g ∷ gs) among =
       ap (λ (a : ℕ). folded op a i fs) (folded-cons w g gs)
       ∙ (all_absorbed (after g w) fs gs (λ f there. among f (suc there.0, omega arith, there.2)) ∙ absorbed w fs g (among g (0, omega arith, refl)))
 
-  -- which feeds there are decides
+  -- only the set of the feeds matters
   pub same_feeds : (w : ℕ) (fs gs : List Feed) → ((f : Feed) → Contains fs f → Contains gs f) → ((f : Feed) → Contains gs f → Contains fs f) → folded op w i fs ≡ folded op w i gs
   same_feeds w fs gs there back = sym (all_absorbed w fs gs back) ∙ (folded_swap w gs fs ∙ all_absorbed w gs fs there)
 
-  -- one feed more in the view k
+  -- one more feed in the view k
   pub all_fed : (w : ℕ) (vs : List View) (k : ℕ) (v u : View) (f : Feed) → get_elem? vs k ≡ some v → u.feeds ≡ v.feeds ++ f ∷ []
       → folded op w i (all_feeds (set vs k u)) ≡ after f (folded op w i (all_feeds vs))
   all_fed w [] k v u f at is = absurd (some-ne-none v (sym at))
@@ -131,7 +131,7 @@ module _ (op : Op) (i : ℕ) where
       ∙ (taken_out (folded op w i x.feeds) xs k v u at is
       ∙ ap (λ (a : ℕ). folded op a i v.feeds) (sym (folded-append w x.feeds (all_feeds (set xs k u)))))
 
-  -- the feeds of one view go over to another one
+  -- the feeds of one view are moved to another one
   pub all_joined : (w : ℕ) (vs : List View) (id other : ℕ) (v u : View) → get_elem? vs id ≡ some v → get_elem? vs other ≡ some u → other ≢ id
       → folded op w i (all_feeds vs) ≡ folded op w i (all_feeds (set (set vs id (joined v u)) other spent))
   all_joined w vs id other v u at there apart =
@@ -152,7 +152,7 @@ all_same [] k v u at is = refl
 all_same (x ∷ xs) zero v u at is = ap (λ (fs : List Feed). fs ++ all_feeds xs) (is ∙ sym (ap (λ (m : View). m.feeds) (some-injective x v at)))
 all_same (x ∷ xs) (suc k) v u at is = ap (λ (fs : List Feed). x.feeds ++ fs) (all_same xs k v u at is)
 
--- one view more, without a feed
+-- one more view, without feeds
 pub all-snoc : (vs : List View) (u : View) → u.feeds ≡ [] → all_feeds (vs ++ u ∷ []) ≡ all_feeds vs
 all-snoc [] u is = ap (λ (fs : List Feed). fs ++ []) is
 all-snoc (x ∷ xs) u is = ap (λ (fs : List Feed). x.feeds ++ fs) (all-snoc xs u is)
@@ -162,7 +162,7 @@ all_none : (vs : List View) → ((k : ℕ) (v : View) → get_elem? vs k ≡ som
 all_none [] none_fed = refl
 all_none (x ∷ xs) none_fed = ap (λ (fs : List Feed). fs ++ all_feeds xs) (none_fed 0 x refl) ∙ all_none xs (λ k v at. none_fed (suc k) v at)
 
--- no view but one has a feed
+-- only one view has feeds
 pub all_alone : (vs : List View) (k : ℕ) (v : View) → get_elem? vs k ≡ some v → ((j : ℕ) (u : View) → get_elem? (set vs k spent) j ≡ some u → u.feeds ≡ []) → all_feeds vs ≡ v.feeds
 all_alone [] k v at others = absurd (some-ne-none v (sym at))
 all_alone (x ∷ xs) zero v at others =

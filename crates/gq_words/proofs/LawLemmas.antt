@@ -1,4 +1,4 @@
--- What the four folds are, of all inputs at once.
+-- The results of the four folds, over all inputs at once.
 use Rattle.std.proofs.Common.{◌≡◌, ℕ, zero, suc, ◌≤◌, ◌⊎◌, inl, inr, max, min, bit_and, bit_or, List, [], ◌∷◌, sym, refl, ◌∙◌, subst, ⊎_elim, arith}
 use Rattle.std.specs.List.{fold, All, Any, Contains}
 use Rattle.std.specs.Int.{bit_at}
@@ -9,7 +9,7 @@ use native.Mathlib.Decide.{ℕ_discrete}
 use Rattle.gq_words.specs.declared.fold.Op.TheVariants.{Max, Min, Or, And}
 use Rattle.gq_words.specs.Fold.{applied, IsGreatest, IsLeast, HasBit}
 
--- what is among a number and the rest is among two, of which it is one, and the rest
+-- an element of a list with one of two numbers is an element of the list with both
 taken_apart : (y w x r : ℕ) (xs : List ℕ) → (y ≡ w) ⊎ (y ≡ x) → Contains (y ∷ xs) r → Contains (w ∷ x ∷ xs) r
 taken_apart y w x r xs which (zero, inside, is) = ⊎_elim (λ (e : y ≡ w). (zero, omega arith, sym e ∙ is)) (λ (e : y ≡ x). (suc zero, omega arith, sym e ∙ is)) which
 taken_apart y w x r xs which (suc j, inside, is) = (suc (suc j), omega arith, is)

@@ -1,4 +1,4 @@
--- Lists of which one element changes: sums over them, and what is found in them.
+-- Lists in which one element changes: sums over them, and lookups in them.
 use Rattle.std.proofs.Common.{◌≡◌, ℕ, zero, suc, ◌+◌, ◌<◌, ◌≤◌, ◌≢◌, List, [], ◌∷◌, ◌++◌, length, map, set, get_or, take, slice_get, Some, None, Option, add-one, sym, refl, ap, ◌∙◌, arith}
 use Rattle.std.specs.List.{sum_by}
 use Rattle.std.proofs.lemmas.List.Sums.{sum_by-cons}
@@ -44,11 +44,11 @@ module _ {X : Type 0} where
     part_of_sum (z ∷ zs) zero x at = let e : f z ≡ f x = ap f (some-injective z x at) in omega (arith, sum_by-cons f z zs)
     part_of_sum (z ∷ zs) (suc k) x at = let r = part_of_sum zs k x at in omega (arith, sum_by-cons f z zs)
 
-    -- where a sum is 0, each part is
+    -- if a sum is 0, each part is
     pub part_of_none : (xs : List X) → sum_by f xs ≡ 0 → (k : ℕ) (x : X) → get_elem? xs k ≡ some x → f x ≡ 0
     part_of_none xs none k x at = let part = part_of_sum xs k x at in omega arith
 
-    -- where each part is 0, a sum is
+    -- if each part is 0, the sum is
     pub sum_none : (xs : List X) → ((k : ℕ) (x : X) → get_elem? xs k ≡ some x → f x ≡ 0) → sum_by f xs ≡ 0
     sum_none [] none = refl
     sum_none (z ∷ zs) none = let here = none 0 z refl in let r = sum_none zs (λ k x at. none (suc k) x at) in omega (arith, sum_by-cons f z zs)
@@ -77,7 +77,7 @@ module _ {X Y : Type 0} where
   same_first (p ∷ ps) (suc i) x z y has at = same_first ps i x z y has at
 
 module _ {X : Type 0} where
-  -- the seconds, and one more behind them
+  -- the second components, with one more appended
   pub seconds_at : (ps : List (X × ℕ)) (i : ℕ) (x : X) (n last : ℕ) → slice_get ps i ≡ Some (x, n) → get_or (map (λ p. p.1) ps ++ last ∷ []) i 0 ≡ n
   seconds_at [] i x n last at = let inside = slice_get_within [] i (x, n) at in absurd (omega arith)
   seconds_at (p ∷ ps) zero x n last at = ap (second_or n) at

@@ -1,4 +1,4 @@
--- Each step keeps the rule, and what is known at the end.
+-- Each step keeps the rule; and what is known at the end.
 use Rattle.std.proofs.Common.{◌≡◌, ℕ, zero, suc, ◌+◌, ◌-◌, ◌%◌, ◌^◌, ◌<◌, ◌≤◌, ◌≢◌, List, [], ◌∷◌, ◌++◌, map, length, get_or, take, set, slice_get, Some, sym, refl, ap, ◌∙◌, subst, ⊎_elim, cond, arith, length-set, get_or-set_same, get_or-set_other, eq-eqb, ne_eqb, length-append}
 use Rattle.std.proofs.lemmas.Option.{slice_get_within, slice_get-get_or}
 use Rattle.std.proofs.lemmas.List.{length-map, length-take, get_or-take}
@@ -25,7 +25,7 @@ stands v = v.stands
 abbrev spare : View → ℕ
 spare v = v.spare
 
--- a view that stands for no seat is spent
+-- a view that represents no seat is spent
 abbrev IsLive : View → Type 0
 IsLive v = v.stands ≡ 0 → v ≡ spent
 
@@ -81,7 +81,7 @@ module _ (key : Opening) where
         (refl, refl),
       )
 
-  -- one seat more is counted
+  -- one more seat is counted
   pub counts_one : (slots id : ℕ) (me : Known) (k : ℕ) → k ≡ count → 0 < me.0.stands → 0 < me.0.spare
       → Allows (IsKept key) slots id me k (λ n. (n + 1) % 2 ^ 64) (Counts (step slots k 1 0 none) me)
   counts_one slots id me k last live more s r _ at _ =
@@ -158,7 +158,7 @@ module _ (key : Opening) where
       only zero v at = subst IsLive (some-injective (first key) v at) (λ z. absurd (omega arith))
       only (suc k) v at = absurd (some-ne-none v (sym at))
 
-  -- at the end n seats were made, which is found at the place k of the words
+  -- at the end n seats were made; the number is the word at the place k
   made_is : (id : ℕ) (v : View) (ws : List ℕ) (xs : List (Unit {0})) (k n : ℕ) → k ≡ count → get_elem? ws k ≡ some n → (end : Final (Seen (IsKept key) id v) ws xs) → made end.0.views ≡ n
   made_is id v ws xs k n last found end =
       sym end.1.0.counts ∙ (ap (λ (l : List ℕ). get_or l count 0) end.2 ∙ (ap (λ (z : ℕ). get_or ws z 0) (sym last) ∙ read_at ws k n 0 found))
@@ -170,13 +170,13 @@ module _ (key : Opening) where
       let share = end.1.0.shared in let few = end.1.0.few in let mine = part_of_sum spare end.0.views id v end.1.1 in
       ((end.0, end.1, is), omega arith, omega arith)
 
-  -- where a view stands for all seats that were made, the others are spent
+  -- if a view represents all seats that were made, the others are spent
   others_spent : (id : ℕ) (v : View) (s : Table) → Seen (IsKept key) id v s → made s.views ≤ v.stands → (k : ℕ) (u : View) → get_elem? (set s.views id spent) k ≡ some u → u ≡ spent
   others_spent id v s seen all k u there =
       let out = sum-set stands s.views id v spent seen.1 in
       live-set s.views id spent (λ _. refl) seen.0.live k u there (part_of_none stands (set s.views id spent) (omega arith) k u there)
 
-  -- where as many were made as the seat stands for
+  -- if as many were made as the seat represents
   pub ends_whole : (id : ℕ) (v : View) (ws : List ℕ) (xs : List (Unit {0})) (k n : ℕ) → k ≡ count → get_elem? ws k ≡ some n → Final (Seen (IsKept key) id v) ws xs → n ≤ v.stands
       → AreFolds (openings key) v.feeds (take k ws) × ((s : Table) × Seen (IsKept key) id v s × (made s.views ≡ v.stands) × (all_feeds s.views ≡ v.feeds) × (v.stands + v.spare ≡ key.seats))
   ends_whole id v ws xs k n last found end all =

@@ -1,11 +1,11 @@
--- Fold: what inputs make of a word: the greatest, the least, all bits or the common bits. Here all that was ever fed is one
--- list. The code keeps the words alone.
+-- Fold: the value of a word after inputs: the greatest, the least, all bits or the common bits. Here all inputs ever
+-- fed are one list. The code stores only the words.
 use Rattle.std.specs.Prelude.{◌≡◌, ℕ, ◌≤◌, ◌==◌, min, max, bit_and, bit_or, List, map, filter, fold, All, Contains}
 use Rattle.std.specs.Int.{bit_at}
 use Rattle.gq_words.specs.declared.fold.Op.{Op}
 use Rattle.gq_words.specs.declared.fold.Op.TheVariants.{Max, Min, Or, And}
 
--- what one input makes of a word
+-- the word after one input
 abbrev pub applied : Op → ℕ → ℕ → ℕ
 applied Max w x = max w x
 applied Min w x = min w x
@@ -20,7 +20,7 @@ Feed = ℕ × ℕ
 abbrev pub inputs_to : ℕ → List Feed → List ℕ
 inputs_to i feeds = map (λ f. f.1) (filter (λ f. f.0 == i) feeds)
 
--- what the word at this place is, with this opening, after all these feeds
+-- the value of the word at this place, with this initial value, after all these feeds
 abbrev pub folded : Op → ℕ → ℕ → List Feed → ℕ
 folded op opening i feeds = fold (applied op) opening (inputs_to i feeds)
 

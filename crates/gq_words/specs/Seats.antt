@@ -1,6 +1,6 @@
 -- Seats: what contracts see of words and of their seats.
--- Here the end is any state that the rule allows and that has the seat's view. The code reads the words once, when no
--- thread shares them any more.
+-- Here the end is any state that the rule allows and that has the seat's view. The code reads the words once, when they
+-- are no longer shared between threads.
 use Rattle.std.specs.Prelude.{◌≡◌, ℕ, ◌+◌, ◌<◌, ◌≤◌, List, length, map, slice_get, Some, ⊤}
 use Rattle.atomic_table.specs.Table.{State, Seen}
 use Rattle.gq_words.specs.declared.fold.Op.{Op}
@@ -12,15 +12,15 @@ use Rattle.gq_words.specs.declared.fault.WordFault.TheVariants.{Apart, OutOfMemo
 use Rattle.gq_words.specs.Fold.{Feed, folded}
 use Rattle.gq_words.specs.Rule.{IsKept, openings, all_feeds, made}
 
--- each word's operation and opening
+-- each word's operation and initial value
 abbrev pub openings_of : Words → List (Op × ℕ)
 openings_of words = openings words.table.shared.key
 
--- how many seats there may be
+-- the maximum number of seats
 abbrev pub seats_of : Words → ℕ
 seats_of words = words.table.shared.key.seats
 
--- what is known of the seat
+-- the view of the seat
 abbrev pub view_of : WordSeat → View
 view_of seat = seat.seat.me.0
 
@@ -36,7 +36,8 @@ IsSameSeat old new = (new.seat.table_id ≡ old.seat.table_id) × (new.seat.id �
 abbrev pub HasOp : Words → ℕ → Op → Type 0
 HasOp words i op = slice_get (map (λ o. o.0) (openings_of words)) i ≡ Some op
 
--- there are as many words as openings, and each is the fold of its opening and of all that was fed to it
+-- there are as many words as initial values, and each is the fold of its initial value and everything that was fed to
+-- it
 pub record AreFolds (ops : List (Op × ℕ)) (feeds : List Feed) (words : List ℕ) : Type 0 where
   pub size : length words ≡ length ops
   pub each : (i : ℕ) (op : Op) (w : ℕ) → slice_get ops i ≡ Some (op, w) → slice_get words i ≡ Some (folded op w i feeds)
@@ -45,7 +46,7 @@ pub record AreFolds (ops : List (Op × ℕ)) (feeds : List Feed) (words : List �
 abbrev pub EndsIn : Words → WordSeat → State (Unit {0}) View → Type 0
 EndsIn words seat last = Seen (IsKept words.table.shared.key) seat.seat.id (view_of seat) last
 
--- no seat is apart: as many were made as this one stands for, it has all spare ones too, and all that was fed was fed
+-- no seat is missing: as many were made as this one represents, it has all spare ones too, and everything was fed
 -- through these
 pub record IsWhole (words : Words) (seat : WordSeat) : Type 0 where
   pub last : State (Unit {0}) View
@@ -54,7 +55,8 @@ pub record IsWhole (words : Words) (seat : WordSeat) : Type 0 where
   pub feeds : all_feeds last.views ≡ (view_of seat).feeds
   pub all : (view_of seat).stands + (view_of seat).spare ≡ seats_of words
 
--- n seats were made, and this one stands for fewer. With those that it may still make, they are no more than there may be
+-- n seats were made, and this one represents fewer. With those that it may still make, they are at most as many as
+-- there may be
 pub record IsApart (words : Words) (seat : WordSeat) (stands n : ℕ) : Type 0 where
   pub last : State (Unit {0}) View
   pub ends : EndsIn words seat last
@@ -63,7 +65,7 @@ pub record IsApart (words : Words) (seat : WordSeat) (stands n : ℕ) : Type 0 w
   pub missing : stands < n
   pub within : n + (view_of seat).spare ≤ seats_of words
 
--- why the words can't be closed: a seat is apart, or there was no memory
+-- why the words can't be closed: a seat is missing, or memory ran out
 abbrev pub IsFault : Words → WordSeat → WordFault → Type 0
 IsFault words seat (Apart stands n) = IsApart words seat stands n
 IsFault words seat OutOfMemory = ⊤

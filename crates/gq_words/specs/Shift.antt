@@ -1,4 +1,4 @@
--- Shift: which word stands for a signed number.
+-- Shift: the word that represents a signed number.
 -- Here both are integers without bounds. The code adds in 128 bits.
 use Rattle.std.specs.Prelude.{◌≡◌, ℕ, ℤ, pos, ◌+ℤ◌, ◌^◌}
 

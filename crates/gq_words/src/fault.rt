@@ -5,10 +5,10 @@ ghost use Rattle.gq_words.specs.declared.fault.WordFault.TheVariants.{OutOfMemor
 use gq_base::OutOfMemory;
 use thiserror::Error;
 
-/// Why words can't be closed. They are given up all the same, with the seat.
+/// Why words can't be closed. The words and the seat are consumed all the same.
 #[derive(Clone, Copy, Debug, PartialEq, Eq, Error)]
 pub enum WordFault {
-    /// The seat stands for `joined` seats, of the `made` that there are: itself and those that were joined into it.
+    /// The seat represents `joined` of the `made` seats: itself and those that were joined into it.
     #[error("{joined} of {made} seats were joined")]
     Apart { joined: u32, made: u32 },
 

@@ -3,15 +3,15 @@
 /// How a word takes an input.
 #[derive(Clone, Copy, PartialEq, Eq, Debug)]
 pub enum Op {
-    /// The greater of both stays.
+    /// Keeps the greater of both.
     Max,
 
-    /// The smaller of both stays.
+    /// Keeps the smaller of both.
     Min,
 
-    /// The bits of both.
+    /// Keeps the bits of either.
     Or,
 
-    /// The bits that both have.
+    /// Keeps the bits that both have.
     And,
 }

@@ -1,15 +1,16 @@
-// What is true of every word.
+// Laws about words.
 ghost use Rattle.std.specs.Prelude.{◌≡◌, ◌↔◌, ℕ, List, ◌∷◌, All, Any, Contains};
 ghost use Rattle.gq_words.specs.declared.fold.Op.{Op};
 ghost use Rattle.gq_words.specs.Fold.{Feed, inputs_to, folded, IsGreatest, IsLeast, HasBit};
 
-/// Does nothing. Its contract is a law: what feeds make of a word hangs on which feeds there are, and neither on their
-/// order nor on how often each of them came.
+/// Does nothing. Its contract is a law: the value of a word depends only on which feeds there are, not on their
+/// order or on how often each of them occurs.
 pub fn one_fold()
     ensures { (op : Op) (opening i : ℕ) (fs gs : List Feed) → ((f : Feed) → Contains fs f ↔ Contains gs f) → folded op opening i fs ≡ folded op opening i gs }
 {}
 
-/// Does nothing. Its contract is a law: a word is what its operation is named for, of its opening and of all its inputs.
+/// Does nothing. Its contract is a law: a word is the maximum, minimum, or, or and of its initial value and all its
+/// inputs.
 pub fn four_folds()
     ensures max { (opening i : ℕ) (fs : List Feed) → IsGreatest (folded Op.Max opening i fs) (opening ∷ inputs_to i fs) }
     ensures min { (opening i : ℕ) (fs : List Feed) → IsLeast (folded Op.Min opening i fs) (opening ∷ inputs_to i fs) }

@@ -1,6 +1,6 @@
 //! Atomic words of 64 bits that many threads update without locks: max, min, or, and.
 //!
-//! A thread feeds inputs through a seat of its own and never waits. The view of a seat is ghost state that
+//! A thread feeds inputs through its own seat and never waits. The view of a seat is ghost state that
 //! lists its inputs. At any moment each word is the fold of its opening value and all inputs in all views, in
 //! any order. Seats are split and joined; a counter of seats lets the thread that closes the words check that
 //! all are back.

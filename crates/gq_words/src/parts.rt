@@ -1,4 +1,4 @@
-// What a table is opened with, and what is read of it once it is closed.
+// The initial words of a table, and those that are read after it is closed.
 ghost use Rattle.std.specs.Prelude.{◌≡◌, ◌<◌, [], ◌∷◌, ◌++◌, map, take, IfOk};
 ghost use Rattle.std.specs.Slots.{slots_items, slots_len, IsFull};
 
@@ -19,7 +19,7 @@ pub(crate) fn opening(
     Ok(Opening { words, seats })
 }
 
-// The openings, and behind them the one seat that is made.
+// Returns the initial values, followed by the number of seats made, which is one.
 pub(crate) fn first_words(alloc: Global, openings: &[(Op, u64)]) -> Result<Vec<u64>, OutOfMemory>
     ensures { IfOk result (λ v. v.items ≡ map (λ o. o.1) openings.now ++ 1 ∷ []) }
 {
@@ -31,7 +31,7 @@ pub(crate) fn first_words(alloc: Global, openings: &[(Op, u64)]) -> Result<Vec<u
     Ok(words)
 }
 
-// The first words of a closed table.
+// Returns the first words of a closed table.
 pub(crate) fn first_of(
     alloc: Global,
     closed: &Closed<(), Global>,

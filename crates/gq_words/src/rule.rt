@@ -1,10 +1,10 @@
-// The rule of the table below, and what each kind of step tells.
+// The rule of the table below, and what each kind of step shows.
 ghost use Rattle.gq_words.specs.Rule.{IsKept, first, Feeds, Counts, Looks, handed, fresh, joined, spent};
 
 use crate::view::{Opening, View};
 use atomic_table::{Join, Play, Split, TableRule};
 
-/// Each word is the fold of all that was fed to it.
+/// Each word is the fold of everything that was fed to it.
 pub(crate) struct Folds;
 
 impl TableRule<(), View, Opening> for Folds {

@@ -6,8 +6,8 @@ use atomic_table::Seat;
 
 /// A thread's seat at some `Words`.
 ///
-/// Seats move between threads and are joined at the end. What was fed through one that was dropped stays in the words,
-/// which then can't be closed.
+/// Seats move between threads and are joined at the end. What was fed through a seat that is dropped stays in the
+/// words, which then can't be closed.
 #[derive(Drop)]
 pub struct WordSeat {
     pub(crate) seat: Seat<(), View>,
@@ -23,7 +23,7 @@ pub struct WordSeat {
 impl WordSeat {
     ghost use Rattle.gq_words.specs.Seats.{view_of};
 
-    /// How many seats may still be split off this one.
+    /// Returns how many seats may still be split off this one.
     pub fn spare(&self) -> u32
         ensures { result ≡ (view_of self.now).spare }
     {

@@ -14,7 +14,7 @@ use std::alloc::Global;
 
 /// Words that threads feed by single atomic steps. They are shared by reference; each thread has a seat.
 ///
-/// The words given to `open` come first in the table, and behind them one that counts the seats made.
+/// The words given to `open` come first in the table, followed by one that counts the seats made.
 #[derive(Drop)]
 pub struct Words {
     table: Table<(), View, Opening, Folds, Global>,
@@ -29,7 +29,7 @@ impl Words {
     ghost use Rattle.gq_words.specs.Rule.{view, with_feed, joined};
     ghost use Rattle.gq_words.specs.Seats.{openings_of, seats_of, view_of, IsSeatOf, IsSameSeat, HasOp, AreFolds, IsWhole, IsFault};
 
-    /// Words that are as these openings say, for at most `seats` seats, of which there may be 1,024.
+    /// Opens words with these operations and initial values, for at most `seats` seats, of which there may be 1,024.
     ///
     /// The first seat is handed out; the others are split off it.
     pub fn open(
@@ -57,7 +57,7 @@ impl Words {
         Ok((words, seat))
     }
 
-    /// Raises word `i` to `x` where it is below. One atomic step; takes no memory.
+    /// Raises word `i` to `x` if it is smaller. One atomic step; allocates nothing.
     pub fn feed_max(&self, seat: &mut WordSeat, i: usize, x: u64)
         requires own { IsSeatOf self.now seat.old }
         requires op { HasOp self.now i Op.Max }
@@ -67,7 +67,7 @@ impl Words {
         self.table.shared.fetch_max::<Feed>(&mut seat.seat, i, x);
     }
 
-    /// Lowers word `i` to `x` where it is above. One atomic step; takes no memory.
+    /// Lowers word `i` to `x` if it is greater. One atomic step; allocates nothing.
     pub fn feed_min(&self, seat: &mut WordSeat, i: usize, x: u64)
         requires own { IsSeatOf self.now seat.old }
         requires op { HasOp self.now i Op.Min }
@@ -77,7 +77,7 @@ impl Words {
         self.table.shared.fetch_min::<Feed>(&mut seat.seat, i, x);
     }
 
-    /// Sets the bits of `x` in word `i`. One atomic step; takes no memory.
+    /// Sets the bits of `x` in word `i`. One atomic step; allocates nothing.
     pub fn feed_or(&self, seat: &mut WordSeat, i: usize, x: u64)
         requires own { IsSeatOf self.now seat.old }
         requires op { HasOp self.now i Op.Or }
@@ -87,7 +87,7 @@ impl Words {
         self.table.shared.fetch_or::<Feed>(&mut seat.seat, i, x);
     }
 
-    /// Clears the bits of word `i` that `x` doesn't have. One atomic step; takes no memory.
+    /// Clears the bits of word `i` that `x` doesn't have. One atomic step; allocates nothing.
     pub fn feed_and(&self, seat: &mut WordSeat, i: usize, x: u64)
         requires own { IsSeatOf self.now seat.old }
         requires op { HasOp self.now i Op.And }
@@ -97,7 +97,7 @@ impl Words {
         self.table.shared.fetch_and::<Feed>(&mut seat.seat, i, x);
     }
 
-    /// One more seat, through which nothing was fed yet. Takes no memory and waits for nobody.
+    /// Splits off another seat, through which nothing was fed yet. Allocates nothing and never waits.
     pub fn split(&self, seat: &mut WordSeat) -> WordSeat
         requires own { IsSeatOf self.now seat.old }
         requires spare { 1 ≤ (view_of seat.old).spare }
@@ -116,9 +116,10 @@ impl Words {
         }
     }
 
-    /// Takes in another seat: what was fed through it, the seats that it stands for, and those that it may still make.
+    /// Joins another seat into this one: what was fed through it, the seats that it represents, and those that it may
+    /// still make.
     ///
-    /// Takes no memory and waits for nobody.
+    /// Allocates nothing and never waits.
     pub fn join(&self, seat: &mut WordSeat, other: WordSeat)
         requires own { IsSeatOf self.now seat.old }
         requires other { IsSeatOf self.now other }
@@ -132,16 +133,16 @@ impl Words {
         } = other;
         let shared = &self.table.shared;
         shared.join_seat::<Merge>(&mut seat.seat, theirs);
-        // The rule bounds the seats of one view, and a look at any word tells it: so the two sums are in range.
+        // The rule bounds the seats of one view, and a look at any word shows it: so the two sums are in range.
         shared.load::<Look>(&mut seat.seat, 0);
         seat.stands += stands;
         seat.spare += spare;
     }
 
-    /// What the words are at the end, in the order of the openings.
+    /// Returns the final words, in the order of the openings.
     ///
-    /// All seats that were made have to be joined into this one: then it stands for, or may still make, all the seats
-    /// given to `open`, and else fewer.
+    /// All seats that were made have to be joined into this one: then it represents, or may still make, all the seats
+    /// given to `open`, and otherwise fewer.
     pub fn close(self, seat: WordSeat) -> Result<Vec<u64>, WordFault>
         requires { IsSeatOf self seat }
         ensures folds { IfOk result (λ words. AreFolds (openings_of self) (view_of seat).feeds words.items) }

@@ -1,4 +1,4 @@
--- ComesLemmas: what is read of a candidate is what comes of it.
+-- ComesLemmas: the effect of a candidate that is read is the one of evaluating it.
 use Rattle.std.proofs.Common.{◌≡◌, ℕ, ◌==◌, Bool, true, false, List, [], ◌∷◌, None, ap, subst, ◌∙◌}
 use Rattle.std.specs.Prelude.{◌||◌, length}
 use Rattle.std.specs.Option.{option_map}
@@ -29,7 +29,7 @@ module _ (clock : Calendar) (o : Over) (l : Leaves) (block : Block) (c : Candida
   pub read_filtered : (old : MatchBuffer) (b : Bool) → b ≡ false → passes (sees clock o l c) (option_map view block.filter) ≡ Gives b → IsShaped (length o.vertices) old → Done o go old old true
   read_filtered old b e where_is shaped = (filtered_same o go old (ap (λ w. w >>= elim [ true ↦ contributions (sees clock o l c) (slots_are o.frame.accums) (view_acts block.accum) >>= λ xs. Gives (record { candidate = c; gives = xs } ∷ []) | false ↦ Gives [] ]) (where_is ∙ ap Gives e)), shaped)
 
-  -- a match, with what it gives
+  -- a match, with its contributions
   pub read_gathered : (old new : MatchBuffer) (acts : List Act) (b d : Bool) → acts ≡ block.accum → b ≡ true → d ≡ true → passes (sees clock o l c) (option_map view block.filter) ≡ Gives b
       → Gathers o.frame.accums.slots (contributions (sees clock o l c) (slots_are o.frame.accums) (view_acts acts)) old.inputs new.inputs d
       → IsWithin (length o.vertices) c → IsShaped (length o.vertices) old → new.batches ≡ old.batches → length new.sources ≡ length old.sources → length new.targets ≡ length old.targets

@@ -1,5 +1,5 @@
--- CrossingLemmas: what workers share, and what they leave, may cross threads. An enum or a struct that stands as a field of another has
--- a lemma for that (`the_field`).
+-- CrossingLemmas: the data that workers share, and their output, may cross threads. An enum or a struct that is a field
+-- of another one has a lemma for that (`the_field`).
 use denote.Param.Send.{IsSend, IsSync, sendable}
 use denote.Ref.{NamedLft}
 use Rattle.std.proofs.Crossing.{crosses, sync}
@@ -24,10 +24,15 @@ use Rattle.gq_value.proofs.value.Value.TheLaws.TheKnot as value_knot
 use Rattle.gq_value.proofs.kind.BaseType.TheLaws.TheKnot as base_knot
 use Rattle.gq_value.proofs.kind.Kind.TheLaws.TheKnot as kind_knot
 pub use Rattle.gq_value.proofs.CrossingLemmas.{txt_sync}
-use Rattle.gq_value.proofs.CrossingLemmas.{value_sync, base_sync, input_send}
+use Rattle.gq_value.proofs.CrossingLemmas.{value_send, value_sync, base_sync, input_send}
+use Rattle.gq_accum.proofs.scalar.Scalar.TheSendSync as scalar_crosses
+use Rattle.gq_sorted.proofs.map.SortedMap.TheSendSync as map_crosses
+use Rattle.gq_sorted.proofs.set.SortedSet.TheSendSync as set_crosses
 use Rattle.gq_nest.specs.contracts.content.Content as content
 use Rattle.gq_nest.proofs.content.Content.TheLaws.TheKnot as content_knot
 use Rattle.gq_frame.specs.contracts.slots.Slots as slots
+use Rattle.gq_frame.specs.contracts.page.Page as page
+use Rattle.gq_frame.specs.contracts.pages.Pages as pages
 use Rattle.gq_frame.specs.contracts.accums.Accums as accums
 use Rattle.gq_core.specs.contracts.batches.Batches as batches
 use Rattle.gq_eval_attributes.specs.contracts.tuple_type.TupleType as tuple_type
@@ -77,20 +82,24 @@ base_field = search (list_crosses.the_sync, crosses, base_knot.crosses, sendable
 kind_field : IsSync (kind.the_field).row
 kind_field = search (base_field, base_sync, txt_sync, list_crosses.the_sync, boxed_crosses.the_sync, crosses, kind_knot.crosses, sendable) depth 30 fits 50000
 
-slots_sync : IsSync slots.the_row
-slots_sync = search (kind_field, list_crosses.the_sync, crosses, sendable) depth 30 fits 50000
-
 content_sync : IsSync content.the_row
 content_sync = search (value_sync, list_crosses.the_sync, boxed_crosses.the_sync, maps.crosses, crosses, content_knot.crosses, sendable) depth 30 fits 50000
+
+-- copies of the accumulators share pages, so the last thread to drop one frees its contents
+content_send : IsSend content.the_row
+content_send = search (value_send, scalar_crosses.the_field_send, list_crosses.the_send, boxed_crosses.the_send, map_crosses.the_send, set_crosses.the_send, maps.crosses, crosses, content_knot.crosses, sendable) depth 30 fits 50000
+
+page_sync : IsSync page.the_row
+page_sync = search (content_sync, content_send, list_crosses.the_sync, list_crosses.the_send, crosses, sendable) depth 30 fits 50000
+
+pages_field : IsSync (pages.the_field).row
+pages_field = search (page_sync, list_crosses.the_sync, crosses, sendable) depth 30 fits 50000
 
 slots_field : IsSync (slots.the_field).row
 slots_field = search (kind_field, list_crosses.the_sync, crosses, sendable) depth 30 fits 50000
 
-accums_sync : IsSync accums.the_row
-accums_sync = search (slots_field, content_sync, list_crosses.the_sync, crosses, sendable) depth 30 fits 50000
-
 accums_field : IsSync (accums.the_field).row
-accums_field = search (slots_field, content_sync, list_crosses.the_sync, crosses, sendable) depth 30 fits 50000
+accums_field = search (slots_field, pages_field, crosses, sendable) depth 30 fits 50000
 
 value_field : IsSync (value.the_field).row
 value_field = search (txt_sync, list_crosses.the_sync, crosses, value_knot.crosses, sendable) depth 30 fits 50000

@@ -1,4 +1,4 @@
--- EndLemmas: the sums judged, and what is left.
+-- EndLemmas: checking the sums, and the result of the block.
 use Rattle.std.proofs.Common.{◌≡◌, ℕ, ◌+◌, ◌<◌, List, length, Option, Some, None, Ok, Err, sym, ap, ◌∙◌, subst}
 use Rattle.gq_frame.specs.declared.accums.Accums.{Accums}
 use Rattle.gq_rules_typing.specs.Patterns.{by_number}
@@ -19,7 +19,7 @@ use Rattle.gq_workers.specs.Running.{gives_of, sources_of, targets_of}
 use Rattle.gq_workers.specs.Results.{Leaves, IsJudged, IsOver, AreListed}
 use Rattle.gq_workers.proofs.ListLemmas.{once, below, sources_below, targets_below}
 
--- the accumulators of the definitions, and which of them doesn't fit
+-- the accumulators of the definitions, and which of them is out of range
 module _ (run : BlockProgress) (o : Over) (ms : List Match) (h : IsOver o ms run) where
   unfit_is : (n : Option ℕ) → ((f : ℕ) → AreFed f run.accums → n ≡ first_unfit 0 (slots_are run.accums)) → first_unfit 0 (slots_after (gives_of ms) 0 (slots_are o.frame.accums)) ≡ n
   unfit_is n told = sym (told (1 + length (gives_of ms)) h.fed.after.fed ∙ ap (first_unfit 0) h.fed.after.after)
@@ -56,7 +56,7 @@ module _ (run : BlockProgress) (o : Over) (ms : List Match) (h : IsOver o ms run
       made : (l : List (states.Slot Reference)) → l ≡ slots_are a.accums → a.sources ≡ by_number (sources_of ms) → a.targets ≡ by_number (targets_of ms) → left_of l ≡ after_is a
       made l e p q = λ i. record { slots = e i; sources = sym p i; targets = sym q i }
 
--- ---- as the code goes
+-- ---- in the steps of the code
 
 pub judged_fit : (run : BlockProgress) (a : After) → a.accums ≡ run.accums → ((f : ℕ) → AreFed f run.accums → None ≡ first_unfit 0 (slots_are run.accums)) → AreListed run.found (a.sources, a.targets) → IsJudged run (Ok a)
 judged_fit run a same told listed = record {

@@ -1,4 +1,4 @@
--- FeedLemmas: what waits is fed.
+-- FeedLemmas: feeding the inputs that wait.
 use Rattle.std.proofs.Common.{◌≡◌, ℕ, suc, ◌+◌, ◌^◌, ◌<◌, List, [], ◌∷◌, ◌++◌, map, length, slice_get, Some, refl, sym, ap, ◌∙◌, subst, arith, length-append}
 use Rattle.std.specs.List.{All}
 use Rattle.std.proofs.lemmas.List.Elements.{All-nil}
@@ -17,7 +17,7 @@ use Rattle.gq_exec_feed.proofs.FitLemmas.{sound_fed}
 use Rattle.gq_exec_contribute.specs.Scalars.{as_inputs}
 use Rattle.gq_workers.specs.Running.{gives_of, Wait, AreFedTo, FedFrom}
 use Rattle.gq_exec_contribute.proofs.ScalarLemmas.{joined, both_taken}
-use Rattle.gq_workers.proofs.CopyLemmas.{copied}
+use Rattle.gq_exec_feed.proofs.CopyLemmas.{copied}
 use Rattle.gq_workers.proofs.FoundLemmas.{flat_append, all_append}
 use Rattle.gq_exec_contribute.specs.declared.scalars.ScalarInput.{ScalarInput}
 

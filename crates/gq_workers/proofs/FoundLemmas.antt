@@ -1,4 +1,4 @@
--- FoundLemmas: what was found: at first, once INTs are put behind the batch, and after a candidate.
+-- FoundLemmas: what was found: initially, after INTs are appended to the batch, and after a candidate.
 use Rattle.std.proofs.Common.{◌≡◌, ℕ, zero, suc, ◌+◌, ◌*◌, ◌/◌, ◌%◌, ◌<◌, ◌≤◌, ◌==◌, ◌||◌, Bool, true, false, List, [], ◌∷◌, ◌++◌, map, take, length, replicate, slice_get, get_or, Result, Ok, Err, IfOk, Option, Some, None, refl, sym, ap, ap₂, ◌∙◌, subst, arith, append-nil, append_assoc}
 use Rattle.std.specs.List.{All, AllByRecursion}
 use Rattle.std.proofs.lemmas.List.{map-append, take_all}
@@ -31,7 +31,7 @@ use Rattle.gq_exec_contribute.specs.Prepared.{AreInputs}
 use Rattle.gq_workers.specs.Running.{comes_under, comes, ComesUnder, gives_of, sources_of, targets_of, Wait, IsShaped, IsOpened, AddsInputs, Settles, Tried, marks_end}
 use Rattle.gq_exec_contribute.specs.declared.scalars.ScalarInput.{ScalarInput}
 
--- ---- at first
+-- ---- initially
 
 words_of : (n : ℕ) (words : List ℕ) → words ≡ replicate (n / 64 + 1) 0 → (n ≤ length words * 64) × (n ≤ 4194304 → length words ≤ 67108863)
 words_of n words e = (omega (arith, l), λ few. omega (arith, l, few))
@@ -63,7 +63,7 @@ pub ruleset open_laws = (opened)
 
 -- ---- one batch
 
--- with one stripe all goes to it
+-- with a single stripe everything is in its batch
 whole_batch : (xs : List (ℕ × Input)) → batch_of 1 0 xs ≡ xs
 whole_batch [] = refl
 whole_batch (x ∷ xs) = ap₂ (λ b l. Rattle.std.proofs.Common.cond b (x ∷ l) l) (zero_rest x.0) (whole_batch xs)
@@ -83,7 +83,7 @@ gained : (old new : List (List (ℕ × Input))) (batch inputs : List (ℕ × Inp
 gained old new batch inputs e g = one_list new (batch ++ inputs) (g.same ∙ ap length e)
     (g.gains 0 batch (ap (λ l. slice_get l 0) e) ∙ ap (λ (n : ℕ). Some (batch ++ batch_of n 0 inputs)) (ap length e) ∙ ap (λ l. Some (batch ++ l)) (whole_batch inputs))
 
--- ---- the shape stays
+-- ---- the shape is unchanged
 
 pub shaped_still : (n : ℕ) (old new : MatchBuffer) → IsShaped n old → length new.batches ≡ length old.batches → length new.sources ≡ length old.sources → length new.targets ≡ length old.targets → IsShaped n new
 shaped_still n old new s b p q = record {
@@ -93,7 +93,7 @@ shaped_still n old new s b p q = record {
   short = record { sources = subst (λ (l : ℕ). l ≤ 67108863) (sym p) s.short.sources; targets = subst (λ (l : ℕ). l ≤ 67108863) (sym q) s.short.targets };
 }
 
--- ---- INTs put behind the batch
+-- ---- INTs appended to the batch
 
 pub ints_none : (xs : List (ℕ × ScalarInput)) (old : List (List (ℕ × Input))) → AddsInputs (take 0 xs) old old
 ints_none [] old = record { each = λ batch e. e ∙ ap (λ l. l ∷ []) (sym (append-nil batch)) }
@@ -190,7 +190,7 @@ or_none : (a : Bool) → (a || false) ≡ a
 or_none true = refl
 or_none false = refl
 
--- one mark more
+-- one more mark
 marked_source : (old new : List ℕ) (x : ℕ) → ((v : ℕ) → is_marked new v ≡ (v == x || is_marked old v)) → (v : ℕ) → is_marked new v ≡ (among (x ∷ []) v || is_marked old v)
 marked_source old new x k v = k v ∙ ap (λ b. b || is_marked old v) (flipped v x ∙ sym (or_none (x == v)))
 
@@ -198,11 +198,11 @@ marked_target : (old new : List ℕ) (x : Option ℕ) → ((v : ℕ) → is_mark
 marked_target old new None k = k
 marked_target old new (Some x) k = marked_source old new x k
 
--- a batch with no INTs behind it
+-- a batch without INTs after it
 alone : (batch : List (ℕ × Input)) (ints : List (ℕ × ScalarInput)) → ints ≡ [] → batch ++ as_inputs ints ≡ batch
 alone batch ints e = ap (λ l. batch ++ as_inputs l) e ∙ append-nil batch
 
--- a match behind others
+-- a match after others
 module _ (o : Over) (c : Candidate) (gives : List Contribution) (ms : List Match) where
   abbrev m : Match
   m = record { candidate = c; gives = gives }
@@ -249,11 +249,11 @@ module _ (o : Over) (c : Candidate) (go : Answer Wrong (List Match)) (old new : 
   pub faulted : (w : Wrong) → Comes o.frame.accums.slots c go old.batches new.batches (outcome.Fault w) → new.sources ≡ old.sources → new.targets ≡ old.targets → Tried o go old new (Some w)
   faulted w comes sources targets = (comes.0, sources, targets)
 
--- a candidate that WHERE filters changes nothing
+-- a candidate that WHERE rejects changes nothing
 pub filtered_same : (o : Over) (go : Answer Wrong (List Match)) (old : MatchBuffer) → go ≡ Gives [] → Tried o go old old None
 filtered_same o go old e = ([], e, (λ ms h. subst (λ (l : List Match). Wait o l old.batches old.inputs) (sym (append-nil ms)) h), (λ v. refl), (λ v. refl))
 
--- ---- INTs and truths that are read
+-- ---- INTs and truth values that are read
 
 module _ (o : Over) (c : Candidate) (go : Answer Wrong (List Match)) (contributed : Answer Wrong (List Contribution)) (more : List (ℕ × ScalarInput)) (old new : MatchBuffer) where
   pub ints_passed : IsWithin (length o.vertices) c → (ints : AreInputs o.frame.accums.slots contributed more) → go ≡ Gives (record { candidate = c; gives = ints.contributed } ∷ []) → new.inputs ≡ old.inputs ++ more → new.batches ≡ old.batches
@@ -272,7 +272,7 @@ module _ (o : Over) (c : Candidate) (go : Answer Wrong (List Match)) (contribute
         within = within_more o c ints.contributed ms h.within within;
       }
 
--- nothing has changed, and then INTs are put behind the batch: what is tried then is tried of what was there before
+-- if nothing but appending INTs to the batch happened before, trying from there is trying from the old state
 pub tried_behind : {E : Type 0} (o : Over) (go : Answer Wrong (List Match)) (old same mid new : MatchBuffer) (result : Result (Option Wrong) E) → same ≡ old → Settles same mid → IfOk result (Tried o go mid new) → IfOk result (Tried o go old new)
 tried_behind o go old same mid new (Err x) e settles tried = tt
 tried_behind o go old same mid new (Ok None) e settles tried = (

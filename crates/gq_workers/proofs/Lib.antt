@@ -1,5 +1,4 @@
 pub mod AliasLemmas
-pub mod CopyLemmas
 pub mod FoundLemmas
 pub mod FeedLemmas
 pub mod MarkLemmas

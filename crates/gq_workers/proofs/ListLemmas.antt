@@ -1,4 +1,4 @@
--- ListLemmas: numbers in order: each once, and no others.
+-- ListLemmas: lists of numbers in order, each once, and no others.
 use Rattle.std.proofs.Common.{ℕ, ◌<◌, cond, Bool, true, false, List, [], ◌∷◌, ◌++◌, Option, Some, None, refl, sym, subst, append-nil}
 use Rattle.std.specs.Prelude.{nat_eq}
 use Rattle.std.specs.List.{All, AllByRecursion, IsDistinct}

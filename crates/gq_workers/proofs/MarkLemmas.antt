@@ -12,7 +12,7 @@ use Rattle.gq_rules_meaning.specs.Blocks.{AtPlace, Match}
 use Rattle.gq_workers.specs.Running.{matches_by, sources_of, targets_of, IsAtEnd, Cover, Mark, AreMarked, MarkThose}
 use Rattle.gq_workers.proofs.FoundLemmas.{targets_append}
 
--- ---- numbers and truths
+-- ---- numbers and truth values
 
 pub below_or_same : (q p : ℕ) → q < p + 1 → (q < p) ⊎ (q ≡ p)
 below_or_same zero zero h = inr refl
@@ -78,7 +78,7 @@ gave_same a b h = cc
 given_same : (a b : List Match) → given a ≡ given b → a ≡ b
 given_same a b h = cc
 
--- ---- one candidate more
+-- ---- one more candidate
 
 module _ (f : List Match → List ℕ) (go : Candidate → Answer Wrong (List Match)) (cs : List Candidate) where
   pub mark_first : (s : ℕ) (words : List ℕ) → Mark f go cs s s words words

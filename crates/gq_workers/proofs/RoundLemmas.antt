@@ -1,4 +1,4 @@
--- RoundLemmas: what several workers leave, brought together.
+-- RoundLemmas: combining the outputs of several workers.
 use Rattle.std.proofs.Common.{◌≡◌, ℕ, zero, suc, ◌+◌, ◌*◌, ◌/◌, ◌%◌, ◌^◌, ◌<◌, ◌≤◌, ◌==◌, ◌||◌, ◌⊎◌, inl, inr, not, max, true, false, List, [], ◌∷◌, ◌++◌, take, set, get_or, length, slice_index, bit_and, bit_or, Option, Some, None, Result, Ok, Err, IfOk, refl, sym, ap, ap₂, ◌∙◌, subst, arith}
 use Rattle.std.specs.List.{All}
 use Rattle.std.specs.Int.{bit_at}
@@ -29,7 +29,7 @@ use Rattle.gq_workers.proofs.FoundLemmas.{shaped_still}
 use Rattle.gq_workers.proofs.MarkLemmas.{below_or_not, true_or_false, or_first, or_second, of_or, not_both}
 use Rattle.gq_exec_contribute.specs.declared.scalars.ScalarInput.{ScalarInput}
 
--- ---- what a chunk leaves
+-- ---- the output of a chunk
 
 module _ (clock : Calendar) (o : Over) (w : Work) (start end : ℕ) where
   pub leaves_chunk : (fault : Option (ℕ × Wrong)) (batches : List (List (ℕ × Input))) (ints : List (ℕ × ScalarInput)) (old mid new : MatchBuffer) → GoneThrough (come clock o w) w.candidates o start end old mid fault → batches ≡ mid.batches → ints ≡ mid.inputs
@@ -46,7 +46,7 @@ module _ (clock : Calendar) (o : Over) (w : Work) (start end : ℕ) where
     targets = subst (λ l. Mark targets_of (come clock o w) w.candidates start end old.targets l) (sym targets) gone.targets;
   }
 
--- ---- what a worker leaves
+-- ---- the output of a worker
 
 abbrev pub Under : List ℕ → List ℕ → Type 0
 Under old new = (vertex : ℕ) → is_marked old vertex ≡ true → is_marked new vertex ≡ true
@@ -101,7 +101,7 @@ module _ (clock : Calendar) (o : Over) (w : Work) where
 
 -- ---- words of marks
 
--- the first words are joined
+-- the first `i` words are joined
 pub record JoinTo (old other : List ℕ) (i : ℕ) (now : List ℕ) : Type 0 where
   pub len : length now ≡ length old
   pub done : (k : ℕ) → k < i → slice_index now k ≡ bit_or (slice_index old k) (slice_index other k)
@@ -168,7 +168,7 @@ pub ruleset join_laws = (join_first, joined)
 abbrev AreParts : Calendar → Over → Work → ℕ → ℕ → List (Result WorkerOutput OutOfMemory) → Type 0
 AreParts clock o w first last parts = All (λ part. IfOk part (IsPart clock o w first last)) parts
 
--- the marks of the first parts are there
+-- the marks of the first `i` parts are set
 pub record MarksTo (parts : List (Result WorkerOutput OutOfMemory)) (i : ℕ) (old now : MatchBuffer) : Type 0 where
   pub lefts : (clock : Calendar) (o : Over) (w : Work) (first last : ℕ) → All (λ part. IfOk part (IsPart clock o w first last)) parts → AreLefts clock o w now.sources now.targets (take i parts)
   pub sources : (clock : Calendar) (o : Over) (w : Work) (first last : ℕ) → All (λ part. IfOk part (IsPart clock o w first last)) parts → Mark sources_of (come clock o w) w.candidates first last old.sources now.sources
@@ -240,7 +240,7 @@ marks_done parts i old new l h = record {
 
 pub ruleset marks_laws = (marks_first, marks_done)
 
--- ---- what is left is fed
+-- ---- feeding the output
 
 pub left_fed : (l : ChunkOutput) (old new : BlockProgress) (ints : List (ℕ × ScalarInput)) → l.start ≡ old.at → l.fault ≡ None → ints ≡ l.inputs → FedFrom old.accums new.accums old.fed l.batches ints new.fed → new.at ≡ l.end → new.found ≡ old.found → FeedsLeft l old new None
 left_fed l old new ints start fault listed took end same = record {

@@ -1,4 +1,4 @@
--- RunLemmas: candidate after candidate and chunk after chunk, in the words of the definitions.
+-- RunLemmas: candidate after candidate and chunk after chunk, in terms of the definitions.
 use Rattle.std.proofs.Common.{◌≡◌, ℕ, ℤ, zero, suc, ◌+◌, ◌*◌, ◌<◌, ◌≤◌, ◌||◌, Bool, true, false, List, [], ◌∷◌, ◌++◌, take, drop, length, replicate, slice_get, Option, Some, None, Result, Ok, Err, refl, sym, ap, ap₂, ◌∙◌, subst, arith, append-nil, append_assoc}
 use Rattle.std.specs.Option.{option_map}
 use Rattle.gq_graph.specs.declared.rows.Candidate.{Candidate}
@@ -41,7 +41,7 @@ use Rattle.gq_workers.proofs.AliasLemmas.{named_all}
 use Rattle.gq_workers.proofs.MarkLemmas.{mark_first, cover_first, mark_next, cover_next, mark_wider, marked_first, marked_more, sources_over, targets_over}
 use Rattle.gq_exec_contribute.specs.declared.scalars.ScalarInput.{ScalarInput}
 
--- ---- one candidate more
+-- ---- one more candidate
 
 abbrev given : List Match → Answer blocks.BlockFault (List Match)
 given ms = Gives ms
@@ -50,7 +50,7 @@ gives_same : (a b : List Match) → given a ≡ given b → a ≡ b
 gives_same a b h = cc
 
 module _ (go : Candidate → Answer Wrong (List Match)) where
-  -- a fault of one of the first candidates, or what they gave
+  -- the fault of one of the first candidates, or their matches
   matches_then : (n : ℕ) (xs : List Candidate) (c : Candidate) (rest : List Candidate) (ms : List Match) → matches_by go n xs ≡ Gives ms
       → matches_by go n (xs ++ c ∷ rest) ≡ (blaming (AtPlace (n + length xs)) (go c) >>= λ m. matches_by go (suc (n + length xs)) rest >>= λ ns. Gives (ms ++ (m ++ ns)))
   matches_then n [] c rest ms e = (let z : n + 0 ≡ n = omega arith in ap (λ (k : ℕ). blaming (AtPlace k) (go c) >>= λ m. matches_by go (suc k) rest >>= λ ns. Gives (m ++ ns)) (sym z))
@@ -90,7 +90,7 @@ module _ (go : Candidate → Answer Wrong (List Match)) where
   faulty xs c rest ms w e g = matches_then 0 xs c rest ms e ∙ ap (λ o. blaming (AtPlace (0 + length xs)) o >>= λ m. matches_by go (suc (0 + length xs)) rest >>= λ ns. Gives (ms ++ (m ++ ns))) g
       ∙ (let z : 0 + length xs ≡ length xs = omega arith in ap (λ (n : ℕ). Faults (AtPlace n w)) z)
 
--- ---- the same in the words of the definitions
+-- ---- the same in terms of the definitions
 
 module _ (clock : Calendar) (o : Over) (block : Block) (ends : Ends) (edge : Option ℕ) (s : State Reference) (shows : Shows o.plan.places o.frame s)
     (has : HasEnds o.schema o.plan o.frame.things block ends) (at : option_map Place edge ≡ edge_alias (view_walk block.walk)) where
@@ -242,7 +242,7 @@ begun o r vertices at fed opened e few = record {
     none go (c ∷ cs) = refl
 
 module _ (clock : Calendar) (o : Over) (w : Work) (old new : BlockProgress) where
-  -- a chunk of this thread
+  -- a chunk on this thread
   pub chunk_steps : (end : ℕ) (mid : MatchBuffer) (given : List (ℕ × ScalarInput)) → HasRun clock o w old → GoneThrough (come clock o w) w.candidates o old.at end old.found mid None → given ≡ mid.inputs → FedFrom old.accums new.accums old.fed mid.batches given new.fed → old.at < end → new.at ≡ end
       → new.found.batches ≡ replicate (length mid.batches) [] → new.found.inputs ≡ take 0 mid.inputs → new.found.sources ≡ mid.sources → new.found.targets ≡ mid.targets → Steps clock o w old new None
   chunk_steps end mid given h gone listed took l at batches ints sources targets = (

@@ -26,7 +26,7 @@ use Rattle.gq_workers.specs.declared.run.BlockProgress.{BlockProgress}
 use Rattle.gq_workers.specs.declared.work.Work.{Work}
 use Rattle.gq_workers.specs.Running.{AreFedTo, HasRun, IsShort, IsWork, sources_of, targets_of}
 
--- what a block leaves: the same slots, no content spoiled, vertices that are there, each once
+-- the result of a block: the same slots, no spoiled content, and existing vertices, each once
 pub record Leaves (o : Over) (a : After) : Type 0 where
   pub slots : a.accums.slots ≡ o.frame.accums.slots
   pub sound : AreSound a.accums
@@ -39,17 +39,17 @@ abbrev pub IfLeft : Over → Result After BlockFault → Type 0
 IfLeft o (Ok a) = Leaves o a
 IfLeft o (Err e) = Unit {0}
 
--- whatever state the frame shows, the answer is the one that was meant
+-- whatever state the frame shows, the answer is that of the definitions
 pub record Answers (clock : Calendar) (o : Over) (block : Block) (result : Result After BlockFault) : Type 0 where
   pub each : (s : State Reference) → Shows o.plan.places o.frame s → Answered after_is (accumulated (world_over clock o) s (view_block block)) result
 
--- all that these matches contribute is fed, and the marks are those of their ends
+-- all contributions of these matches are fed, and the marks are those of their ends
 pub record IsOver (o : Over) (ms : List Match) (r : BlockProgress) : Type 0 where
   pub fed : AreFedTo o ms r.accums r.fed
   pub sources : Marks r.found.sources (sources_of ms)
   pub targets : Marks r.found.targets (targets_of ms)
 
--- of any block that has led here the answer is the one that was meant
+-- for any block that leads to this progress, the answer is that of the definitions
 pub record IsJudged (r : BlockProgress) (result : Result After BlockFault) : Type 0 where
   pub answered : (o : Over) (ms : List Match) → IsOver o ms r → Answered after_is (after_matches (slots_are o.frame.accums) ms) result
   pub left : (o : Over) (ms : List Match) → IsOver o ms r → IfLeft o result
@@ -67,16 +67,16 @@ block_matches clock o block s =
     matches (world_over clock o) s (view_block block) (from (world_over clock o) s.names (view_block block)) 0
     (candidates_of (world_over clock o) (from (world_over clock o) s.names (view_block block)).start (view_block block).walk)
 
--- what a run of this block goes through
+-- the work of a run of this block
 pub record IsWorkOf (o : Over) (block : Block) (w : Work) : Type 0 where
   pub is : IsWork o w
   pub same : w.block.now ≡ block
 
--- before the first candidate, whatever the block
+-- before the first candidate, for any block
 pub record IsBegun (o : Over) (r : BlockProgress) : Type 0 where
   pub each : (clock : Calendar) (w : Work) → HasRun clock o w r
 
--- all candidates are gone through, and all is fed; or the first fault is told
+-- all candidates are done and all contributions are fed; or the first fault is returned
 abbrev pub RanTo : Calendar → Over → Block → Ran → Type 0
 RanTo clock o block (ran.Done r) = (ms : List Match) × ((s : State Reference) → Shows o.plan.places o.frame s → block_matches clock o block s ≡ Gives ms) × IsOver o ms r × IsShort r.found
 RanTo clock o block (ran.Fault n w) = (s : State Reference) → Shows o.plan.places o.frame s → block_matches clock o block s ≡ Faults (AtPlace n w)

@@ -1,4 +1,4 @@
--- Rounds: what several workers leave of some chunks, and how it is brought together.
+-- Rounds: the outputs of several workers for some chunks, and how they are combined.
 use Rattle.std.specs.Prelude.{◌≡◌, ◌||◌, ℕ, ◌<◌, ◌≤◌, true, List, length, Option, Some, None, Result, Ok, IfOk, slice_get}
 use Rattle.std.specs.List.{All}
 use Rattle.gq_base.specs.declared.memory.OutOfMemory.{OutOfMemory}
@@ -16,19 +16,19 @@ use Rattle.gq_workers.specs.declared.work.Round.{Round}
 use Rattle.gq_workers.specs.declared.run.BlockProgress.{BlockProgress}
 use Rattle.gq_workers.specs.Running.{come, matches_by, sources_of, targets_of, MatchesTo, AreFedTo, Came, Cover, CoverWhole, Mark, IsAtEnd, IsEmpty, IsShaped, IsWork}
 
--- ---- what workers leave
+-- ---- the outputs of workers
 
--- what is left of a chunk; without a fault its matches have their marks among these words
+-- the output of a chunk; without a fault its matches are marked in these words
 pub record IsLeft (clock : Calendar) (o : Over) (w : Work) (starts ends : List ℕ) (l : ChunkOutput) : Type 0 where
   pub came : Came (come clock o w) w.candidates o l.start l.end l.batches l.inputs l.fault
   pub sources : CoverWhole sources_of (come clock o w) w.candidates l.start l.end starts l.fault
   pub targets : CoverWhole targets_of (come clock o w) w.candidates l.start l.end ends l.fault
 
--- what is marked is at an end of a match between two places
+-- only ends of matches between the two places are marked
 abbrev pub Only : (List Match → List ℕ) → Calendar → Over → Work → ℕ → ℕ → List ℕ → Type 0
 Only ends_of clock o w first last words = (vertex : ℕ) → is_marked words vertex ≡ true → (place : ℕ) × (first ≤ place) × (place < last) × IsAtEnd ends_of (come clock o w) w.candidates place vertex
 
--- what a worker leaves of its chunks between two places
+-- the output of a worker for its chunks between two places
 pub record IsPart (clock : Calendar) (o : Over) (w : Work) (first last : ℕ) (p : WorkerOutput) : Type 0 where
   pub lefts : All (IsLeft clock o w p.sources p.targets) p.lefts
   pub sources : Only sources_of clock o w first last p.sources
@@ -38,7 +38,7 @@ pub record IsPart (clock : Calendar) (o : Over) (w : Work) (first last : ℕ) (p
 abbrev pub over_in : Round → Over
 over_in r = record { schema = r.graph.catalog.now; vertices = r.graph.store.now.vertices; edges = r.graph.store.now.edges; plan = r.plan.now; tuples = r.tuples.now; frame = r.frame.now }
 
--- they may begin
+-- the workers' preconditions
 pub record CanWork (r : Round) : Type 0 where
   pub together : GoTogether r.graph.index.now (over_in r)
   pub work : IsWork (over_in r) r.work.now
@@ -47,7 +47,7 @@ pub record CanWork (r : Round) : Type 0 where
 abbrev pub IsRoundPart : Calendar → Round → WorkerOutput → Type 0
 IsRoundPart clock r = IsPart clock (over_in r) r.work.now r.first r.last
 
--- a chunk's matches are marked, and then nothing waits
+-- a chunk's matches are marked, and nothing waits any more
 pub record LeavesChunk (clock : Calendar) (o : Over) (w : Work) (start end : ℕ) (old new : MatchBuffer) (l : ChunkOutput) : Type 0 where
   pub left : IsLeft clock o w new.sources new.targets l
   pub empty : IsEmpty new
@@ -67,11 +67,11 @@ pub record MarksPart (p : WorkerOutput) (old new : MatchBuffer) : Type 0 where
   pub batches : new.batches ≡ old.batches
   pub inputs : new.inputs ≡ old.inputs
 
--- what each worker has left is there
+-- each worker's output is in the list
 abbrev pub AreLefts : Calendar → Over → Work → List ℕ → List ℕ → List (Result WorkerOutput OutOfMemory) → Type 0
 AreLefts clock o w sources targets parts = All (λ part. IfOk part (λ p. All (IsLeft clock o w sources targets) p.lefts)) parts
 
--- whatever workers left between two places, it is marked, and nothing else is marked anew
+-- all marks of the workers between two places are set, and no others are added
 pub record MarksParts (parts : List (Result WorkerOutput OutOfMemory)) (old new : MatchBuffer) : Type 0 where
   pub lefts : (clock : Calendar) (o : Over) (w : Work) (first last : ℕ) → All (λ part. IfOk part (IsPart clock o w first last)) parts → AreLefts clock o w new.sources new.targets parts
   pub sources : (clock : Calendar) (o : Over) (w : Work) (first last : ℕ) → All (λ part. IfOk part (IsPart clock o w first last)) parts → Mark sources_of (come clock o w) w.candidates first last old.sources new.sources
@@ -79,9 +79,9 @@ pub record MarksParts (parts : List (Result WorkerOutput OutOfMemory)) (old new 
   pub shaped : (vertices : ℕ) → IsShaped vertices old → IsShaped vertices new
   pub empty : IsEmpty old → IsEmpty new
 
--- ---- what is left is fed
+-- ---- feeding the outputs
 
--- it stands with one of the workers
+-- it is among the outputs of one of the workers
 pub record StandsIn (parts : List (Result WorkerOutput OutOfMemory)) (l : ChunkOutput) : Type 0 where
   pub worker : ℕ
   pub part : WorkerOutput
@@ -89,7 +89,7 @@ pub record StandsIn (parts : List (Result WorkerOutput OutOfMemory)) (l : ChunkO
   pub place : ℕ
   pub stands : slice_get part.lefts place ≡ Some l
 
--- the candidates before a place are gone through and fed, and their matches have their marks
+-- the candidates before a place are done and fed, and their matches are marked
 pub record InRound (clock : Calendar) (o : Over) (w : Work) (r : BlockProgress) : Type 0 where
   pub matched : List Match
   pub ran : MatchesTo (come clock o w) w.candidates r.at matched
@@ -97,7 +97,7 @@ pub record InRound (clock : Calendar) (o : Over) (w : Work) (r : BlockProgress) 
   pub sources : Cover sources_of (come clock o w) w.candidates 0 r.at r.found.sources
   pub targets : Cover targets_of (come clock o w) w.candidates 0 r.at r.found.targets
 
--- more is fed, or there is the first fault
+-- more is fed, or the first fault is returned
 abbrev pub Feeds : Calendar → Over → Work → BlockProgress → BlockProgress → Option (ℕ × Wrong) → Type 0
 Feeds clock o w old new None = InRound clock o w new × (new.found ≡ old.found)
 Feeds clock o w old new (Some fault) = matches_by (come clock o w) 0 w.candidates ≡ Faults (AtPlace fault.0 fault.1)

@@ -1,4 +1,4 @@
--- Running: what comes of candidates one after another, what of it waits, what is fed, and which vertices are marked by then.
+-- Running: the effects of candidates in order: which of them wait, which are fed, and which vertices are marked.
 use Rattle.std.specs.Prelude.{◌≡◌, ◌==◌, ◌||◌, ℕ, suc, ◌*◌, ◌<◌, ◌≤◌, Bool, true, false, List, [], ◌∷◌, ◌++◌, length, map, filter_map, take, slice_get, Option, Some, None}
 use Rattle.std.specs.Option.{option_map}
 use Rattle.std.specs.List.{All, flat_map}
@@ -36,32 +36,32 @@ use Rattle.gq_exec_contribute.specs.declared.scalars.ScalarInput.{ScalarInput}
 
 -- ---- candidates
 
--- what comes of a candidate under aliases: it sees these, and the accumulators from before the block
+-- the effect of a candidate under aliases: it sees these, and the accumulators from before the block
 abbrev pub comes_under : Calendar → Over → Block → List (ℕ × Placed) → Candidate → Answer Wrong (List Match)
 comes_under clock o block aliases c = match_of (view_block block) (slots_are o.frame.accums) c (look_of clock (viewed o aliases o.frame.accums o.frame.accums))
 
--- under its own
+-- under its own aliases
 abbrev pub comes : Calendar → Over → Block → Ends → Option ℕ → Candidate → Answer Wrong (List Match)
 comes clock o block ends edge c = comes_under clock o block (bound_to ends edge c) c
 
--- whichever candidate has these aliases
+-- for every candidate with these aliases
 abbrev pub ComesUnder : Calendar → Over → Block → List (ℕ × Placed) → List (List (ℕ × Input)) → List (List (ℕ × Input)) → Outcome → Type 0
 ComesUnder clock o block aliases old new outcome = (c : Candidate) → Comes o.frame.accums.slots c (comes_under clock o block aliases c) old new outcome
 
--- the matches among candidates that are numbered from n on, where this comes of each; the first fault counts
+-- the matches among candidates that are numbered from n on, given the effect of each; the first fault counts
 abbrev pub matches_by : (Candidate → Answer Wrong (List Match)) → ℕ → List Candidate → Answer BlockFault (List Match)
 matches_by go n [] = Gives []
 matches_by go n (c ∷ cs) = blaming (AtPlace n) (go c) >>= λ m. matches_by go (suc n) cs >>= λ ms. Gives (m ++ ms)
 
--- the first candidates are gone through without a fault, and these are their matches
+-- the first `n` candidates are done without a fault, and these are their matches
 abbrev pub MatchesTo : (Candidate → Answer Wrong (List Match)) → List Candidate → ℕ → List Match → Type 0
 MatchesTo go cs end ms = matches_by go 0 (take end cs) ≡ Gives ms
 
--- once the candidates before `start` are gone through, those up to `end` give these matches more
+-- after the candidates before `start`, those up to `end` add these matches
 abbrev pub GoOn : (Candidate → Answer Wrong (List Match)) → List Candidate → ℕ → ℕ → List Match → Type 0
 GoOn go cs start end ms = (before : List Match) → MatchesTo go cs start before → MatchesTo go cs end (before ++ ms)
 
--- once they are gone through, this is the first fault
+-- after them, this is the first fault
 abbrev pub FaultAt : (Candidate → Answer Wrong (List Match)) → List Candidate → ℕ → ℕ → Wrong → Type 0
 FaultAt go cs start place w = (before : List Match) → MatchesTo go cs start before → matches_by go 0 cs ≡ Faults (AtPlace place w)
 
@@ -76,7 +76,7 @@ sources_of ms = map (λ (m : Match). m.candidate.source) ms
 abbrev pub targets_of : List Match → List ℕ
 targets_of ms = filter_map (λ (m : Match). m.candidate.target) ms
 
--- what these matches contribute waits in the one batch, and behind it as INTs and truths
+-- the contributions of these matches wait: in the batch, followed by the INTs and truth values
 pub record Wait (o : Over) (ms : List Match) (batches : List (List (ℕ × Input))) (ints : List (ℕ × ScalarInput)) : Type 0 where
   pub may : All (MayTake o.frame.accums.slots) (gives_of ms)
   pub batch : List (ℕ × Input)
@@ -84,19 +84,19 @@ pub record Wait (o : Over) (ms : List Match) (batches : List (List (ℕ × Input
   pub batched : AreBatched o.frame.accums.slots (gives_of ms) (batch ++ as_inputs ints)
   pub within : All (λ (m : Match). IsWithin (length o.vertices) m.candidate) ms
 
--- what these matches contribute is fed, and nothing else
+-- the contributions of these matches are fed, and nothing else
 pub record AreFedTo (o : Over) (ms : List Match) (accums : Accums) (fed : ℕ) : Type 0 where
   pub after : AreAfter 1 o.frame.accums accums (gives_of ms)
   pub counted : fed ≡ length (gives_of ms)
   pub within : All (λ (m : Match). IsWithin (length o.vertices) m.candidate) ms
 
--- whatever was fed before, what waits is fed behind it
+-- whatever was fed before, the waiting inputs are fed after it
 pub record FedFrom (old new : Accums) (fed : ℕ) (batches : List (List (ℕ × Input))) (ints : List (ℕ × ScalarInput)) (now : ℕ) : Type 0 where
   pub each : (o : Over) (ms more : List Match) → AreFedTo o ms old fed → Wait o more batches ints → AreFedTo o (ms ++ more) new now
 
 -- ---- which vertices are marked
 
--- the candidate at a place is a match with this vertex at an end
+-- the candidate at a place is a match that has this vertex at an end
 pub record IsAtEnd (ends_of : List Match → List ℕ) (go : Candidate → Answer Wrong (List Match)) (cs : List Candidate) (place vertex : ℕ) : Type 0 where
   pub candidate : Candidate
   pub matched : List Match
@@ -104,11 +104,11 @@ pub record IsAtEnd (ends_of : List Match → List ℕ) (go : Candidate → Answe
   pub comes : go candidate ≡ Gives matched
   pub ends : among (ends_of matched) vertex ≡ true
 
--- of the candidates from `start` up to `end` all matches have their marks
+-- all matches among the candidates from `start` up to `end` are marked
 abbrev pub Cover : (List Match → List ℕ) → (Candidate → Answer Wrong (List Match)) → List Candidate → ℕ → ℕ → List ℕ → Type 0
 Cover ends_of go cs start end words = (place vertex : ℕ) → start ≤ place → place < end → IsAtEnd ends_of go cs place vertex → is_marked words vertex ≡ true
 
--- marks stay, and what is marked anew is at an end of one of these matches
+-- marks remain, and each new mark is at an end of one of these matches
 pub record Mark (ends_of : List Match → List ℕ) (go : Candidate → Answer Wrong (List Match)) (cs : List Candidate) (start end : ℕ) (old new : List ℕ) : Type 0 where
   pub kept : (vertex : ℕ) → is_marked old vertex ≡ true → is_marked new vertex ≡ true
   pub only : (vertex : ℕ) → is_marked new vertex ≡ true → is_marked old vertex ≡ false → (place : ℕ) × (start ≤ place) × (place < end) × IsAtEnd ends_of go cs place vertex
@@ -118,11 +118,11 @@ pub record AreMarked (ends_of : List Match → List ℕ) (go : Candidate → Ans
   pub cover : Cover ends_of go cs 0 end words
   pub only : (vertex : ℕ) → is_marked words vertex ≡ true → (place : ℕ) × (place < end) × IsAtEnd ends_of go cs place vertex
 
--- one match more is marked, or none
+-- one more match is marked, or none
 abbrev pub MarkThose : (List Match → List ℕ) → List Match → List ℕ → List ℕ → Type 0
 MarkThose ends_of ms old new = (vertex : ℕ) → is_marked new vertex ≡ (among (ends_of ms) vertex || is_marked old vertex)
 
--- as few words of marks as any store needs
+-- there are at most as many words of marks as any store needs
 pub record IsShort (found : MatchBuffer) : Type 0 where
   pub sources : length found.sources ≤ 67108863
   pub targets : length found.targets ≤ 67108863
@@ -139,18 +139,18 @@ pub record IsEmpty (found : MatchBuffer) : Type 0 where
   pub batches : found.batches ≡ [] ∷ []
   pub inputs : found.inputs ≡ []
 
--- nothing was found yet
+-- nothing has been found yet
 pub record IsOpened (vertices : ℕ) (found : MatchBuffer) : Type 0 where
   pub shaped : vertices ≤ 4194304 → IsShaped vertices found
   pub empty : IsEmpty found
   pub sources : (v : ℕ) → is_marked found.sources v ≡ false
   pub targets : (v : ℕ) → is_marked found.targets v ≡ false
 
--- these INTs and truths are added to the one batch, as inputs
+-- these INTs and truth values are appended to the batch, as inputs
 pub record AddsInputs (ints : List (ℕ × ScalarInput)) (old new : List (List (ℕ × Input))) : Type 0 where
   pub each : (batch : List (ℕ × Input)) → old ≡ batch ∷ [] → new ≡ (batch ++ as_inputs ints) ∷ []
 
--- what waits goes on waiting, and the marks are the same
+-- the inputs that wait and the marks are the same
 pub record Settles (old new : MatchBuffer) : Type 0 where
   pub shaped : (vertices : ℕ) → IsShaped vertices old → IsShaped vertices new
   pub wait : (o : Over) (ms : List Match) → Wait o ms old.batches old.inputs → Wait o ms new.batches new.inputs
@@ -159,24 +159,25 @@ pub record Settles (old new : MatchBuffer) : Type 0 where
 
 -- ---- one candidate
 
--- what comes of a candidate waits behind what waited, and its ends are marked; one that faults marks nothing
+-- the contributions of a candidate are appended to those that wait, and its ends are marked; one that faults marks
+-- nothing
 abbrev pub Tried : Over → Answer Wrong (List Match) → MatchBuffer → MatchBuffer → Option Wrong → Type 0
 Tried o go old new None = (m : List Match) × (go ≡ Gives m) × ((ms : List Match) → Wait o ms old.batches old.inputs → Wait o (ms ++ m) new.batches new.inputs) × MarkThose sources_of m old.sources new.sources × MarkThose targets_of m old.targets new.targets
 Tried o go old new (Some w) = (go ≡ Faults w) × (new.sources ≡ old.sources) × (new.targets ≡ old.targets)
 
--- a candidate that is read is done; else nothing has changed
+-- a candidate that could be read is done; else nothing has changed
 abbrev pub Done : Over → Answer Wrong (List Match) → MatchBuffer → MatchBuffer → Bool → Type 0
 Done o go old new true = Tried o go old new None × IsShaped (length o.vertices) new
 Done o go old new false = new ≡ old
 
--- whether a vertex is that at an end
+-- whether a vertex is the one at an end
 abbrev pub marks_end : Option ℕ → ℕ → Bool
 marks_end None v = false
 marks_end (Some w) v = v == w
 
 -- ---- some candidates one after another
 
--- what a run goes through
+-- the work of a run
 pub record IsWork (o : Over) (w : Work) : Type 0 where
   pub ends : HasEnds o.schema o.plan o.frame.things w.block.now w.leaves.ends.now
   pub edge : option_map Place w.leaves.edge ≡ edge_alias (view_walk w.block.now.walk)
@@ -187,17 +188,18 @@ pub record IsWork (o : Over) (w : Work) : Type 0 where
 abbrev pub come : Calendar → Over → Work → Candidate → Answer Wrong (List Match)
 come clock o w = comes clock o w.block.now w.leaves.ends.now w.leaves.edge
 
--- what the candidates from one place to another leave: what their matches contribute waits, or there is a first fault
+-- the effect of the candidates from one place to another: the contributions of their matches wait, or there is a first
+-- fault
 abbrev pub Came : (Candidate → Answer Wrong (List Match)) → List Candidate → Over → ℕ → ℕ → List (List (ℕ × Input)) → List (ℕ × ScalarInput) → Option (ℕ × Wrong) → Type 0
 Came go cs o start end batches ints None = (ms : List Match) × GoOn go cs start end ms × Wait o ms batches ints
 Came go cs o start end batches ints (Some fault) = FaultAt go cs start fault.0 fault.1
 
--- where there was no fault the matches have their marks
+-- without a fault the matches are marked
 abbrev pub CoverWhole : (List Match → List ℕ) → (Candidate → Answer Wrong (List Match)) → List Candidate → ℕ → ℕ → List ℕ → Option (ℕ × Wrong) → Type 0
 CoverWhole ends_of go cs start end words None = Cover ends_of go cs start end words
 CoverWhole ends_of go cs start end words (Some fault) = Unit {0}
 
--- all of them are tried, or all up to the first fault
+-- all of them are tried, or those up to the first fault
 pub record GoneThrough (go : Candidate → Answer Wrong (List Match)) (cs : List Candidate) (o : Over) (start end : ℕ) (old new : MatchBuffer) (fault : Option (ℕ × Wrong)) : Type 0 where
   pub came : Came go cs o start end new.batches new.inputs fault
   pub shaped : IsShaped (length o.vertices) new
@@ -208,7 +210,7 @@ pub record GoneThrough (go : Candidate → Answer Wrong (List Match)) (cs : List
 
 -- ---- a run
 
--- the candidates before a place are gone through, and what they gave is fed
+-- the candidates before a place are done, and their contributions are fed
 pub record HasRun (clock : Calendar) (o : Over) (w : Work) (r : BlockProgress) : Type 0 where
   pub matched : List Match
   pub ran : MatchesTo (come clock o w) w.candidates r.at matched
@@ -218,7 +220,7 @@ pub record HasRun (clock : Calendar) (o : Over) (w : Work) (r : BlockProgress) :
   pub sources : AreMarked sources_of (come clock o w) w.candidates r.at r.found.sources
   pub targets : AreMarked targets_of (come clock o w) w.candidates r.at r.found.targets
 
--- it comes further, or to the first fault
+-- it progresses, or ends with the first fault
 abbrev pub Steps : Calendar → Over → Work → BlockProgress → BlockProgress → Option (ℕ × Wrong) → Type 0
 Steps clock o w old new None = HasRun clock o w new × (old.at < new.at)
 Steps clock o w old new (Some fault) = matches_by (come clock o w) 0 w.candidates ≡ Faults (AtPlace fault.0 fault.1)

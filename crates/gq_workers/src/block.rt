@@ -21,7 +21,7 @@ use gq_value::Wrong;
 use std::alloc::Global;
 use std::thread::Threads;
 
-/// How far a run came: all candidates are gone through, or one of them faults.
+/// The result of a run: all candidates are done, or one of them faults.
 #[derive(Drop)]
 pub(crate) enum Ran {
     Done(BlockProgress),
@@ -30,14 +30,14 @@ pub(crate) enum Ran {
     Fault(u64, Wrong),
 }
 
-/// WHERE and ACCUM of a block with these ends and candidates: the accumulators after all contributions, and the distinct
-/// matched vertices, by number.
+/// Evaluates WHERE and ACCUM of a block with these ends and candidates. Returns the accumulators after all
+/// contributions, and the distinct matched vertices, by number.
 ///
-/// Up to `shape.workers` workers, at most 64, draw chunks of `shape.chunk` candidates; a chunk of 0 counts as 1. A worker
-/// that can't be started is run by the caller. What they find is fed in the order of the candidates, so the answer is the
-/// same for each shape. The fault is that of the first candidate in order that has one; sums are judged once all inputs
-/// are fed. Each worker passes the gate after it has drawn a chunk. More than 2^60 inputs are `OutOfMemory` too. The frame
-/// is lent, and stays as it is.
+/// Up to `shape.workers` workers, at most 64, draw chunks of `shape.chunk` candidates; a chunk of 0 counts as 1. The
+/// caller runs a worker that can't be started. Contributions are fed in the order of the candidates, so the answer is
+/// the same for each shape. The fault is that of the first candidate in order that has one; sums are checked after all
+/// inputs are fed. Each worker passes the gate after it draws a chunk. Returns `OutOfMemory` past 2^60 inputs. The
+/// frame is borrowed and not changed.
 #[tactic(auto, using(crate::proofs::RunLemmas::end_laws))]
 pub fn run_block<R: Threads + Sync, G: Gate>(
     rt: &R,
@@ -61,7 +61,7 @@ pub fn run_block<R: Threads + Sync, G: Gate>(
     }
 }
 
-/// Goes through the candidates of a block.
+/// Tries the candidates of a block.
 fn run_all<R: Threads + Sync, G: Gate>(
     rt: &R,
     alloc: Global,
@@ -80,7 +80,7 @@ fn run_all<R: Threads + Sync, G: Gate>(
     through(rt, alloc, &work, over, shape.workers, gate)
 }
 
-/// The candidates of a block, and what they are tried by.
+/// Returns the work of a block: its candidates, and what they are tried with.
 fn work_of<'b>(
     alloc: Global,
     block: &'b Block,
@@ -102,7 +102,8 @@ fn work_of<'b>(
     })
 }
 
-/// Goes through the candidates, chunk by chunk on this thread or round by round with several workers, up to the first that faults.
+/// Tries the candidates, chunk by chunk on this thread or round by round with several workers, up to the first that
+/// faults.
 fn through<R: Threads + Sync, G: Gate>(
     rt: &R,
     alloc: Global,
@@ -124,8 +125,8 @@ fn through<R: Threads + Sync, G: Gate>(
     Ok(Ran::Done(run))
 }
 
-/// The next chunk on this thread, or the next round of several workers: all chunks of it are gone through and fed, or a candidate of it
-/// is the first that faults.
+/// Runs the next chunk on this thread, or the next round of several workers: all its chunks are tried and fed, or one
+/// of its candidates is the first that faults.
 fn go_on<R: Threads + Sync, G: Gate>(
     rt: &R,
     alloc: Global,
@@ -146,7 +147,7 @@ fn go_on<R: Threads + Sync, G: Gate>(
     next_round(rt, alloc, work, over, workers.min(64), gate, run)
 }
 
-/// Goes through the next chunk on this thread, and feeds what it contributes. The gate is passed as worker 0.
+/// Tries the next chunk on this thread, and feeds its contributions. The gate is passed as worker 0.
 fn next_chunk<G: Gate>(
     alloc: Global,
     work: &Work<'_>,

@@ -1,4 +1,4 @@
-// What a candidate leaves.
+// Trying a candidate.
 ghost use Rattle.std.specs.Prelude.{◌≡◌, ◌||◌, ◌*◌, ℕ, [], true, length, map, IfOk};
 ghost use Rattle.gq_rules_calendar.specs.Gregorian.{gregorian};
 ghost use Rattle.gq_exec_contribute.specs.Passing.{Comes};
@@ -25,11 +25,12 @@ use gq_plan_ir::Block;
 use gq_value::Wrong;
 use std::alloc::Global;
 
-/// How many candidates of a chunk are evaluated before those that follow aren't read any more.
+/// If this many candidates of a chunk had to be evaluated, the rest of the chunk isn't read any more.
 const MOST_EVALUATED: u32 = 8;
 
-/// Tries a candidate: what a match contributes waits, and its ends are marked; the fault of one that faults is told. It is read where the
-/// block's expressions are such as can be read (`gq_exec_contribute`), and else evaluated; those of the chunk that were evaluated are counted.
+/// Tries a candidate: the contributions of a match wait, and its ends are marked; a fault is returned. The candidate is
+/// read if the block's expressions can be read (`gq_exec_contribute`), and evaluated otherwise; the chunk's evaluated
+/// candidates are counted.
 pub(crate) fn try_one(
     alloc: Global,
     work: &Work<'_>,
@@ -60,7 +61,7 @@ pub(crate) fn try_one(
     )
 }
 
-/// Whether all that comes of a candidate could be read: then it is done, and else nothing has changed.
+/// Returns whether the candidate's effect could be read: then it is done, else nothing has changed.
 #[tactic(auto, using(crate::proofs::ComesLemmas::read_laws))]
 fn is_read(
     alloc: Global,
@@ -85,7 +86,7 @@ fn is_read(
     }
 }
 
-/// Gathers what acts feed, and marks the ends; or changes nothing, where one of them feeds something that can't be read.
+/// Collects what acts feed, and marks the ends; changes nothing if an act feeds something that can't be read.
 fn is_gathered(
     alloc: Global,
     work: &Work<'_>,
@@ -115,8 +116,8 @@ fn is_gathered(
     Ok(true)
 }
 
-/// Tries a candidate by evaluating its acts. What a match contributes waits in the batch, and its ends are marked; the fault of one that
-/// faults is told.
+/// Tries a candidate by evaluating its acts. The contributions of a match wait in the batch, and its ends are marked; a
+/// fault is returned.
 #[tactic(auto, using(crate::proofs::FoundLemmas::tried_laws))]
 fn try_candidate(
     alloc: Global,
@@ -155,7 +156,7 @@ fn try_candidate(
     }
 }
 
-/// What comes of a candidate: it sees its aliases, and the accumulators of the frame.
+/// Evaluates a candidate: it sees its aliases, and the accumulators of the frame.
 fn outcome_of(
     alloc: Global,
     block: &Block,
@@ -173,7 +174,7 @@ fn outcome_of(
     outcome_under(alloc, block, over, &row[..count], room, into)
 }
 
-/// What comes of a candidate with these aliases.
+/// Evaluates a candidate with these aliases.
 fn outcome_under(
     alloc: Global,
     block: &Block,

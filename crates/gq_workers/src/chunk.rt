@@ -1,4 +1,4 @@
-// Chunks of candidates, and the rows of their edges read ahead.
+// Chunks of candidates, and prefetching of their edge rows.
 ghost use Rattle.std.specs.Prelude.{◌≤◌, length, IfOk};
 ghost use Rattle.gq_rules_calendar.specs.Gregorian.{gregorian};
 ghost use Rattle.gq_workers.specs.Running.{GoneThrough, IsEmpty, IsShaped, IsWork, come};
@@ -13,8 +13,8 @@ use gq_plan_ir::{Act, Behind, Change, Expr, Feed, Field};
 use gq_value::{Value, Wrong};
 use std::alloc::Global;
 
-/// Tries the candidates from `start` up to `end` in order, or up to the first that faults, whose place and fault are told. What they
-/// contribute waits.
+/// Tries the candidates from `start` up to `end` in order, or up to the first that faults, and returns its place and
+/// fault. Their contributions wait.
 pub(crate) fn try_chunk(
     alloc: Global,
     work: &Work<'_>,
@@ -43,7 +43,7 @@ pub(crate) fn try_chunk(
     Ok(None)
 }
 
-/// Reads the rows of these candidates' edges ahead, where the block feeds an attribute of the edge.
+/// Prefetches the rows of these candidates' edges, if the block feeds an attribute of the edge.
 fn read_ahead(
     work: &Work<'_>,
     graph: Graph<'_>,
@@ -55,7 +55,7 @@ fn read_ahead(
         None => Ok(()),
         Some(field) => {
             list_edges(&work.candidates, start, end, edges)?;
-            // What is found is of no use: the rows are near from then on.
+            // The result is unused: the reads bring the rows into the cache.
             let _found = has_ints(graph.store, edges.as_slice(), field);
             Ok(())
         }
@@ -80,7 +80,7 @@ fn list_edges(
     Ok(())
 }
 
-/// The first attribute of the edge that acts feed.
+/// Returns the first attribute of the edge that acts feed.
 fn edge_attribute(acts: &[Act], edge: Option<u32>) -> Option<&Field> {
     for act in acts {
         match attribute_fed(act, edge) {
@@ -91,7 +91,7 @@ fn edge_attribute(acts: &[Act], edge: Option<u32>) -> Option<&Field> {
     None
 }
 
-/// The attribute of the edge that an act feeds.
+/// Returns the attribute of the edge that an act feeds.
 fn attribute_fed(act: &Act, edge: Option<u32>) -> Option<&Field> {
     match act {
         Act::Attached(_, _, change) | Act::Global(_, change) => match change {
@@ -102,7 +102,7 @@ fn attribute_fed(act: &Act, edge: Option<u32>) -> Option<&Field> {
     }
 }
 
-/// The attribute behind the name at a place.
+/// Returns the attribute of the name at a place.
 fn attribute_in(expr: &Expr, place: u32) -> Option<&Field> {
     match expr {
         Expr::Post(first, parts) => match first.get() {
@@ -116,10 +116,11 @@ fn attribute_in(expr: &Expr, place: u32) -> Option<&Field> {
     }
 }
 
-/// Whether one of these edges has an INT where the attribute stands among those of its first edge's type.
+/// Whether one of these edges has an INT at the place that the attribute has in its first edge's type.
 ///
-/// It goes through all of them twice, their rows first and then their values, and does nothing else meanwhile: so the processor waits for
-/// many rows at once, which stand in no order, and finds them near when the candidates are tried.
+/// It reads all of them twice, first their rows and then their values, and does nothing else meanwhile: so the
+/// processor waits for many rows at once, which are scattered in memory, and has them in the cache when the candidates
+/// are tried.
 fn has_ints(store: &Store, edges: &[u32], field: &Field) -> bool {
     match place_in(store, edges, field) {
         None => false,
@@ -127,7 +128,7 @@ fn has_ints(store: &Store, edges: &[u32], field: &Field) -> bool {
     }
 }
 
-/// The place of an attribute, by the type of the first edge.
+/// Returns the place of an attribute, by the type of the first edge.
 fn place_in(store: &Store, edges: &[u32], field: &Field) -> Option<u32> {
     let first = store.edges.ends().get(*edges.first()? as usize)?;
     match field {
@@ -136,7 +137,7 @@ fn place_in(store: &Store, edges: &[u32], field: &Field) -> Option<u32> {
     }
 }
 
-/// How many attributes these edges have.
+/// Returns the number of attributes of these edges.
 fn attributes(store: &Store, edges: &[u32]) -> usize {
     let mut count = 0usize;
     for edge in edges {
@@ -147,7 +148,7 @@ fn attributes(store: &Store, edges: &[u32]) -> usize {
     count
 }
 
-/// How many of these edges have an INT at a place.
+/// Returns how many of these edges have an INT at a place.
 fn ints(store: &Store, edges: &[u32], place: u32) -> usize {
     let mut count = 0usize;
     for edge in edges {

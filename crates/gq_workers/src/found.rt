@@ -1,4 +1,4 @@
-// What was found so far.
+// The results collected so far.
 ghost use Rattle.std.specs.Prelude.{◌≡◌, [], length, IfOk, OnOk};
 ghost use Rattle.gq_workers.specs.Running.{AddsInputs, IsOpened, Settles};
 
@@ -8,12 +8,12 @@ use gq_exec_contribute::{Room, ScalarInput, input_of};
 use gq_exec_source::unmarked;
 use std::alloc::Global;
 
-/// What candidates have left: inputs that wait to be fed, and marks of the matched vertices.
+/// The effects of candidates: inputs that wait to be fed, and marks of the matched vertices.
 #[derive(Drop)]
 pub(crate) struct MatchBuffer {
     pub batches: Batches,
 
-    /// Inputs made of INTs or a truth, each with the number of its target. They come behind what is in the batch.
+    /// Inputs that are INTs or truth values, each with the number of its target. They come after those in the batch.
     pub inputs: List<(u64, ScalarInput)>,
     pub room: Room,
     pub sources: List<u64>,
@@ -24,7 +24,7 @@ pub(crate) struct MatchBuffer {
 }
 
 impl MatchBuffer {
-    /// Nothing found yet, among so many vertices.
+    /// Returns an empty buffer, for this number of vertices.
     #[tactic(auto, using(crate::proofs::FoundLemmas::open_laws))]
     pub fn open(alloc: Global, vertices: u32) -> Result<MatchBuffer, OutOfMemory>
         ensures { IfOk result (IsOpened vertices) }
@@ -39,7 +39,7 @@ impl MatchBuffer {
         })
     }
 
-    /// Puts the inputs that wait behind what is in the batch, as inputs, so that the batch may take more.
+    /// Appends the inputs that wait after the batch to the batch, so that it can take more.
     #[tactic(auto, using(crate::proofs::FoundLemmas::settle_laws))]
     pub fn settle(&mut self, alloc: Global) -> Result<(), OutOfMemory>
         requires { length self.old.batches ≡ 1 }
@@ -54,7 +54,7 @@ impl MatchBuffer {
     }
 }
 
-/// Adds INTs and truths to the one batch, as inputs.
+/// Appends INTs and truth values to the batch, as inputs.
 #[tactic(auto, using(crate::proofs::FoundLemmas::ints_laws))]
 fn add_inputs(
     alloc: Global,

@@ -1,4 +1,4 @@
-// What workers leave, brought together.
+// Combines the outputs of workers.
 ghost use Rattle.std.specs.Prelude.{IfOk, OnOk};
 ghost use Rattle.gq_workers.specs.Rounds.{FeedsLeft, FeedsParts, Joins, MarksPart, MarksParts};
 
@@ -10,7 +10,7 @@ use gq_base::{List, OutOfMemory};
 use gq_value::Wrong;
 use std::alloc::Global;
 
-/// Marks what any of the workers has marked.
+/// Sets the marks of all workers.
 #[tactic(auto, using(crate::proofs::RoundLemmas::marks_laws))]
 pub(crate) fn mark_parts(
     parts: &[Result<WorkerOutput, OutOfMemory>],
@@ -27,7 +27,7 @@ pub(crate) fn mark_parts(
     Ok(())
 }
 
-/// Marks what one worker has marked.
+/// Sets the marks of one worker.
 fn mark_part(part: &WorkerOutput, found: &mut MatchBuffer) -> Result<(), OutOfMemory>
     ensures { OnOk result (MarksPart part.now found.old found.new) }
 {
@@ -36,7 +36,7 @@ fn mark_part(part: &WorkerOutput, found: &mut MatchBuffer) -> Result<(), OutOfMe
     Ok(())
 }
 
-/// Marks what is marked in other words, of which there are no more.
+/// Joins marks with other words, of which there aren't more.
 #[tactic(auto, using(crate::proofs::RoundLemmas::join_laws))]
 fn join(words: &mut List<u64>, other: &[u64]) -> Result<(), OutOfMemory>
     ensures { OnOk result (Joins words.old other.now words.new) }
@@ -51,7 +51,7 @@ fn join(words: &mut List<u64>, other: &[u64]) -> Result<(), OutOfMemory>
     Ok(())
 }
 
-/// Feeds what all chunks leave, in order, up to the first that has a fault.
+/// Feeds the outputs of all chunks, in order, up to the first that has a fault.
 #[tactic(auto, using(crate::proofs::RoundLemmas::feeds_laws))]
 pub(crate) fn feed_parts(
     alloc: Global,
@@ -73,7 +73,7 @@ pub(crate) fn feed_parts(
     Ok(None)
 }
 
-/// Feeds what a chunk leaves, where it is the next one; or tells its fault.
+/// Feeds the output of a chunk, if it is the next one; or returns its fault.
 #[tactic(auto, using(crate::proofs::RoundLemmas::left_laws))]
 fn feed_left(
     alloc: Global,

@@ -1,4 +1,4 @@
-// A run as far as it has come.
+// The progress of a run.
 ghost use Rattle.std.specs.Prelude.{◌≡◌, IfOk, IfSome};
 ghost use Rattle.gq_workers.specs.Running.{FedFrom, IsShort};
 ghost use Rattle.gq_workers.specs.Results.{AreListed, IsJudged, IsBegun};
@@ -14,13 +14,13 @@ use gq_frame::Accums;
 use gq_index::VertexList;
 use std::alloc::Global;
 
-/// A run as far as it has come: the candidates before a place are gone through, and what they contribute is fed.
+/// The progress of a run: the candidates before a place are done, and their contributions are fed.
 #[derive(Drop)]
 pub(crate) struct BlockProgress {
     pub at: u64,
     pub accums: Accums,
 
-    /// How many inputs are fed.
+    /// The number of inputs that are fed.
     pub fed: u64,
 
     /// Marks of the matched vertices, and room for a chunk's inputs.
@@ -28,24 +28,24 @@ pub(crate) struct BlockProgress {
 }
 
 impl BlockProgress {
-    /// Before the first candidate, over a copy of the frame's accumulators.
+    /// Starts before the first candidate, with a copy of the frame's accumulators.
     pub fn open(alloc: Global, over: &BlockContext<'_>) -> Result<BlockProgress, OutOfMemory>
         ensures { IfOk result (IsBegun over.now) }
     {
         Ok(BlockProgress {
             at: 0,
-            accums: over.frame.accums.duplicate(alloc)?,
+            accums: over.frame.accums.share(alloc)?,
             fed: 0,
             found: MatchBuffer::open(alloc, over.graph.store.vertices.len())?,
         })
     }
 }
 
-/// How many inputs a block may feed.
+/// The most inputs that a block may feed.
 const MOST_INPUTS: u64 = 1 << 60;
 
-/// Feeds what waits in the one batch and behind it, in order, and tells how many inputs are fed then. More than 2^60 inputs are `OutOfMemory`
-///  too.
+/// Feeds the inputs that wait, in the batch and after it, in order, and returns the new number of fed inputs. Returns
+/// `OutOfMemory` past 2^60 inputs.
 #[tactic(auto, using(crate::proofs::FeedLemmas::feed_laws))]
 pub(crate) fn feed(
     alloc: Global,
@@ -71,13 +71,13 @@ pub(crate) fn feed(
     Ok(fed + batch.len() as u64 + inputs.len() as u64)
 }
 
-/// What the block leaves once all is fed, or the first accumulator with a sum out of range.
+/// Returns the result of the block after all is fed, or the first accumulator with a sum out of range.
 #[tactic(auto, using(crate::proofs::EndLemmas::judge_laws))]
-pub(crate) fn judged(alloc: Global, run: BlockProgress) -> Result<After, BlockFault>
+pub(crate) fn judged(alloc: Global, mut run: BlockProgress) -> Result<After, BlockFault>
     requires { IsShort run.found }
     ensures { IsJudged run result }
 {
-    match first_unfit(&run.accums) {
+    match first_unfit(alloc, &mut run.accums) {
         Some(number) => match slot_number(number) {
             Some(slot) => Err(BlockFault::SumRange { slot }),
             None => Err(BlockFault::OutOfMemory),
@@ -96,7 +96,7 @@ pub(crate) fn judged(alloc: Global, run: BlockProgress) -> Result<After, BlockFa
     }
 }
 
-/// The matched sources and targets, by number.
+/// Returns the matched sources and targets, by number.
 fn lists(alloc: Global, found: &MatchBuffer) -> Result<(VertexList, VertexList), OutOfMemory>
     requires { IsShort found.now }
     ensures { IfOk result (AreListed found.now) }

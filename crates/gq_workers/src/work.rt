@@ -1,4 +1,4 @@
-// What a run goes through, and what workers leave.
+// The work of a run, and the outputs of workers.
 use gq_base::List;
 use gq_core::Batches;
 use gq_eval_attributes::TupleType;
@@ -8,20 +8,21 @@ use gq_index::{Candidates, Graph};
 use gq_plan_ir::{Block, Plan};
 use gq_value::Wrong;
 
-/// What a run goes through.
+/// The work of a run.
 #[derive(Drop)]
 pub(crate) struct Work<'b> {
     pub block: &'b Block,
 
-    /// What the names and accumulators of its expressions stand for.
+    /// The names and accumulators of its expressions, resolved.
     pub leaves: Leaves<'b>,
     pub candidates: Candidates,
 
-    /// How many candidates a chunk has, at least 1.
+    /// The number of candidates per chunk, at least 1.
     pub size: u64,
 }
 
-/// What the workers of a round share: the candidates from `first` up to `last`, and what a `BlockContext` is made of.
+/// The data that the workers of a round share: the candidates from `first` up to `last`, and the parts of a
+/// `BlockContext`.
 #[derive(Drop)]
 pub(crate) struct Round<'a> {
     pub graph: Graph<'a>,
@@ -33,19 +34,20 @@ pub(crate) struct Round<'a> {
     pub last: u64,
 }
 
-/// What a worker leaves of the candidates from one place to another: inputs that wait to be fed, or the first fault and its place.
+/// A worker's output for the candidates from one place to another: inputs that wait to be fed, or the first fault and
+/// its place.
 #[derive(Drop)]
 pub(crate) struct ChunkOutput {
     pub start: u64,
     pub end: u64,
     pub batches: Batches,
 
-    /// They come behind what is in the batch.
+    /// They come after those in the batch.
     pub inputs: List<(u64, ScalarInput)>,
     pub fault: Option<(u64, Wrong)>,
 }
 
-/// What a worker leaves of all its chunks, with marks of the matched vertices.
+/// A worker's output for all its chunks, with marks of the matched vertices.
 #[derive(Drop)]
 pub(crate) struct WorkerOutput {
     pub lefts: List<ChunkOutput>,

@@ -20,10 +20,11 @@ use std::sync::atomic::{AtomicU64, Ordering};
 use std::thread::Threads;
 use std::{mem, thread};
 
-/// About how many candidates a round has. What they contribute waits until the round is over: some 16 MB, where each has one input.
+/// The approximate number of candidates of a round. Their contributions wait until the round is over: some 16 MB, at
+/// one input each.
 const WAITING: u64 = 1 << 18;
 
-/// Goes through the next chunks with several workers, at most 64 of them, and then feeds what they found, in order.
+/// Tries the next chunks with several workers, at most 64 of them, and then feeds their contributions, in order.
 pub(crate) fn next_round<R: Threads + Sync, G: Gate>(
     rt: &R,
     alloc: Global,
@@ -39,7 +40,7 @@ pub(crate) fn next_round<R: Threads + Sync, G: Gate>(
     ensures { IfOk result (Steps gregorian over.now work.now run.old run.new) }
 {
     let first = run.at;
-    // A chunk for each worker at least, also where chunks are large.
+    // At least a chunk for each worker, also if chunks are large.
     let most = (WAITING / work.size).max(u64::from(workers));
     let round = work.size.saturating_mul(most).max(work.size);
     let last = first.saturating_add(round).min(work.candidates.count());
@@ -67,7 +68,7 @@ pub(crate) fn next_round<R: Threads + Sync, G: Gate>(
     Ok(None)
 }
 
-/// What workers leave of a round: each draws chunk after chunk.
+/// Returns the outputs of the workers of a round: each draws chunk after chunk.
 fn gathered<R: Threads + Sync, G: Gate>(
     rt: &R,
     alloc: Global,
@@ -88,7 +89,7 @@ fn gathered<R: Threads + Sync, G: Gate>(
     Ok(parts)
 }
 
-/// What a worker leaves of a round.
+/// Returns a worker's output for a round.
 fn part_of_round<G: Gate>(
     alloc: Global,
     round: &Round<'_>,
@@ -117,7 +118,7 @@ fn part_of_round<G: Gate>(
     )
 }
 
-/// What a worker leaves: it draws one chunk after another, passes the gate, and tries the chunk's candidates.
+/// Returns a worker's output: it draws one chunk after another, passes the gate, and tries the chunk's candidates.
 fn work_part<G: Gate>(
     alloc: Global,
     work: &Work<'_>,
@@ -134,14 +135,14 @@ fn work_part<G: Gate>(
 {
     let mut found = MatchBuffer::open(alloc, over.graph.store.vertices.len())?;
     let mut lefts = List::new(alloc);
-    // There are no more chunks than candidates, so this bound is never what ends the loop.
+    // There are no more chunks than candidates, so this bound never ends the loop.
     for _ in first..last {
         let chunk = draws.fetch_add(1, Ordering::SeqCst);
         let start = first.saturating_add(chunk.saturating_mul(work.size));
         if start >= last {
             break;
         }
-        // There are 64 workers at most, so this is the worker's own number.
+        // There are at most 64 workers, so this is the worker's own number.
         gate.pass(worker.min(63) as u32, start / work.size);
         let end = start.saturating_add(work.size).min(last);
         lefts.push(work_chunk(alloc, work, over, start, end, &mut found)?)?;
@@ -153,7 +154,7 @@ fn work_part<G: Gate>(
     })
 }
 
-/// What a chunk leaves. Its matches are marked, and then nothing waits.
+/// Returns the output of a chunk. Its matches are marked, and nothing waits afterwards.
 fn work_chunk(
     alloc: Global,
     work: &Work<'_>,

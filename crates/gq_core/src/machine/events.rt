@@ -1,4 +1,4 @@
-// The eight events, one by one.
+// The eight events.
 ghost use Rattle.std.specs.Prelude.{◌≡◌, ◌<◌, length, IfOk, OnErr};
 ghost use Rattle.gq_core.specs.Machine.{worker_at, draw, ticket, look, lift, lay, leave, split, join, Tells};
 ghost use Rattle.gq_core.specs.Accounts.{IsInOrder};
@@ -11,7 +11,7 @@ use std::alloc::Global;
 use std::mem;
 
 impl Core {
-    // What a worker is about; one that was never made counts as joined.
+    // The phase of a worker; one that was never made counts as joined.
     fn phase(&self, w: u32) -> Phase
         ensures { result ≡ (worker_at self.now w).phase }
     {
@@ -27,7 +27,7 @@ impl Core {
     {
         match self.phase(w) {
             Phase::Idle => {
-                // No memory holds a job of so many chunks.
+                // Can't occur: that many chunks don't fit in memory.
                 let next = match self.next.checked_add(1) {
                     Some(next) => next,
                     None => return Err(OutOfMemory),
@@ -51,7 +51,7 @@ impl Core {
     {
         match self.phase(w) {
             Phase::Holds(chunk, stripe) => {
-                // A stripe gives no more tickets than there are chunks.
+                // A stripe gives at most as many tickets as there are chunks.
                 let chunks = job.chunks.len() as u64;
                 prove!(self.stripes[stripe as usize].tickets < chunks);
                 let ticket = self.stripes[stripe as usize].give_ticket();

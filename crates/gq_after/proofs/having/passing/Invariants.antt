@@ -7,7 +7,7 @@ use Rattle.gq_after.specs.Sights.{vertex_look}
 use Rattle.gq_after.proofs.EachSteps.{and_more}
 use Rattle.gq_after.proofs.having.passing.Given as goal
 
--- what was kept, and what the vertices that are left give
+-- the vertices kept so far, followed by the result for the rest
 abbrev pub invariant-loop-vertex : goal.invariant-loop-vertex
 invariant-loop-vertex l =
     passing (vertex_look gregorian l.over l.accums l.end) (option_map view l.having) l.vertices ≡ and_more l.kept (passing (vertex_look gregorian l.over l.accums l.end) (option_map view l.having) (drop l.vertex-index l.vertices))

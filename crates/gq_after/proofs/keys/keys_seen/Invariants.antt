@@ -6,7 +6,7 @@ use Rattle.gq_plan_ir.specs.ExprView.{view}
 use Rattle.gq_after.proofs.EachSteps.{and_more}
 use Rattle.gq_after.proofs.keys.keys_seen.Given as goal
 
--- the keys that are there, and what those that are left give
+-- the keys so far, followed by those of the rest
 abbrev pub invariant-loop-key : goal.invariant-loop-key
 invariant-loop-key g l =
     each (λ key. value_of (g.V.Sees.look l.sight) (view key.0)) l.order ≡ and_more (map val l.row) (each (λ key. value_of (g.V.Sees.look l.sight) (view key.0)) (drop l.key-index l.order))

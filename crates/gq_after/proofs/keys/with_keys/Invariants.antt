@@ -7,7 +7,7 @@ use Rattle.gq_after.specs.Sights.{vertex_look}
 use Rattle.gq_after.proofs.EachSteps.{and_more}
 use Rattle.gq_after.proofs.keys.with_keys.Given as goal
 
--- the rows that are there, and what the vertices that are left give
+-- the rows so far, followed by those of the rest of the vertices
 abbrev pub invariant-loop-vertex : goal.invariant-loop-vertex
 invariant-loop-vertex l =
     each (plain.ranked (vertex_look gregorian l.over l.accums l.end) (order_of l.order)) l.vertices ≡ and_more (map ranked l.rows) (each (plain.ranked (vertex_look gregorian l.over l.accums l.end) (order_of l.order)) (drop l.vertex-index l.vertices))

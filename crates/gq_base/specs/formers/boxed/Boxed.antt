@@ -1,5 +1,5 @@
 -- How a `Boxed` stores its value, so that a type may hold itself through one. Its fields are a pointer, an allocator and the
--- value; contracts see the value alone.
+-- value; contracts see only the value.
 use mathlib.Core.Path.{refl}
 use mathlib.Core.Former.{Former, this, const, pair, via}
 use base.Stored.{gnil}
@@ -34,7 +34,7 @@ abbrev box_field : Former {0}
 box_field = via (pair (const (Ptr × Global)) this) Inside (λ X b. ((b.inner.ptr, b.inner.alloc), b.inner.value))
     (λ X v. record { inner = record { ptr = v.0.0; alloc = v.0.1; value = v.1 } }) (λ X b. refl) (λ X v. refl)
 
--- the same box round another value
+-- the same box with another value
 abbrev holding : {X Y : Type 0} → Box X Global → Y → Box Y Global
 holding b y = record { ptr = b.ptr; alloc = b.alloc; value = y }
 

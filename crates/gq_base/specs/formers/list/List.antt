@@ -1,5 +1,5 @@
 -- How a `List` stores its items, so that a type may hold itself through one. A list of T is laid out as the vector in it is;
--- its shape is its length, and what it holds is what the vector holds, in order.
+-- its shape is its length, and its contents are those of the vector, in order.
 use mathlib.Core.Path.{◌≡◌, refl, sym}
 use mathlib.Core.List.{List, []}
 use mathlib.Core.Former.{Former, this, list, via, children}

@@ -62,7 +62,7 @@ parts_within-returns t c =
     ∙ at_drop_all (λ (ts : List (KindTree × Bytes)). parts_after (done parts) (parts_within c.args.levels s c.args.name.now keys (names parts) (views ts))) c.args.trees.now c.loop-tree.tree-index c.loop-tree-test.false
     ∙ parts_all (done parts)
 
--- a group, by what its keys and its parts are
+-- a group, given its keys and its parts
 group_whole : (n m : ℕ) (s : Scope Bytes) (a : Bytes) (tree : KindTree) (key_trees keys_lent : List (BaseTree × Bytes)) (trees lent : List (KindTree × Bytes)) (keys held : List (Bytes × BaseType))
     → tree ≡ kind.Group key_trees trees → level_left n ≡ Ok true → m ≡ n - 1 → keys_lent ≡ key_trees → fields_written s 8 [] (view_fields keys_lent) ≡ Ok (fields_of keys)
     → lent ≡ trees → held ≡ keys

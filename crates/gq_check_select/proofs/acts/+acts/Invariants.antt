@@ -1,4 +1,4 @@
--- In each loop what is left, behind so many statements, is judged as the whole.
+-- In each loop, typing the rest after the statements so far is typing the whole.
 use Rattle.std.proofs.Common.{◌≡◌, drop}
 use Rattle.gq_rules_typing.specs.SelectViews.{view_act, view_acts}
 use Rattle.gq_rules_typing.specs.ActTypes.{typing_act, typing_acts, typing_choices}

@@ -1,4 +1,4 @@
--- In each loop the alias isn't named before.
+-- In each loop, the alias hasn't been named so far.
 use Rattle.std.proofs.Common.{◌≡◌, drop}
 use Rattle.std.specs.Str.{bytes_eq}
 use Rattle.std.specs.Option.{option_copied}

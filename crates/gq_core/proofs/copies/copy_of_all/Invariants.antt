@@ -1,6 +1,6 @@
 use Rattle.std.proofs.Common.{◌≡◌, take}
 use Rattle.gq_core.proofs.copies.copy_of_all.Given as goal
 
--- as many contributions as were gone over are copied
+-- the contributions so far are copied
 abbrev pub invariant-loop-target : goal.invariant-loop-target
 invariant-loop-target l = l.copy ≡ take l.target-index l.inputs

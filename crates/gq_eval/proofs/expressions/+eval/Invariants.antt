@@ -33,7 +33,7 @@ abbrev pub invariant-run_row-loop-place : goal.invariant-run_row-loop-place
 invariant-run_row-loop-place g l =
     arguments (g.V.Sees.look l.sight) (map Some (wants_are l.wants)) (views l.exprs) ≡ after (g.V.Sees.look l.sight) (map val l.row) (arguments (g.V.Sees.look l.sight) (map Some (drop l.place (wants_are l.wants))) (views (drop l.place l.exprs)))
 
--- ---- what is still to be gone down; a function that hands on what it was given counts for more
+-- ---- the remaining depth; a function that passes on its own argument counts for more
 
 abbrev pub decreases-run : goal.decreases-run
 decreases-run g l = 8 * goal.size-run g l + 1

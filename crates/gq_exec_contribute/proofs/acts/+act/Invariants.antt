@@ -10,7 +10,7 @@ invariant-run_acts-loop-act g l = GatheredTo (g.V.Sees.look l.sight) (slots_are 
 abbrev pub invariant-run_act-loop-branch : goal.invariant-run_act-loop-branch
 invariant-run_act-loop-branch g l = ChosenTo (g.V.Sees.look l.sight) (slots_are l.accums) l.branch-items l.others l.branch-index
 
--- ---- what is still to be gone down; a list counts for more than each of its items
+-- ---- measures of the recursion; a list has a greater one than each of its items
 
 abbrev pub decreases-run_acts : goal.decreases-run_acts
 decreases-run_acts g l = 8 * goal.size-run_acts g l + 1

@@ -1,11 +1,9 @@
-use Rattle.std.proofs.Common.{arith}
 use Rattle.gq_rules_calendar.specs.Gregorian.{gregorian}
-use Rattle.gq_exec_contribute.specs.Prepared.{sees}
-use Rattle.gq_exec_contribute.proofs.AskedLemmas.{further_truth, global_truth}
+use Rattle.gq_tree.specs.Tree as tree
+use Rattle.gq_plan_ir.specs.ExprView.{view, view_parts}
+use Rattle.gq_exec_contribute.proofs.AskedLemmas.{begun_truth}
 use Rattle.gq_exec_contribute.proofs.asked.truth_of_parts.Goals as goal
 
-pub returns-in-Global : goal.returns-in-Global
-returns-in-Global c = global_truth gregorian c.args.over.now c.args.leaves.now c.args.c.now c.in-Global.slot c.args.first.now c.args.parts.now c.truth_asked.result c.in-Global.is c.truth_asked.ensures
-
-pub returns-in-len1-up : goal.returns-in-len1-up
-returns-in-len1-up c = further_truth (sees gregorian c.args.over.now c.args.leaves.now c.args.c.now) c.args.first.now c.args.parts.now c.in-Name.place c.part-item.result c.truth_further.result c.in-Name.is (omega (arith, c.in-len1-up.len_at_least)) c.part-item.is c.truth_further.ensures
+pub returns-in-Some : goal.returns-in-Some
+returns-in-Some c =
+    begun_truth gregorian c.args.over.now c.args.leaves.now c.args.accums.now c.args.c.now (tree.Post (view c.args.first.now) (view_parts c.args.parts.now)) c.in-Some.at c.truth_asked.result c.in-Some.ensures c.truth_asked.ensures

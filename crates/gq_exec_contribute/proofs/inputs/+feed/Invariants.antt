@@ -4,7 +4,7 @@ use Rattle.gq_rules_typing.specs.Kinds.{part_kinds}
 use Rattle.gq_exec_contribute.proofs.InputLemmas.{FedTo}
 use Rattle.gq_exec_contribute.proofs.inputs.+feed.Given as goal
 
--- what is fed so far, and what is left of the parts
+-- the inputs so far, followed by the remaining parts
 abbrev pub invariant-run_parts-loop-place : goal.invariant-run_parts-loop-place
 invariant-run_parts-loop-place g l = FedTo (g.V.Sees.look l.sight) (part_kinds (accum_of l.kind)) l.feeds l.place l.inputs
 

@@ -6,7 +6,7 @@ use Rattle.gq_eval_builtins.specs.Wants.{wants_are}
 use Rattle.gq_eval_builtins.proofs.RunLemmas.{after}
 use Rattle.gq_exec_contribute.proofs.inputs.run_keys.Given as goal
 
--- what the keys so far are, and what is left of them
+-- the values of the keys so far, followed by the remaining keys
 abbrev pub invariant-loop-place : goal.invariant-loop-place
 invariant-loop-place g l =
     arguments (g.V.Sees.look l.sight) (map Some (wants_are l.wants)) (views l.keys) ≡ after (g.V.Sees.look l.sight) (map val l.row) (arguments (g.V.Sees.look l.sight) (map Some (drop l.place (wants_are l.wants))) (views (drop l.place l.keys)))

@@ -13,4 +13,4 @@ pub slice_bounds-evaluated_under-end : goal.slice_bounds-evaluated_under-end
 slice_bounds-evaluated_under-end c = let a = c.bind-count.ensures.len in let f = c.bind-count.ensures.few in let l = length-take c.bind-count.result c.bind-count.new.row in omega (arith, a, f, l)
 
 pub returns : goal.returns
-returns c = evaluated_own gregorian c.args.over.now c.args.leaves.now c.args.c.now (view c.args.expr.now) (map alias_of (take c.bind-count.result c.bind-count.new.row)) c.evaluated_under.result c.bind-count.ensures.bound c.evaluated_under.ensures
+returns c = evaluated_own gregorian c.args.over.now c.args.leaves.now c.args.accums.now c.args.c.now (view c.args.expr.now) (map alias_of (take c.bind-count.result c.bind-count.new.row)) c.evaluated_under.result c.bind-count.ensures.bound c.evaluated_under.ensures

@@ -5,12 +5,12 @@ use Rattle.gq_rules_calendar.specs.Gregorian.{gregorian}
 use Rattle.gq_rules_meaning.specs.Answers.{Gives}
 use Rattle.gq_plan_ir.specs.ExprView.{field_of}
 use Rattle.gq_eval_context.specs.Viewed.{Over}
-use Rattle.gq_exec_contribute.specs.Prepared.{part_value, sees}
+use Rattle.gq_exec_contribute.specs.Prepared.{part_value, sees_in}
 use Rattle.gq_exec_contribute.proofs.NameLemmas.{edge_read}
 use Rattle.gq_exec_contribute.proofs.names.edge_field.Goals as goal
 
 pub returns-in-Some-kind : goal.returns-in-Some-kind
 returns-in-Some-kind c =
-    subst (λ (o : Over). IfSome c.edge_int.result (λ x. part_value (sees gregorian o c.args.leaves.now c.args.c.now) c.args.place (tree.Field (field_of c.args.field.now)) ≡ Gives (Int x))) c.over.view_is
-    (edge_read gregorian c.over.inside.graph c.over.inside.plan.now c.over.inside.tuples.now c.over.inside.frame.now c.args.leaves.now c.args.c.now c.args.place c.args.field.now c.in-Some.edge c.in-Some-kind.kind c.edge_int.result
+    subst (λ (o : Over). IfSome c.edge_int.result (λ x. part_value (sees_in gregorian o c.args.leaves.now c.args.accums.now c.args.c.now) c.args.place (tree.Field (field_of c.args.field.now)) ≡ Gives (Int x))) c.over.view_is
+    (edge_read gregorian c.over.inside.graph c.over.inside.plan.now c.over.inside.tuples.now c.over.inside.frame.now c.args.leaves.now c.args.accums.now c.args.c.now c.args.place c.args.field.now c.in-Some.edge c.in-Some-kind.kind c.edge_int.result
     (c.is_edge.ensures (search rules)) (search rules) (search rules) c.edge_int.ensures)

@@ -5,11 +5,11 @@ use Rattle.gq_plan_ir.specs.BlockView.{view_feed}
 use Rattle.gq_plan_ir.specs.Reference.{Reference}
 use Rattle.gq_exec_contribute.specs.declared.cells.Taken.{Taken}
 use Rattle.gq_exec_contribute.specs.declared.cells.Taken.TheVariants as taken
-use Rattle.gq_exec_contribute.specs.Prepared.{IsFed, sees}
+use Rattle.gq_exec_contribute.specs.Prepared.{IsFed, sees_in}
 use Rattle.gq_exec_contribute.proofs.FedLemmas.{keys_view}
 use Rattle.gq_exec_contribute.proofs.reading.read.Goals as goal
 
 pub returns-in-Keyed-takes : goal.returns-in-Keyed-takes
-returns-in-Keyed-takes c = subst (λ (t : Taken). IfSome c.keyed_of.result (IsFed (sees gregorian c.args.over.now c.args.leaves.now c.args.c.now) (view_feed c.args.feed.now) t)) (sym c.in-Keyed-takes.is)
-    (subst (λ (f : plain.Input Reference). IfSome c.keyed_of.result (IsFed (sees gregorian c.args.over.now c.args.leaves.now c.args.c.now) f (taken.Keyed c.in-Keyed-takes.count c.in-Keyed-takes.part_count)))
+returns-in-Keyed-takes c = subst (λ (t : Taken). IfSome c.keyed_of.result (IsFed (sees_in gregorian c.args.over.now c.args.leaves.now c.args.accums.now c.args.c.now) (view_feed c.args.feed.now) t)) (sym c.in-Keyed-takes.is)
+    (subst (λ (f : plain.Input Reference). IfSome c.keyed_of.result (IsFed (sees_in gregorian c.args.over.now c.args.leaves.now c.args.accums.now c.args.c.now) f (taken.Keyed c.in-Keyed-takes.count c.in-Keyed-takes.part_count)))
     (sym (keys_view c.args.feed.now c.in-Keyed.keys c.as_slice.result.now c.in-Keyed.parts c.as_slice-in-Keyed-takes.result.now c.in-Keyed.is c.as_slice.ensures c.as_slice-in-Keyed-takes.ensures)) c.keyed_of.ensures)

@@ -1,16 +1,16 @@
 use Rattle.std.proofs.Common.{◌+◌, ◌*◌}
 use Rattle.gq_rules_calendar.specs.Gregorian.{gregorian}
-use Rattle.gq_exec_contribute.specs.Prepared.{sees}
+use Rattle.gq_exec_contribute.specs.Prepared.{sees_in}
 use Rattle.gq_exec_contribute.proofs.TruthLemmas.{AllTo, AnyTo}
 use Rattle.gq_exec_contribute.proofs.truths.+truth.Given as goal
 
 abbrev pub invariant-all-loop-other : goal.invariant-all-loop-other
-invariant-all-loop-other l = AllTo (sees gregorian l.over l.leaves l.c) l.fn.first l.others l.other-index l.holds
+invariant-all-loop-other l = AllTo (sees_in gregorian l.over l.leaves l.accums l.c) l.fn.first l.others l.other-index l.holds
 
 abbrev pub invariant-any-loop-other : goal.invariant-any-loop-other
-invariant-any-loop-other l = AnyTo (sees gregorian l.over l.leaves l.c) l.fn.first l.others l.other-index l.holds
+invariant-any-loop-other l = AnyTo (sees_in gregorian l.over l.leaves l.accums l.c) l.fn.first l.others l.other-index l.holds
 
--- ---- what is still to be gone down; a function that hands on what it was given counts for more
+-- ---- measures of the recursion; a function that passes its argument on has a greater one
 
 abbrev pub decreases-truth : goal.decreases-truth
 decreases-truth l = 8 * goal.size-truth l + 1

@@ -1,5 +1,5 @@
-use Rattle.gq_exec_feed.proofs.FitLemmas.{FitFrom}
+use Rattle.gq_exec_feed.proofs.FitLemmas.{FitRange}
 use Rattle.gq_exec_feed.proofs.fits.all_fit.Given as goal
 
-abbrev pub invariant-loop-content : goal.invariant-loop-content
-invariant-loop-content l = FitFrom l.contents l.content-index
+abbrev pub invariant-loop-at : goal.invariant-loop-at
+invariant-loop-at l = FitRange l.contents l.start l.end l.at

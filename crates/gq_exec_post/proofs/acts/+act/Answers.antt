@@ -4,7 +4,7 @@ use Rattle.gq_frame.specs.Names.{alias_of}
 use Rattle.gq_exec_post.proofs.ActLemmas.{act_next, act_stops, attached_is, choice_next, global_is, if_holds, if_last, if_none, if_stops}
 use Rattle.gq_exec_post.proofs.acts.+act.Goals as goal
 
--- ---- one act after another
+-- ---- statements in order
 
 pub run_acts-returns-in-Err-clause-told : goal.run_acts-returns-in-Err-clause-told
 run_acts-returns-in-Err-clause-told t c =
@@ -44,7 +44,7 @@ run_act-loop-branch-preserved t c =
 pub run_act-returns-in-Some-clause-told : goal.run_act-returns-in-Some-clause-told
 run_act-returns-in-Some-clause-told t c =
     if_last gregorian c.args.over.now (map alias_of c.args.aliases.now) c.args.vertex c.args.act.now c.in-If.branches c.as_slice-branch-items.result.now c.in-If.others c.in-If.is c.as_slice-branch-items.ensures c.args.before c.loop-branch.branch-index c.loop-branch.invariant
-    c.in-Some.others c.as_slice.result.now c.run_acts-in-Some.result c.loop-branch-test.false c.in-Some.is c.as_slice.ensures c.run_acts-in-Some.ensures.told
+    c.in-Some.others c.as_slice-acts-in-Some.result.now c.run_acts-in-Some.result c.loop-branch-test.false c.in-Some.is c.as_slice-acts-in-Some.ensures c.run_acts-in-Some.ensures.told
 
 pub run_act-returns-in-None-clause-told : goal.run_act-returns-in-None-clause-told
 run_act-returns-in-None-clause-told t c =

@@ -10,7 +10,7 @@ invariant-run_acts-loop-act l = ActsTo gregorian l.over (map alias_of l.aliases)
 abbrev pub invariant-run_act-loop-branch : goal.invariant-run_act-loop-branch
 invariant-run_act-loop-branch l = ChosenTo gregorian l.over (map alias_of l.aliases) l.vertex l.branch-items l.others l.before l.branch-index
 
--- ---- what is still to be gone down; a list counts for more than each of its items
+-- ---- measures of the recursion; a list has a greater one than each of its items
 
 abbrev pub decreases-run_acts : goal.decreases-run_acts
 decreases-run_acts l = 8 * goal.size-run_acts l + 1

@@ -14,7 +14,7 @@ invariant-factors_name-loop-factor l = FactorsTo l.place l.factors l.factor-inde
 abbrev pub invariant-terms_name-loop-term : goal.invariant-terms_name-loop-term
 invariant-terms_name-loop-term l = TermsTo l.place l.terms l.term-index
 
--- ---- what is still to be gone down; a list counts for more than each of its items
+-- ---- measures of the recursion; a list has a greater one than each of its items
 
 abbrev pub decreases-expr_names : goal.decreases-expr_names
 decreases-expr_names l = 8 * goal.size-expr_names l

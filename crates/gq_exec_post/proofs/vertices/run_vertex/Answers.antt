@@ -4,7 +4,14 @@ use Rattle.gq_rules_calendar.specs.Gregorian.{gregorian}
 use Rattle.gq_plan_ir.specs.BlockView.{view_acts}
 use Rattle.gq_frame.specs.Names.{Placed}
 use Rattle.gq_exec_post.specs.Sights.{DoesSo, one_alias}
+use Rattle.gq_exec_post.proofs.ReadLemmas.{reads_vertex}
 use Rattle.gq_exec_post.proofs.vertices.run_vertex.Goals as goal
+
+pub run_acts-requires-clause-reads : goal.run_acts-requires-clause-reads
+run_acts-requires-clause-reads c = reads_vertex c.args.leaves.now c.args.end.now c.args.vertex c.args.before.accums _ c.requires.reads c.in-Some.ensures
+
+pub run_acts-requires-in-None-clause-reads : goal.run_acts-requires-in-None-clause-reads
+run_acts-requires-in-None-clause-reads c = reads_vertex c.args.leaves.now c.args.end.now c.args.vertex c.args.before.accums _ c.requires.reads c.in-None.ensures
 
 pub returns-in-Some-clause-told : goal.returns-in-Some-clause-told
 returns-in-Some-clause-told c =

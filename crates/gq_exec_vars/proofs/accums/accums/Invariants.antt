@@ -5,7 +5,7 @@ use Rattle.gq_exec_vars.specs.Begun.{AreReady, world_with}
 use Rattle.gq_exec_vars.proofs.OpenLemmas.{GoesAccums}
 use Rattle.gq_exec_vars.proofs.accums.accums.Given as goal
 
--- as many accumulators as were gone over stand
+-- the accumulators visited so far are added
 abbrev pub invariant-loop-tree : goal.invariant-loop-tree
 invariant-loop-tree l = record {
   goes : GoesAccums l.plan.places (world_with gregorian l.graph l.plan l.tuples) (accum_of l.kind) l.trees l.tree-index l.fn.live l.live;

@@ -4,7 +4,7 @@ use Rattle.gq_exec_vars.specs.Begun.{AreReady}
 use Rattle.gq_exec_vars.proofs.OpenLemmas.{GoesDefinitions}
 use Rattle.gq_exec_vars.proofs.opening.definitions.Given as goal
 
--- as many definitions as were gone over stand
+-- the definitions visited so far are opened
 abbrev pub invariant-loop-definition : goal.invariant-loop-definition
 invariant-loop-definition l = record {
   goes : GoesDefinitions gregorian l.graph l.plan l.definition-index l.fn.opened l.opened;

@@ -47,7 +47,7 @@ invariant-run_values-value g l = record {
   turns : l.at + l.r.turns ≤ l.fn.r.turns;
 }
 
--- ---- turns are left for so many rounds
+-- ---- the number of turns left bounds the number of iterations
 
 abbrev pub decreases-run_rounds-round : goal.decreases-run_rounds-round
 decreases-run_rounds-round g l = l.r.turns
@@ -55,7 +55,7 @@ decreases-run_rounds-round g l = l.r.turns
 abbrev pub decreases-run_values-value : goal.decreases-run_values-value
 decreases-run_values-value g l = l.r.turns
 
--- ---- what is still to be gone down; a function that hands on what it was given counts for more
+-- ---- the size of the statements left; a function that passes its argument on unchanged has a larger measure
 
 abbrev pub decreases-run_step : goal.decreases-run_step
 decreases-run_step g l = 8 * goal.size-run_step g l + 0

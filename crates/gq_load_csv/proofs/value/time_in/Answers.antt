@@ -7,7 +7,7 @@ use Rattle.gq_load_csv.specs.Fields.{TellsTimes}
 use Rattle.gq_load_csv.proofs.TextLemmas.{no_utf8}
 use Rattle.gq_load_csv.proofs.value.time_in.Goals as goal
 
--- a function that reads times finds none in a text that has none
+-- a function that reads times returns None for a text that shows no time
 none_read : (read : List ℕ → Option ℤ) (text : List ℕ) → TellsTimes read → ((x : ℤ) → Reads text x → ⊥) → read text ≡ None
 none_read read text tells never = go (read text) (tells text)
   where

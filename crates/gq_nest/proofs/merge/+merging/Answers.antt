@@ -24,7 +24,7 @@ pub merge_entry-returns-in_ok-duplicate-in-None : goal.merge_entry-returns-in_ok
 merge_entry-returns-in_ok-duplicate-in-None t c = on_ok _ (rw c.get_mut.follows.holds-at-none at c.put_entry.ensures) (value_new _ _ _ _ _ _ _ _ (ap val c.in_ok-duplicate-in-None.ensures) c.in-None.ensures.value c.in_ok-mine-in-None.ensures c.in_ok-merge-in-None.ensures.merged)
 
 pub merge_entries-loop-key-init : goal.merge_entries-loop-key-init
-merge_entries-loop-key-init t c = rw (c.in-Map.is, opened-Map c.in-Map.field-0 c.in-Map.more) (let e = c.into_iter-key-iterator.ensures.into_iter_gives in uniting_first _ _ _ _ e.0 (value_rising _ e.5))
+merge_entries-loop-key-init t c = rw (c.in-Map.is, opened-Map c.in-Map.field-0 c.in-Map.more) (let e = c.into_iter-key-iterator.ensures.into_iter_gives in uniting_first _ _ _ _ e.0 (value_rising _ e.1))
 
 pub merge_entries-loop-key-preserved : goal.merge_entries-loop-key-preserved
 merge_entries-loop-key-preserved t c = uniting_more _ _ _ _ _ _ _ _ _ (rest_more deref_pair _ _ _ _ c.in-Some.is c.next.ensures.steps) c.in_ok-merge_entry-in-Map.ensures c.loop-key.invariant
@@ -50,7 +50,7 @@ merge_parts-returns t c =
     midway_all (λ x p z. Merges (out-Content x) (out-Content p) (out-Content z)) _ _ _ _ end (c.if-parts-len.false ∙ c.len.ensures) c.loop-i.invariant.1
 
 pub merge_groups-loop-row-init : goal.merge_groups-loop-row-init
-merge_groups-loop-row-init t c = rw (c.in-Group.is, opened-Group c.in-Group.field-0 c.in-Group.more) (let e = c.into_iter-row-iterator.ensures.into_iter_gives in groups_first _ _ _ _ e.0 (group_rising _ e.5))
+merge_groups-loop-row-init t c = rw (c.in-Group.is, opened-Group c.in-Group.field-0 c.in-Group.more) (let e = c.into_iter-row-iterator.ensures.into_iter_gives in groups_first _ _ _ _ e.0 (group_rising _ e.1))
 
 pub merge_groups-loop-row-preserved : goal.merge_groups-loop-row-preserved
 merge_groups-loop-row-preserved t c = groups_more _ _ _ _ _ _ _ _ _ _ (rest_more deref_pair _ _ _ _ c.in-Some.is c.next.ensures.steps) c.as_slice-in-loop-row.ensures.value (rw c.as_slice.ensures at c.in_ok-merge_group-in-Group.ensures) c.loop-row.invariant

@@ -8,4 +8,4 @@ use Rattle.gq_nest.proofs.GroupLemmas.{groups_stay}
 use Rattle.gq_nest.proofs.rows.group_rows.Goals as goal
 
 pub returns : goal.returns
-returns c = copied_all (map val) _ _ (λ e. group_row e.0) _ (rest_all deref_pair _ _ _ c.in-None.is c.next.ensures.steps) c.loop-row.invariant ∙ sym (groups_stay _ c.into_iter-row-iterator.ensures.into_iter_gives.5)
+returns c = copied_all (map val) _ _ (λ e. group_row e.0) _ (rest_all deref_pair _ _ _ c.in-None.is c.next.ensures.steps) c.loop-row.invariant ∙ sym (groups_stay _ c.into_iter-row-iterator.ensures.into_iter_gives.1)

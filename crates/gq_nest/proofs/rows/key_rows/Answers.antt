@@ -8,4 +8,4 @@ use Rattle.gq_nest.proofs.TellSteps.{rows_stay}
 use Rattle.gq_nest.proofs.rows.key_rows.Goals as goal
 
 pub returns : goal.returns
-returns c = copied_all (map val) _ _ (λ e. key_row e.0) _ (rest_all deref_pair _ _ _ c.in-None.is c.next.ensures.steps) c.loop-key.invariant ∙ sym (rows_stay _ c.into_iter-key-iterator.ensures.into_iter_gives.5)
+returns c = copied_all (map val) _ _ (λ e. key_row e.0) _ (rest_all deref_pair _ _ _ c.in-None.is c.next.ensures.steps) c.loop-key.invariant ∙ sym (rows_stay _ c.into_iter-key-iterator.ensures.into_iter_gives.1)

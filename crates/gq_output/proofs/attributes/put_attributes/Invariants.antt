@@ -8,7 +8,7 @@ use Rattle.gq_output.specs.Printed.{named_shown}
 use Rattle.gq_output.proofs.NamedLemmas.{NamedFrom}
 use Rattle.gq_output.proofs.attributes.put_attributes.Given as goal
 
--- the attributes that are there, and those that are left
+-- the attributes so far, followed by the rest
 abbrev pub invariant-loop-place : goal.invariant-loop-place
 invariant-loop-place l =
     let values = map val (vertex_at l.vertices l.vertex).attributes in

@@ -16,12 +16,12 @@ use Rattle.gq_output.proofs.contents.+contents.Goals as goal
 pub entries-loop-key-init : goal.entries-loop-key-init
 entries-loop-key-init t c =
     let e = c.into_iter-key-iterator.ensures.into_iter_gives in
-    entries_first (world_over gregorian c.args.over.now) (accum_of c.args.kind.now) c.args.content.now _ _ _ _ c.in-Map.is e.5 c.requires c.new-members.ensures e.0
+    entries_first (world_over gregorian c.args.over.now) (accum_of c.args.kind.now) c.args.content.now _ _ _ _ c.in-Map.is e.1 c.requires c.new-members.ensures e.0
 
 pub groups-loop-row-init : goal.groups-loop-row-init
 groups-loop-row-init t c =
     let e = c.into_iter-row-iterator.ensures.into_iter_gives in
-    groups_first (world_over gregorian c.args.over.now) (keys_are c.args.shape.now) (parts_are c.args.shape.now) c.args.content.now _ _ _ _ c.in-Group.is e.5 c.requires c.new-outs.ensures e.0
+    groups_first (world_over gregorian c.args.over.now) (keys_are c.args.shape.now) (parts_are c.args.shape.now) c.args.content.now _ _ _ _ c.in-Group.is e.1 c.requires c.new-outs.ensures e.0
 
 pub groups-loop-row-preserved : goal.groups-loop-row-preserved
 groups-loop-row-preserved t c =

@@ -4,6 +4,6 @@ use Rattle.gq_eval_context.specs.Looks.{world_over}
 use Rattle.gq_output.proofs.ItemLemmas.{MembersFrom}
 use Rattle.gq_output.proofs.items.members.Given as goal
 
--- the members that are there, and the expressions that are left
+-- the members so far, followed by those of the expressions left
 abbrev pub invariant-loop-keyed : goal.invariant-loop-keyed
 invariant-loop-keyed g l = MembersFrom (world_over gregorian l.over) (g.V.Sees.look l.sight) (slots_are l.over.frame.accums) l.items l.keyed-index l.members

@@ -20,7 +20,7 @@ decreases-fields l = 8 * goal.size-fields l + 2
 abbrev pub decreases-tuple : goal.decreases-tuple
 decreases-tuple l = 8 * goal.size-tuple l + 3
 
--- the fields that are there, and those that are left
+-- the fields so far, followed by the rest
 abbrev pub invariant-fields-loop-place : goal.invariant-fields-loop-place
 invariant-fields-loop-place l =
     NamedFrom (world_over gregorian l.over) (fields_in l.of) (map val l.row) (named_shown (world_over gregorian l.over) (fields_in l.of) (map val l.row)) l.members l.place

@@ -4,7 +4,7 @@ use Rattle.gq_grammar.proofs.LoopLemmas.{Turns}
 use Rattle.gq_parse_common.specs.Readers.{Finds}
 use Rattle.gq_parse_common.proofs.lists.run.Given as goal
 
--- whatever an item is, what is read from here on is what is left of the whole
+-- for any kind of item, what was read, followed by what is read from here on, is the whole
 abbrev pub invariant-loop-turn : goal.invariant-loop-turn
 invariant-loop-turn g l =
     (l.at ≤ length l.source)

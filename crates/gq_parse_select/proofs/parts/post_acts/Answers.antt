@@ -5,7 +5,7 @@ use Rattle.gq_parse_select.specs.Acts.{acts_parser}
 use Rattle.gq_parse_select.specs.Selects.{post_acts_parser}
 use Rattle.gq_parse_select.proofs.parts.post_acts.Goals as goal
 
--- where the one finds nothing, the other's find is that of both
+-- if the first finds nothing, the result of the second is that of both
 second_found : {A E : Type 0} (p q : Parser A) (all : Lexemes) (at : ℕ) (r : Option (A × ℕ)) (s : Result (Option (A × ℕ)) E) → Found p all at r → r ≡ None → IfOk s (Found q all at) → IfOk s (Found (p or q) all at)
 second_found p q all at r (Err e) f is h = h
 second_found p q all at r (Ok None) f is h = ap (λ o. or_else o (q (drop at all))) (subst (Found p all at) is f) ∙ h

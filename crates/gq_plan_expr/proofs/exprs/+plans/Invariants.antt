@@ -1,4 +1,4 @@
--- In each loop what is planned stands before what is left.
+-- In each loop the items planned so far come before the rest.
 use Rattle.std.proofs.Common.{◌≡◌, drop}
 use Rattle.gq_tree.specs.View.{views, view_parts, view_factors, view_terms}
 use Rattle.gq_plan_expr.specs.Names.{known_of}

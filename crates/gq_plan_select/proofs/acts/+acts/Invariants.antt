@@ -1,4 +1,4 @@
--- In each loop what is planned stands before what is left.
+-- In each loop the items planned so far come before the rest.
 use Rattle.std.proofs.Common.{◌≡◌, drop, Some}
 use Rattle.gq_rules_typing.specs.SelectViews.{view_act, view_acts}
 use Rattle.gq_plan_expr.specs.Names.{known_of}

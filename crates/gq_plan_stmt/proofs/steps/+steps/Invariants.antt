@@ -1,4 +1,4 @@
--- In each loop what is planned stands before what is left.
+-- In each loop the items planned so far come before the rest.
 use Rattle.std.proofs.Common.{◌≡◌, drop, Some}
 use Rattle.gq_rules_typing.specs.StatementViews.{view_stmt, view_stmts}
 use Rattle.gq_rules_typing.proofs.ViewLaws.{view_branches}

@@ -1,4 +1,4 @@
--- Each answer is about the item that the iteration found, behind what is cut already.
+-- Each result concerns the item that the iteration found, after what is cut already.
 use Rattle.std.proofs.Common.{◌≡◌, All, ◌+◌, ◌++◌, [], ◌∷◌, ◌∙◌, ap, sym, subst, arith}
 use Rattle.std.proofs.lemmas.List.{append-nil}
 use Rattle.std.proofs.lemmas.List.Elements.{All-push}

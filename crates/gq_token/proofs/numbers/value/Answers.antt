@@ -1,4 +1,4 @@
--- An overflow at some digit makes the whole number too big, since the digits behind it make no smaller one.
+-- An overflow at some digit makes the whole number too big, since later digits don't make it smaller.
 use Rattle.std.proofs.Common.{◌+◌, arith}
 use Rattle.gq_token.proofs.DigitLemmas.{number_of-take-le, number_of_more}
 use Rattle.gq_token.proofs.numbers.value.Goals as goal

@@ -26,7 +26,7 @@ abbrev pub invariant-typed_bools-loop-other : goal.invariant-typed_bools-loop-ot
 invariant-typed_bools-loop-other l =
     typing_bools (names_in l.scope) (typed_is l.first) (views l.others) ≡ typing_bools (names_in l.scope) (typed_is l.x) (views (drop l.other-index l.others))
 
--- ---- what is still to be gone down; a function that hands on what it was given counts for more
+-- ---- the size of what is still to be typed; a function that passes on its whole argument counts for more
 
 abbrev pub decreases-operated : goal.decreases-operated
 decreases-operated l = 4 * goal.size-operated l + 0

@@ -5,19 +5,19 @@ use Rattle.gq_core.proofs.StepLemmas.{chunk_below, lifted_within, made_within, w
 use Rattle.gq_core.proofs.machine.Core.lay.Goals as goal
 use Rattle.gq_core.proofs.machine.Core.lay.Goals.{In-Lifted}
 
--- what the worker is about
+-- the worker's phase
 held : (c : In-Lifted) → (worker_at c.args.self.now c.args.w).phase ≡ Lifted c.in-Lifted.turn
 held c = sym c.phase.ensures ∙ c.in-Lifted.is
 
--- its stripe is there
+-- its stripe exists
 inside : (c : In-Lifted) → c.in-Lifted.turn.stripe < length c.self.inside.stripes.items
 inside c = subst (λ m. c.in-Lifted.turn.stripe < length m.stripes) (sym c.self.view_is) (lifted_within c.args.job.now c.args.self.now c.requires c.args.w c.in-Lifted.turn (held c))
 
--- and so is the worker
+-- and so does the worker
 made : (c : In-Lifted) → c.args.w < length c.self.inside.workers.items
 made c = subst (λ m. c.args.w < length m.workers) (sym c.self.view_is) (made_within c.args.self.now c.args.w (Lifted c.in-Lifted.turn) (held c) (λ q. cc))
 
--- the same of the machine by its parts
+-- the same for the machine by its parts
 held_inside : (c : In-Lifted) → (worker_at (whole c.self.inside.next c.self.inside.stripes.items c.self.inside.workers.items c.args.w) c.args.w).phase ≡ Lifted c.in-Lifted.turn
 held_inside c = subst (λ m. (worker_at m c.args.w).phase ≡ Lifted c.in-Lifted.turn) (sym c.self.view_is) (held c)
 

@@ -5,19 +5,19 @@ use Rattle.gq_core.proofs.StepLemmas.{serving_below, laid_within, made_within, w
 use Rattle.gq_core.proofs.machine.Core.leave.Goals as goal
 use Rattle.gq_core.proofs.machine.Core.leave.Goals.{In-Laid, then-turn-stripes, else-turn-stripes}
 
--- what the worker is about
+-- the worker's phase
 held : (c : In-Laid) → (worker_at c.args.self.now c.args.w).phase ≡ Laid c.in-Laid.turn
 held c = sym c.phase.ensures ∙ c.in-Laid.is
 
--- its stripe is there
+-- its stripe exists
 inside : (c : In-Laid) → c.in-Laid.turn.stripe < length c.self.inside.stripes.items
 inside c = subst (λ m. c.in-Laid.turn.stripe < length m.stripes) (sym c.self.view_is) (laid_within c.args.job.now c.args.self.now c.requires c.args.w c.in-Laid.turn (held c))
 
--- and so is the worker
+-- and so does the worker
 made : (c : In-Laid) → c.args.w < length c.self.inside.workers.items
 made c = subst (λ m. c.args.w < length m.workers) (sym c.self.view_is) (made_within c.args.self.now c.args.w (Laid c.in-Laid.turn) (held c) (λ q. cc))
 
--- the same of the machine by its parts
+-- the same for the machine by its parts
 held_inside : (c : In-Laid) → (worker_at (whole c.self.inside.next c.self.inside.stripes.items c.self.inside.workers.items c.args.w) c.args.w).phase ≡ Laid c.in-Laid.turn
 held_inside c = subst (λ m. (worker_at m c.args.w).phase ≡ Laid c.in-Laid.turn) (sym c.self.view_is) (held c)
 

@@ -6,19 +6,19 @@ use Rattle.gq_core.proofs.StepLemmas.{served_within, made_within, whole, stripe_
 use Rattle.gq_core.proofs.machine.Core.lift.Goals as goal
 use Rattle.gq_core.proofs.machine.Core.lift.Goals.{In-Served}
 
--- what the worker is about
+-- the worker's phase
 held : (c : In-Served) → (worker_at c.args.self.now c.args.w).phase ≡ Served c.in-Served.turn
 held c = sym c.phase.ensures ∙ c.in-Served.is
 
--- its stripe is there
+-- its stripe exists
 inside : (c : In-Served) → c.in-Served.turn.stripe < length c.self.inside.stripes.items
 inside c = subst (λ m. c.in-Served.turn.stripe < length m.stripes) (sym c.self.view_is) (served_within c.args.job.now c.args.self.now c.requires c.args.w c.in-Served.turn (held c))
 
--- and so is the worker
+-- and so does the worker
 made : (c : In-Served) → c.args.w < length c.self.inside.workers.items
 made c = subst (λ m. c.args.w < length m.workers) (sym c.self.view_is) (made_within c.args.self.now c.args.w (Served c.in-Served.turn) (held c) (λ q. cc))
 
--- the same of the machine by its parts
+-- the same for the machine by its parts
 held_inside : (c : In-Served) → (worker_at (whole c.self.inside.next c.self.inside.stripes.items c.self.inside.workers.items c.args.w) c.args.w).phase ≡ Served c.in-Served.turn
 held_inside c = subst (λ m. (worker_at m c.args.w).phase ≡ Served c.in-Served.turn) (sym c.self.view_is) (held c)
 

@@ -9,11 +9,11 @@ use Rattle.gq_core.proofs.machine.Core.ticket.Goals.{In-Holds}
 held : (c : In-Holds) → (worker_at c.args.self.now c.args.w).phase ≡ Holds c.in-Holds.chunk c.in-Holds.stripe
 held c = sym c.phase.ensures ∙ c.in-Holds.is
 
--- its stripe is there
+-- its stripe exists
 inside : (c : In-Holds) → c.in-Holds.stripe < length c.self.inside.stripes.items
 inside c = subst (λ m. c.in-Holds.stripe < length m.stripes) (sym c.self.view_is) (holds_within c.args.job.now c.args.self.now c.requires c.args.w c.in-Holds.chunk c.in-Holds.stripe (held c))
 
--- and so is the worker
+-- and so does the worker
 made : (c : In-Holds) → c.args.w < length c.self.inside.workers.items
 made c = subst (λ m. c.args.w < length m.workers) (sym c.self.view_is) (made_within c.args.self.now c.args.w (Holds c.in-Holds.chunk c.in-Holds.stripe) (held c) (λ q. cc))
 

@@ -5,6 +5,6 @@ use Rattle.gq_expr_read.specs.Descent.{expr, conjunction}
 use Rattle.gq_grammar.proofs.LoopLemmas.{Turns}
 use Rattle.gq_expr_read.proofs.grammar.Grammar.conjunctions.Given as goal
 
--- what is read from here on is what is left of the whole
+-- what was read, followed by what is read from here on, is the whole
 abbrev pub invariant-loop-turn : goal.invariant-loop-turn
 invariant-loop-turn g l = Turns (after (word "OR") (conjunction (expr l.self.levels))) l.self.source.now l.from (l._turn-end - l._turn) l.found l.at

@@ -3,6 +3,6 @@ use Rattle.gq_expr_read.specs.Descent.{expr, factor}
 use Rattle.gq_grammar.proofs.LoopLemmas.{Turns}
 use Rattle.gq_expr_read.proofs.grammar.Grammar.factors.Given as goal
 
--- what is read from here on is what is left of the whole
+-- what was read, followed by what is read from here on, is the whole
 abbrev pub invariant-loop-turn : goal.invariant-loop-turn
 invariant-loop-turn g l = Turns (factor (expr l.self.levels)) l.self.source.now l.from (l._turn-end - l._turn) l.found l.at

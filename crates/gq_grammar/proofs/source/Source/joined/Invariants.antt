@@ -3,6 +3,6 @@ use Rattle.gq_grammar.specs.Lexemes.{lexeme_of}
 use Rattle.gq_grammar.specs.Series.{joined}
 use Rattle.gq_grammar.proofs.source.Source.joined.Given as goal
 
--- the text is that of the tokens before
+-- the text joins the tokens so far
 abbrev pub invariant-loop-token : goal.invariant-loop-token
 invariant-loop-token l = l.text.items ≡ joined (map (lexeme_of l.self-inside.bytes.now) (take l.token-index l.token-items))

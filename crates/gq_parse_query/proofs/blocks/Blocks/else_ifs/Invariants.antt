@@ -5,6 +5,6 @@ use Rattle.gq_parse_select.specs.Bodies.{if_branch_parser, nested_parser}
 use Rattle.gq_grammar.proofs.LoopLemmas.{Turns}
 use Rattle.gq_parse_query.proofs.blocks.Blocks.else_ifs.Given as goal
 
--- what is read from here on is what is left of the whole
+-- what was read, followed by what is read from here on, is the whole
 abbrev pub invariant-loop-turn : goal.invariant-loop-turn
 invariant-loop-turn g l = Turns (after (word "ELSE") (if_branch_parser (nested_parser l.self.levels))) l.self.source.now l.from (l._turn-end - l._turn) l.found.items l.at

@@ -1,7 +1,0 @@
-use Rattle.gq_rules_calendar.specs.Gregorian.{gregorian}
-use Rattle.gq_exec_contribute.specs.Prepared.{sees}
-use Rattle.gq_exec_contribute.proofs.ReadLemmas.{truth_post}
-use Rattle.gq_exec_contribute.proofs.truths.flag_of.Goals as goal
-
-pub returns-in-len1 : goal.returns-in-len1
-returns-in-len1 c = truth_post (sees gregorian c.args.over.now c.args.leaves.now c.args.c.now) c.args.first.now c.args.parts.now c.in-Name.place c.part-item.result c.flag_part.result c.in-Name.is c.in-len1.len_at_least c.in-len1.len_below c.part-item.is c.flag_part.ensures

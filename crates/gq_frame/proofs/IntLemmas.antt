@@ -1,0 +1,75 @@
+-- IntLemmas: one more INT, in a scalar and in its content.
+use Rattle.std.proofs.Common.{◌≡◌, ℕ, ◌+◌, ◌*◌, ◌^◌, ◌<◌, ◌≤◌, ℤ, pos, ◌+ℤ◌, [], ◌∷◌, refl, sym, ap, ap₂, ◌∙◌, subst, arith, FitsSigned, bit_and, bit_or, w64, to_z, of_z}
+use Rattle.std.specs.Int.{w128, int_min, int_max}
+use Rattle.std.proofs.lemmas.Int.{ints, to_z-of_z}
+use Rattle.gq_value.specs.Val.{Int}
+use Rattle.gq_value.specs.Accums.{One}
+use Rattle.gq_accum_laws.specs.After.{after}
+use Rattle.gq_accum_laws.specs.Fits.{HasRoom}
+use Rattle.gq_accum.specs.declared.scalar.Mean.{Mean}
+use Rattle.gq_accum.specs.declared.scalar.Scalar.{Scalar}
+use Rattle.gq_accum.specs.declared.scalar.Scalar.TheVariants.{SumInt, MinInt, MaxInt, BitOr, BitAnd, Avg}
+use Rattle.gq_accum.specs.Scalars.{kind_of, IsFar}
+use Rattle.gq_accum.proofs.SumSteps.{near, widened, count_room}
+use Rattle.gq_accum.proofs.NumberSteps.{min_is, max_is, either_is, both_is}
+use Rattle.gq_nest.specs.declared.content.Content.{Content-F, out-Content}
+use Rattle.gq_nest.specs.declared.content.Content.TheVariants as made
+use Rattle.gq_nest.specs.Forms.{Feeds}
+use Rattle.gq_nest.proofs.LevelLemmas.{opened-Scalar, scalar_view, scalar_deep}
+use Rattle.gq_nest.proofs.FeedSteps.{feeds_by}
+use Rattle.gq_frame.specs.Ints.{AddsInt}
+
+-- ---- one more INT in a scalar
+
+of_scalar : (s t r : Scalar) (x : ℤ) → s ≡ t → AddsInt t x r → AddsInt s x r
+of_scalar s t r x e h = subst (λ (u : Scalar). AddsInt u x r) (sym e) h
+
+-- a sum with room and one number more
+sum_more : (a y x r : ℤ) → FitsSigned w64 x → y ≡ x → (IsFar a → IsFar y → r ≡ a +ℤ y) → IsFar a → r ≡ a +ℤ (x +ℤ pos 0)
+sum_more a y x r h e t far = t far (subst IsFar (sym e) (near x h)) ∙ last a y x e
+  where
+    last : (a y x : ℤ) → y ≡ x → a +ℤ y ≡ a +ℤ (x +ℤ pos 0)
+    last a y x e = omega (arith, ints, e)
+
+one_more : (n m f : ℕ) → (n + 1 < 2 ^ 128 → m ≡ n + 1) → f < 2 ^ 62 → n ≤ f * 2 ^ 63 → m ≡ n + 1
+one_more n m f h l k = h (let r = count_room n f l k in omega (arith, r))
+
+-- what a sum in memory holds is the sum
+in_memory : (a y r : ℤ) → FitsSigned w128 a → FitsSigned w128 y → FitsSigned w128 r → (IsFar (to_z w128 (of_z w128 a)) → IsFar (to_z w128 (of_z w128 y)) → r ≡ to_z w128 (of_z w128 a) +ℤ to_z w128 (of_z w128 y))
+    → IsFar a → IsFar y → to_z w128 (of_z w128 r) ≡ a +ℤ y
+in_memory a y r f g k t far near = to_z-of_z w128 r k ∙ t (subst IsFar (sym (to_z-of_z w128 a f)) far) (subst IsFar (sym (to_z-of_z w128 y g)) near)
+    ∙ ap₂ (λ (u v : ℤ). u +ℤ v) (to_z-of_z w128 a f) (to_z-of_z w128 y g)
+
+pub adds_sum : (s : Scalar) (a y x r : ℤ) → FitsSigned w128 a → FitsSigned w128 y → FitsSigned w128 r → FitsSigned w64 x → y ≡ to_z w64 (of_z w64 x)
+    → (IsFar (to_z w128 (of_z w128 a)) → IsFar (to_z w128 (of_z w128 y)) → r ≡ to_z w128 (of_z w128 a) +ℤ to_z w128 (of_z w128 y)) → s ≡ SumInt a → AddsInt s x (SumInt (to_z w128 (of_z w128 r)))
+adds_sum s a y x r f g k h e t is = of_scalar s _ _ x is (record { kept = refl; fed = λ suit room. sum_more a y x _ h (widened x y h e) (in_memory a y r f g k t) room })
+
+pub adds_min : (s : Scalar) (a x r : ℤ) → FitsSigned w64 x → FitsSigned w64 a → FitsSigned w64 r → r ≡ int_min (to_z w64 (of_z w64 x)) (to_z w64 (of_z w64 a)) → s ≡ MinInt a → AddsInt s x (MinInt (to_z w64 (of_z w64 r)))
+adds_min s a x r f g h e is = of_scalar s _ _ x is (record { kept = refl; fed = λ suit room. min_is x a r f g h e })
+
+pub adds_max : (s : Scalar) (a x r : ℤ) → FitsSigned w64 x → FitsSigned w64 a → FitsSigned w64 r → r ≡ int_max (to_z w64 (of_z w64 x)) (to_z w64 (of_z w64 a)) → s ≡ MaxInt a → AddsInt s x (MaxInt (to_z w64 (of_z w64 r)))
+adds_max s a x r f g h e is = of_scalar s _ _ x is (record { kept = refl; fed = λ suit room. max_is x a r f g h e })
+
+pub adds_either : (s : Scalar) (a x : ℤ) → FitsSigned w64 x → FitsSigned w64 a → s ≡ BitOr a → AddsInt s x (BitOr (to_z w64 (bit_or (of_z w64 x) (of_z w64 a))))
+adds_either s a x f g is = of_scalar s _ _ x is (record { kept = refl; fed = λ suit room. either_is x a f g })
+
+pub adds_both : (s : Scalar) (a x : ℤ) → FitsSigned w64 x → FitsSigned w64 a → s ≡ BitAnd a → AddsInt s x (BitAnd (to_z w64 (bit_and (of_z w64 x) (of_z w64 a))))
+adds_both s a x f g is = of_scalar s _ _ x is (record { kept = refl; fed = λ suit room. both_is x a f g })
+
+pub adds_mean : (s : Scalar) (m : Mean) (y x r : ℤ) (n : ℕ) → FitsSigned w128 m.sum → FitsSigned w128 y → FitsSigned w128 r → FitsSigned w64 x → y ≡ to_z w64 (of_z w64 x)
+    → (IsFar (to_z w128 (of_z w128 m.sum)) → IsFar (to_z w128 (of_z w128 y)) → r ≡ to_z w128 (of_z w128 m.sum) +ℤ to_z w128 (of_z w128 y)) → (m.count + 1 < 2 ^ 128 → n ≡ m.count + 1) → s ≡ Avg m
+    → AddsInt s x (Avg (record { sum = to_z w128 (of_z w128 r); count = n }))
+adds_mean s m y x r n f g k h e t u is = of_scalar s _ _ x is (record {
+  kept = refl;
+  fed = λ suit room. ap₂ (λ (a : ℤ) (c : ℕ). (a, c)) (sum_more m.sum y x _ h (widened x y h e) (in_memory m.sum y r f g k t) (room.0, room.1, room.2.0)) (one_more m.count n room.0 u room.1 room.2.1);
+})
+
+-- ---- and in its content
+
+pub scalar_feeds : (s r : Scalar) (x : ℤ) → AddsInt s x r → Feeds (Content-F.Scalar s) (One (Int x)) (out-Content (made.Scalar r))
+scalar_feeds s r x h = feeds_by (λ (u : Unit {0}). kind_of s) (Content-F.Scalar s) (Content-F.Scalar r) (made.Scalar r) (One (Int x)) (opened-Scalar r) (λ k e. (tt, e))
+    (λ u deep proper room suit. (
+      (sym h.kept, scalar_deep s (Content-F.Scalar r)),
+      scalar_view s (Content-F.Scalar r) ∙ h.fed suit (subst (HasRoom (kind_of s)) (scalar_view s (Content-F.Scalar s)) room)
+          ∙ ap (λ c. after (kind_of s) c (One (Int x) ∷ [])) (sym (scalar_view s (Content-F.Scalar s))),
+    ))

@@ -1,0 +1,110 @@
+-- Pages: the contents of all targets in pages, which copies share.
+-- Every page is full but the last one. Every content of a shared page fits, so such a page is never judged again.
+use Rattle.std.specs.Prelude.{◌≡◌, ◌≤◌, ℕ, ◌-◌, ℤ, true, List, [], ◌∷◌, ◌++◌, length, slice_get, slice_set, Some}
+use Rattle.std.specs.Arc.{arc_value}
+use Rattle.gq_value.specs.Val.{Val, Int}
+use Rattle.gq_value.specs.Accums.{Given, One}
+use Rattle.gq_accum_laws.specs.Fits.{fits}
+use Rattle.gq_nest.specs.declared.content.Content.{Content, out-Content}
+use Rattle.gq_nest.specs.Entries.{every}
+use Rattle.gq_nest.specs.Forms.{Feeds}
+use Rattle.gq_nest.specs.Shows.{TakesInput}
+use Rattle.gq_nest.specs.Tells.{CanBeSet, IsSet, Tells}
+use Rattle.gq_frame.specs.declared.page.Page.{Page}
+use Rattle.gq_frame.specs.declared.page.Page.TheVariants as page
+use Rattle.gq_frame.specs.Targets.{ShowTheSame}
+
+-- ---- one page
+
+abbrev pub page_size : ℕ
+page_size = 256
+
+abbrev pub items_of : Page → List Content
+items_of (page.Own items) = items
+items_of (page.Shared shared) = arc_value shared
+
+-- each content fits
+abbrev pub AllFit : List Content → Type 0
+AllFit = every (λ c. Tells c true fits)
+
+-- a shared page is full, and each of its contents fits
+abbrev pub IsKept : Page → Type 0
+IsKept (page.Own items) = Unit {0}
+IsKept (page.Shared shared) = (length (arc_value shared) ≡ page_size) × AllFit (arc_value shared)
+
+-- a page with as many contents, which may be shared if the old one could be
+pub record Keeps (old new : Page) : Type 0 where
+  pub count : length (items_of new) ≡ length (items_of old)
+  pub kept : IsKept old → IsKept new
+
+-- a page whose contents show the same
+pub record Shares (old new : Page) : Type 0 where
+  pub same : ShowTheSame (items_of old) (items_of new)
+  pub kept : IsKept old → IsKept new
+
+-- the same, as a page that nothing else refers to
+pub record IsOwnCopy (old new : Page) : Type 0 where
+  pub items : List Content
+  pub owned : new ≡ page.Own items
+  pub same : ShowTheSame (items_of old) items
+
+-- a page with the same contents, which may now be shared
+pub record Seals (old new : Page) : Type 0 where
+  pub same : items_of new ≡ items_of old
+  pub kept : IsKept old → IsKept new
+
+-- ---- all pages
+
+-- the contents of all pages, in order
+abbrev pub contents_of : List Page → List Content
+contents_of [] = []
+contents_of (p ∷ ps) = items_of p ++ contents_of ps
+
+-- the last page isn't too full, and any other is full
+abbrev pub IsFilled : Page → List Page → Type 0
+IsFilled p [] = length (items_of p) ≤ page_size
+IsFilled p (q ∷ ps) = length (items_of p) ≡ page_size
+
+abbrev pub ArePages : List Page → Type 0
+ArePages [] = Unit {0}
+ArePages (p ∷ ps) = IsKept p × IsFilled p ps × ArePages ps
+
+-- the last page has no room
+abbrev pub IsFull : List Page → Type 0
+IsFull ps = (p : Page) → slice_get ps (length ps - 1) ≡ Some p → page_size ≤ length (items_of p)
+
+-- page by page
+abbrev pub ShareEach : List Page → List Page → Type 0
+ShareEach [] [] = Unit {0}
+ShareEach (p ∷ ps) (q ∷ qs) = Shares p q × ShareEach ps qs
+ShareEach _ _ = ⊥
+
+abbrev pub SealEach : List Page → List Page → Type 0
+SealEach [] [] = Unit {0}
+SealEach (p ∷ ps) (q ∷ qs) = Seals p q × SealEach ps qs
+SealEach _ _ = ⊥
+
+-- ---- changes
+
+-- the content at an index becomes one that is related to it in this way; the others show what they showed
+pub record ChangesAt (related : Content → Content → Type 0) (at : ℕ) (old new : List Content) : Type 0 where
+  pub middle : List Content
+  pub same : ShowTheSame old middle
+  pub was : Content
+  pub now : Content
+  pub stood : slice_get middle at ≡ Some was
+  pub becomes : related was now
+  pub contents : new ≡ slice_set middle at now
+
+abbrev pub Takes : Given → Content → Content → Type 0
+Takes x was now = TakesInput was x now
+
+abbrev pub TakesInt : ℤ → Content → Content → Type 0
+TakesInt x was now = Feeds (out-Content was) (One (Int x)) (out-Content now)
+
+abbrev pub SetsTo : Val → Content → Content → Type 0
+SetsTo v was now = IsSet was v now
+
+-- the content at an index can be set to a value
+abbrev pub AllowsAt : Val → ℕ → List Content → Type 0
+AllowsAt v at cs = (c : Content) → slice_get cs at ≡ Some c → CanBeSet c v

@@ -1,0 +1,44 @@
+// One INT fed into a content.
+ghost use Rattle.std.specs.Prelude.{OnOk};
+ghost use Rattle.gq_value.specs.Accums.{One};
+ghost use Rattle.gq_value.specs.Val.{Int};
+ghost use Rattle.gq_nest.specs.declared.content.Content.{out-Content};
+ghost use Rattle.gq_nest.specs.Forms.{Feeds};
+ghost use Rattle.gq_frame.specs.Ints.{AddsInt};
+
+use gq_accum::{Scalar, count, total};
+use gq_base::OutOfMemory;
+use gq_nest::Content;
+
+/// Feeds a content with an INT. Returns `OutOfMemory` if its kind takes no INT.
+pub(crate) fn feed_content(content: &mut Content, x: i64) -> Result<(), OutOfMemory>
+    ensures { OnOk result (Feeds (out-Content content.old) (One (Int x)) (out-Content content.new)) }
+{
+    match content {
+        Content::Scalar(scalar) => add(scalar, x),
+        _ => Err(OutOfMemory),
+    }
+}
+
+/// Adds an INT to a scalar. Returns `OutOfMemory` if its kind takes no INT.
+fn add(scalar: &mut Scalar, x: i64) -> Result<(), OutOfMemory>
+    ensures { OnOk result (AddsInt scalar.old x scalar.new) }
+{
+    match scalar {
+        Scalar::SumInt(sum) => *sum = total(*sum, i128::from(x)),
+        Scalar::MinInt(least) => *least = x.min(*least),
+        Scalar::MaxInt(most) => *most = x.max(*most),
+        Scalar::BitOr(bits) => *bits = x | *bits,
+        Scalar::BitAnd(bits) => *bits = x & *bits,
+        Scalar::Avg(mean) => {
+            mean.sum = total(mean.sum, i128::from(x));
+            mean.count = count(mean.count, 1);
+        }
+        Scalar::SumUInt(_)
+        | Scalar::MinUInt(_)
+        | Scalar::MaxUInt(_)
+        | Scalar::Or(_)
+        | Scalar::And(_) => return Err(OutOfMemory),
+    }
+    Ok(())
+}

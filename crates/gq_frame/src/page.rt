@@ -1,0 +1,242 @@
+// One page of contents.
+ghost use Rattle.std.specs.Prelude.{◌≡◌, ◌<◌, ◌++◌, [], ◌∷◌, ◌≤◌, IfOk, OnOk, OnErr, length, true, false};
+ghost use Rattle.gq_value.specs.AccumViews.{given};
+ghost use Rattle.gq_value.specs.Views.{val};
+ghost use Rattle.gq_nest.specs.Shows.{ShowsTheSame};
+ghost use Rattle.gq_frame.specs.Targets.{ShowTheSame};
+ghost use Rattle.gq_frame.specs.Pages.{AllFit, AllowsAt, ChangesAt, IsKept, IsOwnCopy, Keeps, Shares, Takes, TakesInt, SetsTo, items_of, page_size};
+
+use crate::ints::feed_content;
+use gq_base::{List, OutOfMemory};
+use gq_nest::Content;
+use gq_value::{Input, Value};
+use std::alloc::Global;
+use std::mem::replace;
+use std::sync::Arc;
+
+/// The number of contents in a full page.
+pub(crate) const PAGE_SIZE: usize = 256;
+
+/// A page of contents.
+#[derive(Drop)]
+pub(crate) enum Page {
+    /// Contents that nothing else refers to.
+    Own(List<Content>),
+
+    /// Contents that copies share. The page is full, and each content fits.
+    Shared(Arc<List<Content>>),
+}
+
+/// The contents of a page. Doesn't allocate.
+pub(crate) fn items(page: &Page) -> &[Content]
+    ensures { result.now ≡ items_of page.now }
+{
+    match page {
+        Page::Own(items) => items.as_slice(),
+        Page::Shared(items) => items.as_slice(),
+    }
+}
+
+/// Whether a page has room for one more content.
+pub(crate) fn has_room(page: &Page) -> bool
+    ensures room { result ≡ true → length (items_of page.now) < page_size }
+    ensures full { result ≡ false → page_size ≤ length (items_of page.now) }
+{
+    items(page).len() < PAGE_SIZE
+}
+
+/// Copies a page. The copy of a shared page shares its contents.
+#[tactic(auto, using(crate::proofs::PageLemmas::own_laws))]
+pub(crate) fn share(alloc: Global, page: &Page) -> Result<Page, OutOfMemory>
+    ensures { IfOk result (Shares page.now) }
+{
+    match page {
+        Page::Own(items) => Ok(Page::Own(copied(alloc, items.as_slice())?)),
+        Page::Shared(items) => Ok(Page::Shared(Arc::try_clone(items)?)),
+    }
+}
+
+/// Lets copies share a page, if it is full and each content fits. If there is no memory, it stays unshared.
+pub(crate) fn seal(alloc: Global, page: &mut Page)
+    ensures same { items_of page.new ≡ items_of page.old }
+    ensures kept { IsKept page.old → IsKept page.new }
+{
+    let sealed = match replace(page, Page::Own(List::new(alloc))) {
+        Page::Own(items) => sealed(alloc, items),
+        Page::Shared(items) => Page::Shared(items),
+    };
+    *page = sealed;
+}
+
+/// A page with these contents, shared if it is full and each of them fits.
+fn sealed(alloc: Global, items: List<Content>) -> Page
+    ensures same { items_of result ≡ items }
+    ensures kept { IsKept result }
+{
+    if items.len() != PAGE_SIZE || !all_fit(items.as_slice()) {
+        return Page::Own(items);
+    }
+    match Arc::new(alloc, items) {
+        Ok(shared) => Page::Shared(shared),
+        Err(failed) => Page::Own(failed.value),
+    }
+}
+
+/// Whether each content of a page fits. Those of a shared page do.
+pub(crate) fn fits(page: &Page) -> bool
+    ensures { IsKept page.now → result ≡ true → AllFit (items_of page.now) }
+{
+    match page {
+        Page::Own(items) => all_fit(items.as_slice()),
+        Page::Shared(_) => true,
+    }
+}
+
+/// Whether each content fits.
+fn all_fit(contents: &[Content]) -> bool
+    ensures { result ≡ true → AllFit contents.now }
+{
+    for content in contents {
+        if !content.fits() {
+            return false;
+        }
+    }
+    true
+}
+
+/// Appends a content to a page with room for it.
+pub(crate) fn push(page: &mut Page, content: Content) -> Result<(), OutOfMemory>
+    requires room { length (items_of page.old) < page_size }
+    requires kept { IsKept page.old }
+    ensures ok { OnOk result (items_of page.new ≡ items_of page.old ++ content ∷ []) }
+    ensures err { OnErr result (items_of page.new ≡ items_of page.old) }
+    ensures kept { IsKept page.new }
+{
+    match page {
+        Page::Own(items) => items.push(content),
+        Page::Shared(_) => unreachable!(),
+    }
+}
+
+/// Feeds the content at an index.
+#[tactic(auto, using(crate::proofs::PageLemmas::own_laws))]
+pub(crate) fn feed(
+    alloc: Global,
+    page: &mut Page,
+    at: usize,
+    input: &Input,
+) -> Result<(), OutOfMemory>
+    requires { at < length (items_of page.old) }
+    ensures takes { OnOk result (ChangesAt (Takes (given input.now)) at (items_of page.old) (items_of page.new)) }
+    ensures keeps { Keeps page.old page.new }
+{
+    own(alloc, page)?;
+    match page {
+        Page::Own(items) => {
+            items.at_mut(at).feed(alloc, input)?;
+            Ok(())
+        }
+        Page::Shared(_) => unreachable!(),
+    }
+}
+
+/// Feeds the content at an index with an INT. Returns `OutOfMemory` if its kind takes no INT, too.
+#[tactic(auto, using(crate::proofs::PageLemmas::own_laws))]
+pub(crate) fn feed_int(alloc: Global, page: &mut Page, at: usize, x: i64) -> Result<(), OutOfMemory>
+    requires { at < length (items_of page.old) }
+    ensures takes { OnOk result (ChangesAt (TakesInt x) at (items_of page.old) (items_of page.new)) }
+    ensures keeps { Keeps page.old page.new }
+{
+    own(alloc, page)?;
+    match page {
+        Page::Own(items) => feed_content(items.at_mut(at), x),
+        Page::Shared(_) => unreachable!(),
+    }
+}
+
+/// Sets the content at an index to a value.
+#[tactic(auto, using(crate::proofs::PageLemmas::own_laws))]
+pub(crate) fn set(
+    alloc: Global,
+    page: &mut Page,
+    at: usize,
+    value: &Value,
+) -> Result<(), OutOfMemory>
+    requires index { at < length (items_of page.old) }
+    requires allows { AllowsAt (val value.now) at (items_of page.old) }
+    ensures takes { OnOk result (ChangesAt (SetsTo (val value.now)) at (items_of page.old) (items_of page.new)) }
+    ensures keeps { Keeps page.old page.new }
+{
+    own(alloc, page)?;
+    match page {
+        Page::Own(items) => {
+            items.at_mut(at).set(value);
+            Ok(())
+        }
+        Page::Shared(_) => unreachable!(),
+    }
+}
+
+/// Makes sure that nothing else refers to a page. A shared page is copied, unless this is its last owner.
+#[tactic(auto, using(crate::proofs::PageLemmas::own_laws))]
+fn own(alloc: Global, page: &mut Page) -> Result<(), OutOfMemory>
+    ensures ok { OnOk result (IsOwnCopy page.old page.new) }
+    ensures err { OnErr result (page.new ≡ page.old) }
+{
+    match page {
+        Page::Own(_) => Ok(()),
+        Page::Shared(_) => take_over(alloc, page),
+    }
+}
+
+/// Does so for a shared page. On `OutOfMemory` it stays shared.
+#[tactic(auto, using(crate::proofs::PageLemmas::own_laws))]
+fn take_over(alloc: Global, page: &mut Page) -> Result<(), OutOfMemory>
+    ensures ok { OnOk result (IsOwnCopy page.old page.new) }
+    ensures err { OnErr result (page.new ≡ page.old) }
+{
+    match replace(page, Page::Own(List::new(alloc))) {
+        Page::Own(items) => {
+            *page = Page::Own(items);
+            Ok(())
+        }
+        Page::Shared(items) => match Arc::try_unwrap(items) {
+            Ok(items) => {
+                *page = Page::Own(items);
+                Ok(())
+            }
+            Err(shared) => match copied(alloc, shared.as_slice()) {
+                Ok(items) => {
+                    *page = Page::Own(items);
+                    Ok(())
+                }
+                Err(OutOfMemory) => {
+                    *page = Page::Shared(shared);
+                    Err(OutOfMemory)
+                }
+            },
+        },
+    }
+}
+
+/// Copies contents. Returns `OutOfMemory` if one is spoiled, too.
+fn copied(alloc: Global, contents: &[Content]) -> Result<List<Content>, OutOfMemory>
+    ensures { IfOk result (ShowTheSame contents.now) }
+{
+    let mut copy = List::from_vec(Vec::with_capacity(alloc, contents.len())?);
+    for content in contents {
+        copy.push(copy_of(alloc, content)?)?;
+    }
+    Ok(copy)
+}
+
+/// Copies a content. Most are one number or truth value, and these are copied without a call.
+#[tactic(auto, using(crate::proofs::OpenSteps::shows_itself))]
+fn copy_of(alloc: Global, content: &Content) -> Result<Content, OutOfMemory>
+    ensures { IfOk result (ShowsTheSame content.now) }
+{
+    match content {
+        Content::Scalar(scalar) => Ok(Content::Scalar(*scalar)),
+        _ => content.duplicate(alloc),
+    }
+}

@@ -1,0 +1,4 @@
+pub mod formers
+pub mod Forms
+pub mod Lends
+pub mod Walks

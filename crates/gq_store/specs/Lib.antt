@@ -1,0 +1,6 @@
+pub mod Histories
+pub mod Entries
+pub mod Shows
+pub mod Copies
+pub mod Lists
+pub mod Answering

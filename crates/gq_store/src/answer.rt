@@ -1,0 +1,13 @@
+// Answers of queries.
+use gq_base::List;
+use gq_json::Printed;
+use gq_query_run::QueryFault;
+
+/// What a query of a reader answers.
+#[derive(Drop)]
+pub struct Answer {
+    /// How many of the published inserts, from the first one on, the store had.
+    pub upto: u64,
+    /// What the query prints over that store, or its fault.
+    pub run: Result<List<Printed>, QueryFault>,
+}
