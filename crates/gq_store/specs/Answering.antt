@@ -1,4 +1,4 @@
--- Answering: what a query of a reader answers.
+-- Answering: the answer to a reader's query.
 use Rattle.std.specs.Prelude.{◌≡◌, ℕ, List, Result, length}
 use mathlib.Core.List.{IsPrefix}
 use Rattle.gq_value.specs.Val.{Val}

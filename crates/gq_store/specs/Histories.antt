@@ -1,5 +1,5 @@
 -- Histories: the list of all inserts that were added to a store, which only grows; what was seen of it is a beginning of it. No code keeps
--- the list: a word counts it, and tokens without bytes stand for its beginnings.
+-- the list: a word counts it, and tokens without bytes represent its beginnings.
 use Rattle.std.specs.Prelude.{ℕ, suc, ◌≡◌, ◌==◌, true, List, [], ◌∷◌, ◌++◌, length, MatchBool}
 use mathlib.Core.List.{IsPrefix}
 use Rattle.logbook.specs.Pages.{Cell, Step, View, Book, Named}

@@ -20,7 +20,7 @@ abbrev pub pending_of : List (Option Insert) → Option Insert → List Insert
 pending_of changes None = rows_in changes
 pending_of changes (Some row) = rows_in changes ++ row ∷ []
 
--- what is published and what is pending, where readers are shown the first and these changes are still to be taken in
+-- what is published and what is pending: readers are shown the first, and these changes are still to be taken in
 abbrev pub listed_of : List Insert → List (Option Insert) → Option Insert → Listed
 listed_of rows changes held = record { published = rows; pending = pending_of changes held }
 
@@ -32,7 +32,7 @@ added listed = listed.published ++ listed.pending
 abbrev pub with_one : Listed → Insert → Listed
 with_one listed row = record { published = listed.published; pending = listed.pending ++ row ∷ [] }
 
--- a seal stands last
+-- a seal is last
 pub record EndsSealed (changes : List (Option Insert)) : Type 0 where
   pub before : List (Option Insert)
   pub whole : changes ≡ before ++ None ∷ []

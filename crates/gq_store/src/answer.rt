@@ -3,7 +3,7 @@ use gq_base::List;
 use gq_json::Printed;
 use gq_query_run::QueryFault;
 
-/// What a query of a reader answers.
+/// The answer to a reader's query.
 #[derive(Drop)]
 pub struct Answer {
     /// How many of the published inserts, from the first one on, the store had.

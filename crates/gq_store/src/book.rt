@@ -182,7 +182,7 @@ impl<N: StoreName> News<N> {
         }
     }
 
-    /// Whether it begins with the other, as it does where it is as long.
+    /// Whether it begins with the other list, which it does if it is as long.
     pub(crate) fn begins_with(&self, other: &News<N>) -> bool
         ensures { result ≡ true → IsPrefix other.now self.now }
     {
@@ -201,7 +201,7 @@ impl<N: StoreName> News<N> {
         self.count.saturating_sub(other.count) == 1
     }
 
-    /// Adds an insert to the history, where this is all of it, and says whether it did.
+    /// Adds an insert to the history if this is all of it, and returns whether it did.
     pub(crate) fn add(&mut self, book: &Book<N>, row: &Insert) -> bool
         requires room { length self.old < 2 ^ 62 }
         ensures { result ≡ true → self.new ≡ self.old ++ row.now ∷ [] }

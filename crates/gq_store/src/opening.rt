@@ -110,10 +110,10 @@ fn newcomers<N: StoreName>(
     Ok(all)
 }
 
-/// Shares a store among a writer and so many readers, from 1 to 64. The store, its catalog and the history, which is new, are
+/// Shares a store among a writer and `readers` readers, from 1 to 64. The store, its catalog and the history, which is new, are
 /// those that the name says. It takes memory for a second copy, and for an index of each.
 ///
-/// `Big` comes exactly where the store holds more than 2,097,152 vertices or 15,728,640 edges. After a refusal the store is gone.
+/// Returns `Big` exactly if the store holds more than 2,097,152 vertices or 15,728,640 edges. After a refusal the store is gone.
 pub fn open<N: StoreName, R: Wait + Drop>(
     rt: R,
     alloc: Global,

@@ -19,7 +19,7 @@ use std::alloc::Global;
 use std::marker::Model;
 use std::thread::Threads;
 
-/// What a reader is asked: a plan for this catalog, with a value of each parameter and so many turns of loops.
+/// A query for a reader: a plan for this catalog, a value of each parameter, and the largest number of loop iterations.
 #[derive(Drop)]
 struct Question<'q, R> {
     workers: &'q Workers<'q, R>,
@@ -57,7 +57,7 @@ impl<N: StoreName> Model for SharedReader<N> {
     ghost invariant = { λ r. IsPrefix r.seen (sides.view r.side.place).seen × (r.vertices ≡ length N.base.vertices) };
 }
 
-/// Runs a plan over a copy, where this has all that the reader was told of.
+/// Runs a plan over a copy, if the copy has all that the reader was told of.
 fn answered<N: StoreName, R: Threads + Sync>(
     copy: &StoreCopy<N>,
     told: &News<N>,
@@ -129,8 +129,8 @@ impl<N: StoreName> SharedReader<N> {
     /// Runs a plan over the store after the published inserts, or after some of them from the first one on, with these workers. These
     /// begin with all that it saw before and all that it was told of, and it has seen them then. It gives the reader back.
     ///
-    /// The plan's catalog is that of the store when it was shared, or has grown out of it; where it has more edge types, an index is
-    /// built for it. `run` tells want of memory in the run; `OutOfMemory` comes where the writer has ended too.
+    /// The plan's catalog is that of the store when it was shared, or has grown out of it; if it has more edge types, an index is
+    /// built for it. `run` says if the run itself found no memory; `OutOfMemory` is returned after the writer's end, too.
     pub fn query<R: Threads + Sync>(
         self,
         workers: &Workers<'_, R>,

@@ -113,7 +113,7 @@ impl<N: StoreName> StoreCopy<N> {
         self.rows.again()
     }
 
-    /// Takes in an insert, behind all that it has. Where it can't, which is for want of memory, it is as it was.
+    /// Takes in an insert, after all that it has. If there is no memory for it, nothing changes.
     fn put(&mut self, entry: &Entry<N>) -> Result<(), AllocError>
         ensures { MatchResult result (λ _. self.new ≡ taken self.old (Some entry.now)) (λ _. self.new ≡ self.old) }
     {

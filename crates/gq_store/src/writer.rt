@@ -112,7 +112,7 @@ fn settle<N: StoreName>(side: &mut WriteSide<N>, held: &mut Change<N>) -> bool
     }
 }
 
-/// Shows readers all that the copies are still to take in, where a seal ends it.
+/// Shows readers all that the copies are still to take in, if it ends with a seal.
 fn show<N: StoreName, R: Wait>(side: WriteSide<N>, rt: &R) -> (WriteSide<N>, Result<(), AllocError>)
     requires { EndsSealed (drop side.behind side.log.items) }
     ensures { MatchResult result.1
@@ -143,7 +143,7 @@ fn shown<N: StoreName, R: Wait>(
     }
 }
 
-/// The entry of an insert, and all inserts with it. There is none where the history has others, which only the writer adds.
+/// The entry of an insert, and all inserts with it. There is none if the history has others, which only the writer adds.
 fn entered<N: StoreName>(book: &Book<N>, all: &News<N>, row: Insert) -> Option<(Entry<N>, News<N>)>
     requires room { length all.now < most_inserts }
     requires fits { InsertFits N.schema row }
@@ -158,7 +158,7 @@ fn entered<N: StoreName>(book: &Book<N>, all: &News<N>, row: Insert) -> Option<(
     Some((Entry { row, after }, all))
 }
 
-/// Adds an insert where there is room for it.
+/// Adds an insert if there is room for it.
 fn enter<N: StoreName>(
     side: &mut WriteSide<N>,
     kept: &mut Kept<N>,
@@ -188,7 +188,7 @@ fn enter<N: StoreName>(
 impl<N: StoreName, R: Wait + Drop> WriterOver<N, StoreCopy<N>, Change<N>, View, Published, R> {
     /// Adds an insert behind all others that are pending. Readers don't see it before it is published.
     ///
-    /// `Spent` comes exactly where 1,048,576 inserts were added before. Unchanged after a refusal.
+    /// Returns `Spent` exactly if 1,048,576 inserts were added before. Unchanged after a refusal.
     pub fn add(&mut self, row: &Insert) -> Result<(), AddFault>
         requires { InsertFits N.schema row.now }
         ensures last { IfOk result (λ _. listed_of self.new.side.desk.shown.value.rows (drop self.new.side.behind self.new.side.log.items) self.new.kept.held ≡ with_one (listed_of self.old.side.desk.shown.value.rows (drop self.old.side.behind self.old.side.log.items) self.old.kept.held) row.now) }
