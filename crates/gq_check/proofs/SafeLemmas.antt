@@ -6,7 +6,7 @@ use Rattle.gq_rules_typing.specs.Statements.{Bytes, Query}
 use Rattle.gq_rules_typing.specs.Sorts.{sorts_of}
 use Rattle.gq_rules_typing.specs.QueryTypes.{typing_query}
 use Rattle.gq_check_from.specs.declared.fault.CheckFault.{CheckFault}
-use Rattle.gq_rules_growth.proofs.SafetyLaws.{safety_law}
+use Rattle.gq_rules_safety.proofs.SafetyLaws.{safety_law}
 use Rattle.gq_check.specs.Checks.{Checks, ChecksQuery}
 
 pub checked_safely : (schema : Schema) (own : Option GraphType) (q : Query Bytes) (r : Result (Unit {0}) CheckFault) → Checks (typing_query (sorts_of schema own) q) r → ChecksQuery schema own q r

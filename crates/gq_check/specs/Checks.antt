@@ -10,7 +10,7 @@ use Rattle.gq_rules_typing.specs.QueryTypes.{typing_query}
 use Rattle.gq_check_from.specs.declared.fault.CheckFault.{CheckFault}
 use Rattle.gq_check_from.specs.declared.fault.CheckFault.TheVariants as fault
 use Rattle.gq_check_from.specs.Faults.{fault_of}
-use Rattle.gq_rules_growth.specs.Safety.{StaysSafe}
+use Rattle.gq_rules_safety.specs.Safety.{StaysSafe}
 
 -- the rules accept, or give the fault, except for OutOfMemory
 abbrev pub Checks : {A : Type 0} → judging.Judged A → Result (Unit {0}) CheckFault → Type 0

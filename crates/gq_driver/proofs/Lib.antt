@@ -5,5 +5,6 @@ pub mod SomeTokens
 pub mod SomeNesting
 pub mod SomeStatements
 pub mod SomeArguments
+pub mod WrittenLemmas
 pub mod SomeEffects
 pub mod MeaningLemmas

@@ -19,6 +19,7 @@ use Rattle.gq_stmt_read.specs.Outcomes.{IsRead, HasFault}
 use Rattle.gq_arguments.specs.Objects.{IsObject}
 use Rattle.gq_diagnostics.specs.Outcome.{Outcome, refused_with, usage}
 use Rattle.gq_session.specs.Statements.{opening}
+use Rattle.gq_session.proofs.SafeLemmas.{opening_law}
 use Rattle.gq_command.specs.Script.{script_text}
 use Rattle.gq_command.specs.declared.command.Command.{Command}
 use Rattle.gq_command.specs.declared.command.Task.{Task}
@@ -32,6 +33,7 @@ use Rattle.gq_driver.proofs.SomeNesting.{shallow_or_deep}
 use Rattle.gq_driver.proofs.SomeStatements.{script_or_fault}
 use Rattle.gq_driver.proofs.SomeArguments.{object_or_none}
 use Rattle.gq_driver.proofs.SomeEffects.{some_runs, one_run}
+use Rattle.gq_driver.proofs.WrittenLemmas.{AreWritten, script_written}
 
 -- ---- how tokens are parsed
 
@@ -83,8 +85,8 @@ module _ (bytes : List ℕ) (pairs : Listing) (turns : ℕ) where
   abbrev Statements : Option (List ℕ) → List Placed → Outcome → Type 0
   Statements arguments statements outcome = StatementsMean bytes (Told pairs) turns arguments statements outcome
 
-  some_statements : (arguments : Option (List ℕ)) (statements : List Placed) → (o : Outcome) × Statements arguments statements o
-  some_statements arguments statements = some_runs bytes pairs (opening arguments turns) statements
+  some_statements : (arguments : Option (List ℕ)) (statements : List Placed) → AreWritten statements → (o : Outcome) × Statements arguments statements o
+  some_statements arguments statements written = some_runs bytes pairs (opening arguments turns) (opening_law arguments turns) statements written
 
   one_meaning : (arguments : Option (List ℕ)) (statements : List Placed) (o p : Outcome) → Statements arguments statements o → Statements arguments statements p → o ≡ p
   one_meaning arguments statements o p a b = one_run bytes pairs (opening arguments turns) statements o p a b
@@ -94,12 +96,12 @@ module _ (bytes : List ℕ) (pairs : Listing) (turns : ℕ) where
   abbrev Arguments : Option (List ℕ) → List Placed → Outcome → Type 0
   Arguments arguments statements outcome = ArgumentsMean bytes (Told pairs) turns arguments statements outcome
 
-  some_arguments : (arguments : Option (List ℕ)) (statements : List Placed) → (o : Outcome) × Arguments arguments statements o
-  some_arguments None statements = some_statements None statements
-  some_arguments (Some file) statements = by (object_or_none file)
+  some_arguments : (arguments : Option (List ℕ)) (statements : List Placed) → AreWritten statements → (o : Outcome) × Arguments arguments statements o
+  some_arguments None statements written = some_statements None statements written
+  some_arguments (Some file) statements written = by (object_or_none file)
     where
       by : ((members : Members) × IsObject file members) ⊎ ((members : Members) → IsObject file members → ⊥) → (o : Outcome) × Arguments (Some file) statements o
-      by (inl (members, is)) = let means = some_statements (Some file) statements in (means.0, inl (members, is, means.1))
+      by (inl (members, is)) = let means = some_statements (Some file) statements written in (means.0, inl (members, is, means.1))
       by (inr none) = (refused_with (codes "arguments unreadable"), inr (none, refl))
 
   one_arguments : (arguments : Option (List ℕ)) (statements : List Placed) (o p : Outcome) → Arguments arguments statements o → Arguments arguments statements p → o ≡ p
@@ -119,7 +121,7 @@ module _ (bytes : List ℕ) (pairs : Listing) (turns : ℕ) where
     where
       by : ((fault : ScriptFault) × HasFault bytes tokens fault) ⊎ ((statements : List Placed) × IsRead bytes tokens statements) → (o : Outcome) × Tokens arguments tokens o
       by (inl (fault, has)) = (refused_with (fault_message bytes fault), inl (fault, has, refl))
-      by (inr (statements, (low, is))) = let means = some_arguments arguments statements in (means.0, inr (statements, low, is, means.1))
+      by (inr (statements, (low, is))) = let means = some_arguments arguments statements (script_written bytes tokens statements is) in (means.0, inr (statements, low, is, means.1))
 
   one_tokens : HasOneScript → (arguments : Option (List ℕ)) (tokens : List Token) (o p : Outcome) → Tokens arguments tokens o → Tokens arguments tokens p → o ≡ p
   one_tokens only arguments tokens o p (inl (e, has, same)) (inl (f, might, other)) =

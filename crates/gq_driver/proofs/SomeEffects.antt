@@ -27,6 +27,9 @@ use Rattle.gq_ddl.specs.Jobs.{job_named}
 use Rattle.gq_session.specs.Statements.{State, vertex_made, edge_made, graph_made, graph_used, job_made, row_made, query_made, install_made, effect_of, query_ran, query_interpreted, store_done, RunsJob, Does}
 use Rattle.gq_session.specs.StatementLaws.{does_one}
 use Rattle.gq_session.specs.Runs.{Follows, Runs}
+use Rattle.gq_session.specs.Safe.{IsSafe, IsWritten}
+use Rattle.gq_session.proofs.SafeLemmas.{next_law, run_law, interpret_law}
+use Rattle.gq_driver.proofs.WrittenLemmas.{AreWritten}
 
 -- ---- loads
 
@@ -71,39 +74,41 @@ module _ (pairs : Listing) (schema : Schema) (store : Store) where
 
 -- ---- statements
 
-module _ (pairs : Listing) (s : State) where
+module _ (pairs : Listing) (s : State) (safe : IsSafe s) where
   some_run : (tree : RunJobTree) → (e : Effect State) × RunsJob (Told pairs) s tree e
   some_run tree = let does = some_job pairs s.schema s.store s.jobs tree in (store_done s does.0, (does.0, does.1, refl))
 
-  some_effect : (statement : Statement) → (e : Effect State) × Does (Told pairs) s statement e
-  some_effect (top.Vertex tree) = (effect_of (vertex_made s tree), refl)
-  some_effect (top.Edge tree) = (effect_of (edge_made s tree), refl)
-  some_effect (top.Graph tree) = (effect_of (graph_made s tree), refl)
-  some_effect (top.Use name) = (effect_of (graph_used s name), refl)
-  some_effect (top.Job tree) = (effect_of (job_made s tree), refl)
-  some_effect (top.RunJob tree) = some_run tree
-  some_effect (top.Query replace name tree) = (effect_of (query_made s replace name tree), refl)
-  some_effect (top.Install which) = (effect_of (install_made s which), refl)
-  some_effect (top.Run tree) = (query_ran s tree, refl)
-  some_effect (top.Interpret tree) = (query_interpreted s tree, refl)
-  some_effect (top.Insert tree) = (effect_of (row_made s tree), refl)
-  some_effect top.Begin = (Becomes s [], refl)
-  some_effect top.End = (Becomes s [], refl)
+  some_effect : (statement : Statement) → IsWritten statement → (e : Effect State) × Does (Told pairs) s statement e
+  some_effect (top.Vertex tree) is = (effect_of (vertex_made s tree), refl)
+  some_effect (top.Edge tree) is = (effect_of (edge_made s tree), refl)
+  some_effect (top.Graph tree) is = (effect_of (graph_made s tree), refl)
+  some_effect (top.Use name) is = (effect_of (graph_used s name), refl)
+  some_effect (top.Job tree) is = (effect_of (job_made s tree), refl)
+  some_effect (top.RunJob tree) is = some_run tree
+  some_effect (top.Query replace name tree) is = (effect_of (query_made s replace name tree), refl)
+  some_effect (top.Install which) is = (effect_of (install_made s which), refl)
+  some_effect (top.Run tree) is = (query_ran s tree, (refl, run_law s tree safe))
+  some_effect (top.Interpret tree) is = (query_interpreted s tree, (refl, interpret_law s tree safe is))
+  some_effect (top.Insert tree) is = (effect_of (row_made s tree), refl)
+  some_effect top.Begin is = (Becomes s [], refl)
+  some_effect top.End is = (Becomes s [], refl)
 
 -- ---- lists of statements
 
 module _ (bytes : List ℕ) (pairs : Listing) where
   -- a statement's effect followed by the rest has an outcome, if the rest has one from each state
-  some_behind : (line : ℕ) (effect : Effect State) (Rest : State → Outcome → Type 0) → ((t : State) → (o : Outcome) × Rest t o) → (o : Outcome) × Follows line effect Rest o
+  some_behind : (line : ℕ) (effect : Effect State) (Rest : State → Outcome → Type 0) → ((t : State) (lines : List (List ℕ)) → effect ≡ Becomes t lines → (o : Outcome) × Rest t o)
+      → (o : Outcome) × Follows line effect Rest o
   some_behind line (Refused message) Rest rest = (ended_by (refusal_text line message), refl)
-  some_behind line (Becomes t lines) Rest rest = let others = rest t in (lines_then lines others.0, (others.0, others.1, refl))
+  some_behind line (Becomes t lines) Rest rest = let others = rest t lines refl in (lines_then lines others.0, (others.0, others.1, refl))
 
-  -- statements have an outcome
-  pub some_runs : (s : State) (statements : List Placed) → (o : Outcome) × Runs bytes (Told pairs) s statements o
-  some_runs s [] = (done, refl)
-  some_runs s (p ∷ others) =
-      let does = some_effect pairs s p.statement in
-      let on = some_behind (line_of bytes p.from) does.0 (λ t. Runs bytes (Told pairs) t others) (λ t. some_runs t others) in
+  -- statements as the grammar has them have an outcome, from a safe session on
+  pub some_runs : (s : State) → IsSafe s → (statements : List Placed) → AreWritten statements → (o : Outcome) × Runs bytes (Told pairs) s statements o
+  some_runs s safe [] written = (done, refl)
+  some_runs s safe (p ∷ others) written =
+      let does = some_effect pairs s safe p.statement written.0 in
+      let on = some_behind (line_of bytes p.from) does.0 (λ t. Runs bytes (Told pairs) t others)
+      (λ t lines is. some_runs t (next_law (Told pairs) s t p.statement lines safe (subst (Does (Told pairs) s p.statement) is does.1)) others written.1) in
       (on.0, (does.0, does.1, on.1))
 
   -- one effect is followed by only one outcome

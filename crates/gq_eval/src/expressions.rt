@@ -204,7 +204,7 @@ fn plus<'v, V: Sees>(
 {
     let x = value(before)?;
     let y = run_value(term, alloc, sight)?;
-    summed(alloc, sign, &x, &y)
+    summed(alloc, sign, x, &y)
 }
 
 /// Evaluates AND, from a truth; the operands after a false one aren't evaluated.

@@ -44,6 +44,10 @@ fn to_string<'a>(alloc: Global, operand: &Operand<'a>) -> Result<Seen<'a>, Halt>
 {
     match operand {
         Operand::Text(text) => Ok(Seen::Value(Sort::Text, Operand::Text(text))),
+        Operand::Joined(text) => {
+            let copy = Txt::of(alloc, text.as_str())?;
+            Ok(Seen::Value(Sort::Text, Operand::Made(Value::Text(copy))))
+        }
         Operand::Lent(value) => lent(alloc, value),
         Operand::Made(value) => {
             let text = spell(alloc, value)?;

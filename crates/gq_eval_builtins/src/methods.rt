@@ -3,6 +3,7 @@ ghost use Rattle.std.specs.Prelude.{◌≡◌, IfOk, map, Some};
 ghost use Rattle.std.specs.Option.{option_copied, option_map};
 ghost use Rattle.gq_value.specs.AccumViews.{accum_of, base_of};
 ghost use Rattle.gq_rules_typing.specs.Kinds.{contained_type};
+ghost use Rattle.gq_value.specs.Val.{Text};
 ghost use Rattle.gq_value.specs.Views.{val};
 ghost use Rattle.gq_rules_meaning.specs.Meanings.{counted};
 ghost use Rattle.gq_eval_operand.specs.Meant.{meant, valued, Tells};
@@ -92,7 +93,7 @@ pub fn contains<'a>(alloc: Global, seen: &Seen<'_>, operand: &Operand<'_>) -> Re
     }
 }
 
-/// As `has`; a borrowed text is copied.
+/// As `has`; a text that isn't a `Value` yet is copied.
 #[tactic(auto, using(gq_value::specs::ViewLaws::view_laws))]
 fn has_operand(
     alloc: Global,
@@ -108,9 +109,24 @@ fn has_operand(
     match operand {
         Operand::Made(value) => has(alloc, kind, content, base, value),
         Operand::Lent(value) => has(alloc, kind, content, base, value),
-        Operand::Text(text) => {
-            let value = Value::Text(Txt::of(alloc, text)?);
-            has(alloc, kind, content, base, &value)
-        }
+        Operand::Text(text) => has_text(alloc, kind, content, base, text),
+        Operand::Joined(text) => has_text(alloc, kind, content, base, text.as_str()),
     }
+}
+
+/// As `has`, for a copy of a text.
+#[tactic(auto, using(gq_value::specs::ViewLaws::view_laws))]
+fn has_text(
+    alloc: Global,
+    kind: &Kind,
+    content: &Content,
+    base: &BaseType,
+    text: &str,
+) -> Result<bool, OutOfMemory>
+    requires sound { IsSound (accum_of kind.now) content.now }
+    requires of { contained_type (accum_of kind.now) ≡ Some (base_of base.now) }
+    ensures { IfOk result (λ found. has_in (accum_of kind.now) content.now (Text text.now) ≡ Some found) }
+{
+    let value = Value::Text(Txt::of(alloc, text)?);
+    has(alloc, kind, content, base, &value)
 }

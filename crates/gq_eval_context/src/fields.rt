@@ -59,7 +59,7 @@ fn of_value<'v>(
     ensures sound { IfOk result Sound }
 {
     match operand {
-        Operand::Text(_) => Err(Halt::Stuck),
+        Operand::Text(_) | Operand::Joined(_) => Err(Halt::Stuck),
         Operand::Lent(value) => match value {
             Value::Vertex(vertex) => vertex_field(graph, field, *vertex),
             Value::Tuple(row) => of_tuple(tuples, sort, row.as_slice(), field),

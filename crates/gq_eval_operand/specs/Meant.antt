@@ -1,5 +1,5 @@
 -- Meant: the meaning of each form of Seen in the definitions, and when an answer is the one that was meant.
-use Rattle.std.specs.Prelude.{◌≡◌, ℕ, ℤ, Bool, true, false, if◌then◌else◌, List, map, Result, Ok, Err}
+use Rattle.std.specs.Prelude.{◌≡◌, ℕ, ℤ, Bool, true, false, if◌then◌else◌, List, map, Result, Ok, Err, string_bytes}
 use Rattle.gq_value.specs.declared.value.Value.{Value}
 use Rattle.gq_value.specs.declared.value.Wrong.{Wrong}
 use Rattle.gq_value.specs.declared.value.EvalFault.{EvalFault}
@@ -46,6 +46,7 @@ abbrev pub valued : Operand → Val
 valued (operand.Made v) = val v
 valued (operand.Lent v) = val v.now
 valued (operand.Text s) = Text s.now
+valued (operand.Joined s) = Text (string_bytes s)
 
 -- the keys and the parts of a group
 abbrev pub keys_are : GroupShape → List (Bytes × plain.Base)

@@ -40,7 +40,7 @@ pub fn held<'o>(operand: &'o Operand<'_>) -> Option<&'o Value>
     match operand {
         Operand::Made(value) => Some(value),
         Operand::Lent(value) => Some(value),
-        Operand::Text(_) => None,
+        Operand::Text(_) | Operand::Joined(_) => None,
     }
 }
 

@@ -19,7 +19,7 @@ pub fn vertex_in(operand: &Operand<'_>) -> Result<u32, Halt>
     match operand {
         Operand::Made(value) => vertex_of(value),
         Operand::Lent(value) => vertex_of(value),
-        Operand::Text(_) => Err(Halt::Stuck),
+        Operand::Text(_) | Operand::Joined(_) => Err(Halt::Stuck),
     }
 }
 
@@ -41,7 +41,7 @@ pub fn truth(operand: &Operand<'_>) -> Result<bool, Halt>
     match operand {
         Operand::Made(value) => truth_of(value),
         Operand::Lent(value) => truth_of(value),
-        Operand::Text(_) => Err(Halt::Stuck),
+        Operand::Text(_) | Operand::Joined(_) => Err(Halt::Stuck),
     }
 }
 
@@ -64,7 +64,7 @@ pub fn number(operand: &Operand<'_>) -> Result<Value, Halt>
     match operand {
         Operand::Made(value) => number_of(value),
         Operand::Lent(value) => number_of(value),
-        Operand::Text(_) => Err(Halt::Stuck),
+        Operand::Text(_) | Operand::Joined(_) => Err(Halt::Stuck),
     }
 }
 
@@ -89,6 +89,7 @@ pub fn text<'o>(operand: &'o Operand<'_>) -> Option<&'o str>
         Operand::Made(value) => text_of(value),
         Operand::Lent(value) => text_of(value),
         Operand::Text(text) => Some(text),
+        Operand::Joined(text) => Some(text.as_str()),
     }
 }
 
@@ -112,5 +113,6 @@ pub fn own(alloc: Global, operand: Operand<'_>) -> Result<Value, OutOfMemory>
         Operand::Made(value) => Ok(value),
         Operand::Lent(value) => value.duplicate(alloc),
         Operand::Text(text) => Ok(Value::Text(Txt::of(alloc, text)?)),
+        Operand::Joined(text) => Ok(Value::Text(Txt::from_string(text))),
     }
 }

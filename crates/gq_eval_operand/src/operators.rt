@@ -1,9 +1,10 @@
 // Operators on numbers, texts and truths.
-ghost use Rattle.std.specs.Prelude.{◌≡◌, ◌++◌, IfOk};
+ghost use Rattle.std.specs.Prelude.{◌≡◌, ◌++◌, IfOk, string_bytes};
 ghost use Rattle.gq_plan_ir.specs.Answers.{Gives};
 ghost use Rattle.gq_plan_ir.specs.Meanings.{numbered, truly, said};
 ghost use Rattle.gq_plan_ir.specs.Expressions.{calculated, product, summed, minus, nots};
 ghost use Rattle.gq_value.specs.Arithmetic.{added, subtracted};
+ghost use Rattle.gq_value.specs.Val.{Text};
 ghost use Rattle.gq_value.specs.Views.{val};
 ghost use Rattle.gq_eval_operand.specs.Meant.{meant, valued, is_unsigned, Told, Tells};
 
@@ -12,7 +13,7 @@ use crate::operand::{number, text};
 use crate::seen::{Operand, Seen, Sort};
 use gq_base::OutOfMemory;
 use gq_tree::{AddSign, MulSign};
-use gq_value::{EvalFault, Txt, Value, add, div, mul, negate, rem, sub};
+use gq_value::{EvalFault, Value, add, div, mul, negate, rem, sub};
 use std::alloc::Global;
 
 /// A number, with its own type.
@@ -34,7 +35,7 @@ pub fn is_unsigned(operand: &Operand<'_>) -> bool
     match operand {
         Operand::Made(value) => is_uint(value),
         Operand::Lent(value) => is_uint(value),
-        Operand::Text(_) => false,
+        Operand::Text(_) | Operand::Joined(_) => false,
     }
 }
 
@@ -82,25 +83,56 @@ pub fn product<'a>(sign: MulSign, left: &Operand<'_>, right: &Operand<'_>) -> Re
     }
 }
 
-/// `+` and `-`; two texts are joined by `+`. Takes memory only for texts.
+/// `+` and `-`; two texts are joined by `+`. Takes memory only for texts, and appends to a text that `+` made.
 #[tactic(auto, using(crate::proofs::OperatorLemmas::summed_laws))]
 pub fn summed<'a>(
     alloc: Global,
     sign: AddSign,
-    left: &Operand<'_>,
+    left: Operand<'_>,
     right: &Operand<'_>,
 ) -> Result<Seen<'a>, Halt>
-    ensures { Tells meant (summed sign (valued left.now) (valued right.now)) result }
+    ensures { Tells meant (summed sign (valued left.entry) (valued right.now)) result }
 {
     match sign {
-        AddSign::Plus => match text(left) {
-            Some(s) => match text(right) {
-                Some(t) => joined(alloc, s, t),
-                None => Err(Halt::Stuck),
-            },
-            None => sum(alloc, left, right),
+        AddSign::Plus => plus(alloc, left, right),
+        AddSign::Minus => difference(&left, right),
+    }
+}
+
+#[tactic(auto, using(crate::proofs::OperatorLemmas::summed_laws))]
+fn plus<'a>(alloc: Global, left: Operand<'_>, right: &Operand<'_>) -> Result<Seen<'a>, Halt>
+    ensures { Tells meant (summed AddSign.Plus (valued left.entry) (valued right.now)) result }
+{
+    match left {
+        Operand::Joined(text) => appended(text, right),
+        Operand::Made(value) => first(alloc, &Operand::Made(value), right),
+        Operand::Lent(value) => first(alloc, &Operand::Lent(value), right),
+        Operand::Text(text) => first(alloc, &Operand::Text(text), right),
+    }
+}
+
+/// A text that `+` made, and another one after it.
+#[tactic(auto, using(crate::proofs::OperatorLemmas::summed_laws))]
+fn appended<'a>(left: String, right: &Operand<'_>) -> Result<Seen<'a>, Halt>
+    ensures { Tells meant (summed AddSign.Plus (Text (string_bytes left)) (valued right.now)) result }
+{
+    match text(right) {
+        Some(text) => Ok(joined(followed(left, text)?)),
+        None => Err(Halt::Stuck),
+    }
+}
+
+/// `+` on operands that are borrowed or numbers: two texts are copied into a new one.
+#[tactic(auto, using(crate::proofs::OperatorLemmas::summed_laws))]
+fn first<'a>(alloc: Global, left: &Operand<'_>, right: &Operand<'_>) -> Result<Seen<'a>, Halt>
+    ensures { Tells meant (summed AddSign.Plus (valued left.now) (valued right.now)) result }
+{
+    match text(left) {
+        Some(s) => match text(right) {
+            Some(t) => Ok(joined(copied(alloc, s, t)?)),
+            None => Err(Halt::Stuck),
         },
-        AddSign::Minus => difference(left, right),
+        None => sum(alloc, left, right),
     }
 }
 
@@ -122,22 +154,30 @@ fn difference<'a>(left: &Operand<'_>, right: &Operand<'_>) -> Result<Seen<'a>, H
     calculated(sub(&x, &y))
 }
 
-/// The concatenation of two texts.
-#[tactic(auto, using(gq_value::specs::ViewLaws::view_laws))]
-fn joined<'a>(alloc: Global, left: &str, right: &str) -> Result<Seen<'a>, Halt>
-    ensures { Tells meant (said (left.now ++ right.now)) result }
+/// A text that `+` made.
+fn joined<'a>(text: String) -> Seen<'a>
+    ensures { said (string_bytes text) ≡ Gives (meant result) }
 {
-    let text = followed(alloc, left, right)?;
-    Ok(Seen::Value(Sort::Text, Operand::Made(Value::Text(text))))
+    Seen::Value(Sort::Text, Operand::Joined(text))
 }
 
-fn followed(alloc: Global, left: &str, right: &str) -> Result<Txt, OutOfMemory>
-    ensures { IfOk result (λ text. text ≡ left.now ++ right.now) }
+/// A new text: a copy of `left`, and `right` after it.
+fn copied(alloc: Global, left: &str, right: &str) -> Result<String, OutOfMemory>
+    ensures { IfOk result (λ text. string_bytes text ≡ left.now ++ right.now) }
 {
     let mut text = String::with_capacity(alloc, left.len().saturating_add(right.len()))?;
     text.push_str(left)?;
     text.push_str(right)?;
-    Ok(Txt::from_string(text))
+    Ok(text)
+}
+
+/// `left` with `right` appended; its memory grows by doubling.
+fn followed(left: String, right: &str) -> Result<String, OutOfMemory>
+    ensures { IfOk result (λ text. string_bytes text ≡ string_bytes left ++ right.now) }
+{
+    let mut text = left;
+    text.push_str(right)?;
+    Ok(text)
 }
 
 /// Applies `count` minus signs to a value, from the inner one on. Takes no memory.

@@ -55,6 +55,9 @@ pub enum Operand<'a> {
     Made(Value),
     Lent(&'a Value),
     Text(&'a str),
+
+    /// A text that `+` made; a further `+` appends to it, so a chain of them costs as much as its result is long.
+    Joined(String),
 }
 
 /// The result of an expression. Collections, sets and values in rows are borrowed.

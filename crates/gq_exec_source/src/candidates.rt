@@ -27,12 +27,12 @@ use std::alloc::Global;
 /// The candidates of a block with these ends: along a path its bindings. A set is walked in place; from a
 /// type all of its vertices are listed. Only a path has too many: more than 4,194,304 bindings, which are counted before
 /// conditions on them are evaluated.
-pub fn candidates_of(
+pub fn candidates_of<'g>(
     alloc: Global,
     block: &Block,
-    over: &BlockContext<'_>,
+    over: &BlockContext<'g>,
     ends: &Ends,
-) -> Result<Candidates, PathsFault>
+) -> Result<Candidates<'g>, PathsFault>
     requires { HasEnds over.now.schema over.now.plan over.now.frame.things block.now ends.now }
     ensures found { IfOk result (AreCandidates over.now block.now) }
     ensures many { result ≡ Err fault.TooMany → AreTooMany over.now block.now }
@@ -56,12 +56,12 @@ pub fn candidates_of(
 }
 
 /// The candidates along a path.
-pub(crate) fn along_path(
+pub(crate) fn along_path<'g>(
     alloc: Global,
-    over: &BlockContext<'_>,
+    over: &BlockContext<'g>,
     set: &VertexList,
     steps: &[PathStep],
-) -> Result<Candidates, PathsFault>
+) -> Result<Candidates<'g>, PathsFault>
     ensures listed { IfOk result (λ cs. cs ≡ bindings (sight_of over.now.schema over.now.vertices over.now.edges) set.now (map (path_step (setting_for over.now.schema over.now.plan)) (map view_path_step steps.now))) }
     ensures few { IfOk result (λ cs. length cs ≤ 4194304) }
     ensures many { result ≡ Err fault.TooMany → 4194304 < length (bindings (sight_of over.now.schema over.now.vertices over.now.edges) set.now (map (path_step (setting_for over.now.schema over.now.plan)) (map view_path_step steps.now))) }
@@ -76,13 +76,13 @@ pub(crate) fn along_path(
 }
 
 /// The candidates along one hop.
-fn along_hop(
+fn along_hop<'g>(
     alloc: Global,
-    over: &BlockContext<'_>,
+    over: &BlockContext<'g>,
     ends: &Ends,
     set: &VertexList,
     hop: &Hop,
-) -> Result<Candidates, OutOfMemory>
+) -> Result<Candidates<'g>, OutOfMemory>
     ensures { IfOk result (λ cs. cs ≡ candidates (sight_of over.now.schema over.now.vertices over.now.edges) set.now (Some (record { edges = types_in over.now.plan.edges hop.now.edges; targets = ends.now.target.types }))) }
 {
     let pattern = Pattern {
@@ -93,13 +93,13 @@ fn along_hop(
 }
 
 /// The candidates from a set.
-fn candidates_from(
+fn candidates_from<'g>(
     alloc: Global,
     block: &Block,
-    over: &BlockContext<'_>,
+    over: &BlockContext<'g>,
     ends: &Ends,
     set: &VertexList,
-) -> Result<Candidates, PathsFault>
+) -> Result<Candidates<'g>, PathsFault>
     requires { HasEnds over.now.schema over.now.plan over.now.frame.things block.now ends.now }
     ensures found { IfOk result (AreFrom over.now block.now set.now) }
     ensures many { result ≡ Err fault.TooMany → FromTooMany over.now block.now set.now }

@@ -202,13 +202,13 @@ fn ready<'a>(
 }
 
 /// The bindings that begin with these walks, unless more walks are looked at than allowed.
-fn listed(
+fn listed<'g>(
     alloc: Global,
-    graph: &Graph<'_>,
+    graph: &Graph<'g>,
     steps: &[IndexedStep<'_>],
     walks: &[Traversal],
     most: u64,
-) -> Result<Option<Candidates>, PathsFault>
+) -> Result<Option<Candidates<'g>>, PathsFault>
     requires indexed { graph.now.index.now ≡ adjacency (sight_of graph.now.catalog.now graph.now.store.now.vertices graph.now.store.now.edges) }
     requires ready { AreReady (sight_of graph.now.catalog.now graph.now.store.now.vertices graph.now.store.now.edges) steps.now }
     requires within { All (λ w. w.target < length graph.now.store.now.vertices) walks.now }
@@ -229,14 +229,14 @@ fn listed(
 /// The bindings of a set and of one step or more, if the index has the walks of each step and no more of them are
 /// looked at than allowed; None otherwise. Vertices that lead on are marked before, if asked for, by a pass over the
 /// rows for each step.
-pub(crate) fn looked_up(
+pub(crate) fn looked_up<'g>(
     alloc: Global,
-    graph: &Graph<'_>,
+    graph: &Graph<'g>,
     set: &[u32],
     steps: &[PathStep],
     marked: bool,
     most: u64,
-) -> Result<Option<Candidates>, PathsFault>
+) -> Result<Option<Candidates<'g>>, PathsFault>
     requires indexed { graph.now.index.now ≡ adjacency (sight_of graph.now.catalog.now graph.now.store.now.vertices graph.now.store.now.edges) }
     requires some { 0 < length steps.now }
     ensures listed { IfOk result (λ found. IfSome found (λ p. p ≡ bindings (sight_of graph.now.catalog.now graph.now.store.now.vertices graph.now.store.now.edges) set.now (map step_of steps.now))) }

@@ -168,12 +168,12 @@ fn prepared(
 }
 
 /// The bindings of a set and of one step or more.
-fn listed(
+fn listed<'g>(
     alloc: Global,
-    graph: &Graph<'_>,
+    graph: &Graph<'g>,
     set: &[u32],
     steps: &[PathStep],
-) -> Result<Candidates, PathsFault>
+) -> Result<Candidates<'g>, PathsFault>
     requires some { 0 < length steps.now }
     ensures listed { IfOk result (λ p. p ≡ bindings (sight_of graph.now.catalog.now graph.now.store.now.vertices graph.now.store.now.edges) set.now (map step_of steps.now)) }
     ensures few { IfOk result (λ p. length p ≤ 4194304) }
@@ -193,12 +193,12 @@ fn listed(
 
 /// The bindings of a set and of one step or more by the index, if it has all walks. If many walks are looked at, the
 /// vertices that lead on are marked before.
-fn searched(
+fn searched<'g>(
     alloc: Global,
-    graph: &Graph<'_>,
+    graph: &Graph<'g>,
     set: &[u32],
     steps: &[PathStep],
-) -> Result<Option<Candidates>, PathsFault>
+) -> Result<Option<Candidates<'g>>, PathsFault>
     requires indexed { graph.now.index.now ≡ adjacency (sight_of graph.now.catalog.now graph.now.store.now.vertices graph.now.store.now.edges) }
     requires some { 0 < length steps.now }
     ensures listed { IfOk result (λ found. IfSome found (λ p. p ≡ bindings (sight_of graph.now.catalog.now graph.now.store.now.vertices graph.now.store.now.edges) set.now (map step_of steps.now))) }
@@ -217,12 +217,12 @@ fn searched(
 }
 
 /// The bindings of a set and of one step or more: by the index, or else along the hops of all rows.
-fn along(
+fn along<'g>(
     alloc: Global,
-    graph: &Graph<'_>,
+    graph: &Graph<'g>,
     set: &[u32],
     steps: &[PathStep],
-) -> Result<Candidates, PathsFault>
+) -> Result<Candidates<'g>, PathsFault>
     requires indexed { graph.now.index.now ≡ adjacency (sight_of graph.now.catalog.now graph.now.store.now.vertices graph.now.store.now.edges) }
     requires some { 0 < length steps.now }
     ensures listed { IfOk result (λ p. p ≡ bindings (sight_of graph.now.catalog.now graph.now.store.now.vertices graph.now.store.now.edges) set.now (map step_of steps.now)) }
@@ -237,7 +237,11 @@ fn along(
 }
 
 /// The bindings of no step: the vertices of the set.
-fn alone(alloc: Global, graph: &Graph<'_>, set: &VertexList) -> Result<Candidates, PathsFault>
+fn alone<'g>(
+    alloc: Global,
+    graph: &Graph<'g>,
+    set: &VertexList,
+) -> Result<Candidates<'g>, PathsFault>
     requires indexed { graph.now.index.now ≡ adjacency (sight_of graph.now.catalog.now graph.now.store.now.vertices graph.now.store.now.edges) }
     ensures listed { IfOk result (λ p. p ≡ bindings (sight_of graph.now.catalog.now graph.now.store.now.vertices graph.now.store.now.edges) set.now []) }
     ensures few { IfOk result (λ p. length p ≤ 4194304) }
@@ -259,11 +263,11 @@ fn alone(alloc: Global, graph: &Graph<'_>, set: &VertexList) -> Result<Candidate
 ///
 /// They take 12 bytes for each segment, which is one source with one edge type after another, and 8 for each binding.
 #[derive(Drop)]
-pub struct Paths {
-    found: Candidates,
+pub struct Paths<'g> {
+    found: Candidates<'g>,
 }
 
-impl Model for Paths {
+impl<'g> Model for Paths<'g> {
     ghost use Rattle.std.specs.Prelude.{List, length, ◌≤◌};
     ghost use Rattle.gq_graph.specs.declared.rows.Candidate.{Candidate};
 
@@ -274,17 +278,17 @@ impl Model for Paths {
     ghost invariant = { λ p. length p.found ≤ 4194304 };
 }
 
-impl Paths {
+impl<'g> Paths<'g> {
     /// The bindings of a set and a pattern. If each step walks a type as the index does, or against it if it has a
     /// reverse type, the time depends on the walks that are looked at, which are at most those from vertices that lead
     /// on, and a pass over the vertices and over the rows for each step. Else it is that of a pass over the rows of
     /// each step's types, and of as many steps for each binding as the pattern has.
     pub fn of(
         alloc: Global,
-        graph: &Graph<'_>,
+        graph: &Graph<'g>,
         set: &VertexList,
         pattern: &PathPattern,
-    ) -> Result<Paths, PathsFault>
+    ) -> Result<Paths<'g>, PathsFault>
         requires indexed { graph.now.index.now ≡ adjacency (sight_of graph.now.catalog.now graph.now.store.now.vertices graph.now.store.now.edges) }
         ensures listed { IfOk result (λ p. p ≡ bindings (sight_of graph.now.catalog.now graph.now.store.now.vertices graph.now.store.now.edges) set.now (map step_of pattern.now)) }
         ensures few { IfOk result (λ p. length p ≤ 4194304) }
@@ -321,15 +325,15 @@ impl Paths {
     }
 
     /// The bindings as candidates.
-    pub fn into_candidates(self) -> Candidates
-        ensures list { result ≡ self }
+    pub fn into_candidates(self) -> Candidates<'g>
+        ensures list { result ≡ self.entry }
         ensures few { length result ≤ 4194304 }
     {
         self.found
     }
 
     /// The bindings as candidates, which workers process.
-    pub fn candidates(&self) -> &Candidates
+    pub fn candidates(&self) -> &Candidates<'g>
         ensures { result.now ≡ self.now }
     {
         &self.found

@@ -71,7 +71,7 @@ fn select_among<R: Threads + Sync>(
     block: &Block,
     over: &BlockContext<'_>,
     ends: Ends,
-    candidates: Candidates,
+    candidates: Candidates<'_>,
 ) -> Result<Selected, BlockFault>
     requires ends { HasEnds over.now.schema over.now.plan over.now.frame.things block.now ends }
     requires candidates { AreCandidates over.now block.now candidates }

@@ -17,7 +17,7 @@ use Rattle.gq_frame.specs.Targets.{ShowTheSame}
 -- ---- one page
 
 abbrev pub page_size : ℕ
-page_size = 256
+page_size = 128
 
 abbrev pub items_of : Page → List Content
 items_of (page.Own items) = items

@@ -15,7 +15,7 @@ use std::mem::replace;
 use std::sync::Arc;
 
 /// The number of contents in a full page.
-pub(crate) const PAGE_SIZE: usize = 256;
+pub(crate) const PAGE_SIZE: usize = 128;
 
 /// A page of contents.
 #[derive(Drop)]

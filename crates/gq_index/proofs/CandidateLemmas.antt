@@ -118,6 +118,16 @@ gathered_is sight pattern set index sources indexed ordered =
         (get_or-map-range_with_len (walks_from sight.types sight.edges) 0 n v v [] h (zero-add v))
         ∙ wanted_from sight pattern v
 
+-- the same of walks that are known to be those, and of types that are known to be the pattern's
+pub found_is : (sight : Sight) (pattern : Pattern) (set edges targets : List ℕ) (index : List (List Traversal)) (sources : List ℕ) (walks : List Traversal)
+    → index ≡ adjacency sight → sources ≡ by_number sight set → edges ≡ pattern.edges → targets ≡ pattern.targets
+    → walks ≡ flat_map (λ v. filter (is_wanted edges sight.kinds targets) (walks_at index v)) sources → map of_walk walks ≡ candidates sight set (Some pattern)
+found_is sight pattern set edges targets index sources walks indexed ordered which where_to found =
+    ap (map of_walk) (found
+    ∙ ap (λ e. flat_map (λ v. filter (is_wanted e sight.kinds targets) (walks_at index v)) sources) which
+    ∙ ap (λ t. flat_map (λ v. filter (is_wanted pattern.edges sight.kinds t) (walks_at index v)) sources) where_to)
+    ∙ gathered_is sight pattern set index sources indexed ordered
+
 walk_candidate : (walks : List Traversal) (i : ℕ) → i < length walks → candidate_at (map of_walk walks) i ≡ of_walk (walk_at walks i)
 walk_candidate walks i h = get_or-map of_walk walks i no_walk (alone 0) h
 

@@ -1,7 +1,7 @@
 -- GatherLemmas: what one more way and one more source add to the kept walks.
-use Rattle.std.proofs.Common.{ℕ, ◌+◌, ◌<◌, ◌≤◌, ◌≡◌, Bool, false, cond, List, [], ◌∷◌, ◌++◌, length, get_or, take, map, Some, None, refl, ap, sym, ◌∙◌, arith, append-nil}
+use Rattle.std.proofs.Common.{ℕ, ◌+◌, ◌-◌, ◌<◌, ◌≤◌, ◌≡◌, Bool, false, cond, List, [], ◌∷◌, ◌++◌, length, get_or, take, map, Some, None, refl, ap, sym, subst, ◌∙◌, arith, append-nil}
 use Rattle.std.specs.List.{filter, flat_map, slice_get}
-use Rattle.std.proofs.lemmas.List.{append_assoc, take_more, map_push, get_or-map, length-map}
+use Rattle.std.proofs.lemmas.List.{append_assoc, get_or-append_right, length-append, take_more, map_push, get_or-map, length-map}
 use Rattle.std.proofs.lemmas.List.Concat.{flat_map-append}
 use Rattle.std.proofs.lemmas.List.Elements.{filter-append}
 use Rattle.std.proofs.lemmas.Option.{slice_get-get_or, slice_get_past}
@@ -11,7 +11,10 @@ use Rattle.gq_graph.specs.Vertices.{vertex_at, no_vertex}
 use Rattle.gq_index.specs.declared.walks.Traversal.{Traversal}
 use Rattle.gq_index.specs.declared.walks.Neighbor.{Neighbor}
 use Rattle.gq_index.specs.Sights.{vertex_kinds}
-use Rattle.gq_index.specs.Walks.{walked}
+use Rattle.gq_index.specs.Segments.{is_wanted, leads}
+use Rattle.gq_index.specs.Stretches.{way_at}
+use Rattle.gq_index.specs.Walks.{no_walk, walk_at, walked}
+use Rattle.gq_index.proofs.SightLemmas.{filter_map}
 
 -- an existing vertex is a target if its type is listed
 pub target_there : (vertices : List VertexRow) (listed : List ℕ) (v : ℕ) → v < length vertices
@@ -47,3 +50,25 @@ pub gathered_more : (F : ℕ → List Traversal) (sources : List ℕ) (i : ℕ) 
 gathered_more F sources i last h is =
     ap (λ l. flat_map F (take i sources) ++ l) (is ∙ sym (append-nil (F (get_or sources i 0))))
     ∙ sym (ap (flat_map F) (take_more sources i 0 h) ∙ flat_map-append F (take i sources) (get_or sources i 0 ∷ []))
+
+-- the walks along the wanted ways of a vertex are the wanted ones
+pub wanted_walks : (edges kinds targets : List ℕ) (v : ℕ) (ways : List Neighbor)
+    → map (walked v) (filter (leads edges kinds targets) ways) ≡ filter (is_wanted edges kinds targets) (map (walked v) ways)
+wanted_walks edges kinds targets v ways = sym (filter_map (is_wanted edges kinds targets) (walked v) ways)
+
+-- the source of the last walk is below a number if the vertex of the last ways is, and the source before
+pub last_source : (walks : List Traversal) (v u : ℕ) (ways : List Neighbor) → v < u → (0 < length walks → (walk_at walks (length walks - 1)).source < u)
+    → 0 < length (walks ++ map (walked v) ways) → (walk_at (walks ++ map (walked v) ways) (length (walks ++ map (walked v) ways) - 1)).source < u
+last_source walks v u [] less before some =
+    let P : List Traversal → Type 0 = λ l. 0 < length l → (walk_at l (length l - 1)).source < u in
+    subst P (sym (append-nil walks)) before some
+last_source walks v u (way ∷ ways) less before some =
+    let all : List Neighbor = way ∷ ways in
+    let long = length-append walks (map (walked v) all) in let many = length-map all (walked v) in
+    let i : ℕ = length (walks ++ map (walked v) all) - 1 in
+    let same : i - length walks ≡ length ways = omega arith in
+    let last : walk_at (walks ++ map (walked v) all) i ≡ walked v (way_at all (length ways)) =
+    get_or-append_right walks (map (walked v) all) (length walks) i no_walk refl (omega arith)
+    ∙ ap (walk_at (map (walked v) all)) same
+    ∙ get_or-map (walked v) all (length ways) (record { kind = 0; row = 0; target = 0 }) no_walk (omega arith) in
+    rw last less

@@ -6,6 +6,7 @@ pub mod DegreeLemmas
 pub mod SightLemmas
 pub mod OrderLemmas
 pub mod RunLemmas
+pub mod StretchLemmas
 pub mod CandidateLemmas
 pub mod GatherLemmas
 pub mod StepLemmas

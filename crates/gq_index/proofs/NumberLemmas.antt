@@ -1,6 +1,5 @@
 -- NumberLemmas: an existing vertex keeps its number while upserts succeed.
-use Rattle.std.proofs.Common.{◌≡◌, ℕ, cond, List, [], ◌∷◌, get_or, set, Bool, true, false, Option, Some, None, refl, sym, ap, subst, ◌∙◌}
-use Rattle.std.specs.Prelude.{is_some}
+use Rattle.std.proofs.Common.{◌≡◌, ℕ, cond, List, [], ◌∷◌, get_or, set, Bool, true, false, Option, Some, None, refl, sym, ap, ◌∙◌}
 use Rattle.gq_graph.specs.declared.rows.VertexRow.{VertexRow}
 use Rattle.gq_graph.specs.Vertices.{is_vertex, vertex_number, vertex_put, upsert_vertex, no_vertex}
 use Rattle.gq_index.specs.declared.store.Store.{Store}

@@ -109,7 +109,7 @@ opens_kept walks w i h =
     ap (λ (a : Traversal). (i == 0) || not ((a.source == (walk_at (walks ++ w ∷ []) (i - 1)).source) && (a.kind == (walk_at (walks ++ w ∷ []) (i - 1)).kind))) (walk_kept walks w i h)
     ∙ ap (λ (a : Traversal). (i == 0) || not (((walk_at walks i).source == a.source) && ((walk_at walks i).kind == a.kind))) (walk_kept walks w (i - 1) (omega arith))
 
-run_count_more : (walks : List Traversal) (w : Traversal) → run_count (walks ++ w ∷ []) ≡ run_count walks + cond (opens (walks ++ w ∷ []) (length walks)) 1 0
+pub run_count_more : (walks : List Traversal) (w : Traversal) → run_count (walks ++ w ∷ []) ≡ run_count walks + cond (opens (walks ++ w ∷ []) (length walks)) 1 0
 unfolding run_count
 run_count_more walks w =
     ap (many (opens (walks ++ w ∷ []))) (length_push walks w)

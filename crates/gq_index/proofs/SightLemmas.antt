@@ -44,7 +44,7 @@ numbered_is {A} xs d = ap (numbered 0) (sym (take_all (length xs) xs (omega arit
         ∙ ap (λ j. map R (below m) ++ (j, x) ∷ []) long
         ∙ sym (ap (map R) (below_more m) ∙ map_push R (below m) m)
 
-filter_map : {X Y : Type 0} (p : Y → Bool) (f : X → Y) (xs : List X) → filter p (map f xs) ≡ map f (filter (λ x. p (f x)) xs)
+pub filter_map : {X Y : Type 0} (p : Y → Bool) (f : X → Y) (xs : List X) → filter p (map f xs) ≡ map f (filter (λ x. p (f x)) xs)
 filter_map p f [] = refl
 filter_map p f (x ∷ xs) =
     elim (p (f x)) as (λ b. cond b (f x ∷ filter p (map f xs)) (filter p (map f xs)) ≡ map f (cond b (x ∷ filter (λ x. p (f x)) xs) (filter (λ x. p (f x)) xs))) [

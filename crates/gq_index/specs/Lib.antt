@@ -2,6 +2,7 @@ pub mod Places
 pub mod Sights
 pub mod Walks
 pub mod Runs
+pub mod Stretches
 pub mod Segments
 pub mod Steps
 pub mod Ends

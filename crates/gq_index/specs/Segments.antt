@@ -5,7 +5,8 @@ use Rattle.std.specs.Option.{is_some}
 use Rattle.gq_graph.specs.declared.rows.Candidate.{Candidate}
 use Rattle.gq_graph.specs.Candidates.{alone, among, is_target}
 use Rattle.gq_index.specs.declared.candidates.CandidateRows.{CandidateRows}
-use Rattle.gq_index.specs.declared.candidates.CandidateRows.TheVariants.{Vertices, Edges}
+use Rattle.gq_index.specs.declared.candidates.CandidateRows.TheVariants.{Vertices, Edges, InPlace}
+use Rattle.gq_index.specs.declared.walks.Neighbor.{Neighbor}
 use Rattle.gq_index.specs.declared.walks.Traversal.{Traversal}
 use Rattle.gq_index.specs.Places.{many}
 
@@ -17,6 +18,7 @@ of_walk walk = record { source = walk.source; edge = Some walk.row; kind = Some 
 abbrev pub listed : CandidateRows → List Candidate
 listed (Vertices vertices) = map alone vertices.items
 listed (Edges walks) = map of_walk walks
+listed (InPlace walks) = map of_walk walks
 
 -- a candidate, by its place
 abbrev pub candidate_at : List Candidate → ℕ → Candidate
@@ -38,6 +40,10 @@ opens_segment cs i = opens_beside i (candidate_at cs i) (candidate_at cs (i - 1)
 -- how many segments there are
 unfoldable pub segment_count : List Candidate → ℕ
 segment_count cs = many (opens_segment cs) (length cs)
+
+-- whether a way has a listed type and leads to a vertex of a listed type
+abbrev pub leads : List ℕ → List ℕ → List ℕ → Neighbor → Bool
+leads edges kinds targets way = among edges way.kind && is_target kinds targets way.target
 
 -- whether a walk has a listed type and leads to a vertex of a listed type
 abbrev pub is_wanted : List ℕ → List ℕ → List ℕ → Traversal → Bool

@@ -1,18 +1,20 @@
 // The candidates of a block.
-ghost use Rattle.std.specs.Prelude.{◌≡◌, ℕ, ◌+◌, ◌<◌, ◌≤◌, ◌^◌, ◌++◌, List, [], ◌∷◌, length, Some, IfOk, map, filter, nat_lt, slice_get};
+ghost use Rattle.std.specs.Prelude.{◌≡◌, ℕ, ◌+◌, ◌<◌, ◌≤◌, ◌^◌, ◌++◌, ◌&&◌, List, [], ◌∷◌, length, Some, IfOk, IfSome, map, filter, nat_lt, slice_get, slice_index};
 ghost use Rattle.std.specs.List.{flat_map};
 ghost use Rattle.std.specs.Option.{option_copied};
-ghost use Rattle.gq_graph.specs.Candidates.{alone, by_number, candidates, is_target};
+ghost use Rattle.gq_graph.specs.Candidates.{alone, among, by_number, candidates, is_target};
 ghost use Rattle.gq_index.specs.declared.walks.Traversal.{Traversal};
 ghost use Rattle.gq_index.specs.Runs.{Holds};
 ghost use Rattle.gq_index.specs.Sights.{sight_of, vertex_kinds};
 ghost use Rattle.gq_index.specs.Walks.{adjacency, walks_at, walked};
-ghost use Rattle.gq_index.specs.Segments.{is_wanted, segment_count, of_walk};
+ghost use Rattle.gq_index.specs.Segments.{is_wanted, leads, segment_count, of_walk};
+ghost use Rattle.gq_index.specs.Stretches.{way_at};
 
 use crate::index::Index;
 use crate::marks::Marks;
 use crate::runs::{Cursor, Reached, Runs, Segment, push};
 use crate::store::Graph;
+use crate::stretches::Stretches;
 use crate::vertex_list::VertexList;
 use crate::walks::{Neighbor, Traversal};
 use gq_base::OutOfMemory;
@@ -21,11 +23,12 @@ use gq_vertex::Vertices;
 use std::alloc::Global;
 use std::marker::Model;
 
-/// The representation of candidates.
+/// The representation of candidates: vertices, or walks that are copied, or walks that are read in an index.
 #[derive(Drop)]
-pub enum CandidateRows {
+pub enum CandidateRows<'g> {
     Vertices(Vec<u32>),
     Edges(Runs),
+    InPlace(Stretches<'g>),
 }
 
 /// The types that a pattern lists.
@@ -45,11 +48,72 @@ fn reaches(targets: &Marks<'_>, vertices: &Vertices, vertex: u32) -> bool
     targets.has(vertices.kind(vertex))
 }
 
-/// Whether a walk has a wanted type and leads to a vertex of a wanted type.
-fn wants(wanted: &Wanted<'_>, vertices: &Vertices, walk: Traversal) -> bool
-    ensures { result ≡ is_wanted wanted.now.edges (vertex_kinds vertices.now) wanted.now.targets walk }
+/// Whether an edge type is wanted, and a vertex exists and has a wanted type.
+fn wants(wanted: &Wanted<'_>, vertices: &Vertices, kind: u32, target: u32) -> bool
+    ensures { result ≡ (among wanted.now.edges kind && is_target (vertex_kinds vertices.now) wanted.now.targets target) }
 {
-    wanted.edges.has(walk.kind) && reaches(&wanted.targets, vertices, walk.target)
+    wanted.edges.has(kind) && reaches(&wanted.targets, vertices, target)
+}
+
+/// Where the ways from a place on that are wanted end, or those that aren't.
+fn end_of_run(
+    ways: &[Neighbor],
+    from: usize,
+    wanted: &Wanted<'_>,
+    vertices: &Vertices,
+    are_wanted: bool,
+) -> usize
+    requires { from ≤ length ways.now }
+    ensures order { from ≤ result }
+    ensures within { result ≤ length ways.now }
+    ensures run { (k : ℕ) → from ≤ k → k < result → leads wanted.now.edges (vertex_kinds vertices.now) wanted.now.targets (way_at ways.now k) ≡ are_wanted }
+{
+    let mut end = from;
+    while end < ways.len() {
+        if wants(wanted, vertices, ways[end].kind, ways[end].target) != are_wanted {
+            return end;
+        }
+        end += 1;
+    }
+    end
+}
+
+/// The wanted ways, if no other way is between them.
+fn wanted_ways<'g>(
+    ways: &'g [Neighbor],
+    wanted: &Wanted<'_>,
+    vertices: &Vertices,
+) -> Option<&'g [Neighbor]>
+    ensures { IfSome result (λ part. part.now ≡ filter (leads wanted.now.edges (vertex_kinds vertices.now) wanted.now.targets) ways.now) }
+{
+    let first = end_of_run(ways, 0, wanted, vertices, false);
+    let end = end_of_run(ways, first, wanted, vertices, true);
+    if end_of_run(ways, end, wanted, vertices, false) < ways.len() {
+        return None;
+    }
+    Some(&ways[first..end])
+}
+
+/// The wanted walks from the given vertices, which are read in the index; None if from one of them other ways are
+/// between the wanted ones.
+fn found_in_place<'g>(
+    alloc: Global,
+    index: &'g Index,
+    sources: &[u32],
+    wanted: &Wanted<'_>,
+    vertices: &Vertices,
+) -> Result<Option<Stretches<'g>>, OutOfMemory>
+    requires rising { (a b : ℕ) → a < b → b < length sources.now → slice_index sources.now a < slice_index sources.now b }
+    ensures { IfOk result (λ found. IfSome found (λ walks. walks ≡ flat_map (λ v. filter (is_wanted wanted.now.edges (vertex_kinds vertices.now) wanted.now.targets) (walks_at index.now v)) sources.now)) }
+{
+    let mut walks = Stretches::new(alloc);
+    for source in sources {
+        match wanted_ways(index.ways(*source), wanted, vertices) {
+            Some(ways) => walks.push(*source, ways)?,
+            None => return Ok(None),
+        }
+    }
+    Ok(Some(walks))
 }
 
 /// Adds a walk if it is wanted.
@@ -67,7 +131,7 @@ fn add_way(
     if reached.len() >= u32::MAX as usize {
         return Err(OutOfMemory);
     }
-    if wants(wanted, vertices, walk) {
+    if wants(wanted, vertices, walk.kind, walk.target) {
         push(segments, reached, walk)?;
         return Ok(());
     }
@@ -151,35 +215,41 @@ pub fn in_number_order(
     Ok(sources)
 }
 
-/// Collects all candidates of a step along edges.
-fn walks_of(
+/// Collects all candidates of a step along edges, without a copy if those from each vertex are neighbours in the index.
+fn walks_of<'g>(
     alloc: Global,
-    graph: &Graph<'_>,
+    graph: &Graph<'g>,
     set: &[u32],
     pattern: &Pattern,
-) -> Result<Runs, OutOfMemory>
+) -> Result<Candidates<'g>, OutOfMemory>
     requires indexed { graph.now.index.now ≡ adjacency (sight_of graph.now.catalog.now graph.now.store.now.vertices graph.now.store.now.edges) }
-    ensures { IfOk result (λ r. map of_walk r ≡ candidates (sight_of graph.now.catalog.now graph.now.store.now.vertices graph.now.store.now.edges) set.now (Some pattern.now)) }
+    ensures { IfOk result (λ c. c ≡ candidates (sight_of graph.now.catalog.now graph.now.store.now.vertices graph.now.store.now.edges) set.now (Some pattern.now)) }
 {
     let sources = in_number_order(alloc, set, graph)?;
     let count = graph.catalog.type_count();
     let edges = Marks::of(alloc, pattern.edges.as_slice(), count)?;
     let targets = Marks::of(alloc, pattern.targets.as_slice(), count)?;
     let wanted = Wanted { edges, targets };
-    let walks = gather(alloc, graph.index, &sources, &wanted, &graph.store.vertices)?;
-    Ok(walks)
+    let vertices = &graph.store.vertices;
+    match found_in_place(alloc, graph.index, &sources, &wanted, vertices)? {
+        Some(walks) => return Ok(Candidates::in_place(walks)),
+        None => {}
+    }
+    let walks = gather(alloc, graph.index, &sources, &wanted, vertices)?;
+    Ok(Candidates::along(walks))
 }
 
 /// The candidates of a block, in order of source, edge type and edge. Contracts see them as a list.
 ///
-/// They take 4 bytes for each vertex of a block without a pattern; else 12 for each segment, which is one source with one
-/// edge type and at least one candidate, and 8 for each candidate.
+/// They take 4 bytes for each vertex of a block without a pattern. Along a hop they are read in the index if those from
+/// each source are neighbours there, and take 24 bytes for each source with at least one candidate. Else they take 12 for
+/// each segment, which is one source with one edge type and at least one candidate, and 8 for each candidate.
 #[derive(Drop)]
-pub struct Candidates {
-    held: CandidateRows,
+pub struct Candidates<'g> {
+    held: CandidateRows<'g>,
 }
 
-impl Model for Candidates {
+impl<'g> Model for Candidates<'g> {
     ghost use Rattle.std.specs.Prelude.{List};
     ghost use Rattle.gq_graph.specs.declared.rows.Candidate.{Candidate};
     ghost use Rattle.gq_index.specs.Segments.{listed};
@@ -213,13 +283,22 @@ fn walked_candidate(walk: Traversal) -> Candidate
     }
 }
 
-impl Candidates {
+impl<'g> Candidates<'g> {
     /// The candidates along walks.
-    pub(crate) fn along(walks: Runs) -> Candidates
+    pub(crate) fn along(walks: Runs) -> Candidates<'g>
         ensures { result ≡ map of_walk walks }
     {
         Candidates {
             held: CandidateRows::Edges(walks),
+        }
+    }
+
+    /// The candidates along walks that are read in an index.
+    fn in_place(walks: Stretches<'g>) -> Candidates<'g>
+        ensures { result ≡ map of_walk walks.entry }
+    {
+        Candidates {
+            held: CandidateRows::InPlace(walks),
         }
     }
 
@@ -228,10 +307,10 @@ impl Candidates {
     /// candidates.
     pub fn of(
         alloc: Global,
-        graph: &Graph<'_>,
+        graph: &Graph<'g>,
         set: &VertexList,
         pattern: Option<&Pattern>,
-    ) -> Result<Candidates, OutOfMemory>
+    ) -> Result<Candidates<'g>, OutOfMemory>
         requires indexed { graph.now.index.now ≡ adjacency (sight_of graph.now.catalog.now graph.now.store.now.vertices graph.now.store.now.edges) }
         ensures { IfOk result (λ c. c ≡ candidates (sight_of graph.now.catalog.now graph.now.store.now.vertices graph.now.store.now.edges) set.now (option_copied pattern.entry)) }
     {
@@ -242,10 +321,7 @@ impl Candidates {
                     held: CandidateRows::Vertices(vertices),
                 })
             }
-            Some(pattern) => {
-                let walks = walks_of(alloc, graph, set.as_slice(), pattern)?;
-                Ok(Candidates::along(walks))
-            }
+            Some(pattern) => walks_of(alloc, graph, set.as_slice(), pattern),
         }
     }
 
@@ -256,6 +332,7 @@ impl Candidates {
         match &self.held {
             CandidateRows::Vertices(vertices) => vertices.len() as u64,
             CandidateRows::Edges(walks) => walks.len(),
+            CandidateRows::InPlace(walks) => walks.len(),
         }
     }
 
@@ -273,6 +350,7 @@ impl Candidates {
         match &self.held {
             CandidateRows::Vertices(vertices) => vertex_alone(vertices[place as usize]),
             CandidateRows::Edges(walks) => walked_candidate(walks.at(place, steps)),
+            CandidateRows::InPlace(walks) => walked_candidate(walks.at(place, steps)),
         }
     }
 
@@ -285,6 +363,7 @@ impl Candidates {
         match &self.held {
             CandidateRows::Vertices(vertices) => vertex_alone(vertices[place as usize]),
             CandidateRows::Edges(walks) => walked_candidate(walks.near(place, cursor)),
+            CandidateRows::InPlace(walks) => walked_candidate(walks.near(place, cursor)),
         }
     }
 }

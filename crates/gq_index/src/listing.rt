@@ -66,7 +66,7 @@ impl Listing {
     }
 
     /// Returns the candidates.
-    pub fn done(self) -> Candidates
+    pub fn done<'g>(self) -> Candidates<'g>
         ensures { result ≡ self }
     {
         Candidates::along(Runs::of(self.segments, self.reached))

@@ -181,22 +181,23 @@ fn walk_near(
     requires short { length segments.now < 2 ^ 63 }
     ensures { result ≡ walk_of (segment_of segments.now place) (reached_at reached.now place) }
 {
-    let end = find_near(segments, place, cursor.end);
-    cursor.end = end;
+    let end = find_near(segments, place, cursor.near);
+    cursor.near = end;
     let segment = segments[end - 1];
     traversal(segment, reached[place as usize])
 }
 
-/// The position of a reader of candidates: how many segments start at or before the place that it read last.
+/// The position of a reader of candidates.
 #[derive(Drop)]
 pub struct Cursor {
-    end: usize,
+    /// How many segments start at or before the place that was read last, or the number of its stretch.
+    pub(crate) near: usize,
 }
 
 impl Cursor {
     /// Returns a cursor before the first place.
     pub fn new() -> Cursor {
-        Cursor { end: 0 }
+        Cursor { near: 0 }
     }
 }
 

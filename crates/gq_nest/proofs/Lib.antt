@@ -1,3 +1,4 @@
+pub mod Seeks
 pub mod EntryLemmas
 pub mod LevelLemmas
 pub mod FreshSteps

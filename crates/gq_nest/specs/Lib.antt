@@ -1,3 +1,7 @@
+pub mod formers
+pub mod SortedForms
+pub mod Lends
+pub mod Walks
 pub mod Entries
 pub mod Heaps
 pub mod Forms

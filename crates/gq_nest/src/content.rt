@@ -9,10 +9,11 @@ ghost use Rattle.gq_nest.specs.Shows.{Shows, ShowsTheSame, TakesContent, TakesIn
 use crate::copies::duplicate;
 use crate::feed::{feed, push};
 use crate::fresh::fresh;
+use crate::map::SortedMap;
 use crate::merge::merge;
+use crate::set::SortedSet;
 use gq_accum::Scalar;
 use gq_base::{Boxed, List, OutOfMemory};
-use gq_sorted::{SortedMap, SortedSet};
 use gq_value::{Input, Kind, Value};
 use std::alloc::Global;
 

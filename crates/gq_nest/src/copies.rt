@@ -4,9 +4,10 @@ ghost use Rattle.gq_nest.specs.declared.content.Content.{out-Content};
 ghost use Rattle.gq_nest.specs.Forms.{Copies, CopiesEntries, CopiesGroups, CopyEach, entries_in, groups_in};
 
 use crate::content::{Content, Heap, Parts};
+use crate::map::SortedMap;
 use crate::more::{add_keys, put_entry};
+use crate::set::SortedSet;
 use gq_base::{Boxed, List, OutOfMemory};
-use gq_sorted::{SortedMap, SortedSet};
 use gq_value::{Value, duplicate_row};
 use std::alloc::Global;
 

@@ -9,10 +9,10 @@ ghost use Rattle.gq_nest.specs.Shows.{is_one, is_plain, is_spoiled};
 
 use crate::content::{Content, Parts};
 use crate::copies::{duplicate, duplicate_parts, key_row};
+use crate::map::SortedMap;
 use crate::more::{add_item, add_key, push_item, put_entry};
 use gq_accum::Fold;
 use gq_base::OutOfMemory;
-use gq_sorted::SortedMap;
 use gq_value::{Input, Value};
 use std::alloc::Global;
 

@@ -5,9 +5,10 @@ ghost use Rattle.gq_accum_laws.specs.After as model;
 ghost use Rattle.gq_nest.specs.Shows.{Shows, AreFresh};
 
 use crate::content::{Content, Heap, Parts};
+use crate::map::SortedMap;
+use crate::set::SortedSet;
 use gq_accum::Scalar;
 use gq_base::{Boxed, List, OutOfMemory};
-use gq_sorted::{SortedMap, SortedSet};
 use gq_value::{Kind, Txt};
 use std::alloc::Global;
 

@@ -7,10 +7,10 @@ ghost use Rattle.gq_nest.specs.Shows.{is_plain, is_spoiled};
 
 use crate::content::{Content, Parts};
 use crate::copies::{duplicate, duplicate_parts, key_row};
+use crate::map::SortedMap;
 use crate::more::{add_items, add_keys, put_entry};
 use gq_accum::Fold;
 use gq_base::OutOfMemory;
-use gq_sorted::SortedMap;
 use gq_value::Value;
 use std::alloc::Global;
 

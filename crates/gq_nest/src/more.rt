@@ -5,8 +5,9 @@ ghost use Rattle.gq_value.specs.Views.{val};
 ghost use Rattle.gq_value.specs.Order.{place};
 ghost use Rattle.gq_accum_laws.specs.Gather.{put, into, distinct};
 
+use crate::map::SortedMap;
+use crate::set::SortedSet;
 use gq_base::{List, OutOfMemory};
-use gq_sorted::{SortedMap, SortedSet};
 use gq_value::Value;
 use std::alloc::Global;
 

@@ -7,8 +7,9 @@ ghost use Rattle.gq_accum_laws.specs.Holds.{row_cmp};
 ghost use Rattle.gq_nest.specs.Entries.{group_row, key_row, rows};
 
 use crate::content::{Content, Parts};
+use crate::map::SortedMap;
+use crate::set::SortedSet;
 use gq_base::{List, OutOfMemory};
-use gq_sorted::{SortedMap, SortedSet};
 use gq_value::{Row, Value, duplicate_row};
 use std::alloc::Global;
 

@@ -19,8 +19,7 @@ use gq_base::{List, OutOfMemory};
 use gq_eval_context::BlockContext;
 use gq_eval_operand::Sort;
 use gq_json::{Members, Out, Outs};
-use gq_nest::{Content, Parts};
-use gq_sorted::SortedSet;
+use gq_nest::{Content, Parts, SortedSet};
 use gq_value::{BaseType, GroupShape, Kind, Txt, Value};
 use std::alloc::Global;
 

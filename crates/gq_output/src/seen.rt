@@ -74,6 +74,7 @@ fn out_operand(
         Operand::Lent(value) => out_value(alloc, over, sort, value),
         Operand::Made(value) => out_made(alloc, over, sort, value),
         Operand::Text(text) => Ok(Out::Text(Txt::of(alloc, text)?)),
+        Operand::Joined(text) => Ok(Out::Text(Txt::from_string(text))),
     }
 }
 

@@ -9,8 +9,8 @@ use Rattle.gq_nest.specs.contracts.content.Content as content
 use Rattle.gq_nest.proofs.content.Content.TheLaws.TheKnot as knot
 use Rattle.gq_base.proofs.list.List.TheSendSync as list_crosses
 use Rattle.gq_base.proofs.boxed.Boxed.TheSendSync as boxed_crosses
-use Rattle.gq_sorted.proofs.map.SortedMap.TheSendSync as map_crosses
-use Rattle.gq_sorted.proofs.set.SortedSet.TheSendSync as set_crosses
+use Rattle.gq_nest.proofs.map.SortedMap.TheSendSync as map_crosses
+use Rattle.gq_nest.proofs.set.SortedSet.TheSendSync as set_crosses
 use Rattle.gq_core.specs.contracts.batches.Batches as batches
 use Rattle.gq_stripe.specs.contracts.stripe.Stripe as stripe
 use Rattle.gq_stripe.specs.contracts.book.Book as book

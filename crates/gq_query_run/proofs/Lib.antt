@@ -3,3 +3,4 @@ pub mod SlotLemmas
 pub mod AnswerLemmas
 pub mod RunLemmas
 pub mod InterpretLemmas
+pub mod PlaceLemmas

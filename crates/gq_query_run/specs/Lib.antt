@@ -1,4 +1,5 @@
 pub mod Kept
+pub mod Placed
 pub mod Judging
 pub mod Queries
 pub mod Sessions

@@ -1,15 +1,15 @@
 // CREATE QUERY.
-ghost use Rattle.std.specs.Prelude.{◌≡◌, ◌<◌, MatchResult, length};
+ghost use Rattle.std.specs.Prelude.{◌<◌, length};
 ghost use Rattle.std.specs.Option.{ForSome};
 ghost use Rattle.gq_diagnostics.specs.Answers.{Answers};
 ghost use Rattle.gq_query_run.specs.Judging.{Judges};
-ghost use Rattle.gq_query_run.specs.Queries.{create_refusal, created, query_created, with_query};
+ghost use Rattle.gq_query_run.specs.Queries.{create_refusal, query_created};
 
 use crate::fault::taken;
 use crate::judge::{graph_of, judge_graph};
 use crate::modes::are_good;
-use crate::stored::{Stored, has_query, place_of};
-use gq_base::{List, OutOfMemory};
+use crate::queries::Queries;
+use gq_base::OutOfMemory;
 use gq_diagnostics::{Refusal, StatementFault};
 use gq_schema::Catalog;
 use gq_tree::QueryTree;
@@ -24,7 +24,7 @@ pub fn create_query<'s>(
     alloc: Global,
     catalog: &Catalog,
     in_use: Option<u32>,
-    queries: &mut List<Stored<'s>>,
+    queries: &mut Queries<'s>,
     replace: bool,
     name: &'s str,
     tree: &'s QueryTree,
@@ -32,20 +32,12 @@ pub fn create_query<'s>(
     requires { ForSome in_use (λ g. g < length catalog.now.graphs) }
     ensures { Answers (query_created catalog.now in_use queries.old replace name.now tree.now) queries.old queries.new result }
 {
-    match judge(
-        alloc,
-        catalog,
-        in_use,
-        queries.as_slice(),
-        replace,
-        name,
-        tree,
-    ) {
+    match judge(alloc, catalog, in_use, queries, replace, name, tree) {
         Ok(()) => {}
         Err(fault) => return Err(fault),
     }
     let graph = graph_of(catalog, in_use, tree);
-    match put(queries, name, tree, graph) {
+    match queries.put(alloc, name, tree, graph) {
         Ok(()) => Ok(()),
         Err(OutOfMemory) => Err(StatementFault::OutOfMemory),
     }
@@ -55,7 +47,7 @@ fn judge(
     alloc: Global,
     catalog: &Catalog,
     in_use: Option<u32>,
-    queries: &[Stored<'_>],
+    queries: &Queries<'_>,
     replace: bool,
     name: &str,
     tree: &QueryTree,
@@ -66,32 +58,8 @@ fn judge(
     if !are_good(tree.modes.as_slice()) {
         return Err(StatementFault::Refused(Refusal::BadOption));
     }
-    if !replace && has_query(queries, name) {
+    if !replace && queries.has(name) {
         return Err(taken(alloc, name));
     }
     judge_graph(alloc, catalog, in_use, tree)
-}
-
-// Replaces the query with the same name by one that isn't installed, or appends it.
-fn put<'s>(
-    queries: &mut List<Stored<'s>>,
-    name: &'s str,
-    tree: &'s QueryTree,
-    graph: Option<u32>,
-) -> Result<(), OutOfMemory>
-    ensures { MatchResult result (λ _. queries.new ≡ with_query queries.old (created name.now tree.now graph)) (λ _. queries.new ≡ queries.old) }
-{
-    let query = Stored {
-        name,
-        tree,
-        graph,
-        installed: false,
-    };
-    match place_of(queries.as_slice(), name) {
-        Some(place) => {
-            queries.set(place, query);
-            Ok(())
-        }
-        None => queries.push(query),
-    }
 }

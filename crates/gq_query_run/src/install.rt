@@ -1,14 +1,11 @@
 // INSTALL QUERY.
-ghost use Rattle.std.specs.Prelude.{◌≡◌, not, true, map, find, Some, None};
-ghost use Rattle.std.specs.Option.{option_map, option_copied};
-ghost use Rattle.std.specs.Str.{bytes_eq};
-ghost use Rattle.std.specs.List.{list_any};
+ghost use Rattle.std.specs.Prelude.{◌≡◌, not, find};
+ghost use Rattle.std.specs.Option.{option_copied};
 ghost use Rattle.gq_diagnostics.specs.Answers.{Answers};
 ghost use Rattle.gq_query_run.specs.Queries as spec;
 
 use crate::fault::unknown;
-use crate::stored::{Stored, has_query};
-use gq_base::List;
+use crate::queries::Queries;
 use gq_diagnostics::StatementFault;
 use gq_tree::Installed;
 use gq_value::Txt;
@@ -18,14 +15,14 @@ use std::alloc::Global;
 /// is installed.
 pub fn install_queries(
     alloc: Global,
-    queries: &mut List<Stored<'_>>,
+    queries: &mut Queries<'_>,
     which: &Installed,
 ) -> Result<(), StatementFault>
     ensures { Answers (spec.query_installed queries.old which.now) queries.old queries.new result }
 {
     match which {
         Installed::All => {
-            install_all(queries.as_mut_slice());
+            queries.install_all();
             Ok(())
         }
         Installed::Named(names) => install_these(alloc, queries, names.as_slice()),
@@ -34,44 +31,31 @@ pub fn install_queries(
 
 fn install_these(
     alloc: Global,
-    queries: &mut List<Stored<'_>>,
+    queries: &mut Queries<'_>,
     names: &[Txt],
 ) -> Result<(), StatementFault>
     ensures { Answers (spec.query_installed queries.old (Installed.Named names.now)) queries.old queries.new result }
 {
-    match first_unknown(queries.as_slice(), names) {
+    match first_unknown(queries, names) {
         Some(name) => Err(unknown(alloc, name.as_str())),
         None => {
-            install_named(queries.as_mut_slice(), names);
+            install_named(queries, names);
             Ok(())
         }
     }
 }
 
-fn first_unknown<'a>(queries: &[Stored<'_>], names: &'a [Txt]) -> Option<&'a Txt>
+fn first_unknown<'a>(queries: &Queries<'_>, names: &'a [Txt]) -> Option<&'a Txt>
     ensures { option_copied result ≡ find (λ name. not (spec.has_query queries.now name)) names.now }
 {
-    names.iter().find(|name| !has_query(queries, name.as_str()))
+    names.iter().find(|name| !queries.has(name.as_str()))
 }
 
-fn install_all(queries: &mut [Stored<'_>])
-    ensures { queries.new ≡ spec.all_installed queries.old }
-{
-    for query in queries {
-        query.installed = true;
-    }
-}
-
-fn install_named(queries: &mut [Stored<'_>], names: &[Txt])
+#[tactic(auto, using(crate::proofs::PlaceLemmas::turn_laws))]
+fn install_named(queries: &mut Queries<'_>, names: &[Txt])
     ensures { queries.new ≡ spec.with_installed names.now queries.old }
 {
-    for query in queries {
-        query.installed |= stands_in(query.name, names);
+    for name in names {
+        queries.install(name.as_str());
     }
-}
-
-fn stands_in(name: &str, names: &[Txt]) -> bool
-    ensures { result ≡ list_any (bytes_eq name.now) names.now }
-{
-    names.iter().any(|other| name == other.as_str())
 }

@@ -7,7 +7,7 @@
 //! `specs/Queries.antt` (creating and installing) and `specs/Answers.antt` (running). `Sessions.antt` of
 //! `gq_rules_meaning` defines `ran` and `interpreted`; `specs/Indexed.antt` says what a store and its index
 //! are when a query runs. The trait is in `src/runner.rt`, the statements in
-//! `src/create.rt`, `src/install.rt`, `src/run.rt` and `src/interpret.rt`.
+//! `src/create.rt`, `src/install.rt`, `src/run.rt` and `src/interpret.rt`. `src/queries.rt` finds queries by name.
 #![tactic(auto)]
 
 mod create;
@@ -17,6 +17,7 @@ mod interpret;
 mod judge;
 mod line;
 mod modes;
+mod queries;
 mod run;
 mod runner;
 mod slot;
@@ -25,6 +26,7 @@ mod stored;
 pub use create::create_query;
 pub use install::install_queries;
 pub use interpret::interpret_query;
+pub use queries::Queries;
 pub use run::run_query;
 pub use runner::{QueryFault, Runner, RunsQueries};
 pub use stored::Stored;

@@ -19,8 +19,9 @@ ghost use Rattle.gq_query_run.specs.Runs.{answer_found, answer_given, values_run
 ghost use Rattle.gq_query_run.specs.Sessions.{graph_read, session_of};
 
 use crate::line::line_over;
+use crate::queries::Queries;
 use crate::runner::{Runner, RunsQueries};
-use crate::stored::{Stored, query_named};
+use crate::stored::Stored;
 use gq_arguments::{Args, Arguments, argument_row};
 use gq_base::OutOfMemory;
 use gq_diagnostics::{Refusal, StatementFault};
@@ -42,7 +43,7 @@ pub fn run_query<R: Threads + Sync, M: RunsQueries>(
     catalog: &Catalog,
     store: &Store,
     index: &Index,
-    queries: &[Stored<'_>],
+    queries: &Queries<'_>,
     file: &Args,
     tree: &RunTree,
 ) -> Result<Vec<u8>, StatementFault>
@@ -51,7 +52,7 @@ pub fn run_query<R: Threads + Sync, M: RunsQueries>(
         (ran (session_of catalog.now in_use queries.now store.now) gregorian runner.now.turns tree.now.name (option_map (map view_argument) tree.now.arguments) (members_for (held file.now) tree.now.name)) result }
 {
     let name = tree.name.as_str();
-    match query_named(queries, name) {
+    match queries.named(name) {
         Some(query) => run_found(rt, alloc, runner, catalog, store, index, query, file, tree),
         None => Err(unknown(alloc, name)),
     }

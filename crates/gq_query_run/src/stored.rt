@@ -1,7 +1,6 @@
-// Queries by name.
-ghost use Rattle.std.specs.Prelude.{◌≡◌, find, position};
-ghost use Rattle.std.specs.Option.{option_copied};
-ghost use Rattle.gq_query_run.specs.Queries as spec;
+// A query of a session.
+ghost use Rattle.std.specs.Prelude.{◌≡◌, true};
+ghost use Rattle.gq_query_run.specs.Queries.{created};
 
 use gq_tree::QueryTree;
 use std::marker::Model;
@@ -29,6 +28,18 @@ impl<'s> Model for Stored<'s> {
 }
 
 impl<'s> Stored<'s> {
+    /// A query that isn't installed.
+    pub(crate) fn created(name: &'s str, tree: &'s QueryTree, graph: Option<u32>) -> Stored<'s>
+        ensures { result ≡ created name.entry.now tree.entry.now graph }
+    {
+        Stored {
+            name,
+            tree,
+            graph,
+            installed: false,
+        }
+    }
+
     /// Returns the query's tree.
     pub fn tree(&self) -> &'s QueryTree
         ensures { result.now ≡ self.now.tree }
@@ -49,25 +60,16 @@ impl<'s> Stored<'s> {
     {
         self.installed
     }
-}
 
-/// Returns the query with a name.
-pub(crate) fn query_named<'q, 's>(queries: &'q [Stored<'s>], name: &str) -> Option<&'q Stored<'s>>
-    ensures { option_copied result ≡ find (spec.is_named name.now) queries.now }
-{
-    queries.iter().find(|query| query.name == name)
-}
-
-/// Whether there is a query with the name.
-pub(crate) fn has_query(queries: &[Stored<'_>], name: &str) -> bool
-    ensures { result ≡ spec.has_query queries.now name.now }
-{
-    queries.iter().any(|query| query.name == name)
-}
-
-/// Returns the index of the query with a name.
-pub(crate) fn place_of(queries: &[Stored<'_>], name: &str) -> Option<usize>
-    ensures { result ≡ position (spec.is_named name.now) queries.now }
-{
-    queries.iter().position(|query| query.name == name)
+    /// Returns the same query, installed.
+    pub(crate) fn as_installed(&self) -> Stored<'s>
+        ensures { result ≡ record self.now { installed = true } }
+    {
+        Stored {
+            name: self.name,
+            tree: self.tree,
+            graph: self.graph,
+            installed: true,
+        }
+    }
 }

@@ -19,3 +19,13 @@ pub mod CandidateLaws
 pub mod SelectLaws
 pub mod QueryLaws
 pub mod KindLaws
+pub mod Leads
+pub mod ScopeGrowth
+pub mod ExpressionGrowth
+pub mod ActGrowth
+pub mod WalkGrowth
+pub mod SetGrowth
+pub mod StatementGrowth
+pub mod QueryGrowth
+pub mod WordGrowth
+pub mod SafetyLaws

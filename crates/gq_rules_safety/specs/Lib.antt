@@ -1,2 +1,4 @@
 pub mod Matching
 pub mod Laws
+pub mod Growing
+pub mod Safety

@@ -22,8 +22,8 @@ use Rattle.gq_schema.specs.declared.fault.SchemaFault.TheVariants as fault
 use Rattle.gq_schema.specs.Members.{below, is_number, is_listed, has_vertex, names_edge, has_edge, has_ends, fits, misfit, graph_with}
 use Rattle.gq_schema.specs.Refusals.{is_type, taken, reverse_taken, graph_taken, member_refusal}
 use Rattle.gq_insert.specs.Fits.{IsSound}
-use Rattle.gq_rules_growth.proofs.WordGrowth.{low_of, position_here, position_behind}
-use Rattle.gq_rules_growth.proofs.SafetyLaws.{low_more}
+use Rattle.gq_rules_safety.proofs.WordGrowth.{low_of, position_here, position_behind}
+use Rattle.gq_rules_safety.proofs.SafetyLaws.{low_more}
 use Rattle.gq_rules_store.specs.Stores.{OwnFits, Exchanges, IsWhole}
 use Rattle.gq_rules_store.specs.Catalogs.{NoTypesLaw, VertexTypeLaw, EdgeTypeLaw, GraphTypeLaw, SeesLaw}
 

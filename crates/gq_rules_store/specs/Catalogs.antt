@@ -8,7 +8,7 @@ use Rattle.gq_graph.specs.declared.types.IdShape.{IdShape}
 use Rattle.gq_schema.specs.Members.{graph_with}
 use Rattle.gq_schema.specs.Refusals.{vertex_refusal, edge_refusal, graph_refusal}
 use Rattle.gq_insert.specs.Fits.{IsSound}
-use Rattle.gq_rules_growth.specs.Growing.{SeesTypes}
+use Rattle.gq_rules_safety.specs.Growing.{SeesTypes}
 use Rattle.gq_rules_store.specs.Stores.{OwnFits, IsWhole}
 
 abbrev pub NoTypesLaw : Type 0

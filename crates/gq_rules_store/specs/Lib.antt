@@ -1,4 +1,5 @@
 pub mod Stores
 pub mod Values
 pub mod Upserts
+pub mod Records
 pub mod Catalogs

@@ -10,7 +10,7 @@ use Rattle.gq_graph.specs.declared.rows.EdgeRow.{EdgeRow}
 use Rattle.gq_load_check.specs.Targets.{vertex_type_at, edge_type_at}
 use Rattle.gq_insert.specs.Fits.{row_fits}
 use Rattle.gq_rules_meaning.specs.Calendars.{Calendar, IsCalendar, StaysInRange}
-use Rattle.gq_rules_growth.specs.Safety.{IsStoreOf}
+use Rattle.gq_rules_safety.specs.Safety.{IsStoreOf}
 
 -- ---- catalogs
 

@@ -5,6 +5,7 @@
 //! upserts preserve the types of rows.
 //!
 //! Read `specs/Stores.antt` first, then `specs/Upserts.antt` and `specs/Catalogs.antt` (what is preserved)
+//! `specs/Records.antt` (what LOAD and INSERT put)
 //! and `specs/Values.antt` (arguments are values of their parameters' types). Nothing here runs: each
 //! function in `src/lib.rt` states a law in its contract.
 #![tactic(auto)]
@@ -12,6 +13,7 @@
 ghost use Rattle.gq_rules_store.specs.Stores.{StoreLaw, CalendarLaw};
 ghost use Rattle.gq_rules_store.specs.Values.{OrderLaw, MemberLaw};
 ghost use Rattle.gq_rules_store.specs.Upserts.{EmptyLaw, UpsertLaw, RowGrowthLaw};
+ghost use Rattle.gq_rules_store.specs.Records.{RecordLaw, InsertLaw, PutLaw};
 ghost use Rattle.gq_rules_store.specs.Catalogs.{NoTypesLaw, VertexTypeLaw, EdgeTypeLaw, GraphTypeLaw, SeesLaw};
 
 /// Arguments of a script, in parentheses or as members of its file, are values of the parameters' types, if none of
@@ -34,6 +36,14 @@ pub fn rows_stay_fit()
     ensures empty { EmptyLaw }
     ensures by_upserts { UpsertLaw }
     ensures by_growth { RowGrowthLaw }
+{}
+
+/// What the records of a LOAD and an INSERT put are rows of their types, whatever the records and the values are. So the
+/// rows of the store that they leave are of their types too.
+pub fn puts_fit()
+    ensures by_records { RecordLaw }
+    ensures by_insert { InsertLaw }
+    ensures stored { PutLaw }
 {}
 
 /// A catalog is whole at first, and each declaration that isn't refused leaves it so.

@@ -27,15 +27,18 @@ use Rattle.gq_ddl.specs.Declarations.{unless_refused, vertex_created, ends_creat
 use Rattle.gq_load_check.specs.Fits.{HasGrown}
 use Rattle.gq_load_check.specs.GrowthLaws.{grows_not, grows_by_vertex_type, grows_by_edge_types, grows_by_graph}
 use Rattle.gq_insert.specs.Fits.{IsSound}
+use Rattle.gq_rules_store.specs.Stores.{IsWhole}
+use Rattle.gq_rules_store.proofs.CatalogFits.{vertex_type_law, edge_type_law, graph_type_law}
 use Rattle.gq_insert.specs.SoundLaws.{sound_with_graph, sound_with_vertex_type, sound_with_edge_type}
 
--- one catalog extends another, and sound types stay sound
+-- one catalog extends another, sound types stay sound, and a whole catalog stays whole
 pub record Grown (before after : Schema) : Type 0 where
   pub grown : HasGrown before after
   pub whole : IsSound before → IsSound after
+  pub fits : IsSound before → IsWhole before → IsWhole after
 
 pub not_grown : (schema : Schema) → Grown schema schema
-not_grown schema = record { grown = grows_not schema; whole = λ sound. sound }
+not_grown schema = record { grown = grows_not schema; whole = λ sound. sound; fits = λ sound whole. whole }
 
 -- ---- no rule's fault is OutOfMemory
 
@@ -139,6 +142,7 @@ vertex_grown schema new tree is =
     subst (Grown schema) ok.1 (record {
       grown = grows_by_vertex_type schema tree.name (id_of tree) all;
       whole = sound_with_vertex_type schema tree.name (id_of tree) all (plain_attributes tree.attributes) ok.0;
+      fits = λ sound whole. vertex_type_law schema tree.name (id_of tree) all ok.0 whole;
     })
 
 ends_grown : (schema new : Schema) (directed : Bool) (ends : EndsTree) (reverse : Option (List ℕ)) → ends_created schema directed ends reverse ≡ Ok new → Grown schema new
@@ -151,6 +155,7 @@ ends_grown schema new directed ends reverse is =
       grown = grows_by_edge_types schema types;
       whole = sound_with_edge_type schema (length schema.edge_types) ends.name directed ends.from ends.to reverse key rest
           (plain_discriminators ends.discriminators) (plain_attributes ends.attributes) ok.0;
+      fits = λ sound whole. edge_type_law schema ends.name directed ends.from ends.to reverse key rest ok.0 whole;
     })
 
 pub edge_grown : (schema new : Schema) (tree : EdgeTree) → edge_created schema tree ≡ Ok new → Grown schema new
@@ -163,6 +168,7 @@ graph_grown schema new tree is =
     subst (Grown schema) ok.1 (record {
       grown = grows_by_graph schema (graph_with schema tree.name (members_of tree.members));
       whole = sound_with_graph schema (graph_with schema tree.name (members_of tree.members));
+      fits = λ sound whole. graph_type_law schema tree.name (members_of tree.members) ok.0 sound whole;
     })
 
 -- and the new graph is appended to the others

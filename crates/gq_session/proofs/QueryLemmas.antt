@@ -20,8 +20,9 @@ use Rattle.gq_query_run.specs.Answers.{Says}
 use Rattle.gq_query_run.specs.Sessions.{session_of}
 use Rattle.gq_diagnostics.specs.Effects.{Effect, Becomes, Refused, lines_of}
 use Rattle.gq_session.specs.Arguments.{object_of}
-use Rattle.gq_session.specs.Statements.{State, Prints, session_in, effect_in, query_ran, query_interpreted}
+use Rattle.gq_session.specs.Statements.{State, Prints, HasWords, session_in, effect_in, query_ran, query_interpreted}
 use Rattle.gq_session.proofs.SessionLemmas.{IsLine}
+use Rattle.gq_session.proofs.WordLemmas.{words, says}
 
 -- ---- answers
 
@@ -40,15 +41,16 @@ prints_line s t effect answer (Err fault.ReadFault) is says =
     subst P is says
 prints_line s t effect answer (Err fault.OutOfMemory) is says = tt
 
-pub prints_done : (s t : State) (effect : Effect State) (r : Result (Option (Vec ℕ Global)) StatementFault) → t ≡ s → Prints s effect r → IfOk r (λ line. Becomes t (lines_of line) ≡ effect)
-prints_done s t effect (Ok line) same prints = ap (λ (u : State). Becomes u (lines_of line)) same ∙ sym prints
+pub prints_done : (s t : State) (effect : Effect State) (r : Result (Option (Vec ℕ Global)) StatementFault) → t ≡ s → Prints s effect r
+    → IfOk r (λ line. (Becomes t (lines_of line) ≡ effect) × HasWords (Becomes t (lines_of line)))
+prints_done s t effect (Ok line) same prints = (ap (λ (u : State). Becomes u (lines_of line)) same ∙ sym prints, tt)
 prints_done s t effect (Err f) same prints = tt
 
 pub prints_refused : (s : State) (effect : Effect State) (r : Result (Option (Vec ℕ Global)) StatementFault) (refusal : Refusal) → r ≡ Err (fault.Refused refusal) → Prints s effect r
-    → Refused (message_of refusal) ≡ effect
+    → (Refused (message_of refusal) ≡ effect) × HasWords (Refused (message_of refusal))
 prints_refused s effect r refusal is prints =
     let P : Result (Option (Vec ℕ Global)) StatementFault → Type 0 = λ a. Prints s effect a in
-    sym (subst P is prints)
+    (sym (subst P is prints), words (message_of refusal) (says refusal))
 
 pub prints_no_read_fault : {A : Type 0} (s : State) (effect : Effect State) (r : Result (Option (Vec ℕ Global)) StatementFault) → r ≡ Err fault.ReadFault → Prints s effect r → A
 prints_no_read_fault s effect r is prints =

@@ -3,3 +3,4 @@ pub mod Arguments
 pub mod Statements
 pub mod StatementLaws
 pub mod Keeping
+pub mod Safe

@@ -1,5 +1,5 @@
 -- Statements: the effect of each statement on a session, what it prints, and what it leaves if it fails.
-use Rattle.std.specs.Prelude.{◌≡◌, ℕ, Bool, List, [], length, map, Option, Some, None, Result, Ok, Err, Vec, option_map}
+use Rattle.std.specs.Prelude.{◌≡◌, ◌≢◌, ℕ, Bool, List, [], length, map, Option, Some, None, Result, Ok, Err, Vec, option_map}
 use Rattle.std.specs.declared.alloc.Global.{Global}
 use Rattle.gq_graph.specs.Catalog.{Schema, graph_of}
 use Rattle.gq_index.specs.declared.store.Store.{Store}
@@ -149,6 +149,12 @@ query_ran s tree =
 abbrev pub query_interpreted : State → QueryTree → Effect State
 query_interpreted s tree = effect_in s (interpreted (session_in s) gregorian s.turns tree.graph tree.modes (view_query tree))
 
+-- a refusal has words. For a query that is stuck, which has no answer, the definitions of gq_rules_meaning have none: such
+-- a query has no effect. No query of a session is one (`Safe.antt`)
+abbrev pub HasWords : Effect State → Type 0
+HasWords (Becomes t lines) = Unit {0}
+HasWords (Refused message) = message ≢ []
+
 -- the effect of a statement, by what is known of the files
 abbrev pub Does : Known → State → Statement → Effect State → Type 0
 Does known s (top.Vertex tree) effect = effect ≡ effect_of (vertex_made s tree)
@@ -159,8 +165,8 @@ Does known s (top.Job tree) effect = effect ≡ effect_of (job_made s tree)
 Does known s (top.RunJob tree) effect = RunsJob known s tree effect
 Does known s (top.Query replace name tree) effect = effect ≡ effect_of (query_made s replace name tree)
 Does known s (top.Install which) effect = effect ≡ effect_of (install_made s which)
-Does known s (top.Run tree) effect = effect ≡ query_ran s tree
-Does known s (top.Interpret tree) effect = effect ≡ query_interpreted s tree
+Does known s (top.Run tree) effect = (effect ≡ query_ran s tree) × HasWords effect
+Does known s (top.Interpret tree) effect = (effect ≡ query_interpreted s tree) × HasWords effect
 Does known s (top.Insert tree) effect = effect ≡ effect_of (row_made s tree)
 Does known s top.Begin effect = effect ≡ Becomes s []
 Does known s top.End effect = effect ≡ Becomes s []

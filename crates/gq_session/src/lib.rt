@@ -15,6 +15,6 @@ mod run;
 mod session;
 
 pub use file::ArgsFile;
-pub use laws::statements_do_one_thing;
+pub use laws::{no_session_is_stuck, statements_do_one_thing};
 pub use run::run_statements;
 pub use session::Session;

@@ -19,7 +19,7 @@ use gq_insert::insert_row;
 use gq_io::Files;
 use gq_load_run::run_job;
 use gq_query_run::{
-    Runner, RunsQueries, Stored, create_query, install_queries, interpret_query, run_query,
+    Queries, Runner, RunsQueries, create_query, install_queries, interpret_query, run_query,
 };
 use gq_schema::Catalog;
 use gq_tree::{
@@ -42,7 +42,7 @@ pub struct Session<'s, M> {
     catalog: Catalog,
     in_use: Option<u32>,
     jobs: List<NamedJob>,
-    queries: List<Stored<'s>>,
+    queries: Queries<'s>,
     store: Store,
     index: KeptIndex,
     file: ArgsFile<'s>,
@@ -76,7 +76,7 @@ impl<'s, M: RunsQueries> Session<'s, M> {
             catalog: Catalog::new(alloc),
             in_use: None,
             jobs: List::new(alloc),
-            queries: List::new(alloc),
+            queries: Queries::new(alloc),
             store: no_rows(alloc),
             index: KeptIndex::new(alloc),
             file,
@@ -201,7 +201,6 @@ impl<'s, M: RunsQueries> Session<'s, M> {
         ensures prints { Prints self.old (query_ran self.old tree.now) result }
         ensures same { self.new ≡ self.old }
     {
-        let queries = self.queries.as_slice();
         let (alloc, catalog, store) = (self.alloc, &self.catalog, &self.store);
         match self.index.catch_up(alloc, catalog, store) {
             Ok(()) => {}
@@ -215,7 +214,7 @@ impl<'s, M: RunsQueries> Session<'s, M> {
             catalog,
             store,
             self.index.index(),
-            queries,
+            &self.queries,
             file,
             tree,
         ))

@@ -4,3 +4,4 @@ pub mod EntryLemmas
 pub mod SeenLemmas
 pub mod ChangeLemmas
 pub mod CopyLemmas
+pub mod CrossingLemmas

@@ -51,7 +51,7 @@ fn number_of(binding: Candidate) -> u32 {
         .wrapping_add(target)
 }
 
-fn are(paths: &Paths, wanted: &[u32]) -> bool {
+fn are(paths: &Paths<'_>, wanted: &[u32]) -> bool {
     if paths.count() != wanted.len() as u64 {
         return false;
     }

@@ -15,13 +15,37 @@ fn pattern_of(alloc: Global, edges: &[u32]) -> Result<Pattern, Fail> {
     })
 }
 
-fn candidates_of(
+// How many candidates there are, and the one at a place, if there is one, with the steps that it takes to find it.
+#[derive(Clone, Copy)]
+struct Located {
+    count: u64,
+    candidate: Option<Candidate>,
+    steps: u64,
+}
+
+fn found_at(candidates: &Candidates<'_>, place: u64) -> Located {
+    let count = candidates.count();
+    let mut steps = Steps::new();
+    let candidate = if place < count {
+        Some(candidates.at(place, &mut steps))
+    } else {
+        None
+    };
+    Located {
+        count,
+        candidate,
+        steps: steps.count(),
+    }
+}
+
+fn found_in(
     alloc: Global,
     catalog: &Catalog,
     store: &Store,
     set: &[u32],
     edges: &[u32],
-) -> Result<Candidates, Fail> {
+    place: u64,
+) -> Result<Located, Fail> {
     let set = set_of(alloc, set)?;
     let pattern = pattern_of(alloc, edges)?;
     let index = Index::build(alloc, catalog, store)?;
@@ -30,23 +54,25 @@ fn candidates_of(
         store,
         index: &index,
     };
-    Ok(Candidates::of(alloc, &graph, &set, Some(&pattern))?)
+    let candidates = Candidates::of(alloc, &graph, &set, Some(&pattern))?;
+    Ok(found_at(&candidates, place))
 }
 
-fn along(
+fn found(
     alloc: Global,
     joined: Joined<'_>,
     set: &[u32],
     edges: &[u32],
-) -> Result<Candidates, Fail> {
+    place: u64,
+) -> Result<Located, Fail> {
     let catalog = catalog_of(alloc, joined.directed)?;
     let store = store_of(alloc, joined)?;
-    candidates_of(alloc, &catalog, &store, set, edges)
+    found_in(alloc, &catalog, &store, set, edges, place)
 }
 
 // How many candidates there are.
 fn count(alloc: Global, joined: Joined<'_>, set: &[u32], edges: &[u32]) -> Result<u64, Fail> {
-    Ok(along(alloc, joined, set, edges)?.count())
+    Ok(found(alloc, joined, set, edges, 0)?.count)
 }
 
 fn degree(alloc: Global, joined: Joined<'_>, vertex: u32, kind: u32) -> Result<u64, Fail> {
@@ -69,18 +95,16 @@ const NEAR: Joined<'static> = Joined {
 
 #[test]
 fn the_last_candidate_of_three_is_found_in_three_steps(rt: HostRuntime) -> Result<(), Fail> {
-    let candidates = along(rt.alloc(), KNOWS, &[2, 1, 0], &[0])?;
-    assert_eq!(rt; candidates.count(), 3);
-    let mut steps = Steps::new();
-    let last = candidates.at(2, &mut steps);
+    let last = found(rt.alloc(), KNOWS, &[2, 1, 0], &[0], 2)?;
+    assert_eq!(rt; last.count, 3);
     let wanted = Candidate {
         source: 1,
         edge: Some(2),
         kind: Some(0),
         target: Some(2),
     };
-    assert!(rt; last == wanted);
-    assert!(rt; steps.count() <= 3);
+    assert!(rt; last.candidate == Some(wanted));
+    assert!(rt; last.steps <= 3);
     Ok(())
 }
 
@@ -117,6 +141,11 @@ fn what_is_not_there_is_not_walked(rt: HostRuntime) -> Result<(), Fail> {
         ..KNOWS
     };
     assert_eq!(rt; count(rt.alloc(), stray, &[0, 1, 2, 9], &[0, 1, 9])?, 2);
+    let between = Joined {
+        pairs: &[(0, 1), (0, 9), (0, 2)],
+        ..KNOWS
+    };
+    assert_eq!(rt; count(rt.alloc(), between, &[0], &[0])?, 2);
     Ok(())
 }
 

@@ -26,8 +26,8 @@ use Rattle.gq_value.proofs.kind.Kind.TheLaws.TheKnot as kind_knot
 pub use Rattle.gq_value.proofs.CrossingLemmas.{txt_sync}
 use Rattle.gq_value.proofs.CrossingLemmas.{value_send, value_sync, base_sync, input_send}
 use Rattle.gq_accum.proofs.scalar.Scalar.TheSendSync as scalar_crosses
-use Rattle.gq_sorted.proofs.map.SortedMap.TheSendSync as map_crosses
-use Rattle.gq_sorted.proofs.set.SortedSet.TheSendSync as set_crosses
+use Rattle.gq_nest.proofs.map.SortedMap.TheSendSync as map_crosses
+use Rattle.gq_nest.proofs.set.SortedSet.TheSendSync as set_crosses
 use Rattle.gq_nest.specs.contracts.content.Content as content
 use Rattle.gq_nest.proofs.content.Content.TheLaws.TheKnot as content_knot
 use Rattle.gq_frame.specs.contracts.slots.Slots as slots
@@ -48,6 +48,10 @@ use Rattle.gq_exec_contribute.specs.contracts.leaves.Leaves as leaves
 use Rattle.gq_index.specs.contracts.store.Store as store
 use Rattle.gq_index.specs.contracts.index.Index as index
 use Rattle.gq_index.specs.contracts.store.Graph as graph
+use Rattle.gq_index.specs.contracts.stretches.Stretch as stretch
+use Rattle.gq_index.specs.contracts.stretches.Stretches as stretches
+use Rattle.gq_index.specs.contracts.candidates.CandidateRows as candidate_rows
+use Rattle.gq_index.specs.contracts.candidates.Candidates as candidates
 use Rattle.gq_workers.specs.contracts.work.Work as work
 use Rattle.gq_workers.specs.contracts.work.Round as round
 use Rattle.gq_workers.specs.contracts.work.ChunkOutput as left
@@ -167,8 +171,20 @@ edge_type_sync = search (attribute_sync, txt_sync, list_crosses.the_sync, crosse
 graph_field : (l : NamedLft) → IsSync (graph.the_field l).row
 graph_field l = search (store_sync, index_sync, vertex_type_sync, edge_type_sync, txt_sync, list_crosses.the_sync, maps.crosses, crosses, sendable) depth 30 fits 50000
 
+stretch_sync : (l : NamedLft) → IsSync (stretch.the_row l)
+stretch_sync l = search (crosses, sendable) depth 30 fits 50000
+
+stretches_field : (l : NamedLft) → IsSync (stretches.the_field l).row
+stretches_field l = search (stretch_sync, list_crosses.the_sync, crosses, sendable) depth 30 fits 50000
+
+rows_of_candidates : (l : NamedLft) → IsSync (candidate_rows.the_field l).row
+rows_of_candidates l = search (stretches_field, list_crosses.the_sync, crosses, sendable) depth 30 fits 50000
+
+candidates_field : (l : NamedLft) → IsSync (candidates.the_field l).row
+candidates_field l = search (rows_of_candidates, list_crosses.the_sync, crosses, sendable) depth 30 fits 50000
+
 pub work_sync : (l : NamedLft) → IsSync (work.the_row l)
-work_sync l = search (block_sync, leaves_field, list_crosses.the_sync, crosses, sendable) depth 30 fits 50000
+work_sync l = search (block_sync, leaves_field, candidates_field, list_crosses.the_sync, crosses, sendable) depth 30 fits 50000
 
 pub round_sync : (l : NamedLft) → IsSync (round.the_row l)
 round_sync l = search (graph_field, plan_sync, tuple_sync, frame_sync, work_sync, sync, crosses, sendable) depth 30 fits 50000

@@ -45,7 +45,7 @@ pub fn run_block<R: Threads + Sync, G: Gate>(
     block: &Block,
     over: &BlockContext<'_>,
     ends: &Ends,
-    candidates: Candidates,
+    candidates: Candidates<'_>,
     shape: &Shape,
     gate: &G,
 ) -> Result<After, BlockFault>
@@ -68,7 +68,7 @@ fn run_all<R: Threads + Sync, G: Gate>(
     block: &Block,
     over: &BlockContext<'_>,
     ends: &Ends,
-    candidates: Candidates,
+    candidates: Candidates<'_>,
     shape: &Shape,
     gate: &G,
 ) -> Result<Ran, OutOfMemory>
@@ -86,7 +86,7 @@ fn work_of<'b>(
     block: &'b Block,
     over: &BlockContext<'_>,
     ends: &'b Ends,
-    candidates: Candidates,
+    candidates: Candidates<'b>,
     shape: &Shape,
 ) -> Result<Work<'b>, OutOfMemory>
     requires ends { HasEnds over.now.schema over.now.plan over.now.frame.things block.now ends.now }

@@ -64,7 +64,7 @@ fn read_ahead(
 
 /// Lists the edges of these candidates.
 fn list_edges(
-    candidates: &Candidates,
+    candidates: &Candidates<'_>,
     start: u64,
     end: u64,
     edges: &mut List<u32>,

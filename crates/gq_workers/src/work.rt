@@ -15,7 +15,7 @@ pub(crate) struct Work<'b> {
 
     /// The names and accumulators of its expressions, resolved.
     pub leaves: Leaves<'b>,
-    pub candidates: Candidates,
+    pub candidates: Candidates<'b>,
 
     /// The number of candidates per chunk, at least 1.
     pub size: u64,

@@ -20,9 +20,9 @@ use std::sync::atomic::{AtomicU64, Ordering};
 use std::thread::Threads;
 use std::{mem, thread};
 
-/// The approximate number of candidates of a round. Their contributions wait until the round is over: some 16 MB, at
+/// The approximate number of candidates of a round. Their contributions wait until the round is over: some 4 MB, at
 /// one input each.
-const WAITING: u64 = 1 << 18;
+const WAITING: u64 = 1 << 16;
 
 /// Tries the next chunks with several workers, at most 64 of them, and then feeds their contributions, in order.
 pub(crate) fn next_round<R: Threads + Sync, G: Gate>(

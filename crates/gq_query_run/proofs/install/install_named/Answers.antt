@@ -1,21 +1,13 @@
-use Rattle.std.proofs.Common.{refl, ap, ◌∙◌}
-use Rattle.std.specs.List.{list_any}
-use Rattle.std.specs.Str.{bytes_eq}
-use Rattle.gq_query_run.specs.Kept.{Kept}
-use Rattle.gq_query_run.specs.Queries.{installed_if}
-use Rattle.gq_query_run.proofs.InstallLemmas.{changed_to, changed_all}
+use Rattle.gq_query_run.specs.Queries.{with_installed}
+use Rattle.gq_query_run.proofs.PlaceLemmas.{install_turn, install_end}
 use Rattle.gq_query_run.proofs.install.install_named.Goals as goal
 
-pub loop-query-init : goal.loop-query-init
-loop-query-init c = refl
-
-pub loop-query-preserved : goal.loop-query-preserved
-loop-query-preserved c =
-    let inside : Kept = record { name = c.query.inside.name.now; tree = c.query.inside.tree.now; graph = c.query.inside.graph; installed = c.query.inside.installed } in
-    changed_to (λ (query : Kept). installed_if (list_any (bytes_eq query.name) c.args.names.now) query) c.loop-query.query-index c.args.queries.now c.loop-query.query-items
-    c.query-item.result _ c.loop-query-test.true c.loop-query.invariant
-    (ap (λ b. installed_if b inside) c.stands_in.ensures
-    ∙ ap (λ (query : Kept). installed_if (list_any (bytes_eq query.name) c.args.names.now) query) c.query.view_is)
+pub loop-name-preserved : goal.loop-name-preserved
+loop-name-preserved c =
+    install_turn c.args.names.now c.loop-name.name-index c.name-item.result c.as_str.result.now c.loop-name.queries c.install.new.self
+    (with_installed c.args.names.now c.args.queries.now) c.loop-name-test.true c.name-item.is c.as_str.ensures c.install.ensures c.loop-name.invariant
 
 pub returns : goal.returns
-returns c = c.loop-query.invariant ∙ changed_all (λ (query : Kept). installed_if (list_any (bytes_eq query.name) c.args.names.now) query) c.loop-query.query-index c.args.queries.now c.loop-query-test.false
+returns c =
+    install_end c.args.names.now c.loop-name.name-index c.loop-name.queries (with_installed c.args.names.now c.args.queries.now) c.loop-name-test.false
+    c.loop-name.invariant

@@ -1,11 +1,7 @@
-use Rattle.std.proofs.Common.{◌≡◌}
-use Rattle.std.specs.List.{list_any}
-use Rattle.std.specs.Str.{bytes_eq}
-use Rattle.gq_query_run.specs.Kept.{Kept}
-use Rattle.gq_query_run.specs.Queries.{installed_if}
-use Rattle.gq_query_run.proofs.InstallLemmas.{changed}
+use Rattle.std.proofs.Common.{◌≡◌, drop}
+use Rattle.gq_query_run.specs.Queries.{with_installed}
 use Rattle.gq_query_run.proofs.install.install_named.Given as goal
 
--- the queries so far are installed
-abbrev pub invariant-loop-query : goal.invariant-loop-query
-invariant-loop-query l = l.query-items ≡ changed (λ (query : Kept). installed_if (list_any (bytes_eq query.name) l.fn.names) query) l.query-index l.fn.queries
+-- installing the rest of the names is what is left
+abbrev pub invariant-loop-name : goal.invariant-loop-name
+invariant-loop-name l = with_installed (drop l.name-index l.names) l.queries ≡ with_installed l.names l.fn.queries

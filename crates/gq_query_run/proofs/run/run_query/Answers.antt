@@ -23,7 +23,7 @@ returns-in-Some g c in_use =
     says s (ran s gregorian c.args.runner.now.turns tree.name (option_map (map view_argument) tree.arguments) (members_for (held c.args.file.now) tree.name))
     (answer_found c.args.catalog.now c.args.store.now gregorian c.args.runner.now.turns c.in-Some.query.now tree (held c.args.file.now)) c.run_found.result
     (ran_found c.args.catalog.now in_use c.args.queries.now c.args.store.now gregorian c.args.runner.now.turns tree (held c.args.file.now) c.in-Some.query.now
-    (ap (λ n. find (is_named n) c.args.queries.now) (sym c.as_str-name.ensures) ∙ sym c.query_named.ensures ∙ ap option_copied c.in-Some.is))
+    (ap (λ n. find (is_named n) c.args.queries.now) (sym c.as_str-name.ensures) ∙ sym c.named.ensures ∙ ap option_copied c.in-Some.is))
     c.run_found.ensures
 
 pub returns-in-None : goal.returns-in-None
@@ -34,5 +34,5 @@ returns-in-None g c in_use =
     says_due s (ran s gregorian c.args.runner.now.turns tree.name (option_map (map view_argument) tree.arguments) (members_for (held c.args.file.now) tree.name))
     (refusal.UnknownName tree.name) c.unknown.result
     (ran_unknown c.args.catalog.now in_use c.args.queries.now c.args.store.now gregorian c.args.runner.now.turns tree (held c.args.file.now)
-    (ap (λ n. find (is_named n) c.args.queries.now) (sym c.as_str-name.ensures) ∙ sym c.query_named.ensures ∙ ap option_copied c.in-None.is))
+    (ap (λ n. find (is_named n) c.args.queries.now) (sym c.as_str-name.ensures) ∙ sym c.named.ensures ∙ ap option_copied c.in-None.is))
     (subst P c.as_str-name.ensures c.unknown.ensures)

@@ -27,3 +27,17 @@ returns-in-Edges-clause-few c = λ d h.
     let same = ap segment_count (sym c.self.view_is ∙ ap listed c.in-Edges.is) ∙ segments_are c.in-Edges.walks in
     let P : ℕ → Type 0 = λ n. n < 2 ^ d in
     c.at.ensures.counted d (subst P same h)
+
+pub returns-in-InPlace-clause-candidate : goal.returns-in-InPlace-clause-candidate
+returns-in-InPlace-clause-candidate c =
+    let walks = c.in-InPlace.walks in let place = c.args.place in
+    let same : c.args.self.now ≡ map of_walk walks = sym c.self.view_is ∙ ap listed c.in-InPlace.is in
+    let long : length c.args.self.now ≡ length walks = ap length same ∙ length-map walks of_walk in
+    ap (λ l. slice_get l place) same ∙ walk_found walks place c.at-in-InPlace.result (omega (arith, long, c.requires.within)) c.at-in-InPlace.ensures.exact
+    ∙ ap Some (sym c.walked_candidate-in-InPlace.ensures)
+
+pub returns-in-InPlace-clause-few : goal.returns-in-InPlace-clause-few
+returns-in-InPlace-clause-few c = λ d h.
+    let same = ap segment_count (sym c.self.view_is ∙ ap listed c.in-InPlace.is) ∙ segments_are c.in-InPlace.walks in
+    let P : ℕ → Type 0 = λ n. n < 2 ^ d in
+    c.at-in-InPlace.ensures.counted d (subst P same h)

@@ -21,3 +21,11 @@ returns-in-Edges c =
     let long : length c.args.self.now ≡ length walks = ap length same ∙ length-map walks of_walk in
     ap (λ l. slice_get l place) same ∙ walk_found walks place c.near.result (omega (arith, long, c.requires)) c.near.ensures
     ∙ ap Some (sym c.walked_candidate.ensures)
+
+pub returns-in-InPlace : goal.returns-in-InPlace
+returns-in-InPlace c =
+    let walks = c.in-InPlace.walks in let place = c.args.place in
+    let same : c.args.self.now ≡ map of_walk walks = sym c.self.view_is ∙ ap listed c.in-InPlace.is in
+    let long : length c.args.self.now ≡ length walks = ap length same ∙ length-map walks of_walk in
+    ap (λ l. slice_get l place) same ∙ walk_found walks place c.near-in-InPlace.result (omega (arith, long, c.requires)) c.near-in-InPlace.ensures
+    ∙ ap Some (sym c.walked_candidate-in-InPlace.ensures)

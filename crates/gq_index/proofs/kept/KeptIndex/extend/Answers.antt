@@ -1,7 +1,6 @@
 use Rattle.std.proofs.Common.{◌≡◌, List, ℕ, length, map, take, ap, sym, refl, subst, ◌∙◌, arith}
 use Rattle.std.proofs.lemmas.List.{length-map, take_all}
 use Rattle.gq_graph.specs.declared.types.EdgeType.{EdgeType}
-use Rattle.gq_graph.specs.declared.rows.EdgeRow.{EdgeRow}
 use Rattle.gq_graph.specs.declared.rows.VertexRow.{VertexRow}
 use Rattle.gq_index.specs.declared.walks.Traversal.{Traversal}
 use Rattle.gq_index.specs.Kept.{AllWithin}

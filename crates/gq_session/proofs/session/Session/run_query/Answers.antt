@@ -1,4 +1,4 @@
-use Rattle.std.proofs.Common.{rules}
+use Rattle.std.proofs.Common.{refl, rules}
 use Rattle.gq_arguments.specs.Holds.{held}
 use Rattle.gq_session.specs.Statements.{State}
 use Rattle.gq_session.proofs.SessionLemmas.{is_line, session_indexed, session_indexes}
@@ -9,8 +9,8 @@ pub returns-clause-prints : goal.returns-clause-prints
 returns-clause-prints g c =
     let i = c.self.inside in
     let v : State = record { schema = i.catalog; in_use = i.in_use; jobs = i.jobs; queries = i.queries; store = i.store; file = i.file; turns = i.runner.now.turns } in
-    ran_says c.args.self.now v c.self.view_is c.args.tree.now c.with_line.result c.as_slice-queries.result.now (held c.given-file.result.now) c.run_query.result
-    c.as_slice-queries.ensures c.given-file.ensures
+    ran_says c.args.self.now v c.self.view_is c.args.tree.now c.with_line.result i.queries (held c.given-file.result.now) c.run_query.result
+    refl c.given-file.ensures
     (is_line c.run_query.result c.with_line.result c.with_line.ensures.done c.with_line.ensures.printed c.with_line.ensures.same)
     (c.run_query.ensures i.in_use)
 

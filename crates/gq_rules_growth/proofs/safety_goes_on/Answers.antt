@@ -1,5 +1,0 @@
-use Rattle.gq_rules_growth.proofs.SafetyLaws.{goes_on_law}
-use Rattle.gq_rules_growth.proofs.safety_goes_on.Goals as goal
-
-pub returns : goal.returns
-returns c = goes_on_law

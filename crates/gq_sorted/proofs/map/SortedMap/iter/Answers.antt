@@ -1,9 +1,0 @@
-use Rattle.std.specs.Map.Iter.{deref_pair}
-use Rattle.std_collections.proofs.IterRuns.{shows_in_order, shows_values_in_order}
-use Rattle.gq_sorted.proofs.map.SortedMap.iter.Goals as goal
-
-pub returns-clause-runs : goal.returns-clause-runs
-returns-clause-runs g c = shows_in_order deref_pair
-
-pub returns-clause-values_run : goal.returns-clause-values_run
-returns-clause-values_run g c = shows_values_in_order deref_pair

@@ -1,4 +1,0 @@
-pub mod formers
-pub mod Forms
-pub mod Lends
-pub mod Walks
