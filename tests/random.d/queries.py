@@ -399,14 +399,14 @@ class QueryMaker(Expressions):
         return self.assigned(view, it, types)
 
     def assigned(self, view, it, types):
-        """An assignment of a set of these types; a few have a name whose types are fewer."""
+        """An assignment of a set of these types; a few have a name whose types are fewer. What is wrong in the set itself is refused before."""
         narrow = [name for name, held in view.sets.items() if not set(types) <= set(held)]
         if narrow and self.some(0.01):
             name = self.rng.choice(narrow)
-            return dict(it, name=name, declared=None, refused=f"wider set {name}")
+            return dict(it, name=name, declared=None, refused=it.get("refused") or f"wider set {name}")
         if len(types) > 1 and self.some(0.01):
             name = self.fresh("S")
-            return dict(it, name=name, declared=self.rng.choice(types), refused=f"wider set {name}")
+            return dict(it, name=name, declared=self.rng.choice(types), refused=it.get("refused") or f"wider set {name}")
         it["name"], it["declared"] = self.target(view, types)
         return it
 

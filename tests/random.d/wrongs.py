@@ -35,7 +35,7 @@ def in_query(maker, rng, script, queries):
     types, edges = maker.part if query["graph"] == "h" else (maker.vertex_types, maker.edge_types)
     for definitions, text, message in chosen(maker, types, edges, "syntax v2" in query["modes"].lower(), rng.choice((1, 1, 2)), 0.02):
         body = rng.choice(bodies(query))
-        first = message if not text else None
+        first = "too many" if query.get("full") and "Accum" in definitions else message if not text else None
         query.setdefault("more", []).append({"k": "raw", "text": definitions, "refused": first})
         if text:
             body.insert(rng.randint(bool(body), len(body)), {"k": "raw", "text": text, "refused": message})
@@ -47,14 +47,15 @@ def parts_alone(maker, rng, script, queries):
     parts = chosen(maker, maker.vertex_types, maker.edge_types, with_paths, rng.choice((1, 1, 2, 3)))
     body = [{"k": "raw", "text": text, "refused": message} for _, text, message in parts if text]
     more = [{"k": "raw", "text": definitions, "refused": None if text else message} for definitions, text, message in parts if definitions]
-    if rng.random() < 0.03:
+    full = rng.random() < 0.03
+    if full:
         count = rng.choice((256, 257))
         names = ", ".join(f"@@o{at}" for at in range(1000, 1000 + count))
         more = [{"k": "raw", "text": f"SumAccum<INT> {names};", "refused": "too many" if count > 256 else None}]
         body = []
     body.append({"k": "print", "items": [{"e": ("num", 1), "as": "end_of_parts"}]})
     put(maker, {"k": "interpret", "name": None, "params": [], "graph": "g", "tuples": [], "accs": [], "more": more, "body": body,
-                "modes": " SYNTAX v2" if with_paths else "", "replace": False})
+                "modes": " SYNTAX v2" if with_paths else "", "replace": False, "full": full})
 
 
 def in_script(maker, rng, script, queries):
