@@ -35,6 +35,7 @@ def in_query(maker, rng, script, queries):
     types, edges = maker.part if query["graph"] == "h" else (maker.vertex_types, maker.edge_types)
     for definitions, text, message in chosen(maker, types, edges, "syntax v2" in query["modes"].lower(), rng.choice((1, 1, 2)), 0.02):
         body = rng.choice(bodies(query))
+        # (a query that is full has all the accumulators that it may have, or more)
         first = "too many" if query.get("full") and "Accum" in definitions else message if not text else None
         query.setdefault("more", []).append({"k": "raw", "text": definitions, "refused": first})
         if text:
