@@ -21,7 +21,7 @@ use Rattle.gq_load.specs.Columns.{Fields}
 use Rattle.gq_load.specs.Records.{Judged, judged, steps_from, verdict_of}
 use Rattle.gq_load.specs.Reports.{report_of}
 use Rattle.gq_load.specs.Batches.{judged_by, judged_of, left_behind, steps_in, HaveDrafts, IsWhole, AreWhole, ReadsOn}
-use Rattle.gq_load.proofs.ListLemmas.{to_place, same_some}
+use Rattle.gq_load.proofs.ListLemmas.{to_place, get_other, same_some}
 use Rattle.gq_load.proofs.RowLemmas.{Reading}
 
 -- ---- lists
@@ -67,6 +67,16 @@ whole_more schema routes batch i r whole own k other low is = elim (get_set batc
   | inl new ↦ subst (λ (x : ReadRecord). IsWhole schema routes x.verdict x.drafts.items) new own
   | inr old ↦ elim (cases_lt k i) [ inl less ↦ whole k other less old.1 | inr high ↦ absurd (old.0 (omega arith)) ]
 ]
+
+-- an item that is overwritten isn't among those before it
+pub take_kept : {A : Type 0} (xs : List A) (i : ℕ) (y : A) → take i (set xs i y) ≡ take i xs
+take_kept {A} [] zero y = refl
+take_kept {A} [] (suc i) y = refl
+take_kept {A} (x ∷ xs) zero y = refl
+take_kept {A} (x ∷ xs) (suc i) y = ap (λ zs. x ∷ zs) (take_kept xs i y)
+
+pub whole_kept : (schema : Schema) (routes : List Route) (batch : List ReadRecord) (i : ℕ) (r : ReadRecord) → AreWhole schema routes i batch → AreWhole schema routes i (set batch i r)
+whole_kept schema routes batch i r whole k other low is = whole k other low (sym (get_other batch i k r low) ∙ is)
 
 -- ---- records that are read
 

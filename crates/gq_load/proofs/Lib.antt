@@ -6,3 +6,4 @@ pub mod RowLemmas
 pub mod LoadLemmas
 pub mod BatchLemmas
 pub mod FoundLemmas
+pub mod StraightLemmas

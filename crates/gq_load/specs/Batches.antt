@@ -1,5 +1,5 @@
 -- Batches: records that were read, before any of their rows is put. No clause of another crate cites this.
-use Rattle.std.specs.Prelude.{◌≡◌, ◌<◌, ◌++◌, ℕ, ℤ, List, [], length, map, slice_get, nat_lt, if◌then◌else◌, Option, Some}
+use Rattle.std.specs.Prelude.{◌≡◌, ◌<◌, ◌++◌, ◌∷◌, ℕ, ℤ, Bool, true, false, List, [], length, map, slice_get, nat_lt, if◌then◌else◌, Option, Some}
 use Rattle.std.specs.List.{flat_map}
 use Rattle.gq_graph.specs.Catalog.{Schema}
 use Rattle.gq_index.specs.Steps.{Step}
@@ -44,6 +44,17 @@ pub record ReadsOn (schema : Schema) (routes : List Route) (before after : List 
   pub taken : List Fields
   pub split : before ≡ taken ++ after
   pub judged : (read : List ℕ → Option ℤ) → TellsTimes read → map (judged_of schema routes) batch ≡ map (judged read schema routes) taken
+
+-- a record was the next one, and this is what was read of it
+pub record IsNext (schema : Schema) (routes : List Route) (before after : List Fields) (r : ReadRecord) : Type 0 where
+  pub fields : Fields
+  pub split : before ≡ fields ∷ after
+  pub judged : (read : List ℕ → Option ℤ) → TellsTimes read → judged_of schema routes r ≡ judged read schema routes fields
+
+-- the next record was read, or none was left
+abbrev pub ReadsOne : Schema → List Route → List Fields → List Fields → ReadRecord → Bool → Type 0
+ReadsOne schema routes before after r true = IsNext schema routes before after r
+ReadsOne schema routes before after r false = before ≡ []
 
 -- what is left after reading `count` records into a batch with this room: nothing, if they are fewer than the room
 abbrev pub left_behind : ℕ → ℕ → List Fields → List Fields

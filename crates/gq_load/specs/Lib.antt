@@ -4,6 +4,7 @@ pub mod Rows
 pub mod Drafts
 pub mod Found
 pub mod Batches
+pub mod Straight
 pub mod Records
 pub mod Loads
 pub mod Reports

@@ -61,7 +61,7 @@ pub(crate) fn look_ahead(
     Ok(())
 }
 
-/// The same for edges: first their ends, which are needed to find them.
+/// The same for edges. Their ends are needed to find them; the searches for these overlap without a loop of their own.
 fn edges_ahead(
     catalog: &Catalog,
     kind: u32,
@@ -81,8 +81,6 @@ fn edges_ahead(
 {
     let edge = edge_at(catalog, kind);
     let first = found.len();
-    list_ends(edge.from, edge.to, place, batch, store, places)?;
-    touch_vertices(store, places);
     find_ends(edge.from, edge.to, place, batch, store, found)?;
     list_edges(kind, edge.directed, found, first, store, places)?;
     touch_edges(store, places);
@@ -101,28 +99,6 @@ fn list_ids(
     for record in batch {
         match record.drafts.get(place) {
             Some(draft) => places.push(store.vertices.first(kind, draft.from.as_str()))?,
-            None => {}
-        }
-    }
-    Ok(())
-}
-
-/// Lists where the lookups of both ends of the edges of a route begin.
-fn list_ends(
-    from: u32,
-    to: u32,
-    place: usize,
-    batch: &[ReadRecord<'_>],
-    store: &Store,
-    places: &mut Vec<u32>,
-) -> Result<(), OutOfMemory> {
-    places.clear();
-    for record in batch {
-        match record.drafts.get(place) {
-            Some(draft) => {
-                places.push(store.vertices.first(from, draft.from.as_str()))?;
-                places.push(store.vertices.first(to, draft.to.as_str()))?;
-            }
             None => {}
         }
     }

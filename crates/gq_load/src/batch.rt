@@ -1,18 +1,20 @@
 // Batches of records: all of them are read first, and then put in order.
-ghost use Rattle.std.specs.Prelude.{◌≡◌, ◌++◌, ◌≤◌, List, length, map, take, All, IfOk};
+ghost use Rattle.std.specs.Prelude.{◌≡◌, ◌++◌, ◌≤◌, List, length, map, take, true, All, IfOk};
 ghost use Rattle.gq_load_check.specs.Targets.{edge_type_at};
 ghost use Rattle.gq_index.specs.Steps.{Puts};
 ghost use Rattle.gq_index.specs.Namings.{AreNamedBy};
 ghost use Rattle.gq_load.specs.Records.{AllHaveEnds, IsThere, Judged};
 ghost use Rattle.gq_load.specs.Found.{AreFound};
 ghost use Rattle.gq_load.specs.Reports.{report_of};
-ghost use Rattle.gq_load.specs.Batches.{judged_of, left_behind, steps_in, AreWhole, HaveDrafts, ReadsOn};
+ghost use Rattle.gq_load.specs.Straight.{IsComplete};
+ghost use Rattle.gq_load.specs.Batches.{judged_of, left_behind, steps_in, AreWhole, HaveDrafts, IsWhole, ReadsOn, ReadsOne};
 
 use crate::ahead::FoundEnds;
 use crate::draft::drafts;
 use crate::record::{ReadRecord, Verdict, judge, put_record};
 use crate::report::{Report, with_record};
 use crate::route::Route;
+use crate::straight::read_line;
 use gq_base::OutOfMemory;
 use gq_graph::StoreFault;
 use gq_index::Store;
@@ -42,17 +44,19 @@ pub(crate) fn batch<'a>(
 /// Reads the next records, as many as there is room for, and returns how many. If that is less than the room, none are
 /// left.
 ///
-/// `row` is a buffer. Nothing is put.
+/// `straight` says whether to try to read rows straight from lines, and `row` is a buffer. Nothing is put.
 pub(crate) fn read_batch<'a>(
     alloc: Global,
     catalog: &Catalog,
     routes: &[Route],
+    straight: bool,
     records: &mut Records<'a>,
     row: &mut Record<'a>,
     batch: &mut [ReadRecord<'a>],
 ) -> Result<usize, OutOfMemory>
     requires there { All (IsThere catalog.now) routes.now }
     requires ends { AllHaveEnds catalog.now }
+    requires complete { All (IsComplete catalog.now) routes.now }
     requires drafts { HaveDrafts routes.now batch.old }
     ensures within { IfOk result (λ count. count ≤ length batch.new) }
     ensures reads { IfOk result (λ count.
@@ -62,18 +66,82 @@ pub(crate) fn read_batch<'a>(
     ensures room { length batch.new ≡ length batch.old }
 {
     for place in 0..batch.len() {
-        match records.next(row) {
+        match read_record(
+            alloc,
+            catalog,
+            routes,
+            straight,
+            records,
+            row,
+            &mut batch[place],
+        ) {
             Ok(true) => {}
             Ok(false) => return Ok(place),
             Err(OutOfMemory) => return Err(OutOfMemory),
         }
-        let record = &mut batch[place];
-        match judge(alloc, catalog, routes, &mut record.drafts, row) {
-            Ok(verdict) => record.verdict = verdict,
-            Err(OutOfMemory) => return Err(OutOfMemory),
-        }
     }
     Ok(batch.len())
+}
+
+/// Reads the next record into `into`, if there is one. There is a draft for each route.
+#[inline(always)]
+fn read_record<'a>(
+    alloc: Global,
+    catalog: &Catalog,
+    routes: &[Route],
+    straight: bool,
+    records: &mut Records<'a>,
+    row: &mut Record<'a>,
+    into: &mut ReadRecord<'a>,
+) -> Result<bool, OutOfMemory>
+    requires there { All (IsThere catalog.now) routes.now }
+    requires ends { AllHaveEnds catalog.now }
+    requires complete { All (IsComplete catalog.now) routes.now }
+    requires count { length into.old.drafts.items ≡ length routes.now }
+    ensures reads { IfOk result (ReadsOne catalog.now routes.now records.old records.new into.new) }
+    ensures count { IfOk result (λ _. length into.new.drafts.items ≡ length routes.now) }
+    ensures whole { IfOk result (λ found. found ≡ true → IsWhole catalog.now routes.now into.new.verdict into.new.drafts.items) }
+{
+    if !straight {
+        return cut_record(alloc, catalog, routes, records, row, into);
+    }
+    match read_line(alloc, catalog, routes, records, &mut into.drafts) {
+        Ok(true) => {
+            into.verdict = Verdict::Loaded;
+            Ok(true)
+        }
+        Ok(false) => cut_record(alloc, catalog, routes, records, row, into),
+        Err(OutOfMemory) => Err(OutOfMemory),
+    }
+}
+
+/// The same: cuts the record into fields, and judges it.
+#[inline(never)]
+fn cut_record<'a>(
+    alloc: Global,
+    catalog: &Catalog,
+    routes: &[Route],
+    records: &mut Records<'a>,
+    row: &mut Record<'a>,
+    into: &mut ReadRecord<'a>,
+) -> Result<bool, OutOfMemory>
+    requires there { All (IsThere catalog.now) routes.now }
+    requires ends { AllHaveEnds catalog.now }
+    requires count { length into.old.drafts.items ≡ length routes.now }
+    ensures reads { IfOk result (ReadsOne catalog.now routes.now records.old records.new into.new) }
+    ensures count { IfOk result (λ _. length into.new.drafts.items ≡ length routes.now) }
+    ensures whole { IfOk result (λ found. found ≡ true → IsWhole catalog.now routes.now into.new.verdict into.new.drafts.items) }
+{
+    match records.next(row) {
+        Ok(true) => {}
+        Ok(false) => return Ok(false),
+        Err(OutOfMemory) => return Err(OutOfMemory),
+    }
+    match judge(alloc, catalog, routes, &mut into.drafts, row) {
+        Ok(verdict) => into.verdict = verdict,
+        Err(OutOfMemory) => return Err(OutOfMemory),
+    }
+    Ok(true)
 }
 
 /// Puts the rows of the first `count` records in order, and counts the records in the report. After a refusal the

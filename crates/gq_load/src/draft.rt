@@ -3,7 +3,12 @@ ghost use Rattle.std.specs.Prelude.{◌≡◌, ◌≤◌, ◌<◌, ℕ, ℤ, Lis
 ghost use Rattle.gq_load_csv.specs.Fields.{TellsTimes};
 ghost use Rattle.gq_load_check.specs.Targets.{HasTarget, attributes_of, vertex_type_at, edge_type_at};
 ghost use Rattle.gq_index.specs.Steps.{Puts};
-ghost use Rattle.gq_index.specs.Namings.{AreNamedBy};
+ghost use Rattle.gq_index.specs.Namings.{naming_in, AreNamedBy};
+ghost use Rattle.gq_index.specs.Ends.{edge_steps};
+ghost use Rattle.gq_graph.specs.Edges.{Agrees};
+ghost use Rattle.gq_graph.specs.Vertices.{vertex_number};
+ghost use Rattle.gq_graph.specs.declared.rows.VertexRow.{VertexRow};
+ghost use Rattle.gq_graph.specs.declared.types.EdgeType.{EdgeType};
 ghost use Rattle.gq_load.specs.declared.route.Route.{Route};
 ghost use Rattle.gq_load.specs.Rows.{steps_along, steps_by};
 ghost use Rattle.gq_load.specs.Found.{IsFound};
@@ -154,7 +159,7 @@ fn read_edge<'a>(
 }
 
 /// Returns a vertex type by number.
-fn vertex_at(catalog: &Catalog, kind: u32) -> &VertexType
+pub(crate) fn vertex_at(catalog: &Catalog, kind: u32) -> &VertexType
     requires { kind < length catalog.now.vertex_types }
     ensures { result.now ≡ vertex_type_at catalog.now kind }
 {
@@ -195,6 +200,9 @@ pub(crate) fn put_draft(
                 directed: edge.directed,
                 key: edge.discriminators,
             };
+            if let (Some(from), Some(to)) = (ends.from, ends.to) {
+                return put_between(store, naming, from, to, &mut draft.row);
+            }
             let from = EndpointRef {
                 kind: edge.from,
                 id: draft.from.as_str(),
@@ -209,5 +217,36 @@ pub(crate) fn put_draft(
             };
             put_edge(alloc, store, naming, from, to, &mut draft.row)
         }
+    }
+}
+
+/// Puts an edge between two vertices, by their numbers. Moves the values out of the row.
+#[inline(always)]
+fn put_between(
+    store: &mut Store,
+    naming: Naming,
+    from: u32,
+    to: u32,
+    attributes: &mut Row,
+) -> Result<(), StoreFault>
+    requires within { naming.key ≤ length attributes.old }
+    requires agrees { Agrees store.old.edges.namings naming }
+    ensures puts { (a b : VertexRow) → vertex_number store.old.vertices a.kind a.id ≡ Some from →
+        vertex_number store.old.vertices b.kind b.id ≡ Some to →
+        Puts store.old (edge_steps naming a b attributes.old) store.new result }
+    ensures named { (type_at : ℕ → EdgeType) → naming ≡ naming_in type_at naming.kind →
+        AreNamedBy type_at store.old.edges.namings → AreNamedBy type_at store.new.edges.namings }
+{
+    let Naming {
+        kind,
+        directed,
+        key,
+    } = naming;
+    match store
+        .edges
+        .upsert(kind, directed, from, to, key, attributes)
+    {
+        Ok(_) => Ok(()),
+        Err(fault) => Err(fault),
     }
 }

@@ -19,9 +19,11 @@ mod fault;
 mod inserting;
 mod laws;
 mod loading;
+mod overwrite;
 mod record;
 mod report;
 mod route;
+mod straight;
 mod value;
 
 pub use draft::Draft;

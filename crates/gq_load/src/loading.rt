@@ -6,6 +6,7 @@ ghost use Rattle.gq_load_check.specs.Fits.{LineFits};
 ghost use Rattle.gq_load_check.specs.Targets.{edge_type_at};
 ghost use Rattle.gq_index.specs.Namings.{AreNamedBy};
 ghost use Rattle.gq_load.specs.Records.{AllHaveEnds, IsThere};
+ghost use Rattle.gq_load.specs.Straight.{IsComplete};
 ghost use Rattle.gq_load.specs.Loads.{Loads, LoadsBy, LoadsAlong, records_in};
 
 use crate::ahead::{AHEAD, look_ahead};
@@ -13,6 +14,7 @@ use crate::batch::{batch, put_batch, read_batch};
 use crate::fault::LoadFault;
 use crate::report::Report;
 use crate::route::{Route, routes};
+use crate::straight::are_rising;
 use gq_base::{List, OutOfMemory};
 use gq_graph::StoreFault;
 use gq_index::Store;
@@ -90,6 +92,7 @@ fn load_records(
     store: &mut Store,
 ) -> Result<Report, StoreFault>
     requires there { All (IsThere catalog.now) routes.now }
+    requires complete { All (IsComplete catalog.now) routes.now }
     requires ends { AllHaveEnds catalog.now }
     requires named { AreNamedBy (edge_type_at catalog.now) store.old.edges.namings }
     ensures loads { (read : List ℕ → Option ℤ) → TellsTimes read →
@@ -100,12 +103,15 @@ fn load_records(
         Ok(batch) => batch,
         Err(OutOfMemory) => return Err(StoreFault::OutOfMemory),
     };
+    let straight = are_rising(routes);
     let mut row = Record::new(alloc);
     let mut places = Vec::new(alloc);
     let mut found = List::new(alloc);
     let mut report = Report::none();
     'reading: loop {
-        let count = match read_batch(alloc, catalog, routes, records, &mut row, &mut batch) {
+        let count = match read_batch(
+            alloc, catalog, routes, straight, records, &mut row, &mut batch,
+        ) {
             Ok(count) => count,
             Err(OutOfMemory) => return Err(StoreFault::OutOfMemory),
         };

@@ -23,11 +23,11 @@ use Rattle.gq_load_csv.proofs.RecordLemmas.{left_is}
 
 -- ---- plain bytes
 
-both : (a b : Bool) → (a && b) ≡ true → (a ≡ true) × (b ≡ true)
+pub both : (a b : Bool) → (a && b) ≡ true → (a ≡ true) × (b ≡ true)
 both true b e = (refl, e)
 both false b e = absurd (cc)
 
-neither : (a b : Bool) → (not a && not b) ≡ true → (a ≡ false) × (b ≡ false)
+pub neither : (a b : Bool) → (not a && not b) ≡ true → (a ≡ false) × (b ≡ false)
 neither false false e = (refl, refl)
 neither false true e = absurd (cc)
 neither true b e = absurd (cc)
@@ -193,7 +193,7 @@ piece_more start place text c order low is =
 piece_none : (place : ℕ) (text : List ℕ) → piece place place text ≡ []
 piece_none place text = let none : place - place ≡ 0 = omega arith in ap (λ k. take k (drop place text)) none
 
-turn : (separator : ℕ) (f : List (List ℕ)) (p : List ℕ) (c : ℕ) (rest : List ℕ) (a e : Bool) → (c == separator) ≡ a → (c == 10) ≡ e
+pub turn : (separator : ℕ) (f : List (List ℕ)) (p : List ℕ) (c : ℕ) (rest : List ℕ) (a e : Bool) → (c == separator) ≡ a → (c == 10) ≡ e
     → line_from separator f p (c ∷ rest)
     ≡ (if a then line_from separator (f ++ p ∷ []) [] rest else if e then (f ++ p ∷ [], rest) else line_from separator f (p ++ c ∷ []) rest)
 unfolding line_from
@@ -254,7 +254,7 @@ pub empty : (text : List ℕ) → length text ≡ 0 → text ≡ []
 empty [] e = refl
 empty (c ∷ rest) e = absurd (omega (arith, e))
 
-line_of : (d : ℕ) (q : Option ℕ) (text : List ℕ) → list_all (is_plain_byte q) text ≡ true → (get_or text 0 0 == 10) ≡ false → 0 < length text
+pub line_of : (d : ℕ) (q : Option ℕ) (text : List ℕ) → list_all (is_plain_byte q) text ≡ true → (get_or text 0 0 == 10) ≡ false → 0 < length text
     → records (config_of d q) text ≡ (line_from d [] [] text).0 ∷ records (config_of d q) (line_from d [] [] text).1
 line_of d q [] e line some = absurd (omega (arith, some))
 line_of d q (c ∷ rest) e line some = first_line d q c rest e line

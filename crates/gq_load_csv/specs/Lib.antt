@@ -3,6 +3,8 @@ pub mod Texts
 pub mod Records
 pub mod Unread
 pub mod Lines
+pub mod Next
+pub mod Cursors
 pub mod Deciding
 pub mod Numbers
 pub mod Moments

@@ -53,6 +53,14 @@ impl<'a> Id<'a> {
         }
     }
 
+    /// Makes the id a piece of the file, in stored form.
+    #[inline(always)]
+    pub fn lend(&mut self, piece: &'a str)
+        ensures { self.new ≡ piece.now }
+    {
+        self.piece = Some(piece);
+    }
+
     /// Reads the id from a record's field by number. Returns false if there is no such field or it can't be read; the
     /// id is then unspecified.
     pub fn read(

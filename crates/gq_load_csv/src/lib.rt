@@ -6,11 +6,13 @@
 //!
 //! Read `specs/Records.antt` first (which records a file has), then `specs/Fields.antt` (which value or id a
 //! field gives) with `specs/Texts.antt`, `specs/Numbers.antt` and `specs/Readings.antt`. The code is in
-//! `src/records.rt`, `src/lines.rt`, `src/value.rt` and `src/id.rt`.
+//! `src/records.rt`, `src/lines.rt`, `src/line.rt`, `src/value.rt` and `src/id.rt`.
 #![tactic(auto)]
 
+mod cursor;
 mod id;
 mod laws;
+mod line;
 mod lines;
 mod numbers;
 mod record;
@@ -19,6 +21,7 @@ mod value;
 
 pub use id::{Id, read_id};
 pub use laws::one_reading;
+pub use line::Line;
 pub use record::Record;
 pub use records::Records;
 pub use value::{default_value, read_int, read_key, read_value};

@@ -60,7 +60,7 @@ pub(crate) fn own_text(text: &[u8]) -> Option<&str>
 }
 
 /// Whether a zero comes before other bytes.
-fn has_leading_zero(text: &[u8]) -> bool
+pub(crate) fn has_leading_zero(text: &[u8]) -> bool
     ensures { result ≡ has_leading_zero text.now }
 {
     text.len() > 1 && text[0] == b'0'

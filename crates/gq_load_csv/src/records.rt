@@ -1,9 +1,10 @@
 // The records of a file.
-ghost use Rattle.std.specs.Prelude.{◌≡◌, [], ◌∷◌, Some, IfOk, if◌then◌else◌};
+ghost use Rattle.std.specs.Prelude.{◌≡◌, [], ◌∷◌, Some, IfOk, IfSome, if◌then◌else◌};
 ghost use Rattle.gq_load_csv.specs.Lines.{left_in, IsOpen};
 ghost use Rattle.gq_load_csv.specs.Records.{records_of};
 ghost use Rattle.gq_load_csv.specs.Unread.{unread, Reads};
 
+use crate::line::{Line, line_of};
 use crate::lines::{Lines, is_plain};
 use crate::record::Record;
 use csv::{Reader, ReaderBuilder};
@@ -60,6 +61,25 @@ impl<'a> Records<'a> {
     {
         next_of(&mut self.source, row)
     }
+
+    /// The next record as a line, if the file is read by lines. None says nothing about the records.
+    #[inline(always)]
+    pub fn line(&self) -> Option<Line<'a>>
+        ensures { IfSome result (λ line. self.now ≡ line.fields ∷ line.others) }
+    {
+        match &self.source {
+            Source::Plain(lines) => line_of(lines),
+            Source::Any(_) => None,
+        }
+    }
+
+    /// Goes on behind a line.
+    #[inline(always)]
+    pub fn go_behind(&mut self, line: Line<'a>)
+        ensures { self.new ≡ line.entry.others }
+    {
+        put_lines(&mut self.source, line.lines_behind());
+    }
 }
 
 /// Returns a reader of all records of a text.
@@ -89,5 +109,16 @@ fn next_of<'a>(source: &mut Source<'a>, row: &mut Record<'a>) -> Result<bool, Ou
     match source {
         Source::Plain(lines) => row.read_line(lines),
         Source::Any(reader) => row.read_cut(reader),
+    }
+}
+
+/// Replaces a source by lines. If it has lines already, they are replaced in place.
+#[inline(always)]
+fn put_lines<'a>(source: &mut Source<'a>, lines: Lines<'a>)
+    ensures { source.new ≡ Source.Plain lines.entry }
+{
+    match source {
+        Source::Plain(old) => *old = lines,
+        Source::Any(_) => *source = Source::Plain(lines),
     }
 }
