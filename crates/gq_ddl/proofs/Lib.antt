@@ -1,3 +1,4 @@
 mod AttributeLemmas
 mod DeniedLemmas
 mod CreatedLemmas
+mod PlaceLemmas

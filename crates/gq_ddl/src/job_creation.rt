@@ -1,13 +1,13 @@
 // CREATE LOADING JOB.
-ghost use Rattle.std.specs.Prelude.{◌≡◌, ◌<◌, Some, OnErr, length};
+ghost use Rattle.std.specs.Prelude.{◌≡◌, ◌<◌, Some, OnErr, false, length};
 ghost use Rattle.gq_diagnostics.specs.Answers.{Answers};
 ghost use Rattle.gq_ddl.specs.Fitting.{JobsFit};
-ghost use Rattle.gq_ddl.specs.Jobs.{job_created, job_for};
+ghost use Rattle.gq_ddl.specs.Jobs.{has_job, job_created, job_for};
 ghost use Rattle.gq_ddl.specs.Tells.{Tells};
 
 use crate::job_fault::statement_fault;
-use crate::named::{NamedJob, has_job};
-use gq_base::{List, OutOfMemory};
+use crate::named::{Jobs, NamedJob};
+use gq_base::OutOfMemory;
 use gq_diagnostics::{Refusal, StatementFault};
 use gq_load_check::check_job;
 use gq_schema::Catalog;
@@ -21,14 +21,14 @@ use std::alloc::Global;
 pub fn create_job(
     alloc: Global,
     catalog: &Catalog,
-    jobs: &mut List<NamedJob>,
+    jobs: &mut Jobs,
     tree: &JobTree,
 ) -> Result<(), StatementFault>
     ensures created { Answers (job_created catalog.now jobs.old tree.now) jobs.old jobs.new result }
     // Jobs that are valid for the catalog stay so, and the new one is valid too.
     ensures fit { JobsFit catalog.now jobs.old → JobsFit catalog.now jobs.new }
 {
-    if has_job(jobs.as_slice(), tree.name.as_str()) {
+    if jobs.has(tree.name.as_str()) {
         return Err(name_taken(alloc, tree.name.as_str()));
     }
     match catalog.graph(tree.graph.as_str()) {
@@ -41,10 +41,11 @@ fn add_job(
     alloc: Global,
     catalog: &Catalog,
     graph: u32,
-    jobs: &mut List<NamedJob>,
+    jobs: &mut Jobs,
     tree: &JobTree,
 ) -> Result<(), StatementFault>
-    requires { graph < length catalog.now.graphs }
+    requires graph { graph < length catalog.now.graphs }
+    requires new { has_job jobs.old tree.now.name ≡ false }
     ensures created { Answers (job_for catalog.now jobs.old tree.now (Some graph)) jobs.old jobs.new result }
     ensures fit { JobsFit catalog.now jobs.old → JobsFit catalog.now jobs.new }
 {
@@ -56,7 +57,7 @@ fn add_job(
         Ok(name) => name,
         Err(OutOfMemory) => return Err(StatementFault::OutOfMemory),
     };
-    match jobs.push(NamedJob { name, job }) {
+    match jobs.push(alloc, NamedJob { name, job }) {
         Ok(()) => Ok(()),
         Err(OutOfMemory) => Err(StatementFault::OutOfMemory),
     }

@@ -19,4 +19,4 @@ mod named;
 pub use create::{create_edge, create_graph, create_vertex};
 pub use job_creation::create_job;
 pub use laws::jobs_stay_checked;
-pub use named::{NamedJob, find_job};
+pub use named::{Jobs, NamedJob};

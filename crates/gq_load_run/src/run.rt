@@ -15,7 +15,7 @@ ghost use Rattle.gq_load_run.specs.JobRuns.{FoundDoes, FoundLeaves, JobDoes, Job
 
 use crate::job::run_loads;
 use gq_base::OutOfMemory;
-use gq_ddl::{NamedJob, find_job};
+use gq_ddl::Jobs;
 use gq_diagnostics::{Refusal, StatementFault};
 use gq_index::Store;
 use gq_io::Files;
@@ -36,7 +36,7 @@ use std::alloc::Global;
 pub fn run_job<F: Files>(
     alloc: Global,
     catalog: &Catalog,
-    jobs: &[NamedJob],
+    jobs: &Jobs,
     store: &mut Store,
     files: &mut F,
     tree: &RunJobTree,
@@ -58,7 +58,7 @@ pub fn run_job<F: Files>(
     ensures faults_stay { F.faults files.old ≤ F.faults files.new }
     ensures absences_stay { F.absences files.old ≤ F.absences files.new }
 {
-    match find_job(jobs, tree.name.as_str()) {
+    match jobs.find(tree.name.as_str()) {
         Some(job) => run_found(alloc, catalog, job, store, files, tree),
         None => Err(unknown_name(alloc, tree.name.as_str())),
     }

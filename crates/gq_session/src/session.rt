@@ -10,8 +10,8 @@ ghost use Rattle.gq_load.specs.Keeping.{no_rows as rows_of_none};
 ghost use Rattle.gq_session.specs.Statements.{Does, JobLeft, Leaves, Prints, RunsJob, State, edge_made, effect_of, graph_made, graph_used, install_made, job_made, opening, query_interpreted, query_made, query_ran, row_made, vertex_made};
 
 use crate::file::ArgsFile;
-use gq_base::{List, OutOfMemory};
-use gq_ddl::{NamedJob, create_edge, create_graph, create_job, create_vertex};
+use gq_base::OutOfMemory;
+use gq_ddl::{Jobs, create_edge, create_graph, create_job, create_vertex};
 use gq_diagnostics::{Refusal, StatementFault};
 use gq_edge::Edges;
 use gq_index::{KeptIndex, Store};
@@ -41,7 +41,7 @@ pub struct Session<'s, M> {
     alloc: Global,
     catalog: Catalog,
     in_use: Option<u32>,
-    jobs: List<NamedJob>,
+    jobs: Jobs,
     queries: Queries<'s>,
     store: Store,
     index: KeptIndex,
@@ -75,7 +75,7 @@ impl<'s, M: RunsQueries> Session<'s, M> {
             alloc,
             catalog: Catalog::new(alloc),
             in_use: None,
-            jobs: List::new(alloc),
+            jobs: Jobs::new(alloc),
             queries: Queries::new(alloc),
             store: no_rows(alloc),
             index: KeptIndex::new(alloc),
@@ -266,11 +266,10 @@ impl<'s, M: RunsQueries> Session<'s, M> {
         ensures faults_stay { F.faults files.old ≤ F.faults files.new }
         ensures absences_stay { F.absences files.old ≤ F.absences files.new }
     {
-        let jobs = self.jobs.as_slice();
         with_line(run_job(
             self.alloc,
             &self.catalog,
-            jobs,
+            &self.jobs,
             &mut self.store,
             files,
             tree,

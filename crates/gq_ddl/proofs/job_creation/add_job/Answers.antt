@@ -13,5 +13,5 @@ returns-in-Err-clause-created c =
 
 pub returns-in-Ok-push-clause-fit : goal.returns-in-Ok-push-clause-fit
 returns-in-Ok-push-clause-fit c = λ fit.
-    subst (JobsFit c.args.catalog.now) (sym c.in-Ok-push.ensures.ok)
+    subst (JobsFit c.args.catalog.now) (sym c.in-Ok-push.ensures)
     (jobs_and c.args.catalog.now c.args.jobs.now (record { name = c.in-Ok-of.name; job = c.in-Ok.job }) fit c.in-Ok.ensures.fits)

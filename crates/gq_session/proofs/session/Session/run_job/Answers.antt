@@ -1,11 +1,6 @@
-use Rattle.std.proofs.Common.{List, [], ◌∷◌, IfOk, subst}
-use Rattle.std.specs.Prelude.{IfErr}
 use Rattle.gq_diagnostics.specs.Messages.{message_of}
 use Rattle.gq_diagnostics.specs.declared.refusal.StatementFault.TheVariants as fault
-use Rattle.gq_diagnostics.specs.Effects.{Becomes, Refused}
 use Rattle.gq_io.specs.Known.{known_of}
-use Rattle.gq_ddl.specs.declared.named.NamedJob.{NamedJob}
-use Rattle.gq_load_run.specs.JobRuns.{JobDoes, JobLeaves}
 use Rattle.gq_session.specs.Statements.{State}
 use Rattle.gq_session.proofs.SessionLemmas.{session_gains, is_line, job_printed, job_refused, job_left, refused_back}
 use Rattle.gq_session.proofs.session.Session.run_job.Goals as goal
@@ -16,9 +11,7 @@ returns-clause-done g c = λ before now met.
     let v : State = record { schema = i.catalog; in_use = i.in_use; jobs = i.jobs; queries = i.queries; store = i.store; file = i.file; turns = i.runner.now.turns } in
     job_printed c.args.self.now v c.self.view_is c.args.tree.now (known_of (g.F.Files.held c.args.files.now) before now met) c.run_job.new.store c.run_job.result c.with_line.result
     (is_line c.run_job.result c.with_line.result c.with_line.ensures.done c.with_line.ensures.printed c.with_line.ensures.same)
-    (let P : List NamedJob → Type 0 = λ jobs. IfOk c.run_job.result (λ line.
-    JobDoes (known_of (g.F.Files.held c.args.files.now) before now met) i.catalog jobs i.store c.args.tree.now (Becomes c.run_job.new.store (line.items ∷ []))) in
-    subst P c.as_slice-jobs.ensures (c.run_job.ensures.done before now met))
+    (c.run_job.ensures.done before now met)
 
 pub returns-clause-refused : goal.returns-clause-refused
 returns-clause-refused g c = λ refusal same before low.
@@ -26,10 +19,8 @@ returns-clause-refused g c = λ refusal same before low.
     let v : State = record { schema = i.catalog; in_use = i.in_use; jobs = i.jobs; queries = i.queries; store = i.store; file = i.file; turns = i.runner.now.turns } in
     job_refused c.args.self.now v c.self.view_is c.args.tree.now
     (known_of (g.F.Files.held c.args.files.now) before (g.F.Files.absences c.run_job.new.files) (g.F.Files.length_met c.run_job.new.files)) (message_of refusal)
-    (let P : List NamedJob → Type 0 = λ jobs.
-    JobDoes (known_of (g.F.Files.held c.args.files.now) before (g.F.Files.absences c.run_job.new.files) (g.F.Files.length_met c.run_job.new.files)) i.catalog jobs i.store c.args.tree.now (Refused (message_of refusal)) in
-    let is = is_line c.run_job.result c.with_line.result c.with_line.ensures.done c.with_line.ensures.printed c.with_line.ensures.same in
-    subst P c.as_slice-jobs.ensures (c.run_job.ensures.refused refusal (refused_back c.run_job.result c.with_line.result (fault.Refused refusal) is same) before low))
+    (let is = is_line c.run_job.result c.with_line.result c.with_line.ensures.done c.with_line.ensures.printed c.with_line.ensures.same in
+    c.run_job.ensures.refused refusal (refused_back c.run_job.result c.with_line.result (fault.Refused refusal) is same) before low)
 
 pub returns-clause-left : goal.returns-clause-left
 returns-clause-left g c = λ before low.
@@ -38,8 +29,7 @@ returns-clause-left g c = λ before low.
     let known = known_of (g.F.Files.held c.args.files.now) before (g.F.Files.absences c.run_job.new.files) (g.F.Files.length_met c.run_job.new.files) in
     job_left c.args.self.now v c.self.view_is c.args.tree.now known c.run_job.new.store c.run_job.result c.with_line.result
     (is_line c.run_job.result c.with_line.result c.with_line.ensures.done c.with_line.ensures.printed c.with_line.ensures.same)
-    (let P : List NamedJob → Type 0 = λ jobs. IfErr c.run_job.result (λ f. JobLeaves known i.catalog jobs i.store c.args.tree.now f c.run_job.new.store) in
-    subst P c.as_slice-jobs.ensures (c.run_job.ensures.left before low))
+    (c.run_job.ensures.left before low)
 
 pub invariant_of-self : goal.invariant_of-self
 invariant_of-self g c =
