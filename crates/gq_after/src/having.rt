@@ -2,6 +2,7 @@
 ghost use Rattle.std.specs.Prelude.{◌≡◌, ◌++◌, [], ◌∷◌, IfOk, map};
 ghost use Rattle.std.specs.Option.{option_map};
 ghost use Rattle.gq_rules_meaning.specs.Blocks.{passes};
+ghost use Rattle.gq_rules_meaning.specs.Expressions.{truth_of};
 ghost use Rattle.gq_rules_meaning.specs.Tails.{passing};
 ghost use Rattle.gq_rules_calendar.specs.Gregorian.{gregorian};
 ghost use Rattle.gq_plan_ir.specs.ExprView.{view};
@@ -16,7 +17,7 @@ ghost use Rattle.gq_after.specs.Sights.{vertex_look};
 use gq_base::List;
 use gq_eval::run_truth;
 use gq_eval_context::{BlockContext, BlockFault, fault_at};
-use gq_eval_operand::{Halt, Sees};
+use gq_eval_operand::Halt;
 use gq_exec_source::End;
 use gq_frame::{Accums, Alias};
 use gq_plan_ir::Expr;
@@ -49,7 +50,7 @@ pub(crate) fn passing(
     Ok(kept)
 }
 
-/// Whether a vertex passes, under the alias of its end.
+/// Whether a vertex passes. Without HAVING every vertex does.
 fn passes_at(
     having: &Option<Expr>,
     alloc: Global,
@@ -61,32 +62,40 @@ fn passes_at(
     requires { AreSound accums.now }
     ensures { Tells itself (passes (vertex_look gregorian over.now accums.now end.now vertex) (option_map view having.now)) result }
 {
-    match end.alias(vertex) {
-        Some(alias) => passes_under(having, alloc, over, accums, &[alias]),
-        None => passes_under(having, alloc, over, accums, &[]),
+    match having {
+        None => Ok(true),
+        Some(expr) => holds_at(expr, alloc, over, accums, end, vertex),
     }
 }
 
-fn passes_under(
-    having: &Option<Expr>,
+/// Whether a condition holds at a vertex, under the alias of its end.
+fn holds_at(
+    expr: &Expr,
+    alloc: Global,
+    over: &BlockContext<'_>,
+    accums: &Accums,
+    end: &End,
+    vertex: u32,
+) -> Result<bool, Halt>
+    requires { AreSound accums.now }
+    ensures { Tells itself (truth_of (vertex_look gregorian over.now accums.now end.now vertex) (view expr.now)) result }
+{
+    match end.alias(vertex) {
+        Some(alias) => holds_under(expr, alloc, over, accums, &[alias]),
+        None => holds_under(expr, alloc, over, accums, &[]),
+    }
+}
+
+fn holds_under(
+    expr: &Expr,
     alloc: Global,
     over: &BlockContext<'_>,
     accums: &Accums,
     aliases: &[Alias<'_>],
 ) -> Result<bool, Halt>
     requires { AreSound accums.now }
-    ensures { Tells itself (passes (look_of gregorian (viewed over.now (map alias_of aliases.now) accums.now accums.now)) (option_map view having.now)) result }
+    ensures { Tells itself (truth_of (look_of gregorian (viewed over.now (map alias_of aliases.now) accums.now accums.now)) (view expr.now)) result }
 {
     let sight = over.eval_context(aliases, accums, accums);
-    has_passed(having, alloc, &sight)
-}
-
-/// Without HAVING every vertex passes.
-fn has_passed<V: Sees>(having: &Option<Expr>, alloc: Global, sight: &V) -> Result<bool, Halt>
-    ensures { Tells itself (passes (V.look sight.now) (option_map view having.now)) result }
-{
-    match having {
-        None => Ok(true),
-        Some(expr) => run_truth(expr, alloc, sight),
-    }
+    run_truth(expr, alloc, &sight)
 }

@@ -67,6 +67,9 @@ fn keys_at(
     requires { AreSound accums.now }
     ensures { Tells (map val) (each (λ key. value_of (vertex_look gregorian over.now accums.now end.now vertex) (view key.0)) order.now) result }
 {
+    if order.len() == 0 {
+        return Ok(List::new(alloc));
+    }
     match end.alias(vertex) {
         Some(alias) => keys_under(order, alloc, over, accums, &[alias]),
         None => keys_under(order, alloc, over, accums, &[]),

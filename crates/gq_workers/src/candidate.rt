@@ -35,14 +35,14 @@ pub(crate) fn try_one(
     alloc: Global,
     work: &Work<'_>,
     over: &BlockContext<'_>,
-    candidate: Candidate,
+    candidate: &Candidate,
     evaluated: &mut u32,
     found: &mut MatchBuffer,
 ) -> Result<Option<Wrong>, OutOfMemory>
-    requires within { IsWithin (length over.now.vertices) candidate }
+    requires within { IsWithin (length over.now.vertices) candidate.now }
     requires shaped { IsShaped (length over.now.vertices) found.old }
     requires prepared { AreFound over.now work.now.leaves }
-    ensures tried { IfOk result (Tried over.now (come gregorian over.now work.now candidate) found.old found.new) }
+    ensures tried { IfOk result (Tried over.now (come gregorian over.now work.now candidate.now) found.old found.new) }
     ensures shaped { IfOk result (λ _. IsShaped (length over.now.vertices) found.new) }
 {
     if is_read(alloc, work, over, candidate, *evaluated, found)? {
@@ -67,19 +67,19 @@ fn is_read(
     alloc: Global,
     work: &Work<'_>,
     over: &BlockContext<'_>,
-    candidate: Candidate,
+    candidate: &Candidate,
     evaluated: u32,
     found: &mut MatchBuffer,
 ) -> Result<bool, OutOfMemory>
-    requires within { IsWithin (length over.now.vertices) candidate }
+    requires within { IsWithin (length over.now.vertices) candidate.now }
     requires shaped { IsShaped (length over.now.vertices) found.old }
     requires prepared { AreFound over.now work.now.leaves }
-    ensures { IfOk result (Done over.now (come gregorian over.now work.now candidate) found.old found.new) }
+    ensures { IfOk result (Done over.now (come gregorian over.now work.now candidate.now) found.old found.new) }
 {
     if evaluated >= MOST_EVALUATED {
         return Ok(false);
     }
-    match passes(&work.block.filter, alloc, over, &work.leaves, &candidate) {
+    match passes(&work.block.filter, alloc, over, &work.leaves, candidate) {
         None => Ok(false),
         Some(false) => Ok(true),
         Some(true) => is_gathered(alloc, work, over, candidate, found),
@@ -91,14 +91,14 @@ fn is_gathered(
     alloc: Global,
     work: &Work<'_>,
     over: &BlockContext<'_>,
-    candidate: Candidate,
+    candidate: &Candidate,
     found: &mut MatchBuffer,
 ) -> Result<bool, OutOfMemory>
-    requires within { IsWithin (length over.now.vertices) candidate }
+    requires within { IsWithin (length over.now.vertices) candidate.now }
     requires shaped { IsShaped (length over.now.vertices) found.old }
     requires prepared { AreFound over.now work.now.leaves }
-    requires passed { passes (sees gregorian over.now work.now.leaves candidate) (option_map view work.now.block.now.filter) ≡ Gives true }
-    ensures { IfOk result (Done over.now (come gregorian over.now work.now candidate) found.old found.new) }
+    requires passed { passes (sees gregorian over.now work.now.leaves candidate.now) (option_map view work.now.block.now.filter) ≡ Gives true }
+    ensures { IfOk result (Done over.now (come gregorian over.now work.now candidate.now) found.old found.new) }
 {
     let acts = work.block.accum.as_slice();
     if !gather(
@@ -106,7 +106,7 @@ fn is_gathered(
         alloc,
         over,
         &work.leaves,
-        &candidate,
+        candidate,
         &mut found.inputs,
     )? {
         return Ok(false);
@@ -125,13 +125,13 @@ fn try_candidate(
     over: &BlockContext<'_>,
     ends: &Ends,
     edge: Option<u32>,
-    candidate: Candidate,
+    candidate: &Candidate,
     found: &mut MatchBuffer,
 ) -> Result<Option<Wrong>, OutOfMemory>
     requires settled { found.old.inputs ≡ [] }
-    requires within { IsWithin (length over.now.vertices) candidate }
+    requires within { IsWithin (length over.now.vertices) candidate.now }
     requires shaped { IsShaped (length over.now.vertices) found.old }
-    ensures tried { IfOk result (Tried over.now (comes gregorian over.now block.now ends.now edge candidate) found.old found.new) }
+    ensures tried { IfOk result (Tried over.now (comes gregorian over.now block.now ends.now edge candidate.now) found.old found.new) }
     ensures shaped { IfOk result (λ _. IsShaped (length over.now.vertices) found.new) }
 {
     let room = &mut found.room;
@@ -163,14 +163,14 @@ fn outcome_of(
     over: &BlockContext<'_>,
     ends: &Ends,
     edge: Option<u32>,
-    candidate: Candidate,
+    candidate: &Candidate,
     room: &mut Room,
     into: &mut Batches,
 ) -> Result<Outcome, OutOfMemory>
-    ensures { IfOk result (Comes over.now.frame.accums.slots candidate (comes gregorian over.now block.now ends.now edge candidate) into.old into.new) }
+    ensures { IfOk result (Comes over.now.frame.accums.slots candidate.now (comes gregorian over.now block.now ends.now edge candidate.now) into.old into.new) }
 {
     let mut row = [no_alias(); 3];
-    let count = bind(&mut row, ends, edge, candidate);
+    let count = bind(&mut row, ends, edge, *candidate);
     outcome_under(alloc, block, over, &row[..count], room, into)
 }
 

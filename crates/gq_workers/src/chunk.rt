@@ -35,7 +35,7 @@ pub(crate) fn try_chunk(
     let mut evaluated = 0u32;
     for place in start..end {
         let candidate = work.candidates.near(place, &mut cursor);
-        match try_one(alloc, work, over, candidate, &mut evaluated, found)? {
+        match try_one(alloc, work, over, &candidate, &mut evaluated, found)? {
             Some(fault) => return Ok(Some((place, fault))),
             None => {}
         }

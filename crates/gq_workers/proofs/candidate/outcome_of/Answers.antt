@@ -12,5 +12,5 @@ pub slice_bounds-outcome_under-end : goal.slice_bounds-outcome_under-end
 slice_bounds-outcome_under-end c = let a = c.bind-count.ensures.len in let f = c.bind-count.ensures.few in let l = length-take c.bind-count.result c.bind-count.new.row in omega (arith, a, f, l)
 
 pub returns : goal.returns
-returns c = under_own gregorian c.args.over.now c.args.block.now c.args.ends.now c.args.edge c.args.candidate (map alias_of (take c.bind-count.result c.bind-count.new.row)) c.outcome_under.result c.args.into.now c.outcome_under.new.into
+returns c = under_own gregorian c.args.over.now c.args.block.now c.args.ends.now c.args.edge c.args.candidate.now (map alias_of (take c.bind-count.result c.bind-count.new.row)) c.outcome_under.result c.args.into.now c.outcome_under.new.into
     c.bind-count.ensures.bound c.outcome_under.ensures
