@@ -1,9 +1,11 @@
 /* Lets calls of the C library fail, for tests/faults: it is loaded before the program by LD_PRELOAD.
  *
  * GSQL_FAULT  what fails, as "KIND FROM TO VALUE": the calls of a kind with these numbers, counted from 1. VALUE is the error that they give, but for
- *             `cap`, which gives reads and writes at most so many bytes, and `raise`, which sends the process that signal at a read or a write.
+ *             `cap`, which gives reads and writes at most so many bytes, and `raise`, which sends the process that signal at a read or a write, as
+ *             `strike` does at a growth of memory.
  *             "change FROM TO VALUE": before the read of that number the file GSQL_FILE is cut to VALUE bytes, or, where VALUE is -1, grows by a line.
- * GSQL_COUNTS a file of 64 bytes, in which the calls of each kind are counted: malloc and realloc, read, write of standard output, open, pthread_create.
+ * GSQL_COUNTS a file of 64 bytes, in which the calls of each kind are counted: malloc and realloc, read, write of standard output, open, pthread_create, close,
+ *             and pthread_attr_init with pthread_attr_setguardsize.
  */
 #define _GNU_SOURCE
 #include <dlfcn.h>
@@ -23,18 +25,22 @@
 extern void *__libc_malloc(size_t);
 extern void *__libc_realloc(void *, size_t);
 
-enum { MEMORY, READ, WRITE, OPEN, THREAD, KINDS };
-static const char *const names[] = {"memory", "read", "write", "open", "thread"};
+enum { MEMORY, READ, WRITE, OPEN, THREAD, CLOSE, STACK, KINDS };
+static const char *const names[] = {"memory", "read", "write", "open", "thread", "close", "stack"};
 static _Atomic long own[KINDS];
 static _Atomic long *counts = own;
 static char kind[16];
 static long from, to, value;
 static const char *file;
 static int (*start)(pthread_t *, const pthread_attr_t *, void *(*)(void *), void *);
+static int (*made)(pthread_attr_t *);
+static int (*guarded)(pthread_attr_t *, size_t);
 
 __attribute__((constructor)) static void begin(void) {
     const char *told = getenv("GSQL_FAULT"), *path = getenv("GSQL_COUNTS");
     start = (int (*)(pthread_t *, const pthread_attr_t *, void *(*)(void *), void *))dlsym(RTLD_NEXT, "pthread_create");
+    made = (int (*)(pthread_attr_t *))dlsym(RTLD_NEXT, "pthread_attr_init");
+    guarded = (int (*)(pthread_attr_t *, size_t))dlsym(RTLD_NEXT, "pthread_attr_setguardsize");
     file = getenv("GSQL_FILE");
     if (path) {
         int at = (int)syscall(SYS_openat, AT_FDCWD, path, O_RDWR, 0);
@@ -64,12 +70,18 @@ static void raise_at(int of) {
     }
 }
 
+static void strike(void) {
+    if (!strcmp(kind, "strike") && counts[MEMORY] == from) kill(getpid(), (int)value);
+}
+
 void *malloc(size_t size) {
+    strike();
     if (fails(MEMORY)) return errno = ENOMEM, NULL;
     return __libc_malloc(size);
 }
 
 void *realloc(void *old, size_t size) {
+    strike();
     if (fails(MEMORY)) return errno = ENOMEM, NULL;
     return __libc_realloc(old, size);
 }
@@ -101,4 +113,19 @@ int open(const char *path, int flags, ...) {
 int pthread_create(pthread_t *thread, const pthread_attr_t *how, void *(*run)(void *), void *with) {
     if (fails(THREAD)) return (int)value;
     return start(thread, how, run, with);
+}
+
+int close(int at) {
+    int bad = fails(CLOSE), ended = (int)syscall(SYS_close, at);
+    return bad ? (errno = (int)value, -1) : ended;
+}
+
+int pthread_attr_init(pthread_attr_t *how) {
+    if (fails(STACK)) return (int)value;
+    return made(how);
+}
+
+int pthread_attr_setguardsize(pthread_attr_t *how, size_t size) {
+    if (fails(STACK)) return (int)value;
+    return guarded(how, size);
 }

@@ -13,8 +13,11 @@ from compare import ran, shapes_of, words_of, write
 from making import made
 
 READ_FAULT, WRITE_FAULT, NO_MEMORY = 3, 4, 5
-KINDS = ("memory", "read", "write", "open", "thread")
+KINDS = ("memory", "read", "write", "open", "thread", "close", "stack")
 MANY = 1 << 40
+# Signals that end the program, which handles none, and signals that don't.
+ENDING = (signal.SIGTERM, signal.SIGUSR1, signal.SIGINT, signal.SIGHUP)
+HARMLESS = (signal.SIGPIPE, signal.SIGCHLD, signal.SIGWINCH, signal.SIGCONT)
 
 SCRIPTS = {
     "all kinds of accumulators": b"""CREATE VERTEX person (PRIMARY_ID id STRING, age INT, born DATETIME) WITH PRIMARY_ID_AS_ATTRIBUTE="true"
@@ -76,7 +79,7 @@ class Case:
             it.write(bytes(64))
         self.printed, self.status = self.run()
         with open(self.counted, "rb") as it:
-            self.counts = dict(zip(KINDS, struct.unpack("5q", it.read(40))))
+            self.counts = dict(zip(KINDS, struct.unpack("7q", it.read(56))))
 
     def run(self, fault="", file=""):
         return ran(self.program, self.words, self.folder, {"LD_PRELOAD": self.shim, "GSQL_COUNTS": self.counted, "GSQL_FAULT": fault or "none 0 0 0", "GSQL_FILE": file})
@@ -124,25 +127,35 @@ def faults(case, step):
     for n in range(1, case.counts["memory"] + 1, step * 7):
         yield f"memory is refused from call {n} on", f"memory {n} {MANY} 0", lambda got: case.is_end(got, NO_MEMORY) or case.is_all(got)
     for n in range(1, case.counts["read"] + 1):
-        for bad in (errno.EIO, errno.EINTR, errno.EISDIR):
+        for bad in (errno.EIO, errno.EINTR, errno.EISDIR, errno.EAGAIN):
             yield f"read {n} fails with {errno.errorcode[bad]}", f"read {n} {n} {bad}", lambda got: case.is_end(got, READ_FAULT, True)
     for n in range(1, case.counts["write"] + 1):
-        for bad in (errno.ENOSPC, errno.EPIPE, errno.EINTR, errno.EIO):
+        for bad in (errno.ENOSPC, errno.EPIPE, errno.EINTR, errno.EIO, errno.EAGAIN, errno.EDQUOT):
             yield f"write {n} fails with {errno.errorcode[bad]}", f"write {n} {n} {bad}", lambda got: case.is_end(got, WRITE_FAULT)
     for n in range(1, case.counts["open"] + 1):
         for bad, status in ((errno.EACCES, READ_FAULT), (errno.EMFILE, READ_FAULT), (errno.ENOMEM, NO_MEMORY)):
             yield f"open {n} fails with {errno.errorcode[bad]}", f"open {n} {n} {bad}", lambda got, status=status: case.is_end(got, status, True)
     for n in range(1, case.counts["thread"] + 1):
         yield f"thread {n} isn't started", f"thread {n} {n} {errno.EAGAIN}", lambda got: case.is_all(got) or case.is_end(got, NO_MEMORY)
+    for n in range(1, case.counts["stack"] + 1):
+        yield f"thread stack {n} isn't made", f"stack {n} {n} {errno.ENOMEM}", lambda got: case.is_all(got) or case.is_end(got, NO_MEMORY)
+    for n in range(1, case.counts["close"] + 1):
+        for bad in (errno.EIO, errno.EINTR):
+            yield f"close {n} fails with {errno.errorcode[bad]}", f"close {n} {n} {bad}", case.is_all
     if case.counts["thread"]:
         yield "thread starts are all refused", f"thread 1 {MANY} {errno.EAGAIN}", lambda got: case.is_all(got) or case.is_end(got, NO_MEMORY)
     for most in (1, 3, 64):
         yield f"short calls, each of {most} bytes at most", f"cap 1 1 {most}", case.is_all
     for n in range(1, case.counts["read"] + case.counts["write"] + 1, 3):
-        for sent in (signal.SIGTERM, signal.SIGUSR1):
+        for sent in ENDING:
             yield f"signal {sent.name} comes at call {n}", f"raise {n} {n} {int(sent)}", lambda got, sent=sent: case.is_end(got, -sent)
-        for sent in (signal.SIGPIPE, signal.SIGCHLD, signal.SIGWINCH):
+        for sent in HARMLESS:
             yield f"signal {sent.name} comes at call {n}", f"raise {n} {n} {int(sent)}", case.is_all
+    for at, n in enumerate(range(1, case.counts["memory"] + 1, step * 7)):
+        sent = (ENDING + HARMLESS)[at % len(ENDING + HARMLESS)]
+        # (with several threads a run may have fewer growths than the one in which they were counted)
+        is_right = case.is_all if sent in HARMLESS else lambda got, sent=sent: case.is_end(got, -sent) or case.counts["thread"] and case.is_all(got)
+        yield f"signal {sent.name} comes at growth {n}", f"strike {n} {n} {int(sent)}", is_right
 
 
 PIECE = 65_536
@@ -171,3 +184,15 @@ def changes(room, program, shim):
             data = rows + b"late,1\n" if cut < 0 else rows[:max(cut, been)]
             what = "grows" if cut < 0 else f"is cut to {cut} bytes"
             yield f"the file {what} before its read {at - 2}", over(rows, f"change {at} {at} {cut}"), over(data, "")
+    script = b"BEGIN\n" * 30000 + b"INTERPRET QUERY () { PRINT 7; }\n"
+
+    def as_script(data, fault):
+        write({"seed": 0, "script": [], "args": None, "bytes": data, "files": {}}, folder)
+        case = Case("changing", folder, program, ["script.gsql"], shim)
+        return case.run(fault, os.path.join(folder, "script.gsql")) if fault else (case.printed, case.status)
+
+    for cut in (0, PIECE, PIECE + 1, len(script) - 3, -1):
+        for at in range(1, 5):
+            data = script + b"late,1\n" if cut < 0 else script[:max(cut, min((at - 1) * PIECE, len(script)))]
+            what = "grows" if cut < 0 else f"is cut to {cut} bytes"
+            yield f"the script {what} before its read {at}", as_script(script, f"change {at} {at} {cut}"), as_script(data, "")

@@ -179,17 +179,79 @@ def many_columns(_):
     return rows_of((header + "\n" + ",".join(["1"] * count) + "\n").encode(), f'$"c{count - 1}", $"c0", $"c{count // 2}"', 'HEADER="true"')
 
 
+MOST, PIECE = 1 << 30, 1 << 20
+# The status of a run that is refused memory.
+OUT_OF_MEMORY = 5
+
+
+def pieces(size, piece, end=b""):
+    """Pieces of so many bytes in all, the last of which ends so: they share the memory of one."""
+    piece = piece * (PIECE // len(piece))
+    rest = size - len(end)
+    return [piece] * (rest // len(piece)) + [piece[:rest % len(piece)] + end]
+
+
+def of_size(size, values="$1, $2, $3"):
+    """A LOAD of a file of zeros."""
+    return dict(script(LOAD % (values, 'HEADER="false"')), **{"v.csv": size})
+
+
+def script_too_large(_):
+    """A script of one byte more than a file may have."""
+    return {"script": MOST + 1}
+
+
+# The largest that a file may be, and inputs with as much of one thing as an ordinary run would never have.
 LARGE = (
     ("1,000,000 columns", "short rows", many_columns, b'"loaded":1'),
     ("a row of 256 MB", "short rows", lambda _: rows_of((b"a" * (1 << 28) + b",b,1\n")), b'"loaded":1'),
+    ("a row of 1 GB", "short rows", lambda _: rows_of(pieces(MOST, b"a", b",b,1\n")), b'"loaded":1'),
+    ("a field of 1 GB that isn't asked for", "short rows", lambda _: rows_of(pieces(MOST, b"a", b",b,1\n"), "$1, $1, $2"), b'"loaded":1'),
+    ("a row of 200,000,000 fields", "short rows", lambda _: rows_of(pieces(200_000_000, b","), "$1, $2, $3"), b'"lines":1'),
+    ("a row of 1,073,741,824 fields", "short rows", lambda _: rows_of(pieces(MOST, b","), "$1, $2, $3"), OUT_OF_MEMORY),
+    ("1 GB of line feeds", "short rows", lambda _: rows_of(pieces(MOST, b"\n")), b'"lines":0'),
+    ("1 GB in an open quote", "short rows", lambda _: rows_of([b'"', *pieces(MOST - 1, b"a,\n")], options='QUOTE="double"'), b'"lines":1'),
+    ("a file of 1 GB", "short rows", lambda _: of_size(MOST), b'"short":1'),
+    ("a file of 1 GB and one byte more", "short rows", lambda _: of_size(MOST + 1), b"file too large"),
+    ("a file without end", "short rows", lambda _: script(LOAD.replace("v.csv", "/dev/zero") % ("$0, $1, $2", 'HEADER="false"')), b"file too large", (), MOST),
     ("10,000,000 statements", "small queries", lambda _: script(fill(60_000_000, "BEGIN\n")), 0),
-    ("a file of 1 GB", "short rows", lambda _: dict(script(LOAD % ("$1, $2, $3", 'HEADER="false"')), **{"v.csv": 1 << 30}), b'"short":1'),
-    ("a file of 1 GB and one byte more", "short rows", lambda _: dict(script(LOAD % ("$1, $2, $3", 'HEADER="false"')), **{"v.csv": (1 << 30) + 1}), b"file too large"),
+    ("1,000,000 queries", "small queries", lambda _: script(fill(38_000_000, "INTERPRET QUERY () { PRINT %d AS n; }\n")), 0),
+    ("a comment of 1 GB", "small queries", lambda _: {"script": pieces(MOST, b"#")}, 0),
+    ("a text of 100 MB", "small queries", lambda _: {"script": [b'INTERPRET QUERY () { PRINT "', *pieces(100_000_000, b"a"), b'" AS t; }\n']}, 0),
+    ("a script of 1 GB and one byte more", "small queries", script_too_large, b"file too large"),
+    ("arguments of 1 GB and one byte more", "members", lambda _: dict(ARGUMENTS, **{"a.json": MOST + 1}), b"file too large", WITH_ARGS),
+    ("a member of 100 MB", "members", lambda _: dict(ARGUMENTS, **{"a.json": [b'{"q": {"n": 4, "m": "', *pieces(100_000_000, b"a"), b'"}}']}), 0, WITH_ARGS),
 )
 
 
 def deepest():
-    """The deepest scripts that the language allows: 64 brackets, IFs and loops in each other, and eight levels of kinds, over long chains."""
+    """The deepest scripts that the language allows, for each way in which its grammar nests, and chains as long as no person writes them. All end well."""
+    inner = "(1 + " * 61 + "1" + ")" * 61
+    yield "brackets of a column", over_graph(f"S = {{v.*}}; PRINT S[{inner} AS n];")
+    yield "brackets of HAVING, ORDER BY and LIMIT", over_graph(f"S = SELECT s FROM v:s HAVING {inner} > 1 ORDER BY {inner}, {inner} DESC LIMIT {inner}; PRINT S;")
+    yield "brackets of inputs", over_graph(f"SumAccum<INT> @n, @@n = {inner}; S = SELECT s FROM v:s ACCUM s.@n += {inner}, @@n += {inner} "
+                                           f"POST-ACCUM s.@n = s.@n + {inner}; @@n += {inner}; INT d = {inner}; d = {inner}; PRINT S, @@n, d;")
+    yield "brackets of loops", query(f"FOREACH i IN RANGE [{inner}, {inner}] DO PRINT i; END; WHILE {inner} > 1 LIMIT {inner} DO PRINT 1; END; PRINT 2;"
+                                     .replace("(1 + " * 61, "(0 + " * 61))
+    yield "methods", query("SetAccum<INT> @@s; MapAccum<INT, INT> @@m; PRINT " + "@@m.get(" * 63 + "1" + ")" * 63 + " AS n;")
+    yield "texts", query("PRINT " + "to_string(" * 62 + '"a" + "b"' + ")" * 62 + " AS t;")
+    yield "moments", query("PRINT " + "datetime_add(" * 60 + 'to_datetime("2024-01-31")' + ', 1, "MONTH")' * 60 + " AS d;")
+    yield "loops of WHILE", query("INT n; " + "WHILE n < 1 DO " * 63 + "n = 1;" + " END;" * 63 + " PRINT n;")
+    yield "ELSEs", query("IF FALSE THEN PRINT 1; ELSE PRINT 2; " * 63 + " END;" * 63)
+    yield "all kinds of bodies", query("".join(("IF TRUE THEN ", f"FOREACH i{at} IN RANGE [1, 1] DO ", "WHILE TRUE LIMIT 1 DO ")[at % 3] for at in range(63))
+                                       + "PRINT 1;" + " END;" * 63)
+    yield "IFs of POST-ACCUM", over_graph("SumAccum<INT> @n; S = SELECT s FROM v:s POST-ACCUM " + "IF TRUE THEN " * 63 + "s.@n += 1" + " END" * 63 + "; PRINT S;")
+    yield "ELSE IFs of ACCUM", over_graph("SumAccum<INT> @@n; S = SELECT s FROM v:s ACCUM IF FALSE THEN @@n += 1" + " ELSE IF FALSE THEN @@n += 1" * 900
+                                          + " ELSE @@n += 2 END; PRINT @@n;")
+    groups = "GroupByAccum<INT k, " * 7 + "AvgAccum a" + "".join(f"> g{at}" for at in range(7))
+    yield "groups", query(f"{groups[:-3]} @@g; @@g += " + "(1 -> " * 7 + "5" + ")" * 7 + "; PRINT @@g, @@g" + "".join(f".get(1).g{at}" for at in reversed(range(6))) + ".get(1).a AS n;")
+    yield "chains of truths", query("PRINT TRUE" + " AND TRUE" * 100_000 + " AS a, FALSE" + " OR FALSE" * 100_000 + " AS o, 1" + " * 1" * 100_000 + " AS m;")
+    yield "chains of texts", query('PRINT "a"' + ' + ""' * 100_000 + " AS t;")
+    yield "chains of sets", over_graph("S = {v.*}; S = S" + " UNION S MINUS S" * 50_000 + "; PRINT S; S = {" + ", ".join(["v.*"] * 100_000) + "}; PRINT S;")
+    yield "many statements", query("INT n; " + "n = n + 1; " * 100_000 + "PRINT n;")
+    yield "many items", query("PRINT " + ", ".join(f"1 AS a{at}" for at in range(100_000)) + ";")
+    yield "many keys and types", over_graph("S = SELECT s FROM v:s -(" + "|".join(["e"] * 50_000) + ")-> v:t ORDER BY " + ", ".join(["1"] * 50_000) + "; PRINT S;")
+    yield "many variables", query("INT a" + "".join(f", b{at}" for at in range(50_000)) + "; PRINT a;")
     yield "brackets", query("PRINT " + "(" * 63 + "1" + ")" * 63 + " AS n;")
     yield "brackets with signs", query("PRINT " + "(- " * 63 + "1" + ")" * 63 + " AS n;")
     yield "brackets with NOT", query("PRINT " + "(NOT " * 63 + "TRUE" + ")" * 63 + " AS n;")
@@ -197,11 +259,13 @@ def deepest():
     yield "right sides", query("PRINT " + "1 + (2 * " * 63 + "1" + ")" * 63 + " AS n;")
     yield "truths", query("PRINT " + "TRUE AND (FALSE OR " * 63 + "TRUE" + ")" * 63 + " AS n;")
     yield "IFs", query("IF TRUE THEN " * 63 + "PRINT 1;" + " END;" * 63)
-    yield "loops", query("".join(f"FOREACH i{at} IN RANGE [1, 1] DO " for at in range(63)) + "PRINT i62;" + " END;" * 63)
+    # (the bracket of a RANGE is one level more)
+    yield "loops", query("SetAccum<INT> @@s; @@s += 7; " + "".join(f"FOREACH i{at} IN RANGE [1, 1] DO " for at in range(62)) + "FOREACH i62 IN @@s DO PRINT i62;"
+                         + " END;" * 63)
     yield "IFs of ACCUM", over_graph("SumAccum<INT> @@n; S = SELECT s FROM v:s ACCUM " + "IF TRUE THEN " * 63 + "@@n += 1" + " END" * 63 + "; PRINT @@n;")
     yield "brackets of WHERE", over_graph("S = SELECT s FROM v:s WHERE " + "(s == s AND " * 63 + "TRUE" + ")" * 63 + "; PRINT S;")
     deep = "MapAccum<INT, " * 7 + "SumAccum<INT>" + ">" * 7
     yield "kinds", query(f"{deep} @@m; @@m += " + "(1 -> " * 7 + "5" + ")" * 7 + "; PRINT @@m, @@m" + ".get(1)" * 7 + " AS n;")
     yield "chains", query("PRINT " + "- " * 100_000 + "1 AS n, " + "NOT " * 100_000 + "TRUE AS t, " + "1" + " + 1" * 100_000 + " AS s;")
     yield "ELSE IFs", query("IF FALSE THEN PRINT 1;" + " ELSE IF FALSE THEN PRINT 1;" * 30_000 + " END; PRINT 2;")
-    yield "JSON", dict(ARGUMENTS, **{"a.json": ('{"q": {"n": 4, "more": ' + "[" * 120 + "]" * 120 + "}}").encode()}), *WITH_ARGS
+    yield "JSON", dict(ARGUMENTS, **{"a.json": ('{"q": {"n": 4, "more": ' + "[" * 125 + "]" * 125 + "}}").encode()}), *WITH_ARGS

@@ -62,16 +62,17 @@ def write(case, folder):
         os.remove(os.path.join(folder, name))
     files = dict(case["files"], **{"script.gsql": case["bytes"] if "bytes" in case else script_text(case)[0].encode()})
     if case["args"] is not None:
-        files["args.json"] = args_text(case["args"])
+        files["args.json"] = args_text(case["args"], case["seed"])
     for name, data in files.items():
         if name != {"script": "script.gsql", "args": "args.json"}.get(case.get("lacks")):
             with open(os.path.join(folder, name), "wb") as it:
                 it.write(data)
 
 
-def args_text(args):
-    """The file of arguments: the bytes, or the JSON text of an object."""
-    return args if isinstance(args, bytes) else json.dumps(args, ensure_ascii=False).encode()
+def args_text(args, seed):
+    """The file of arguments: the bytes, or the JSON text of an object, in one of several spellings."""
+    how = ({}, {"indent": 1}, {"separators": (",", ":")}, {"separators": (" ,\t", "\r\n: ")})[seed % 4]
+    return args if isinstance(args, bytes) else json.dumps(args, ensure_ascii=seed % 3 == 0, **how).encode()
 
 
 class Late(Exception):

@@ -67,6 +67,7 @@ MISMATCHED = (
     ("", "O97 = SELECT o98 FROM {T}:o98 WHERE o98 > o98", "type mismatch"), ("", 'INT o99 = "1"', "type mismatch"),
     ("", "STRING o100 = 1", "type mismatch"), ("", "BOOL o101; o101 = 1", "type mismatch"), ("", 'FOREACH o102 IN RANGE ["a", 3] DO PRINT 1; END', "type mismatch"),
     ("", "WHILE TRUE LIMIT TRUE DO PRINT 1; END", "type mismatch"),
+    ("", 'INT o109 = to_datetime("2024-01-01")', "type mismatch"), ("SumAccum<INT> @@o110;", "@@o110 += epoch_to_datetime(7)", "type mismatch"),
     ("", "INT o103; O104 = {o103}", "type mismatch"), ("SumAccum<INT> @@o105;", "O106 = {@@o105}", "type mismatch"),
     ("SumAccum<INT> @@o107;", "PRINT @@o107.size() AS o108", "type mismatch"),
 )
@@ -146,7 +147,8 @@ def spelled(text, maker, types, edges, with_paths):
 def chosen(maker, types, edges, with_paths, count, rare=0.1):
     """Some parts: each its definitions, its statement and its refusal."""
     found, rng = [], maker.rng
-    for part in rng.sample(PARTS if maker.some(rare) else USUAL, count):
+    pool = COUNTED if maker.some(rare * 0.3) else OTHERS if maker.some(0.25) else PARTS if maker.some(rare) else USUAL
+    for part in rng.sample(pool, count):
         texts = [spelled(it, maker, types, edges, with_paths) for it in part[:2]]
         if None not in texts:
             found.append((*texts, part[2]))

@@ -7,13 +7,28 @@ from reading import mutated, script_at_random
 from script import Reference, script_text
 from wrongs import spoil
 
-ATTRS = {"age": "INT", "size": "UINT", "ok": "BOOL", "label": "STRING", "born": "DATETIME", "rank": "INT"}
-EDGE_ATTRS = {"w": "INT", "u": "UINT", "note": "STRING", "stamp": "DATETIME", "yes": "BOOL"}
+ATTRS = {"age": "INT", "size": "UINT", "ok": "BOOL", "label": "STRING", "born": "DATETIME", "rank": "INT", "type": "STRING"}
+EDGE_ATTRS = {"w": "INT", "u": "UINT", "note": "STRING", "stamp": "DATETIME", "yes": "BOOL", "type": "INT"}
+# Names that are words of the language too, or differ in case alone, where a case hasn't the usual ones.
+NAMES = (["person", "city", "item"], ["knows", "owns", "likes"])
+OTHER_NAMES = ((["person", "Person", "PERSON"], ["knows", "Knows", "kNows"]), (["vertex_", "query", "edge"], ["run", "loading", "to"]),
+               (["v", "x1", "_v"], ["graph", "values", "default"]))
 DISCS = {"day": "INT", "no": "UINT", "tag": "STRING", "flag": "BOOL"}
 IDS = {"STRING": ["a", "b", "c", "d", "x y", "é", "A", '"q"'],
        "INT": ["-3", "0", "1", "2", "7", "12"], "UINT": ["0", "1", "2", "7", "12", "18446744073709551615"]}
 TEXTS = ["", "x", "yy", "Zed", " a ", "é€", 'q"r', "b\\c", "10"]
 MOMENTS = ["2024-03-01", "2024-02-29 08:30:00", "1969-12-31T23:59:59", "0000-01-01", "9999/12/31 23:59:59", "2000-01-31T10:00:00.5Z", "1999/07/15"]
+
+
+# Fields that aren't values of their type, or are at its edge.
+ODD_FIELDS = {
+    "INT": ["-0", "+7", "--7", "+-7", "-", "+", "0x10", "1_0", "７", "-9223372036854775808", "9223372036854775808", "7 7", "\t7 "],
+    "UINT": ["-0", "+0", "18446744073709551615", "18446744073709551616", "000000000000000000000000000001", "+", "7."],
+    "BOOL": ["tRuE", "yes", "t", "01", "10", " 0 ", "+1", "FALSE "],
+    "DATETIME": ["2024-03-01T08:30:00.123456789Z", "2024-03-01T08:30:00.1234567890", "2024-03-01 08:30:00Z", "2024-03-01T08:30:00.", "2024/03-01", "2024-3-1",
+                 "1900-02-29", "0000-02-29", "10000-01-01", "2024-03-01T24:00:00", "2024-03-01 23:59:60", "2024-13-01", "2024-00-10", "2024-04-31", "253402300799",
+                 "253402300800", "-62167219200", "-62167219201", "-", "+5", "0000000000007", "000000000007", " 2024-03-01\t", "2024-03-01  08:30:00", "2024-03-01T08:30"],
+    "STRING": [" ", "\t", "\u0000", "\u001f", "\u007f", "\U0001f600", "\u2028", "a" * 70, "0", "null"]}
 
 
 class Maker:
@@ -23,21 +38,29 @@ class Maker:
         self.rng = random.Random(seed)
         self.case = {"seed": seed, "script": [], "files": {}, "args": None, "turns": None}
         self.vertex_types, self.edge_types, self.graph = [], [], "g"
-        self.big, self.part = self.some(0.1), None
+        self.big, self.part, self.used = self.some(0.1), None, "g"
+        self.is_spoiled = self.some(0.3)
 
     def some(self, share):
         return self.rng.random() < share
 
     def whole(self):
         rng = self.rng
-        for name in ["person", "city", "item"][:rng.choice((1, 1, 2, 2, 3))]:
+        vertices, edges = rng.choice(OTHER_NAMES) if self.some(0.1) else NAMES
+        for name in vertices[:rng.choice((1, 1, 2, 2, 3))]:
             self.vertex_type(name)
-        for name in ["knows", "owns", "likes"][:rng.choice((0, 1, 2, 2, 3))]:
+        for name in edges[:rng.choice((0, 1, 2, 2, 3))]:
             self.edge_type(name)
+        if self.some(0.02):
+            for it in rng.choice(NO_GRAPH):
+                self.add(dict(it))
         names = [it["name"] for it in self.vertex_types + self.edge_types]
         self.add({"k": "graph", "name": "g", "types": ["*"] if self.some(0.5) else names})
         if self.some(0.2):
             self.second_graph()
+        if self.some(0.02):
+            self.add({"k": "graph", "name": "none", "types": []})
+            self.add({"k": "use", "name": "g"})
         self.loads()
         for _ in range(rng.choice((0, 0, 1, 2, 4))):
             self.insert()
@@ -45,10 +68,12 @@ class Maker:
         self.case["turns"] = rng.choice((5, 40, 300)) if self.some(0.15) else None
         for at in range(rng.choice((1, 1, 2, 3))):
             self.query(at)
+            if self.some(0.05):
+                self.add({"k": "word", "text": rng.choice(("BEGIN", "END", "begin", "End"))})
         for it in self.case["script"]:
             it["gap"] = rng.choice(("", "", "", "\n", "  ", "# a note\n", "// a \"note\n", "/* two\nlines */ ", "; "))
             it["spelled"] = rng.randint(1, 1 << 30) if self.some(0.3) else None
-        if self.some(0.3):
+        if self.is_spoiled:
             spoil(self)
         if self.some(0.04):
             self.case["bytes"] = mutated(script_text(self.case)[0].encode(), self.rng)
@@ -89,7 +114,8 @@ class Maker:
 
     def vertex_type(self, name):
         id_type = self.rng.choice(("STRING", "STRING", "INT", "UINT"))
-        type_ = {"k": "vertex", "name": name, "id": "id", "id_type": id_type, "attrs": self.attrs(ATTRS, 4), "as_attribute": self.some(0.3)}
+        type_ = {"k": "vertex", "name": name, "id": "id", "id_type": id_type, "attrs": self.attrs(ATTRS, 4), "as_attribute": self.some(0.3),
+                 "stats": self.rng.choice((["none"], ["outdegree_by_edgetype"], ["a", "b"])) if self.some(0.1) else [], "stats_at": self.rng.randint(0, 1)}
         self.vertex_types.append(self.add(type_))
 
     def edge_type(self, name):
@@ -116,6 +142,8 @@ class Maker:
         rng = self.rng
         if self.some(0.04):
             return rng.choice(["", " ", "zz", "1.5", "99999999999999999999", "-1", "2023-02-29", "TRUE ", "1e3"])
+        if self.some(0.04):
+            return rng.choice(ODD_FIELDS[type_])
         if role == "id":
             text = rng.choice(IDS[type_]) if not self.big else str(rng.randint(0, 60))
             return "00" + text if type_ == "UINT" and self.some(0.1) else "+" + text if type_ == "UINT" and self.some(0.1) else text
@@ -138,6 +166,9 @@ class Maker:
             using = [[name, path] for name, path, _ in job.pop("using", [])]
             for _ in range(runs_of(self)):
                 self.add({"k": "runjob", "name": "fill", "using": using})
+        if self.some(0.02):
+            self.add({"k": "job", "name": "empty", "graph": "g", "files": [["f", None]] * self.some(0.5), "loads": []})
+            self.add({"k": "runjob", "name": "empty", "using": []})
 
     def load(self, type_, job):
         rng = self.rng
@@ -155,6 +186,9 @@ class Maker:
             options.append(["QUOTE", style])
         if self.some(0.1):
             options.append(["EOL", "\n"])
+        if options and self.some(0.1):
+            name = rng.choice(options)[0]
+            options.insert(0, [name, rng.choice(OVERRIDDEN[name])])
         columns = list(range(len(wanted)))
         rng.shuffle(columns)
         cols = ["_" if role == "attr" and self.some(0.1) else (f"c{at}" if header and self.some(0.6) else at)
@@ -165,8 +199,10 @@ class Maker:
         rows = [self.row(wanted, columns, separator, quote) for _ in range(90 if self.big else rng.choice((2, 4, 6, 9, 14)))]
         if header:
             rows.insert(0, separator.join(f"c{at}" for at in range(len(wanted))).encode())
-        end = rng.choice((b"\n", b"\n", b"\r\n", b"\r"))
-        data = (b"\xef\xbb\xbf" if self.some(0.05) else b"") + end.join(rows) + (end if self.some(0.7) else b"")
+        ends = (b"\n", b"\n", b"\r\n", b"\r")
+        end, mixed = rng.choice(ends), self.some(0.05)
+        data = b"".join(row + (rng.choice(ends) if mixed else end) for row in rows[:-1]) + rows[-1] + (end if self.some(0.7) else b"")
+        data = (b"\xef\xbb\xbf" if self.some(0.05) else b"") + data
         self.case["files"][path] = data
         if self.some(0.2):
             name = "f_" + type_["name"]
@@ -189,12 +225,16 @@ class Maker:
         for at, (type_, role) in zip(columns, wanted):
             text = self.field(type_, role)
             if quote and self.some(0.4):
-                text = quote + text.replace(quote, quote * 2) + quote + ("t" if self.some(0.03) else "")
+                text += self.rng.choice((separator, "\n", "\r\n", "\r", quote, separator + "\n" + quote)) if self.some(0.15) else ""
+                closing = quote + ("t" if self.some(0.03) else "") if not self.some(0.01) else ""
+                text = quote + text.replace(quote, quote * 2) + closing
             fields[at] = text
         if self.some(0.04):
             fields.pop()
         if self.some(0.04):
             fields.append("more")
+        if self.some(0.01):
+            return blank_row(self.rng)
         data = separator.join(fields).encode()
         return data + b"\xff" if self.some(0.01) else data
 
@@ -222,8 +262,13 @@ class Maker:
         whole = self.vertex_types, self.edge_types
         if self.part and self.some(0.4):
             (self.vertex_types, self.edge_types), self.graph = self.part, "h"
+            if not self.is_spoiled and self.some(0.4):
+                self.used = "h"
+                self.add({"k": "use", "name": "h"})
         self.query_of_graph(at)
-        (self.vertex_types, self.edge_types), self.graph = whole, "g"
+        if self.used == "h":
+            self.add({"k": "use", "name": "g"})
+        (self.vertex_types, self.edge_types), self.graph, self.used = whole, "g", "g"
 
     def query_of_graph(self, at):
         maker = QueryMaker(self)
@@ -232,7 +277,9 @@ class Maker:
         name = f"q{at}"
         query = self.add(maker.query("query", name))
         if self.some(0.95):
-            self.add({"k": "install", "names": [name] if self.some(0.7) else []})
+            created = [it["name"] for it in self.case["script"] if it["k"] == "query"]
+            names = [name] if self.some(0.7) else [] if self.some(0.7) else self.rng.sample(created, len(created))
+            self.add({"k": "install", "names": names, "all": self.rng.choice(("ALL", "*"))})
         for _ in range(self.rng.choice((1, 1, 2))):
             if self.some(0.3):
                 self.case["args"] = self.case["args"] or {}
@@ -248,6 +295,9 @@ class Maker:
             type_ = self.type_named(base[7:-1]) if base != "VERTEX" else self.rng.choice(self.vertex_types)
             there = [id_ for name, id_ in self.known if name == type_["name"]]
             text = self.rng.choice(there) if there and self.some(0.95) else self.rng.choice(IDS[type_["id_type"]])
+            if type_["id_type"] != "STRING" and self.some(0.02):
+                # ids of numbers count without leading zeros and signs
+                return ("V2", "0" + text, type_["name"]) if base == "VERTEX" else ("S", self.rng.choice("0+ ") + text)
             if base == "VERTEX":
                 return ("V2", text, type_["name"])
             return ("I", int(text)) if type_["id_type"] != "STRING" and self.some(0.5) else ("S", text)
@@ -260,11 +310,24 @@ class Maker:
         return str(it[1]) if param["type"].startswith("VERTEX") and it[0] != "B" else it[1]
 
 
+def blank_row(rng):
+    """A line that isn't empty, and has nothing but blanks."""
+    return rng.choice((b" ", b"\t", b"  "))
+
+
 def runs_of(maker):
     """How often the job runs."""
     return 2 if maker.some(0.1) else 1
 
 
+# An option that a later one of the same name overrides.
+OVERRIDDEN = {"HEADER": ("false", "yes", "true"), "SEPARATOR": ("x", ",", "ab", ""), "QUOTE": ("single", "double", "none"), "EOL": ("", "x")}
+# Queries before any graph, which see no types.
+NO_GRAPH = ([{"k": "raw", "text": "INTERPRET QUERY () { S = {ANY}; PRINT S.size() AS n; }", "prints": ['{"n":0}']}],
+            [{"k": "raw", "text": "INTERPRET QUERY () { S = {person.*}; PRINT S; }", "refused": "unknown name person"}],
+            [{"k": "raw", "text": "CREATE QUERY early () { S = {ANY, ANY.*}; PRINT S; }"}, {"k": "raw", "text": "INSTALL QUERY early"},
+             {"k": "raw", "text": "RUN QUERY early", "prints": ['{"S":[]}']}],
+            [{"k": "raw", "text": "USE GRAPH g", "refused": "unknown name g"}])
 BAD_WORDS = ("", "script.gsql script.gsql", "--nosuch script.gsql", "--workers 0 script.gsql", "--workers 65 script.gsql", "--chunk 0 script.gsql",
              "--chunk 1048577 script.gsql", "--stripes 0 script.gsql", "--stripes 257 script.gsql", "--turns 0 script.gsql", "--turns 1000000001 script.gsql",
              "--sample 0", "--sample 1000001", "--sample 3 script.gsql", "--args args.json", "--args args.json --sample 3", "--workers script.gsql",

@@ -243,6 +243,9 @@ class Body(Run):
 
     def do_seeds(self, it):
         sets = [self.seeds(part[1]) if part[0] == "seeds" else self.sets[part[1]] for part in it["parts"]]
+        if not it["signs"]:
+            self.sets[it["name"]] = list(sets[0])
+            return
         found = set(sets[0])
         for sign, other in zip(it["signs"], sets[1:]):
             found = found | set(other) if sign == "UNION" else found & set(other) if sign == "INTERSECT" else found - set(other)

@@ -9,6 +9,15 @@ PATHS = (" SYNTAX v2", " SYNTAX V2", ' API ("v2") SYNTAX v2', ' SYNTAX v2 API ("
 READS = {"Sum": None, "Min": None, "Max": None, "BitOr": "INT", "BitAnd": "INT", "Or": "BOOL", "And": "BOOL", "Avg": "AVG"}
 
 
+def mentions(node, alias):
+    """Whether an alias is named anywhere in a tree."""
+    if isinstance(node, dict):
+        return node.get("alias") == alias or any(mentions(it, alias) for it in node.values())
+    if isinstance(node, (list, tuple)):
+        return len(node) > 1 and node[0] in ("name", "att", "prev") and node[1] == alias or any(mentions(it, alias) for it in node)
+    return False
+
+
 class View:
     """What an expression may name: values by their type, collections by their kind, vertices and sets."""
 
@@ -43,7 +52,8 @@ class Expressions:
         if type_.startswith("VERTEX"):
             return self.rng.choice(view.of_type(type_))[1]
         if type_ in self.tuples:
-            return ("make", type_, [self.expr(it[0], view, depth - 1) for it in self.tuples[type_]])
+            there = view.of_type(type_)
+            return self.rng.choice(there)[1] if there and self.some(0.5) else ("make", type_, [self.expr(it[0], view, depth - 1) for it in self.tuples[type_]])
         return {"BOOL": self.truth, "STRING": self.text, "DATETIME": self.moment}[type_](view, depth)
 
     def can(self, type_, view):
@@ -53,7 +63,7 @@ class Expressions:
         return not type_.startswith("VERTEX") or bool(view.of_type(type_))
 
     def number(self):
-        return ("num", self.rng.choice(WIDE) if self.some(0.02) else self.rng.choice(NUMBERS))
+        return ("num", self.rng.choice(WIDE) if self.some(0.03) else self.rng.choice(NUMBERS))
 
     def unsigned(self, view, depth):
         """A number that is mostly not below 0."""
@@ -99,6 +109,7 @@ class Expressions:
         found += [("method", ("name", it), "size", []) for it in view.sets] * (not view.in_block)
         for kind, e in view.collections:
             found += [it for type_, it in self.gets(kind, e, view, depth) if type_ in NUM]
+        found += [("dot", self.expr(name, view, 0), field) for name, fields in self.tuples.items() if self.can(name, view) for type_, field in fields if type_ in NUM]
         return rng.choice(found) if found else None
 
     def gets(self, kind, e, view, depth):
@@ -112,11 +123,17 @@ class Expressions:
 
     def inner(self, view, depth):
         """The collections that maps and groups have, by `get`."""
-        found = []
-        for kind, e in view.collections:
-            if kind[0] == "Map" and kind[2][0] not in READS and self.can(kind[1], view):
-                found.append((kind[2], ("method", e, "get", [self.expr(kind[1], view, depth - 1)])))
-        return found
+        return [it for kind, e in view.collections for it in self.within(kind, e, view, min(depth, 1), 3)]
+
+    def within(self, kind, e, view, depth, levels):
+        """Those of one map or group, and those that these have."""
+        keys = [kind[1]] if kind[0] == "Map" else [it[0] for it in kind[1]] if kind[0] == "Group" else []
+        if not levels or not keys or not all(self.can(it, view) for it in keys):
+            return []
+        it = ("method", e, "get", [self.expr(type_, view, depth - 1) for type_ in keys])
+        parts = [(kind[2], it)] if kind[0] == "Map" else [(part, ("dot", it, name)) for part, name in kind[2]]
+        found = [(part, it) for part, it in parts if part[0] not in READS]
+        return found + [more for part, it in found for more in self.within(part, it, view, depth, levels - 1)]
 
     def truth(self, view, depth):
         rng, leaves = self.rng, view.of_type("BOOL")
@@ -194,13 +211,14 @@ class QueryMaker(Expressions):
             if it["type"].startswith("VERTEX<"):
                 view.values += self.attributes(it["name"], [it["type"][7:-1]])
         tuples = [self.tuple_type() for _ in range(rng.choice((0, 0, 1)))]
+        self.levels = 7 if self.some(0.05) else 2
         accs = [self.group_of_accs(view) for _ in range(rng.choice((0, 1, 2, 3, 5)))]
         for kind, name_ in self.accs:
             if name_.startswith("@@"):
                 self.see(view, kind, ("global", name_))
         body = self.block(view, rng.choice((2, 4, 6, 9)), 2)
-        body.append(self.last_print(view))
-        graph = self.maker.graph if self.some(0.7) or self.maker.graph == "h" else None
+        body = body + [self.last_print(view)] if not self.some(0.01) else []
+        graph = self.maker.graph if self.some(0.7) or self.maker.graph != self.maker.used else None
         return {"k": k, "name": name, "params": params, "graph": graph, "tuples": tuples, "accs": accs, "body": body,
                 "modes": rng.choice(PATHS if self.paths else HOPS), "replace": self.some(0.2)}
 
@@ -232,8 +250,8 @@ class QueryMaker(Expressions):
         """A type of vertices."""
         return f"VERTEX<{self.rng.choice(self.all_types())}>" if self.some(0.3) else "VERTEX"
 
-    def kind(self, depth=2, within=False):
-        rng = self.rng
+    def kind(self, depth=None, within=False):
+        rng, depth = self.rng, self.levels if depth is None else depth
         name = rng.choice(("Sum", "Sum", "Min", "Max", "Avg", "Or", "And", "BitOr", "BitAnd", "Set", "Bag", "List", "Map", "Map", "Group", "Heap"))
         if name == "List" and within or name == "Heap" and not self.tuples or depth == 0 and name in ("Map", "Group"):
             return self.kind(depth, within)
@@ -252,7 +270,7 @@ class QueryMaker(Expressions):
             if not fields:
                 return self.kind(depth, within)
             return [name, of, rng.randint(1, 4), [[it, self.some(0.5)] for it in rng.sample(fields, rng.randint(1, len(fields)))]]
-        return [name]
+        return [name] + [{"Or": "BOOL", "And": "BOOL"}.get(name, "INT")] * (name != "Avg" and self.some(0.3))
 
     def group_of_accs(self, view):
         kind, names = self.kind(), []
@@ -353,7 +371,7 @@ class QueryMaker(Expressions):
         vertices = [(type_, e[1]) for type_, e in view.of_type("VERTEX") if e[0] == "name"]
         founds = [(kind[1], e[1]) for kind, e in view.collections if kind[0] == "Set" and kind[1].startswith("VERTEX") and e[0] == "global"]
         if pick == 0:
-            return ("any",), self.all_types()
+            return rng.choice((("any",), ("any", ".*"))), self.all_types()
         if pick == 1 and vertices:
             type_, name = rng.choice(vertices)
             return ("name", name), self.types_of(type_)
@@ -388,7 +406,7 @@ class QueryMaker(Expressions):
         if self.some(0.03):
             return self.assigned(view, {"k": "seeds", "parts": [("seeds", [])], "signs": []}, sorted(self.all_types()))
         parts = [self.part(view) for _ in range(self.rng.choice((1, 1, 2, 3)))]
-        if len(parts) == 1 and parts[0][0][0] == "set":
+        if len(parts) == 1 and parts[0][0][0] == "set" and self.some(0.7):
             parts.append(self.part(view))
         types, signs = set(parts[0][1]), []
         for _, held in parts[1:]:
@@ -416,17 +434,18 @@ class QueryMaker(Expressions):
         pick = rng.randint(0, 3)
         if pick == 0:
             branches = [(self.truth(view, 2), self.block(View(view), 2, depth - 1)) for _ in range(rng.choice((1, 1, 2)))]
-            other = self.block(inner, 2, depth - 1) if self.some(0.5) else None
-            return {"k": "if", "branches": branches, "else": other if other and other[0]["k"] != "if" else None}
+            other = self.block(inner, 2, depth - 1) if self.some(0.5) else [] if self.some(0.1) else None
+            return {"k": "if", "branches": branches, "else": other if other is None or not other or other[0]["k"] != "if" else None}
         if pick == 1:
             endless = self.maker.case["turns"] and self.some(0.3)
             cond, limit = self.truth(view, 2), None if endless else self.number_small(view)
             return {"k": "while", "cond": cond, "limit": limit, "body": self.block(inner, 2, depth - 1)}
         name = self.fresh("i")
-        founds = [(kind, e) for kind, e in view.collections if kind[0] in ("Set", "Bag", "List", "Heap") and e[0] == "global"]
+        founds = [(kind, e) for kind, e in view.collections + self.inner(view, 1) if kind[0] in ("Set", "Bag", "List", "Heap")]
         if pick == 2 and founds:
             kind, e = rng.choice(founds)
             if kind[1] in self.tuples:
+                inner.values.append((kind[1], ("name", name)))
                 inner.values += [(it[0], ("dot", ("name", name), it[1])) for it in self.tuples[kind[1]]]
             else:
                 self.see_variable(inner, kind[1], name)
@@ -444,7 +463,7 @@ class QueryMaker(Expressions):
         """The attributes that all of the types have."""
         made = [self.maker.type_named(it) for it in types]
         ids = [{("id", it["id_type"])} if it["as_attribute"] else set() for it in made]
-        attrs = set.intersection(*({(a["name"], a["type"]) for a in it["attrs"]} | id_ for it, id_ in zip(made, ids)))
+        attrs = set.intersection(*({(a["name"], a["type"]) for a in it["attrs"] if a["name"] != "type"} | id_ for it, id_ in zip(made, ids)))
         return [(type_, ("dot", ("name", alias), name)) for name, type_ in sorted(attrs)]
 
     def bound(self, view, alias, types):
@@ -513,7 +532,7 @@ class QueryMaker(Expressions):
     def edge_bound(self, view, hop):
         names = hop["types"] if isinstance(hop["types"], list) else self.edge_names
         made = [it for it in self.maker.edge_types if it["name"] in names or it["reverse"] in names]
-        attrs = set.intersection(*({(a["name"], a["type"]) for a in it["attrs"] + it["discs"]} for it in made))
+        attrs = set.intersection(*({(a["name"], a["type"]) for a in it["attrs"] + it["discs"] if a["name"] != "type"} for it in made))
         view.values += [(type_, ("dot", ("name", hop["edge"]), name)) for name, type_ in sorted(attrs)]
         view.values.append(("STRING", ("dot", ("name", hop["edge"]), "type")))
 
@@ -547,6 +566,10 @@ class QueryMaker(Expressions):
         if odd:
             alias, name = rng.choice(odd)
             it["where"], it["refused"] = ("op", "==", ("dot", ("name", alias), name), ("num", 1)), f"no attribute {name}"
+        it["up"], it["post_word"] = rng.choice(("", " ASC")), rng.choice(("POST-ACCUM", "POST-ACCUM", "POST_ACCUM"))
+        clauses = [it[name] for name in ("where", "accum", "post", "having", "order")]
+        aliases = [it["source"]] + ([hop["edge"], hop["target"]] if hop else [])
+        it["bare"] = [name for name in aliases if name != chosen and not mentions(clauses, name) and self.some(0.5)]
         return self.assigned(view, it, sorted(set(types[chosen])))
 
     def odd_attributes(self, types):
@@ -554,7 +577,7 @@ class QueryMaker(Expressions):
         found = []
         for alias, of in types.items():
             made = [{(a["name"], a["type"]) for a in self.maker.type_named(it)["attrs"]} for it in of]
-            shared = {name for name, _ in set.intersection(*made)} | {"id"}
+            shared = {name for name, _ in set.intersection(*made)} | {"id", "type"}
             found += [(alias, name) for it in made for name, _ in sorted(it) if name not in shared]
         return found
 
@@ -613,7 +636,7 @@ class QueryMaker(Expressions):
 
     def printed(self, view):
         rng = self.rng
-        shown = [e for _, e in view.collections + self.inner(view, 1)] + [e for _, e in view.of_type("AVG", "VERTEX")]
+        shown = [e for _, e in view.collections + self.inner(view, 1)] + [e for _, e in view.of_type("AVG", "VERTEX", *self.tuples)]
         if shown and self.some(0.5):
             return rng.choice(shown)
         return self.expr(rng.choice(("INT", "INT", "BOOL", "STRING", "DATETIME")), view, 3)

@@ -180,7 +180,9 @@ class Reference:
         return value if value[0] == base[0] else None
 
     def do_raw(self, it):
-        return None
+        return it.get("prints")
+
+    do_word = do_raw
 
 
 def first_refused(node):

@@ -104,7 +104,9 @@ def kind_text(kind):
     if kind[0] == "Group":
         return f"{word}<{', '.join([f'{a} {b}' for a, b in kind[1]] + [f'{kind_text(a)} {b}' for a, b in kind[2]])}>"
     if kind[0] == "Heap":
-        return f"{word}<{kind[1]}>({kind[2]}, {', '.join(name + (' DESC' if down else '') for name, down in kind[3])})"
+        # (ASC is left out or not, by the room of the heap)
+        up = " ASC" if kind[2] % 2 else ""
+        return f"{word}<{kind[1]}>({kind[2]}, {', '.join(name + (' DESC' if down else up) for name, down in kind[3])})"
     return f"{word}<{kind[1]}>" if len(kind) > 1 else word
 
 
@@ -124,7 +126,7 @@ def item_text(item):
 def part_text(part):
     if part[0] == "set":
         return part[1]
-    starts = {"any": lambda it: "ANY", "all": lambda it: f"{it[1]}.*", "name": lambda it: it[1], "global": lambda it: it[1]}
+    starts = {"any": lambda it: "ANY" + "".join(it[1:]), "all": lambda it: f"{it[1]}.*", "name": lambda it: it[1], "global": lambda it: it[1]}
     return "{" + ", ".join(starts[it[0]](it) for it in part[1]) + "}"
 
 
@@ -134,11 +136,11 @@ def needed(items):
     return items
 
 
-def branches(node, body):
-    """IF with its branches."""
+def branches(node, body, may_be_empty=False):
+    """IF with its branches; an ELSE of a body may have no statements."""
     text = " ELSE ".join(f"IF {expr(cond)} THEN {body(it)}" for cond, it in needed(node["branches"]))
     if node["else"] is not None:
-        if not node["else"] or node["else"][0]["k"] == "if":
+        if not node["else"] and not may_be_empty or node["else"] and node["else"][0]["k"] == "if":
             raise Unspelled()
         text += f" ELSE {body(node['else'])}"
     return text + " END"
@@ -159,14 +161,19 @@ def types_text(types):
     return types if isinstance(types, str) else "|".join(types) if len(types) < 2 else "(" + "|".join(types) + ")"
 
 
-def hop_text(hop):
-    return f" -({types_text(hop['types'])}:{hop['edge']})-> {types_text(hop['to'])}:{hop['target']}"
+def alias_text(it, bare):
+    """An alias, where it isn't left out."""
+    return "" if it in bare else f":{it}"
 
 
-def path_text(path):
+def hop_text(hop, bare):
+    return f" -({types_text(hop['types'])}{alias_text(hop['edge'], bare)})-> {types_text(hop['to'])}{alias_text(hop['target'], bare)}"
+
+
+def path_text(path, bare):
     text = ""
     for at, step in enumerate(needed(path["steps"])):
-        edge, target = (f":{path[it]}" if at + 1 == len(path["steps"]) else "" for it in ("edge", "target"))
+        edge, target = (alias_text(path[it], bare) if at + 1 == len(path["steps"]) else "" for it in ("edge", "target"))
         text += f" -({'|'.join(way_text(it) for it in needed(step['ways']))}{edge})- {types_text(step['to'])}{target}"
     return text
 
@@ -176,14 +183,15 @@ def way_text(it):
 
 
 def select_text(it):
-    text = f"SELECT {it['alias']} FROM {it['from']}:{it['source']}"
+    bare = it.get("bare", ())
+    text = f"SELECT {it['alias']} FROM {it['from']}{alias_text(it['source'], bare)}"
     if it["hop"]:
-        text += path_text(it["hop"]) if "steps" in it["hop"] else hop_text(it["hop"])
-    for name, word in (("where", "WHERE"), ("accum", "ACCUM"), ("post", "POST-ACCUM"), ("having", "HAVING")):
+        text += path_text(it["hop"], bare) if "steps" in it["hop"] else hop_text(it["hop"], bare)
+    for name, word in (("where", "WHERE"), ("accum", "ACCUM"), ("post", it.get("post_word", "POST-ACCUM")), ("having", "HAVING")):
         if it[name]:
             text += f"\n    {word} " + (acts_text if name in ("accum", "post") else expr)(it[name])
     if it["order"]:
-        text += "\n    ORDER BY " + ", ".join(expr(e) + (" DESC" if down else "") for e, down in it["order"])
+        text += "\n    ORDER BY " + ", ".join(expr(e) + (" DESC" if down else it.get("up", "")) for e, down in it["order"])
     return text + (f"\n    LIMIT {expr(it['limit'])}" if it["limit"] else "")
 
 
@@ -201,7 +209,7 @@ def stmt_text(it):
             return head + select_text(it)
         return head + part_text(it["parts"][0]) + "".join(f" {sign} {part_text(part)}" for sign, part in zip(it["signs"], it["parts"][1:]))
     if k == "if":
-        return branches(it, body_text)
+        return branches(it, body_text, True)
     if k == "while":
         return f"WHILE {expr(it['cond'])}" + (f" LIMIT {expr(it['limit'])}" if it["limit"] else "") + f" DO {body_text(it['body'])}END"
     if k in ("each", "range"):
@@ -264,7 +272,9 @@ def statement(it):
     k = it["k"]
     if k == "vertex":
         text = f"CREATE VERTEX {it['name']} (PRIMARY_ID {it['id']} {it['id_type']}" + "".join(", " + attr_text(a) for a in it["attrs"]) + ")"
-        return text + (' WITH PRIMARY_ID_AS_ATTRIBUTE="true"' if it["as_attribute"] else "")
+        options = ['PRIMARY_ID_AS_ATTRIBUTE="true"'] * it["as_attribute"]
+        options[it.get("stats_at", 0):it.get("stats_at", 0)] = [f"STATS={text_token(said)}" for said in it.get("stats", ())]
+        return text + (f" WITH {', '.join(options)}" if options else "")
     if k == "edge":
         text = f"CREATE {'DIRECTED' if it['directed'] else 'UNDIRECTED'} EDGE {ends_text(it)}"
         return text + (f' WITH REVERSE_EDGE="{it["reverse"]}"' if it["reverse"] else "")
@@ -281,7 +291,7 @@ def statement(it):
     if k in ("query", "interpret"):
         return query_text(it)
     if k == "install":
-        return "INSTALL QUERY " + (", ".join(it["names"]) if it["names"] else "ALL")
+        return "INSTALL QUERY " + (", ".join(it["names"]) if it["names"] else it.get("all", "ALL"))
     if k == "run":
         return f"RUN QUERY {it['name']}" + ("" if it["args"] is None else f"({', '.join(argument(a) for a in it['args'])})")
     return it["text"]

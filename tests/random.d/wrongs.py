@@ -55,13 +55,14 @@ def parts_alone(maker, rng, script, queries):
         more = [{"k": "raw", "text": f"SumAccum<INT> {names};", "refused": "too many" if count > 256 else None}]
         body = []
     body.append({"k": "print", "items": [{"e": ("num", 1), "as": "end_of_parts"}]})
+    modes = rng.choice((' API ("v3")', " SYNTAX v3", ' API ("v2") API ("v2")', " SYNTAX v1 SYNTAX v1", ' API ("")')) if maker.some(0.05) else " SYNTAX v2" if with_paths else ""
     put(maker, {"k": "interpret", "name": None, "params": [], "graph": "g", "tuples": [], "accs": [], "more": more, "body": body,
-                "modes": " SYNTAX v2" if with_paths else "", "replace": False, "full": full})
+                "modes": modes, "replace": False, "full": full})
 
 
 def in_script(maker, rng, script, queries):
     """A statement of the script that may be refused, for one reason or for several."""
-    made = rng.choice((vertex, edge, graph, job, job, job, insert, insert, query, query, small, types_to_the_bound, run_of_job))(maker, rng)
+    made = rng.choice((vertex, edge, graph, job, job, job, insert, insert, query, query, small, small, types_to_the_bound, types_to_the_bound, run_of_job))(maker, rng)
     put(maker, *(made if isinstance(made, list) else [made]))
 
 
@@ -109,7 +110,9 @@ def job(maker, rng):
         dests = [odd_dest(maker, rng) for _ in range(rng.choice((1, 1, 2)))]
         loads.append({"file": rng.choice(("f1", "f2")) if named else "nosuch.csv", "named": named, "dests": dests, "options": options})
     graph_name = "nosuch" if maker.some(0.1) else "h" if maker.part and maker.some(0.4) else "g"
-    return {"k": "job", "name": name, "graph": graph_name, "files": [["f1", None]] * maker.some(0.6), "loads": loads}
+    made = {"k": "job", "name": name, "graph": graph_name, "files": [["f1", None]] * maker.some(0.6), "loads": loads}
+    run = {"k": "runjob", "name": "other", "using": [["f1", rng.choice(("nosuch.csv", "person.csv", ""))]] if maker.some(0.5) else []}
+    return [made, run] if name == "other" and maker.some(0.7) else made
 
 
 def odd_dest(maker, rng):
@@ -131,12 +134,12 @@ def insert(maker, rng):
     values = [rng.choice(odd) if maker.some(0.25) else it for it in values]
     if maker.some(0.1):
         values = values + [("I", 1)] if maker.some(0.5) or len(values) < 2 else values[:-1]
-    return {"k": "insert", "type": a_type_name(maker, rng) if maker.some(0.15) else type_["name"], "values": values}
+    return {"k": "insert", "type": a_type_name(maker, rng) if maker.some(0.3) else type_["name"], "values": values}
 
 
 def query(maker, rng):
     """A query that is refused before its text is judged, or for its parameters, or not."""
-    parts = chosen(maker, maker.vertex_types, maker.edge_types, False, rng.choice((0, 0, 1)))
+    parts = chosen(maker, maker.vertex_types, maker.edge_types, False, rng.choice((0, 1, 1)), 0.3)
     names = [it["name"] for it in maker.case["script"] if it["k"] == "query"]
     modes = rng.choice(("", ' API ("v2")', " SYNTAX v1", ' API ("v3")', " SYNTAX v3", " SYNTAX v1 SYNTAX v1", ' API ("v2") API ("v2")', ' API ("")'))
     params, refused = rng.choice((
@@ -159,9 +162,12 @@ def small(maker, rng):
 def types_to_the_bound(maker, rng):
     """So many vertex types that 256 types are there, or one more."""
     there = len(maker.vertex_types) + sum(2 if it["reverse"] else 1 for it in maker.edge_types)
-    if not maker.some(0.15):
+    if not maker.some(0.6):
         return vertex(maker, rng)
-    last = rng.choice((edge(maker, rng), vertex(maker, rng), None))
+    end = rng.choice(maker.vertex_types)["name"]
+    good = ({"k": "vertex", "name": "last", "id": "id", "id_type": "INT", "attrs": [], "as_attribute": False},
+            {"k": "edge", "name": "last", "directed": True, "from": end, "to": end, "discs": [], "attrs": [], "reverse": rng.choice((None, "last_by"))})
+    last = rng.choice((edge(maker, rng), vertex(maker, rng), None, *good))
     return [{"k": "vertex", "name": f"more{at}", "id": "id", "id_type": "INT", "attrs": [], "as_attribute": False}
             for at in range(256 - there - rng.choice((0, 1, 2)))] + [last] * bool(last)
 
