@@ -1,2 +1,4 @@
+pub mod FileLemmas
 pub mod FitLemmas
 pub mod JudgeLemmas
+pub mod PathLemmas

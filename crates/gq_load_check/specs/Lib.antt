@@ -6,3 +6,4 @@ pub mod Refusals
 pub mod Targets
 pub mod Tells
 pub mod Paths
+pub mod Placed

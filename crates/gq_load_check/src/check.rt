@@ -3,11 +3,12 @@ ghost use Rattle.std.specs.Prelude.{◌≡◌, ◌<◌, ◌++◌, ◌∷◌, [],
 ghost use Rattle.std.specs.List.{list_any};
 ghost use Rattle.gq_load_check.specs.Fits.{LineFits, is_default};
 ghost use Rattle.gq_load_check.specs.Lines as view;
+ghost use Rattle.gq_load_check.specs.Placed.{defining};
 ghost use Rattle.gq_load_check.specs.Refusals as spec;
 ghost use Rattle.gq_load_check.specs.Targets.{HasTarget};
 
 use crate::fault::{JobFault, id_missing, no_such_type, unknown_file, wrong_count};
-use crate::files::{defines, files_of};
+use crate::files::JobFiles;
 use crate::job::{FileName, Job, LoadInto, LoadLine, Target};
 use crate::options::{has_bad_option, header_of, quote_of, separator_of};
 use crate::targets::{graph_at, name_count, target_of, value_count};
@@ -71,12 +72,13 @@ fn check_options(load: &LoadTree) -> Result<(), JobFault>
     Ok(())
 }
 
-fn check_file(alloc: Global, job: &[JobLine], file: &FileTree) -> Result<(), JobFault>
-    ensures { spec.Judges (spec.unknown_file job.now file.now) result }
+#[tactic(auto, using(crate::proofs::FileLemmas::file_laws))]
+fn check_file(alloc: Global, files: &JobFiles, file: &FileTree) -> Result<(), JobFault>
+    ensures { spec.Judges (spec.unknown_file (defining files.now) file.now) result }
 {
     match file {
         FileTree::Defined(name) => {
-            if !defines(job, name.as_str()) {
+            if !files.has(name.as_str()) {
                 return Err(unknown_file(alloc, name.as_str()));
             }
             Ok(())
@@ -189,17 +191,17 @@ fn line_of(
     alloc: Global,
     catalog: &Catalog,
     graph: &GraphType,
-    job: &[JobLine],
+    files: &JobFiles,
     load: &LoadTree,
 ) -> Result<LoadLine, JobFault>
-    ensures judged { spec.Judges (spec.load_refusal catalog.now graph.now job.now load.now) result }
+    ensures judged { spec.Judges (spec.load_refusal catalog.now graph.now (defining files.now) load.now) result }
     ensures made { IfOk result (λ line. line ≡ view.line_of catalog.now graph.now load.now) }
 {
     match check_options(load) {
         Ok(()) => {}
         Err(fault) => return Err(fault),
     }
-    match check_file(alloc, job, &load.file) {
+    match check_file(alloc, files, &load.file) {
         Ok(()) => {}
         Err(fault) => return Err(fault),
     }
@@ -223,17 +225,17 @@ fn add_line(
     alloc: Global,
     catalog: &Catalog,
     graph: &GraphType,
-    job: &[JobLine],
+    files: &JobFiles,
     line: &JobLine,
     checked: &mut List<LoadLine>,
 ) -> Result<(), JobFault>
-    ensures judged { spec.Judges (spec.line_refusal catalog.now graph.now job.now line.now) result }
+    ensures judged { spec.Judges (spec.line_refusal catalog.now graph.now (defining files.now) line.now) result }
     ensures made { OnOk result (checked.new ≡ checked.old ++ view.lines_of catalog.now graph.now (line.now ∷ [])) }
 {
     match line {
         JobLine::Define(_, _) => Ok(()),
         JobLine::Load(load) => {
-            let line = match line_of(alloc, catalog, graph, job, load) {
+            let line = match line_of(alloc, catalog, graph, files, load) {
                 Ok(line) => line,
                 Err(fault) => return Err(fault),
             };
@@ -249,14 +251,15 @@ fn lines_of(
     alloc: Global,
     catalog: &Catalog,
     graph: &GraphType,
+    files: &JobFiles,
     job: &[JobLine],
 ) -> Result<List<LoadLine>, JobFault>
-    ensures judged { spec.Judges (spec.first_due (spec.line_refusal catalog.now graph.now job.now) job.now) result }
+    ensures judged { spec.Judges (spec.first_due (spec.line_refusal catalog.now graph.now (defining files.now)) job.now) result }
     ensures made { IfOk result (λ checked. checked ≡ view.lines_of catalog.now graph.now job.now) }
 {
     let mut checked = List::new(alloc);
     for line in job {
-        match add_line(alloc, catalog, graph, job, line, &mut checked) {
+        match add_line(alloc, catalog, graph, files, line, &mut checked) {
             Ok(()) => {}
             Err(fault) => return Err(fault),
         }
@@ -278,17 +281,18 @@ pub fn check_job(
     ensures made { IfOk result (λ checked. checked ≡ view.job_of catalog.now graph job.now) }
     ensures fits { IfOk result (λ checked. All (LineFits catalog.now) checked.lines) }
 {
-    let lines = match lines_of(
+    let files = match JobFiles::of(alloc, job.lines.as_slice()) {
+        Ok(files) => files,
+        Err(OutOfMemory) => return Err(JobFault::OutOfMemory),
+    };
+    match lines_of(
         alloc,
         catalog,
         graph_at(catalog, graph),
+        &files,
         job.lines.as_slice(),
     ) {
-        Ok(lines) => lines,
-        Err(fault) => return Err(fault),
-    };
-    match files_of(alloc, job.lines.as_slice()) {
-        Ok(files) => Ok(Job { files, lines }),
-        Err(OutOfMemory) => Err(JobFault::OutOfMemory),
+        Ok(lines) => Ok(Job { files, lines }),
+        Err(fault) => Err(fault),
     }
 }

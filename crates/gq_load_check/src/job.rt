@@ -1,6 +1,7 @@
 // Checked jobs: plain data, which contracts see unchanged.
 ghost use Rattle.std.specs.Prelude.{◌≡◌};
 
+use crate::files::JobFiles;
 use gq_base::List;
 use gq_tree::Column;
 use gq_value::Txt;
@@ -45,7 +46,7 @@ pub struct LoadLine {
 /// order.
 #[derive(Drop)]
 pub struct Job {
-    pub files: List<(Txt, Option<Txt>)>,
+    pub files: JobFiles,
     pub lines: List<LoadLine>,
 }
 

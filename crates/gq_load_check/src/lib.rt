@@ -6,7 +6,8 @@
 //!
 //! Read `specs/Refusals.antt` first, which rule a job violates first, then `specs/Lines.antt` and
 //! `specs/Options.antt`, what a checked job contains, and `specs/Paths.antt`, which path each file has.
-//! `src/check.rt` is the check, `src/job.rt` the checked job, `src/paths.rt` the lookup of paths.
+//! `src/check.rt` is the check, `src/job.rt` the checked job, `src/files.rt` its files, `src/paths.rt` the
+//! lookup of paths. `specs/Placed.antt` has the trees of names beside both.
 #![tactic(auto)]
 
 mod check;
@@ -21,8 +22,9 @@ mod targets;
 
 pub use check::check_job;
 pub use fault::JobFault;
+pub use files::JobFiles;
 pub use insert::{Endpoint, Insert, InsertFault};
 pub use job::{FileName, Job, LoadInto, LoadLine, Target};
 pub use laws::{catalogs_grow, lines_stay_checked};
-pub use paths::{path_of, undefined};
+pub use paths::{GivenPaths, path_of, undefined};
 pub use targets::{edge_type_at, id_count, key_count, value_count, vertex_type_at};

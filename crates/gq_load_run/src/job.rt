@@ -23,9 +23,8 @@ use gq_base::OutOfMemory;
 use gq_diagnostics::{Refusal, StatementFault};
 use gq_index::Store;
 use gq_io::{FileFault, Files, ask};
-use gq_load_check::Job;
+use gq_load_check::{GivenPaths, Job};
 use gq_schema::Catalog;
-use gq_value::Txt;
 use std::alloc::Global;
 
 /// Runs the LOADs of a job in a run that supplies these paths, and returns the line of their reports. Each reads its
@@ -34,7 +33,7 @@ pub(crate) fn run_loads<F: Files>(
     alloc: Global,
     catalog: &Catalog,
     job: &Job,
-    given: &[(Txt, Txt)],
+    given: &GivenPaths<'_>,
     store: &mut Store,
     files: &mut F,
 ) -> Result<Vec<u8>, StatementFault>
@@ -79,7 +78,7 @@ fn load_one<F: Files>(
     alloc: Global,
     catalog: &Catalog,
     job: &Job,
-    given: &[(Txt, Txt)],
+    given: &GivenPaths<'_>,
     number: usize,
     store: &mut Store,
     files: &mut F,

@@ -4,7 +4,7 @@ ghost use Rattle.std.specs.Option.{option_copied};
 ghost use Rattle.gq_load_run.specs.Loadings as spec;
 
 use gq_base::OutOfMemory;
-use gq_load_check::{FileName, Job, path_of};
+use gq_load_check::{FileName, GivenPaths, Job, JobFiles, path_of};
 use gq_value::Txt;
 use std::alloc::Global;
 
@@ -20,24 +20,19 @@ pub enum LoadPath {
 pub(crate) fn place(
     alloc: Global,
     job: &Job,
-    given: &[(Txt, Txt)],
+    given: &GivenPaths<'_>,
     number: usize,
 ) -> Result<LoadPath, OutOfMemory>
     requires { number < length job.now.lines }
     ensures { IfOk result (λ place. place ≡ spec.place_of job.now given.now number) }
 {
-    place_in(
-        alloc,
-        job.files.as_slice(),
-        given,
-        job.lines.at(number).file(),
-    )
+    place_in(alloc, &job.files, given, job.lines.at(number).file())
 }
 
 fn place_in(
     alloc: Global,
-    files: &[(Txt, Option<Txt>)],
-    given: &[(Txt, Txt)],
+    files: &JobFiles,
+    given: &GivenPaths<'_>,
     file: &FileName,
 ) -> Result<LoadPath, OutOfMemory>
     ensures { IfOk result (λ place. place ≡ spec.place_in files.now given.now file.now) }

@@ -19,7 +19,7 @@ use gq_ddl::Jobs;
 use gq_diagnostics::{Refusal, StatementFault};
 use gq_index::Store;
 use gq_io::Files;
-use gq_load_check::{Job, undefined};
+use gq_load_check::{GivenPaths, Job, undefined};
 use gq_schema::Catalog;
 use gq_tree::RunJobTree;
 use gq_value::Txt;
@@ -89,10 +89,15 @@ fn run_found<F: Files>(
     ensures faults_stay { F.faults files.old ≤ F.faults files.new }
     ensures absences_stay { F.absences files.old ≤ F.absences files.new }
 {
-    match undefined(job.files.as_slice(), tree.paths.as_slice()) {
-        Some(name) => Err(unknown_name(alloc, name)),
-        None => run_loads(alloc, catalog, job, tree.paths.as_slice(), store, files),
+    match undefined(&job.files, tree.paths.as_slice()) {
+        Some(name) => return Err(unknown_name(alloc, name)),
+        None => {}
     }
+    let given = match GivenPaths::of(alloc, tree.paths.as_slice()) {
+        Ok(given) => given,
+        Err(OutOfMemory) => return Err(StatementFault::OutOfMemory),
+    };
+    run_loads(alloc, catalog, job, &given, store, files)
 }
 
 // Returns `UnknownName`, or `OutOfMemory` if the name can't be copied.
