@@ -22,6 +22,7 @@ use Rattle.gq_value.specs.declared.value.Wrong.{Wrong}
 use Rattle.gq_value.specs.declared.value.Wrong.TheVariants.{Range}
 use Rattle.gq_graph.specs.declared.rows.Candidate.{Candidate}
 use Rattle.gq_rules_typing.specs.Kinds.{key_types, part_kinds}
+use Rattle.gq_rules_typing.specs.Selecting as plain
 use Rattle.gq_rules_typing.specs.Selecting.{Keys, Plain}
 use Rattle.gq_rules_typing.specs.SelectViews.{inputs_of as listed}
 use Rattle.gq_rules_meaning.specs.Answers.{Answer, Gives, Faults, Stuck, ◌>>=◌, found, of_result}
@@ -36,7 +37,7 @@ use Rattle.gq_plan_ir.specs.declared.expr.Expr.TheVariants as expr
 use Rattle.gq_plan_ir.specs.declared.expr.Function as code_function
 use Rattle.gq_plan_ir.specs.declared.expr.Function.TheVariants as a_function
 use Rattle.gq_plan_ir.specs.ExprView.{view, views, function_of}
-use Rattle.gq_plan_ir.proofs.ViewLaws.{view-Call, view_feed-Keyed}
+use Rattle.gq_plan_ir.proofs.ViewLaws.{view-Call, view_feed-Keyed, view_feed-One}
 use Rattle.gq_plan_ir.specs.BlockView.{view_feed}
 use Rattle.gq_plan_ir.specs.Reference.{Reference, TupleType}
 use Rattle.gq_exec_feed.proofs.SuitLemmas.{within_int}
@@ -44,8 +45,10 @@ use Rattle.gq_eval_builtins.proofs.CallSteps.{made_goes}
 use Rattle.gq_eval_attributes.specs.declared.tuple_type.TupleType.{TupleType as TypeOfTuples}
 use Rattle.gq_eval_context.specs.Viewed.{Over, viewed}
 use Rattle.gq_eval_context.proofs.SeesLemmas.{tuple_there}
+use Rattle.gq_exec_contribute.specs.declared.cells.Taken.{Taken}
 use Rattle.gq_exec_contribute.specs.declared.cells.Taken.TheVariants as taken
 use Rattle.gq_exec_contribute.specs.declared.rows.Ints.{Ints}
+use Rattle.gq_exec_contribute.specs.declared.scalars.ScalarInput.{ScalarInput}
 use Rattle.gq_exec_contribute.specs.declared.scalars.ScalarInput.TheVariants as scalar
 use Rattle.gq_frame.specs.declared.accums.Accums.{Accums}
 use Rattle.gq_exec_contribute.specs.declared.leaves.Leaves.{Leaves}
@@ -114,6 +117,10 @@ tuple_fed look t n row is = record {
 }
 
 pub ruleset one_laws = (int_fed, element_fed, truth_fed, tuple_fed)
+
+-- one value as a feed
+pub one_moved : (look : Look Reference) (f : Feed) (e : Expr) (takes : Taken) (x : ScalarInput) → f ≡ feed.One e → IsFed look (Plain (view e)) takes x → IsFed look (view_feed f) takes x
+one_moved look f e takes x is fed = subst (λ (g : plain.Input Reference). IsFed look g takes x) (sym (ap view_feed is ∙ view_feed-One e)) fed
 
 -- ---- keys and parts
 

@@ -1,6 +1,6 @@
 -- GatherLemmas: the inputs that are read are the contributions of the statements.
 use Rattle.std.proofs.Common.{◌≡◌, ℕ, ◌+◌, ◌<◌, ◌≤◌, Bool, true, false, List, [], ◌∷◌, ◌++◌, map, take, length, get_or, Option, Some, None, Result, Ok, Err, refl, sym, ap, ap₂, subst, ◌∙◌, arith, append-nil, append_assoc}
-use Rattle.std.specs.Prelude.{IfOk, slice_get, IfSome}
+use Rattle.std.specs.Prelude.{IfOk, slice_get}
 use Rattle.std.specs.List.{All}
 use Rattle.std.specs.Option.{option_map}
 use Rattle.std.proofs.lemmas.List.{map-append, take_all, take_more}
@@ -65,10 +65,9 @@ input_is clock o l c n v t ch f cells x found adds there target is = let h = fou
 
 pub ruleset input_laws = (input_is)
 
-pub added_is : (clock : Calendar) (o : Over) (l : Leaves) (accums : Accums) (n v : ℕ) (ch : code_change.Change) (f : Feed) (cells : Cells) (r : Option ScalarInput) → AreIn accums l → view_change ch ≡ Adds (view_feed f) → slice_get l.cells n ≡ Some cells
-    → IfSome r (IsFed (sees_at clock o l accums v) (view_feed f) cells.takes) → IfSome r (IsAdded (sees_at clock o l accums v) accums.slots n (view_change ch))
-added_is clock o l accums n v ch f cells None found adds there is = tt
-added_is clock o l accums n v ch f cells (Some x) found adds there is = let h = found.cells.each n cells there in record {
+pub added_is : (clock : Calendar) (o : Over) (l : Leaves) (accums : Accums) (n v : ℕ) (ch : code_change.Change) (f : Feed) (cells : Cells) (x : ScalarInput) → AreIn accums l → view_change ch ≡ Adds (view_feed f) → slice_get l.cells n ≡ Some cells
+    → IsFed (sees_at clock o l accums v) (view_feed f) cells.takes x → IsAdded (sees_at clock o l accums v) accums.slots n (view_change ch) x
+added_is clock o l accums n v ch f cells x found adds there is = let h = found.cells.each n cells there in record {
   slot = h.slot;
   declared = h.declared;
   feed = view_feed f;

@@ -3,6 +3,7 @@ pub mod ActLemmas
 pub mod PassLemmas
 pub mod EdgeLemmas
 pub mod NameLemmas
+pub mod IdLemmas
 pub mod CellLemmas
 pub mod ReadLemmas
 pub mod TruthLemmas

@@ -1,7 +1,8 @@
 -- ScalarLemmas: inputs made of INTs are fed in order.
-use Rattle.std.proofs.Common.{◌≡◌, ℕ, ◌+◌, ◌<◌, ◌≤◌, List, [], ◌∷◌, ◌++◌, map, take, length, get_or, refl, sym, ap, ap₂, subst, ◌∙◌, arith, length-append}
+use Rattle.std.proofs.Common.{◌≡◌, ℕ, ◌+◌, ◌<◌, ◌≤◌, List, [], ◌∷◌, ◌++◌, map, take, set, length, get_or, refl, sym, ap, ap₂, subst, ◌∙◌, arith, length-append}
+use Rattle.std.specs.Prelude.{ℤ}
 use Rattle.std.specs.List.{All}
-use Rattle.std.proofs.lemmas.List.{map-append, take_all, take_more}
+use Rattle.std.proofs.lemmas.List.{map-append, take_all, take_more, take-set-le, length-set, get_or-set_same}
 use Rattle.std.proofs.lemmas.List.Elements.{All-nil, All-cons, All-head, All-tail}
 use Rattle.gq_value.specs.AccumViews.{given}
 use Rattle.gq_value.specs.declared.kind.Input.{Input}
@@ -97,3 +98,32 @@ pub fed_all : (old now : Accums) (xs : List (ℕ × ScalarInput)) (i : ℕ) → 
 fed_all old now xs i l so = subst (λ l. TakesBatch old now (as_inputs l)) (take_all i xs l) so.takes
 
 pub ruleset feed_laws = (fed_first, fed_all)
+
+-- ---- INTs in place of items
+
+-- the first i items are replaced
+pub record SetTo {A : Type 0} (f : ℤ → A) (xs : List ℤ) (old : List A) (i : ℕ) (now : List A) : Type 0 where
+  pub len : length now ≡ length old
+  pub done : take i now ≡ map f (take i xs)
+
+pub set_first : {A : Type 0} (f : ℤ → A) (xs : List ℤ) (old : List A) → SetTo f xs old 0 old
+set_first f xs old = record { len = refl; done = take_none old ∙ sym (ap (map f) (take_none xs)) }
+
+pub set_next : {A : Type 0} (f : ℤ → A) (xs : List ℤ) (old was now : List A) (i : ℕ) (x d : ℤ) (z : A) → length old ≡ length xs → i < length xs → x ≡ get_or xs i d → z ≡ f x → now ≡ set was i z → SetTo f xs old i was → SetTo f xs old (i + 1) now
+set_next f xs old was now i x d z long n is same set_so so =
+    let e : now ≡ set was i (f x) = set_so ∙ ap (set was i) same in
+    let m : i < length was = let k = so.len in omega (arith, long, n, k) in
+    let long_now : length now ≡ length was = ap length e ∙ length-set was i (f x) in record {
+      len = long_now ∙ so.len;
+      done =
+          take_more now i (f x) (omega (arith, m, long_now))
+          ∙ ap₂ (λ l y. l ++ y ∷ []) (ap (take i) e ∙ take-set-le i was i (f x) (omega arith) ∙ so.done) (ap (λ l. get_or l i (f x)) e ∙ get_or-set_same was i (f x) (f x) m)
+          ∙ sym (map-append f (take i xs) (x ∷ []))
+          ∙ ap (map f) (ap (λ y. take i xs ++ y ∷ []) is ∙ sym (take_more xs i d n));
+    }
+
+pub set_all : {A : Type 0} (f : ℤ → A) (xs : List ℤ) (old now : List A) (i : ℕ) → length old ≡ length xs → length xs ≤ i → SetTo f xs old i now → now ≡ map f xs
+set_all f xs old now i long l so =
+    let k = so.len in sym (take_all i now (omega (arith, long, l, k))) ∙ so.done ∙ ap (map f) (take_all i xs l)
+
+pub ruleset set_laws = (set_next)

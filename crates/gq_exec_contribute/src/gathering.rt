@@ -1,5 +1,5 @@
 // Reads the inputs of ACCUM without an evaluation.
-ghost use Rattle.std.specs.Prelude.{◌≡◌, IfOk, IfSome};
+ghost use Rattle.std.specs.Prelude.{◌≡◌, true, IfOk, IfSome};
 ghost use Rattle.gq_rules_calendar.specs.Gregorian.{gregorian};
 ghost use Rattle.gq_rules_typing.specs.Selecting.{Adds as AddsTo};
 ghost use Rattle.gq_rules_meaning.specs.Blocks.{contributed, contributions, of_act};
@@ -82,17 +82,18 @@ fn add_change(
     requires { AreFound over.now leaves.now }
     ensures { IfOk result (Gathers over.now.frame.accums.slots (contributed (sees gregorian over.now leaves.now c.now) (slots_are over.now.frame.accums) (Slot slot) vertex (view_change change.now)) into.old into.new) }
 {
-    match input_of(change, alloc, over, leaves, c, slot, vertex) {
+    let mut input = ScalarInput::Int(0);
+    match read_input(change, alloc, over, leaves, c, slot, vertex, &mut input) {
         None => Ok(false),
-        Some(input) => {
-            into.push(input)?;
+        Some(target) => {
+            into.push((target, input))?;
             Ok(true)
         }
     }
 }
 
-/// Reads the input of a `+=` to the slot at a vertex, with the number of its target.
-fn input_of(
+/// Reads the input of a `+=` to the slot at a vertex, and returns the number of its target.
+fn read_input(
     change: &Change,
     alloc: Global,
     over: &BlockContext<'_>,
@@ -100,9 +101,10 @@ fn input_of(
     c: &Candidate,
     slot: u32,
     vertex: u32,
-) -> Option<(u64, ScalarInput)>
+    input: &mut ScalarInput,
+) -> Option<u64>
     requires { AreFound over.now leaves.now }
-    ensures { IfSome result (IsInput over.now.frame.accums.slots (contributed (sees gregorian over.now leaves.now c.now) (slots_are over.now.frame.accums) (Slot slot) vertex (view_change change.now))) }
+    ensures { IfSome result (λ target. IsInput over.now.frame.accums.slots (contributed (sees gregorian over.now leaves.now c.now) (slots_are over.now.frame.accums) (Slot slot) vertex (view_change change.now)) (target, input.new)) }
 {
     match added(change) {
         None => None,
@@ -110,10 +112,13 @@ fn input_of(
             None => None,
             Some(cells) => match target_in(cells, vertex) {
                 None => None,
-                Some(target) => match read_before(feed, alloc, over, leaves, c, cells.takes) {
-                    None => None,
-                    Some(x) => Some((target, x)),
-                },
+                Some(target) => {
+                    if read_before(feed, alloc, over, leaves, c, cells.takes, input) {
+                        Some(target)
+                    } else {
+                        None
+                    }
+                }
             },
         },
     }
@@ -127,11 +132,13 @@ fn read_before(
     leaves: &Leaves<'_>,
     c: &Candidate,
     takes: Taken,
-) -> Option<ScalarInput>
+    input: &mut ScalarInput,
+) -> bool
     requires { AreFound over.now leaves.now }
-    ensures { IfSome result (IsFed (sees gregorian over.now leaves.now c.now) (view_feed feed.now) takes) }
+    ensures { result ≡ true → IsFed (sees gregorian over.now leaves.now c.now) (view_feed feed.now) takes input.new }
 {
-    read(feed, alloc, over, leaves, &over.frame.accums, c, takes)
+    let accums = &over.frame.accums;
+    read(feed, alloc, over, leaves, accums, c, takes, input)
 }
 
 /// The input of a `+=`; `None` for `=`.

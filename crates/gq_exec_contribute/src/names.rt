@@ -1,7 +1,9 @@
 // Reads names and fields.
-ghost use Rattle.std.specs.Prelude.{◌≡◌, IfSome, true};
+ghost use Rattle.std.specs.Prelude.{◌≡◌, IfSome, Some, slice_get, true};
+ghost use Rattle.std.specs.Option.{option_flatten};
 ghost use Rattle.gq_value.specs.Val.{Int, Truth};
 ghost use Rattle.gq_value.specs.Views.{val};
+ghost use Rattle.gq_graph.specs.declared.types.IdKind.TheVariants as id_kind;
 ghost use Rattle.gq_tree.specs.Tree as tree;
 ghost use Rattle.gq_rules_calendar.specs.Gregorian.{gregorian};
 ghost use Rattle.gq_rules_meaning.specs.Answers.{Gives};
@@ -13,12 +15,12 @@ ghost use Rattle.gq_exec_contribute.specs.Prepared.{IsEdge, IsHeld, IsHeldInt, I
 
 use crate::inputs::int_seen;
 use crate::leaves::Leaves;
-use gq_eval_attributes::{edge_int, vertex_field, vertex_int};
+use gq_eval_attributes::{edge_int, integer_in, vertex_field, vertex_int};
 use gq_eval_context::BlockContext;
 use gq_frame::{Accums, Thing};
-use gq_graph::Candidate;
+use gq_graph::{Candidate, IdKind, IdShape};
 use gq_index::Graph;
-use gq_plan_ir::{Field, PlaceType};
+use gq_plan_ir::{Field, FieldPlaces, PlaceType};
 use gq_value::Value;
 
 /// Whether an alias has this place.
@@ -75,18 +77,74 @@ pub(crate) fn field_int(
     }
 }
 
-/// Reads an INT field of a vertex: an attribute, or else its id.
-#[tactic(auto, using(crate::proofs::NameLemmas::field_laws))]
+/// Reads an INT field of a vertex: an attribute, or its id.
 fn vertex_field_int(graph: Graph<'_>, field: &Field, vertex: u32) -> Option<i64>
     requires { HaveAttributes graph.catalog.now graph.store.now.vertices }
     ensures { IsReadInt graph.entry (λ world. states.vertex_field world (field_of field.now) vertex) result }
 {
     match vertex_int(graph, field, vertex) {
         Some(x) => Some(x),
-        None => match vertex_field(graph, field, vertex) {
-            Ok(seen) => int_seen(&seen),
-            Err(_) => None,
+        None => match id_int(graph, field, vertex) {
+            Some(x) => Some(x),
+            None => other_int(graph, field, vertex),
         },
+    }
+}
+
+/// Reads the INT id of a vertex, if the plan says that the field is the first one of its type.
+#[tactic(auto, using(crate::proofs::IdLemmas::id_laws))]
+fn id_int(graph: Graph<'_>, field: &Field, vertex: u32) -> Option<i64>
+    ensures { IsReadInt graph.entry (λ world. states.vertex_field world (field_of field.now) vertex) result }
+{
+    let vertices = &graph.store.vertices;
+    if vertex >= vertices.len() {
+        return None;
+    }
+    let kind = vertices.kind(vertex);
+    match field {
+        Field::Type => None,
+        Field::Named(places) => match graph.catalog.vertex_by_number(kind) {
+            None => None,
+            Some(of) => {
+                if is_first(places, kind) && is_shown_int(&of.id) {
+                    integer_in(vertices.id(vertex).as_bytes())
+                } else {
+                    None
+                }
+            }
+        },
+    }
+}
+
+/// Whether the plan says that a field is the first one of a vertex type.
+fn is_first(places: &FieldPlaces, kind: u32) -> bool
+    ensures { result ≡ true → Some 0 ≡ option_flatten (slice_get places.now.vertices kind) }
+{
+    match places.vertices.get(kind as usize) {
+        Some(Some(place)) => *place == 0,
+        Some(None) | None => false,
+    }
+}
+
+/// Whether ids are INTs, and attributes too.
+fn is_shown_int(id: &IdShape) -> bool
+    ensures { result ≡ true → (id.now.shown ≡ true) × (id.now.kind ≡ id_kind.Int) }
+{
+    match id.kind {
+        IdKind::Int => id.shown,
+        IdKind::Text | IdKind::UInt => false,
+    }
+}
+
+/// Reads an INT field of a vertex in the general way.
+#[tactic(auto, using(crate::proofs::NameLemmas::field_laws))]
+fn other_int(graph: Graph<'_>, field: &Field, vertex: u32) -> Option<i64>
+    requires { HaveAttributes graph.catalog.now graph.store.now.vertices }
+    ensures { IsReadInt graph.entry (λ world. states.vertex_field world (field_of field.now) vertex) result }
+{
+    match vertex_field(graph, field, vertex) {
+        Ok(seen) => int_seen(&seen),
+        Err(_) => None,
     }
 }
 

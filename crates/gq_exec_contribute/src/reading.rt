@@ -1,5 +1,5 @@
 // Reads inputs made of INTs or a truth.
-ghost use Rattle.std.specs.Prelude.{◌≡◌, true, map, slice_get, IfSome};
+ghost use Rattle.std.specs.Prelude.{◌≡◌, [], true, map, slice_get};
 ghost use Rattle.std.specs.Option.{option_copied};
 ghost use Rattle.gq_tree.specs.Tree as tree;
 ghost use Rattle.gq_rules_calendar.specs.Gregorian.{gregorian};
@@ -10,6 +10,7 @@ ghost use Rattle.gq_plan_ir.specs.BlockView.{view_feed};
 ghost use Rattle.gq_plan_ir.specs.Reference as reference;
 ghost use Rattle.gq_exec_contribute.specs.declared.cells.Taken.TheVariants as taken;
 ghost use Rattle.gq_exec_contribute.specs.Prepared.{AddsKey, AddsKeys, AddsPart, AddsParts, AreIn, HasInts, IsFed, IsTuple, sees_in};
+ghost use Rattle.gq_exec_contribute.specs.Scalars.{ints_of};
 
 use crate::cells::Taken;
 use crate::ints::int;
@@ -25,7 +26,7 @@ use gq_graph::Candidate;
 use gq_plan_ir::{Expr, Feed, Function};
 use std::alloc::Global;
 
-/// Reads an input for a kind that takes such inputs.
+/// Reads an input for a kind that takes such inputs. Returns false if it can't be read; `input` is then unspecified.
 #[tactic(auto, using(gq_plan_ir::proofs::ViewLaws::step_laws))]
 pub(crate) fn read(
     feed: &Feed,
@@ -35,14 +36,15 @@ pub(crate) fn read(
     accums: &Accums,
     c: &Candidate,
     takes: Taken,
-) -> Option<ScalarInput>
+    input: &mut ScalarInput,
+) -> bool
     requires { AreIn accums.now leaves.now }
-    ensures { IfSome result (IsFed (sees_in gregorian over.now leaves.now accums.now c.now) (view_feed feed.now) takes) }
+    ensures { result ≡ true → IsFed (sees_in gregorian over.now leaves.now accums.now c.now) (view_feed feed.now) takes input.new }
 {
     match feed {
-        Feed::One(expr) => one_of(expr, alloc, over, leaves, accums, c, takes),
+        Feed::One(expr) => read_one(expr, alloc, over, leaves, accums, c, takes, input),
         Feed::Keyed(keys, parts) => match takes {
-            Taken::Keyed(count, part_count) => keyed_of(
+            Taken::Keyed(count, part_count) => read_keyed(
                 keys.as_slice(),
                 parts.as_slice(),
                 alloc,
@@ -52,15 +54,16 @@ pub(crate) fn read(
                 c,
                 count,
                 part_count,
+                input,
             ),
-            _ => None,
+            _ => false,
         },
     }
 }
 
 /// Reads an input of one value for a kind that takes such inputs.
 #[tactic(auto, using(crate::proofs::FedLemmas::one_laws))]
-fn one_of(
+fn read_one(
     expr: &Expr,
     alloc: Global,
     over: &BlockContext<'_>,
@@ -68,33 +71,40 @@ fn one_of(
     accums: &Accums,
     c: &Candidate,
     takes: Taken,
-) -> Option<ScalarInput>
+    input: &mut ScalarInput,
+) -> bool
     requires { AreIn accums.now leaves.now }
-    ensures { IfSome result (IsFed (sees_in gregorian over.now leaves.now accums.now c.now) (Plain (view expr.now)) takes) }
+    ensures { result ≡ true → IsFed (sees_in gregorian over.now leaves.now accums.now c.now) (Plain (view expr.now)) takes input.new }
 {
     match takes {
         Taken::Int => match int(expr, alloc, over, leaves, accums, c) {
-            Some(x) => Some(ScalarInput::Int(x)),
-            None => None,
+            Some(x) => {
+                *input = ScalarInput::Int(x);
+                true
+            }
+            None => false,
         },
         Taken::Element => match int(expr, alloc, over, leaves, accums, c) {
-            Some(x) => Some(ScalarInput::Element(x)),
-            None => None,
+            Some(x) => {
+                *input = ScalarInput::Element(x);
+                true
+            }
+            None => false,
         },
         Taken::Truth => match truth(expr, alloc, over, leaves, accums, c) {
-            Some(x) => Some(ScalarInput::Truth(x)),
-            None => None,
+            Some(x) => {
+                *input = ScalarInput::Truth(x);
+                true
+            }
+            None => false,
         },
-        Taken::Tuple(count) => match tuple(expr, alloc, over, leaves, accums, c, count) {
-            Some(fields) => Some(ScalarInput::Tuple(fields)),
-            None => None,
-        },
-        Taken::Keyed(_, _) | Taken::Other => None,
+        Taken::Tuple(count) => read_tuple(expr, alloc, over, leaves, accums, c, count, input),
+        Taken::Keyed(_, _) | Taken::Other => false,
     }
 }
 
 /// Reads an input of `count` INT keys and `part_count` INT parts.
-fn keyed_of(
+fn read_keyed(
     keys: &[Expr],
     parts: &[Feed],
     alloc: Global,
@@ -104,24 +114,26 @@ fn keyed_of(
     c: &Candidate,
     count: usize,
     part_count: usize,
-) -> Option<ScalarInput>
+    input: &mut ScalarInput,
+) -> bool
     requires { AreIn accums.now leaves.now }
-    ensures { IfSome result (IsFed (sees_in gregorian over.now leaves.now accums.now c.now) (Keys (views keys.now) (inputs_of (map view_feed parts.now))) (taken.Keyed count part_count)) }
+    ensures { result ≡ true → IsFed (sees_in gregorian over.now leaves.now accums.now c.now) (Keys (views keys.now) (inputs_of (map view_feed parts.now))) (taken.Keyed count part_count) input.new }
 {
     if keys.len() != count {
-        return None;
+        return false;
     }
     if parts.len() != part_count {
-        return None;
+        return false;
     }
     let mut row = Ints::none();
     if !add_keys(keys, alloc, over, leaves, accums, c, &mut row) {
-        return None;
+        return false;
     }
     if !add_parts(parts, alloc, over, leaves, accums, c, &mut row) {
-        return None;
+        return false;
     }
-    Some(ScalarInput::Keyed(count, row))
+    *input = ScalarInput::Keyed(count, row);
+    true
 }
 
 /// Appends the values of expressions to a row, if all are INTs and there is room.
@@ -208,9 +220,9 @@ fn add_part(
     }
 }
 
-/// Reads the fields of a tuple expression of `count` INTs.
-#[tactic(auto, using(gq_plan_ir::proofs::ViewLaws::view_laws))]
-fn tuple(
+/// Reads an input of a tuple of `count` INTs.
+#[tactic(auto, using(crate::proofs::FedLemmas::one_laws))]
+fn read_tuple(
     expr: &Expr,
     alloc: Global,
     over: &BlockContext<'_>,
@@ -218,32 +230,56 @@ fn tuple(
     accums: &Accums,
     c: &Candidate,
     count: usize,
-) -> Option<Ints>
+    input: &mut ScalarInput,
+) -> bool
     requires { AreIn accums.now leaves.now }
-    ensures { IfSome result (IsTuple (sees_in gregorian over.now leaves.now accums.now c.now) (view expr.now) count) }
+    ensures { result ≡ true → IsFed (sees_in gregorian over.now leaves.now accums.now c.now) (Plain (view expr.now)) (taken.Tuple count) input.new }
+{
+    let mut row = Ints::none();
+    if !add_tuple(expr, alloc, over, leaves, accums, c, count, &mut row) {
+        return false;
+    }
+    *input = ScalarInput::Tuple(row);
+    true
+}
+
+/// Appends the fields of a tuple expression of `count` INTs to an empty row.
+#[tactic(auto, using(gq_plan_ir::proofs::ViewLaws::view_laws))]
+fn add_tuple(
+    expr: &Expr,
+    alloc: Global,
+    over: &BlockContext<'_>,
+    leaves: &Leaves<'_>,
+    accums: &Accums,
+    c: &Candidate,
+    count: usize,
+    row: &mut Ints,
+) -> bool
+    requires sees { AreIn accums.now leaves.now }
+    requires empty { ints_of row.old ≡ [] }
+    ensures { result ≡ true → IsTuple (sees_in gregorian over.now leaves.now accums.now c.now) (view expr.now) count row.new }
 {
     match expr {
         Expr::Call(function, fields) => match function {
-            Function::Tuple(number, _) => {
-                made(
-                    fields.as_slice(),
-                    alloc,
-                    over,
-                    leaves,
-                    accums,
-                    c,
-                    *number,
-                    count,
-                )
-            }
-            Function::Own(_) => None,
+            Function::Tuple(number, _) => add_fields(
+                fields.as_slice(),
+                alloc,
+                over,
+                leaves,
+                accums,
+                c,
+                *number,
+                count,
+                row,
+            ),
+            Function::Own(_) => false,
         },
-        _ => None,
+        _ => false,
     }
 }
 
-/// Reads the fields of a tuple of a type, if they are `count` INTs.
-fn made(
+/// Appends the fields of a tuple of a type to an empty row, if they are `count` INTs.
+fn add_fields(
     fields: &[Expr],
     alloc: Global,
     over: &BlockContext<'_>,
@@ -252,18 +288,16 @@ fn made(
     c: &Candidate,
     number: u32,
     count: usize,
-) -> Option<Ints>
-    requires { AreIn accums.now leaves.now }
-    ensures { IfSome result (IsTuple (sees_in gregorian over.now leaves.now accums.now c.now) (tree.Call (reference.TupleType number) (views fields.now)) count) }
+    row: &mut Ints,
+) -> bool
+    requires sees { AreIn accums.now leaves.now }
+    requires empty { ints_of row.old ≡ [] }
+    ensures { result ≡ true → IsTuple (sees_in gregorian over.now leaves.now accums.now c.now) (tree.Call (reference.TupleType number) (views fields.now)) count row.new }
 {
     if fields.len() != count || !is_of_ints(over, number, count) {
-        return None;
+        return false;
     }
-    let mut row = Ints::none();
-    if !add_keys(fields, alloc, over, leaves, accums, c, &mut row) {
-        return None;
-    }
-    Some(row)
+    add_keys(fields, alloc, over, leaves, accums, c, row)
 }
 
 /// Whether a tuple type has `count` fields, all of type INT.

@@ -1,5 +1,5 @@
 // Feeds inputs made of INTs or a truth.
-ghost use Rattle.std.specs.Prelude.{◌≡◌, [], ◌∷◌, IfOk, OnOk, map};
+ghost use Rattle.std.specs.Prelude.{◌≡◌, [], ◌∷◌, IfOk, OnOk, length, map};
 ghost use Rattle.gq_exec_feed.specs.Feeding.{TakesBatch};
 ghost use Rattle.gq_value.specs.declared.value.Value.TheVariants as value;
 ghost use Rattle.gq_exec_contribute.specs.Scalars.{as_inputs, made_of, one_int};
@@ -60,11 +60,36 @@ fn row_of(alloc: Global, ints: &[i64]) -> Result<Row, OutOfMemory>
 fn refill_row(row: &mut Row, ints: &[i64]) -> Result<(), OutOfMemory>
     ensures { OnOk result (row.new ≡ map value.Int ints.now) }
 {
+    if row.len() == ints.len() {
+        set_row(row, ints);
+        return Ok(());
+    }
     row.truncate(0);
     for x in ints {
         row.push(Value::Int(*x))?;
     }
     Ok(())
+}
+
+/// Replaces the values of a row by as many INTs.
+#[tactic(auto, using(crate::proofs::ScalarLemmas::set_laws))]
+fn set_row(row: &mut Row, ints: &[i64])
+    requires { length row.old ≡ length ints.now }
+    ensures { row.new ≡ map value.Int ints.now }
+{
+    for (place, x) in ints.iter().enumerate() {
+        set_value(row.at_mut(place), *x);
+    }
+}
+
+/// Replaces a value by an INT.
+fn set_value(to: &mut Value, x: i64)
+    ensures { to.new ≡ value.Int x }
+{
+    match to {
+        Value::Int(number) => *number = x,
+        _ => *to = Value::Int(x),
+    }
 }
 
 /// INTs as inputs.
@@ -80,11 +105,36 @@ fn parts_of(alloc: Global, ints: &[i64]) -> Result<Inputs, OutOfMemory>
 fn refill_parts(parts: &mut Inputs, ints: &[i64]) -> Result<(), OutOfMemory>
     ensures { OnOk result (parts.new ≡ map one_int ints.now) }
 {
+    if parts.len() == ints.len() {
+        set_parts(parts, ints);
+        return Ok(());
+    }
     parts.truncate(0);
     for x in ints {
         parts.push(Input::One(Value::Int(*x)))?;
     }
     Ok(())
+}
+
+/// Replaces inputs by as many INTs.
+#[tactic(auto, using(crate::proofs::ScalarLemmas::set_laws))]
+fn set_parts(parts: &mut Inputs, ints: &[i64])
+    requires { length parts.old ≡ length ints.now }
+    ensures { parts.new ≡ map one_int ints.now }
+{
+    for (place, x) in ints.iter().enumerate() {
+        set_part(parts.at_mut(place), *x);
+    }
+}
+
+/// Replaces an input by an INT.
+fn set_part(to: &mut Input, x: i64)
+    ensures { to.new ≡ one_int x }
+{
+    match to {
+        Input::One(value) => set_value(value, x),
+        Input::Keyed(_, _) => *to = Input::One(Value::Int(x)),
+    }
 }
 
 /// Replaces an input, reusing its memory if both have keys or both are tuples.
@@ -130,24 +180,27 @@ pub fn feed_scalars(
 ) -> Result<(), OutOfMemory>
     ensures { OnOk result (TakesBatch accums.old accums.new (as_inputs inputs.now)) }
 {
+    let mut single = Input::Keyed(List::new(alloc), List::new(alloc));
     let mut keyed = Input::Keyed(List::new(alloc), List::new(alloc));
     let mut tuple = Input::One(Value::Tuple(List::new(alloc)));
-    feed_over(alloc, accums, inputs, &mut keyed, &mut tuple)
+    feed_over(alloc, accums, inputs, &mut single, &mut keyed, &mut tuple)
 }
 
-/// Feeds inputs in order. Inputs with keys are made in `keyed`, and tuples in `tuple`, to reuse their memory.
+/// Feeds inputs in order. To reuse memory, inputs with one key are made in `single`, those with more in `keyed`, and
+/// tuples in `tuple`: so the rows of a map and of a group, fed in turn, keep their lengths.
 #[tactic(auto, using(crate::proofs::ScalarLemmas::feed_laws))]
 fn feed_over(
     alloc: Global,
     accums: &mut Accums,
     inputs: &[(u64, ScalarInput)],
+    single: &mut Input,
     keyed: &mut Input,
     tuple: &mut Input,
 ) -> Result<(), OutOfMemory>
     ensures { OnOk result (TakesBatch accums.old accums.new (as_inputs inputs.now)) }
 {
     for (target, x) in inputs {
-        feed_scalar(alloc, accums, *target, x, keyed, tuple)?;
+        feed_scalar(alloc, accums, *target, x, single, keyed, tuple)?;
     }
     Ok(())
 }
@@ -158,6 +211,7 @@ fn feed_scalar(
     accums: &mut Accums,
     target: u64,
     x: &ScalarInput,
+    single: &mut Input,
     keyed: &mut Input,
     tuple: &mut Input,
 ) -> Result<(), OutOfMemory>
@@ -170,6 +224,7 @@ fn feed_scalar(
             feed_all(alloc, accums, &[(target, input)])
         }
         ScalarInput::Tuple(_) => feed_made(alloc, accums, target, x, tuple),
+        ScalarInput::Keyed(1, _) => feed_made(alloc, accums, target, x, single),
         ScalarInput::Keyed(_, _) => feed_made(alloc, accums, target, x, keyed),
     }
 }

@@ -53,7 +53,21 @@ pub fn added_at(
             None => None,
             Some(cells) => {
                 let c = only_source(vertex);
-                read(feed, alloc, over, leaves, accums, &c, cells.takes)
+                let mut input = ScalarInput::Int(0);
+                if read(
+                    feed,
+                    alloc,
+                    over,
+                    leaves,
+                    accums,
+                    &c,
+                    cells.takes,
+                    &mut input,
+                ) {
+                    Some(input)
+                } else {
+                    None
+                }
             }
         },
     }

@@ -1,4 +1,4 @@
-use Rattle.std.proofs.Common.{IfSome, ap, subst, sym}
+use Rattle.std.proofs.Common.{ap, subst, sym}
 use Rattle.gq_rules_calendar.specs.Gregorian.{gregorian}
 use Rattle.gq_frame.specs.declared.accums.Accums.{Accums}
 use Rattle.gq_plan_ir.specs.BlockView.{view_feed}
@@ -14,4 +14,4 @@ read-requires c = record {
 }
 
 pub returns : goal.returns
-returns c = subst (λ (a : Accums). IfSome c.read.result (IsFed (sees_in gregorian c.args.over.now c.args.leaves.now a c.args.c.now) (view_feed c.args.feed.now) c.args.takes)) (ap (λ (o : Over). o.frame.accums) c.over.view_is) c.read.ensures
+returns c = λ t. subst (λ (a : Accums). IsFed (sees_in gregorian c.args.over.now c.args.leaves.now a c.args.c.now) (view_feed c.args.feed.now) c.args.takes c.read.new.input) (ap (λ (o : Over). o.frame.accums) c.over.view_is) (c.read.ensures t)

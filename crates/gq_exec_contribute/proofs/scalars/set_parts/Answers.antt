@@ -1,0 +1,17 @@
+use Rattle.std.proofs.Common.{FitsSigned, ap, get_or, pos, refl, rules, ◌∙◌}
+use Rattle.std.specs.Int.{w64}
+use Rattle.std.proofs.lemmas.Int.{to_z-of_z}
+use Rattle.gq_exec_contribute.specs.Scalars.{one_int}
+use Rattle.gq_exec_contribute.proofs.ScalarLemmas.{set_first, set_next, set_all}
+use Rattle.gq_exec_contribute.proofs.scalars.set_parts.Goals as goal
+
+pub loop-place-init : goal.loop-place-init
+loop-place-init c = set_first one_int c.args.ints.now c.args.parts.now
+
+pub loop-place-preserved : goal.loop-place-preserved
+loop-place-preserved c =
+    let fits : FitsSigned w64 (get_or c.args.ints.now c.loop-place.place (pos 0)) = search rules in
+    set_next one_int _ c.args.parts.now _ _ _ _ _ _ c.requires c.loop-place-test.true refl (c.set_part.ensures ∙ ap one_int (to_z-of_z w64 _ fits)) refl c.loop-place.invariant
+
+pub returns : goal.returns
+returns c = set_all one_int c.args.ints.now c.args.parts.now c.loop-place.parts c.loop-place.place c.requires (search rules) c.loop-place.invariant
