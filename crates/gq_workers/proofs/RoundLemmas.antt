@@ -23,8 +23,9 @@ use Rattle.gq_workers.specs.declared.run.BlockProgress.{BlockProgress}
 use Rattle.gq_workers.specs.declared.work.Work.{Work}
 use Rattle.gq_workers.specs.declared.work.ChunkOutput.{ChunkOutput}
 use Rattle.gq_workers.specs.declared.work.WorkerOutput.{WorkerOutput}
-use Rattle.gq_workers.specs.Running.{come, matches_by, sources_of, targets_of, Wait, FedFrom, IsAtEnd, Cover, CoverWhole, Mark, AreMarked, IsEmpty, IsOpened, IsShaped, Came, GoneThrough, HasRun, Steps}
-use Rattle.gq_workers.specs.Rounds.{IsLeft, Only, IsPart, LeavesChunk, Joins, MarksPart, AreLefts, MarksParts, StandsIn, InRound, Feeds, FeedsLeft, FeedsParts}
+use Rattle.gq_workers.specs.declared.work.RoundOutput.{RoundOutput}
+use Rattle.gq_workers.specs.Running.{come, matches_by, sources_of, targets_of, Wait, FedFrom, IsAtEnd, Cover, CoverWhole, Mark, AreMarked, IsEmpty, IsOpened, IsShaped, Came, GoneThrough, HasRun}
+use Rattle.gq_workers.specs.Rounds.{IsLeft, Only, IsPart, LeavesChunk, Joins, MarksPart, AreLefts, MarksParts, StandsIn, InRound, Feeds, FeedsLeft, FeedsParts, IsAhead, EndsAt, FeedsRound, GoesOn, RunsOut}
 use Rattle.gq_workers.proofs.FoundLemmas.{shaped_still}
 use Rattle.gq_workers.proofs.MarkLemmas.{below_or_not, true_or_false, or_first, or_second, of_or, not_both}
 use Rattle.gq_exec_contribute.specs.declared.scalars.ScalarInput.{ScalarInput}
@@ -313,11 +314,11 @@ module _ (clock : Calendar) (o : Over) (w : Work) (last : ℕ) (parts : List (Re
     targets = λ p v low high e. (marks.targets clock o w old.at last are).kept v (h.targets.cover p v low (let s = at in omega (arith, high, s)) e);
   }
 
-  pub round_faults : (f : ℕ × Wrong) → HasRun clock o w old → AreParts clock o w old.at last parts → MarksParts parts old.found mid.found → mid.at ≡ old.at → mid.accums ≡ old.accums → mid.fed ≡ old.fed → FeedsParts parts mid new (Some f) → Steps clock o w old new (Some f)
+  pub round_faults : (f : ℕ × Wrong) → HasRun clock o w old → AreParts clock o w old.at last parts → MarksParts parts old.found mid.found → mid.at ≡ old.at → mid.accums ≡ old.accums → mid.fed ≡ old.fed → FeedsParts parts mid new (Some f) → EndsAt clock o w last new (Some f)
   round_faults f h are marks at accums fed feeds = feeds.each clock o w (begins h are marks at accums fed) (marks.lefts clock o w old.at last are)
 
-  pub round_steps : HasRun clock o w old → AreParts clock o w old.at last parts → MarksParts parts old.found mid.found → mid.at ≡ old.at → mid.accums ≡ old.accums → mid.fed ≡ old.fed → FeedsParts parts mid new None → new.at ≡ last → old.at < last → Steps clock o w old new None
-  round_steps h are marks at accums fed feeds end more =
+  pub round_done : HasRun clock o w old → AreParts clock o w old.at last parts → MarksParts parts old.found mid.found → mid.at ≡ old.at → mid.accums ≡ old.accums → mid.fed ≡ old.fed → FeedsParts parts mid new None → new.at ≡ last → old.at ≤ last → EndsAt clock o w last new None
+  round_done h are marks at accums fed feeds end more =
       let r = feeds.each clock o w (begins h are marks at accums fed) (marks.lefts clock o w old.at last are) in (
         record {
           matched = r.0.matched;
@@ -328,7 +329,7 @@ module _ (clock : Calendar) (o : Over) (w : Work) (last : ℕ) (parts : List (Re
           sources = marked sources_of new.found.sources r.0.sources (λ v t. from sources_of old.found.sources mid.found.sources h.sources (marks.sources clock o w old.at last are) v (ap (λ (x : MatchBuffer). is_marked x.sources v) (sym r.1) ∙ t));
           targets = marked targets_of new.found.targets r.0.targets (λ v t. from targets_of old.found.targets mid.found.targets h.targets (marks.targets clock o w old.at last are) v (ap (λ (x : MatchBuffer). is_marked x.targets v) (sym r.1) ∙ t));
         },
-        omega (arith, end, more),
+        end,
       )
     where
       from : (f : List Match → List ℕ) (a b : List ℕ) → AreMarked f (come clock o w) w.candidates old.at a → Mark f (come clock o w) w.candidates old.at last a b → (v : ℕ) → is_marked b v ≡ true → (place : ℕ) × (place < last) × IsAtEnd f (come clock o w) w.candidates place v
@@ -340,3 +341,53 @@ module _ (clock : Calendar) (o : Over) (w : Work) (last : ℕ) (parts : List (Re
 
       marked : (f : List Match → List ℕ) (words : List ℕ) → Cover f (come clock o w) w.candidates 0 new.at words → ((v : ℕ) → is_marked words v ≡ true → (place : ℕ) × (place < last) × IsAtEnd f (come clock o w) w.candidates place v) → AreMarked f (come clock o w) w.candidates new.at words
       marked f words cover only = record { cover = cover; only = λ v t. let q = only v t in let high = q.1 in (q.0, omega (arith, high, end), q.2) }
+
+module _ (g : RoundOutput) (parts : List (Result WorkerOutput OutOfMemory)) (old mid new : BlockProgress) where
+  tried : (clock : Calendar) (o : Over) (w : Work) → parts ≡ g.parts.items → IsAhead clock o w old g → AreParts clock o w old.at g.last parts
+  tried clock o w listed ahead = subst (λ (n : ℕ). AreParts clock o w n g.last parts) ahead.next (subst (AreParts clock o w g.first g.last) (sym listed) ahead.parts)
+
+  pub feeds_round_fault : (f : ℕ × Wrong) → parts ≡ g.parts.items → MarksParts parts old.found mid.found → mid.at ≡ old.at → mid.accums ≡ old.accums → mid.fed ≡ old.fed → FeedsParts parts mid new (Some f) → FeedsRound g old new (Some f)
+  feeds_round_fault f listed marks at accums fed feeds = record {
+    each = λ clock o w h ahead. round_faults clock o w g.last parts old mid new f h (tried clock o w listed ahead) marks at accums fed feeds;
+  }
+
+  pub feeds_round : parts ≡ g.parts.items → MarksParts parts old.found mid.found → mid.at ≡ old.at → mid.accums ≡ old.accums → mid.fed ≡ old.fed → FeedsParts parts mid new None → new.at ≡ g.last → FeedsRound g old new None
+  feeds_round listed marks at accums fed feeds end = record {
+    each = λ clock o w h ahead. let next = ahead.next in let forward = ahead.forward in round_done clock o w g.last parts old mid new h (tried clock o w listed ahead) marks at accums fed feeds end (omega (arith, next, forward));
+  }
+
+module _ (clock : Calendar) (o : Over) (w : Work) where
+  -- before the first round nothing is ahead
+  pub none_ahead : (r : BlockProgress) (g : RoundOutput) → g.first ≡ r.at → g.last ≡ r.at → g.parts.items ≡ [] → IsAhead clock o w r g
+  none_ahead r g first last none = record {
+    next = first;
+    forward = omega (arith, first, last);
+    parts = subst (AreParts clock o w g.first g.last) (sym none) (All-nil (λ part. IfOk part (IsPart clock o w g.first g.last)));
+  }
+
+  pub round_on : (old new : BlockProgress) (g next : RoundOutput) → HasRun clock o w old → IsAhead clock o w old g → FeedsRound g old new None → next.first ≡ g.last → g.last < next.last → AreParts clock o w next.first next.last next.parts.items → GoesOn clock o w g.last new next None
+  round_on old new g next h ahead fed first more parts = let end = fed.each clock o w h ahead in let at = end.1 in (
+    end.0,
+    record { next = first ∙ sym at; forward = omega (arith, first, more); parts = parts },
+    more,
+  )
+
+  pub round_stops : (old new : BlockProgress) (g : RoundOutput) (f : ℕ × Wrong) → HasRun clock o w old → IsAhead clock o w old g → FeedsRound g old new (Some f) → GoesOn clock o w g.last new g (Some f)
+  round_stops old new g f h ahead fed = fed.each clock o w h ahead
+
+  pub runs_out : (old new : BlockProgress) (g : RoundOutput) (f : Option (ℕ × Wrong)) → HasRun clock o w old → IsAhead clock o w old g → length w.candidates ≤ g.last → FeedsRound g old new f → RunsOut clock o w new f
+  runs_out old new g f h ahead far fed = by f (fed.each clock o w h ahead)
+    where
+      by : (f : Option (ℕ × Wrong)) → EndsAt clock o w g.last new f → RunsOut clock o w new f
+      by None e = let at = e.1 in (e.0, omega (arith, at, far))
+      by (Some x) e = e
+
+  pub runs_out_ok : (old new : BlockProgress) (g : RoundOutput) (r : Result (Option (ℕ × Wrong)) OutOfMemory) → HasRun clock o w old → IsAhead clock o w old g → length w.candidates ≤ g.last → IfOk r (FeedsRound g old new) → IfOk r (RunsOut clock o w new)
+  runs_out_ok old new g (Ok f) h ahead far fed = runs_out old new g f h ahead far fed
+  runs_out_ok old new g (Err e) h ahead far fed = tt
+
+-- ---- two answers
+
+pub both_ok : {A B T : Type 0} (P : A → Type 0) (Q : B → Type 0) (x : Result A OutOfMemory) (y : Result B OutOfMemory) (a : T → A) (b : T → B) (result : Result T OutOfMemory) → IfOk x P → IfOk y Q → IfOk result (λ t. (x ≡ Ok (a t)) × (y ≡ Ok (b t))) → IfOk result (λ t. P (a t) × Q (b t))
+both_ok P Q x y a b (Ok t) p q h = (subst (λ r. IfOk r P) h.0 p, subst (λ r. IfOk r Q) h.1 q)
+both_ok P Q x y a b (Err e) p q h = tt

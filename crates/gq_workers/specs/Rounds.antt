@@ -13,8 +13,9 @@ use Rattle.gq_workers.specs.declared.work.Work.{Work}
 use Rattle.gq_workers.specs.declared.work.ChunkOutput.{ChunkOutput}
 use Rattle.gq_workers.specs.declared.work.WorkerOutput.{WorkerOutput}
 use Rattle.gq_workers.specs.declared.work.Round.{Round}
+use Rattle.gq_workers.specs.declared.work.RoundOutput.{RoundOutput}
 use Rattle.gq_workers.specs.declared.run.BlockProgress.{BlockProgress}
-use Rattle.gq_workers.specs.Running.{come, matches_by, sources_of, targets_of, MatchesTo, AreFedTo, Came, Cover, CoverWhole, Mark, IsAtEnd, IsEmpty, IsShaped, IsWork}
+use Rattle.gq_workers.specs.Running.{come, matches_by, sources_of, targets_of, MatchesTo, AreFedTo, Came, Cover, CoverWhole, HasRun, Mark, IsAtEnd, IsEmpty, IsShaped, IsWork}
 
 -- ---- the outputs of workers
 
@@ -107,3 +108,29 @@ pub record FeedsLeft (l : ChunkOutput) (old new : BlockProgress) (fault : Option
 
 pub record FeedsParts (parts : List (Result WorkerOutput OutOfMemory)) (old new : BlockProgress) (fault : Option (ℕ × Wrong)) : Type 0 where
   pub each : (clock : Calendar) (o : Over) (w : Work) → InRound clock o w old → AreLefts clock o w old.found.sources old.found.targets parts → Feeds clock o w old new fault
+
+-- ---- rounds
+
+-- a round comes after the candidates that are done, and its candidates are tried
+pub record IsAhead (clock : Calendar) (o : Over) (w : Work) (r : BlockProgress) (g : RoundOutput) : Type 0 where
+  pub next : g.first ≡ r.at
+  pub forward : g.first ≤ g.last
+  pub parts : All (λ part. IfOk part (IsPart clock o w g.first g.last)) g.parts.items
+
+-- the candidates of a round are done too, or the first fault is returned
+abbrev pub EndsAt : Calendar → Over → Work → ℕ → BlockProgress → Option (ℕ × Wrong) → Type 0
+EndsAt clock o w last new None = HasRun clock o w new × (new.at ≡ last)
+EndsAt clock o w last new (Some fault) = matches_by (come clock o w) 0 w.candidates ≡ Faults (AtPlace fault.0 fault.1)
+
+pub record FeedsRound (g : RoundOutput) (old new : BlockProgress) (fault : Option (ℕ × Wrong)) : Type 0 where
+  pub each : (clock : Calendar) (o : Over) (w : Work) → HasRun clock o w old → IsAhead clock o w old g → EndsAt clock o w g.last new fault
+
+-- one round is done and a later one is tried, or the first fault is returned
+abbrev pub GoesOn : Calendar → Over → Work → ℕ → BlockProgress → RoundOutput → Option (ℕ × Wrong) → Type 0
+GoesOn clock o w last new ahead None = HasRun clock o w new × IsAhead clock o w new ahead × (last < ahead.last)
+GoesOn clock o w last new ahead (Some fault) = matches_by (come clock o w) 0 w.candidates ≡ Faults (AtPlace fault.0 fault.1)
+
+-- all candidates are done, or the first fault is returned
+abbrev pub RunsOut : Calendar → Over → Work → BlockProgress → Option (ℕ × Wrong) → Type 0
+RunsOut clock o w new None = HasRun clock o w new × (length w.candidates ≤ new.at)
+RunsOut clock o w new (Some fault) = matches_by (come clock o w) 0 w.candidates ≡ Faults (AtPlace fault.0 fault.1)

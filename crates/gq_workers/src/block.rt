@@ -9,7 +9,7 @@ ghost use Rattle.gq_workers.specs.Running.{IsWork, HasRun, Steps};
 use crate::chunk::try_chunk;
 use crate::run::{BlockProgress, feed, judged};
 use crate::work::Work;
-use crate::workers::next_round;
+use crate::workers::try_rounds;
 use gq_base::OutOfMemory;
 use gq_eval_context::{After, BlockContext, BlockFault};
 use gq_exec_contribute::leaves_of;
@@ -115,36 +115,53 @@ fn through<R: Threads + Sync, G: Gate>(
     requires { IsWork over.now work.now }
     ensures { IfOk result (RanTo gregorian over.now work.now.block.now) }
 {
-    let mut run = BlockProgress::open(alloc, over)?;
-    while run.at < work.candidates.count() {
-        match go_on(rt, alloc, work, over, workers, gate, &mut run)? {
-            Some((at, fault)) => return Ok(Ran::Fault(at, fault)),
-            None => {}
-        }
+    let run = BlockProgress::open(alloc, over)?;
+    if workers <= 1 || work.size >= work.candidates.count() {
+        in_chunks(alloc, work, over, gate, run)
+    } else {
+        in_rounds(rt, alloc, work, over, workers.min(64), gate, run)
     }
-    Ok(Ran::Done(run))
 }
 
-/// Runs the next chunk on this thread, or the next round of several workers: all its chunks are tried and fed, or one
-/// of its candidates is the first that faults.
-fn go_on<R: Threads + Sync, G: Gate>(
+/// Tries the candidates with several workers.
+fn in_rounds<R: Threads + Sync, G: Gate>(
     rt: &R,
     alloc: Global,
     work: &Work<'_>,
     over: &BlockContext<'_>,
     workers: u32,
     gate: &G,
-    run: &mut BlockProgress,
-) -> Result<Option<(u64, Wrong)>, OutOfMemory>
+    mut run: BlockProgress,
+) -> Result<Ran, OutOfMemory>
     requires work { IsWork over.now work.now }
-    requires run { HasRun gregorian over.now work.now run.old }
-    requires more { run.old.at < length work.now.candidates }
-    ensures { IfOk result (Steps gregorian over.now work.now run.old run.new) }
+    requires run { HasRun gregorian over.now work.now run }
+    ensures { IfOk result (RanTo gregorian over.now work.now.block.now) }
 {
-    if workers <= 1 || work.size >= work.candidates.count() {
-        return next_chunk(alloc, work, over, gate, run);
+    match try_rounds(rt, alloc, work, over, workers, gate, &mut run)? {
+        Some((at, fault)) => Ok(Ran::Fault(at, fault)),
+        None => Ok(Ran::Done(run)),
     }
-    next_round(rt, alloc, work, over, workers.min(64), gate, run)
+}
+
+/// Tries the candidates on this thread.
+fn in_chunks<G: Gate>(
+    alloc: Global,
+    work: &Work<'_>,
+    over: &BlockContext<'_>,
+    gate: &G,
+    mut run: BlockProgress,
+) -> Result<Ran, OutOfMemory>
+    requires work { IsWork over.now work.now }
+    requires run { HasRun gregorian over.now work.now run }
+    ensures { IfOk result (RanTo gregorian over.now work.now.block.now) }
+{
+    while run.at < work.candidates.count() {
+        match next_chunk(alloc, work, over, gate, &mut run)? {
+            Some((at, fault)) => return Ok(Ran::Fault(at, fault)),
+            None => {}
+        }
+    }
+    Ok(Ran::Done(run))
 }
 
 /// Tries the next chunk on this thread, and feeds its contributions. The gate is passed as worker 0.

@@ -1,18 +1,41 @@
 // Combines the outputs of workers.
 ghost use Rattle.std.specs.Prelude.{IfOk, OnOk};
-ghost use Rattle.gq_workers.specs.Rounds.{FeedsLeft, FeedsParts, Joins, MarksPart, MarksParts};
+ghost use Rattle.gq_workers.specs.Rounds.{FeedsLeft, FeedsParts, FeedsRound, Joins, MarksPart, MarksParts};
 
 use crate::found::MatchBuffer;
-use crate::order::{Spot, left_at};
+use crate::order::{Spot, in_order, left_at};
 use crate::run::{BlockProgress, feed};
-use crate::work::{ChunkOutput, WorkerOutput};
+use crate::work::{ChunkOutput, RoundOutput, WorkerOutput};
 use gq_base::{List, OutOfMemory};
 use gq_value::Wrong;
 use std::alloc::Global;
 
+/// Sets the marks of a round and feeds its contributions in order, or returns its first fault. A chunk that is missing is
+/// `OutOfMemory`; this never happens.
+pub(crate) fn feed_round(
+    alloc: Global,
+    round: &RoundOutput,
+    size: u64,
+    run: &mut BlockProgress,
+) -> Result<Option<(u64, Wrong)>, OutOfMemory>
+    ensures { IfOk result (FeedsRound round.now run.old run.new) }
+{
+    let parts = round.parts.as_slice();
+    let order = in_order(alloc, parts, round.first, round.last, size)?;
+    mark_parts(parts, &mut run.found)?;
+    match feed_parts(alloc, parts, order.as_slice(), run)? {
+        Some(fault) => return Ok(Some(fault)),
+        None => {}
+    }
+    if run.at != round.last {
+        return Err(OutOfMemory);
+    }
+    Ok(None)
+}
+
 /// Sets the marks of all workers.
 #[tactic(auto, using(crate::proofs::RoundLemmas::marks_laws))]
-pub(crate) fn mark_parts(
+fn mark_parts(
     parts: &[Result<WorkerOutput, OutOfMemory>],
     found: &mut MatchBuffer,
 ) -> Result<(), OutOfMemory>
@@ -53,7 +76,7 @@ fn join(words: &mut List<u64>, other: &[u64]) -> Result<(), OutOfMemory>
 
 /// Feeds the outputs of all chunks, in order, up to the first that has a fault.
 #[tactic(auto, using(crate::proofs::RoundLemmas::feeds_laws))]
-pub(crate) fn feed_parts(
+fn feed_parts(
     alloc: Global,
     parts: &[Result<WorkerOutput, OutOfMemory>],
     order: &[Option<Spot>],

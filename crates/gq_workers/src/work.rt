@@ -1,5 +1,5 @@
 // The work of a run, and the outputs of workers.
-use gq_base::List;
+use gq_base::{List, OutOfMemory};
 use gq_core::Batches;
 use gq_eval_attributes::TupleType;
 use gq_exec_contribute::{Leaves, ScalarInput};
@@ -53,4 +53,45 @@ pub(crate) struct WorkerOutput {
     pub lefts: List<ChunkOutput>,
     pub sources: List<u64>,
     pub targets: List<u64>,
+}
+
+/// The output of the workers of a round, for the candidates from `first` up to `last`.
+#[derive(Drop)]
+pub(crate) struct RoundOutput {
+    pub first: u64,
+    pub last: u64,
+    pub parts: Vec<Result<WorkerOutput, OutOfMemory>>,
+}
+
+impl RoundOutput {
+    /// The number of contributions that wait to be fed.
+    pub fn waiting(&self) -> u64 {
+        let mut count = 0u64;
+        for part in self.parts.as_slice() {
+            match part {
+                Ok(part) => count = count.saturating_add(waiting_in(part.lefts.as_slice())),
+                Err(OutOfMemory) => {}
+            }
+        }
+        count
+    }
+}
+
+/// The number of contributions of these chunks.
+fn waiting_in(lefts: &[ChunkOutput]) -> u64 {
+    let mut count = 0u64;
+    for left in lefts {
+        if left.batches.stripes() > 0 {
+            count = count.saturating_add(left.batches.at(0).len() as u64);
+        }
+        count = count.saturating_add(left.inputs.len() as u64);
+    }
+    count
+}
+
+/// The output of one round, which was tried, and the first fault of the round before, which was fed meanwhile.
+#[derive(Drop)]
+pub(crate) struct Turn {
+    pub parts: Vec<Result<WorkerOutput, OutOfMemory>>,
+    pub fault: Option<(u64, Wrong)>,
 }

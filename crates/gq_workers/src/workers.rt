@@ -1,15 +1,14 @@
 // Several workers.
-ghost use Rattle.std.specs.Prelude.{◌<◌, ◌≤◌, length, All, IfOk};
+ghost use Rattle.std.specs.Prelude.{◌≡◌, ◌<◌, ◌≤◌, length, All, IfOk, Ok};
 ghost use Rattle.gq_rules_calendar.specs.Gregorian.{gregorian};
-ghost use Rattle.gq_workers.specs.Running.{HasRun, IsEmpty, IsShaped, IsWork, Steps};
-ghost use Rattle.gq_workers.specs.Rounds.{CanWork, IsPart, IsRoundPart, LeavesChunk};
+ghost use Rattle.gq_workers.specs.Running.{HasRun, IsEmpty, IsShaped, IsWork};
+ghost use Rattle.gq_workers.specs.Rounds.{CanWork, FeedsRound, GoesOn, IsAhead, IsPart, IsRoundPart, LeavesChunk, RunsOut};
 
 use crate::chunk::try_chunk;
 use crate::found::MatchBuffer;
-use crate::joining::{feed_parts, mark_parts};
-use crate::order::in_order;
+use crate::joining::feed_round;
 use crate::run::BlockProgress;
-use crate::work::{ChunkOutput, Round, Work, WorkerOutput};
+use crate::work::{ChunkOutput, Round, RoundOutput, Turn, Work, WorkerOutput};
 use gq_base::{List, OutOfMemory};
 use gq_core::Batches;
 use gq_eval_context::BlockContext;
@@ -17,15 +16,22 @@ use gq_io::Gate;
 use gq_value::Wrong;
 use std::alloc::Global;
 use std::sync::atomic::{AtomicU64, Ordering};
-use std::thread::Threads;
+use std::thread::{Threads, join_mut};
 use std::{mem, thread};
 
-/// The approximate number of candidates of a round. Their contributions wait until the round is over: some 4 MB, at
-/// one input each.
+/// About how many contributions of a round wait to be fed: some 6 MB, at one input each. Those of two rounds may wait.
 const WAITING: u64 = 1 << 16;
 
-/// Tries the next chunks with several workers, at most 64 of them, and then feeds their contributions, in order.
-pub(crate) fn next_round<R: Threads + Sync, G: Gate>(
+/// With many workers more contributions wait, at least so many for each: starting a thread takes as long as some hundred
+/// candidates.
+const FOR_A_WORKER: u64 = 1 << 12;
+
+/// The most candidates of a round, however few of them contribute.
+const MOST_CANDIDATES: u64 = 1 << 20;
+
+/// Tries all candidates with several workers, at most 64 of them, round by round. While they try those of a round, the
+/// contributions of the round before are fed, in order.
+pub(crate) fn try_rounds<R: Threads + Sync, G: Gate>(
     rt: &R,
     alloc: Global,
     work: &Work<'_>,
@@ -36,12 +42,57 @@ pub(crate) fn next_round<R: Threads + Sync, G: Gate>(
 ) -> Result<Option<(u64, Wrong)>, OutOfMemory>
     requires work { IsWork over.now work.now }
     requires run { HasRun gregorian over.now work.now run.old }
-    requires more { run.old.at < length work.now.candidates }
-    ensures { IfOk result (Steps gregorian over.now work.now run.old run.new) }
+    ensures { IfOk result (RunsOut gregorian over.now work.now run.new) }
 {
-    let first = run.at;
+    let waiting = FOR_A_WORKER.saturating_mul(u64::from(workers)).max(WAITING);
+    let mut size = waiting;
+    let mut ahead = RoundOutput {
+        first: run.at,
+        last: run.at,
+        parts: Vec::new(alloc),
+    };
+    while ahead.last < work.candidates.count() {
+        match next_round(rt, alloc, work, over, size, workers, gate, run, &mut ahead)? {
+            Some(fault) => return Ok(Some(fault)),
+            None => {}
+        }
+        size = next_size(size, ahead.waiting(), waiting);
+    }
+    feed_round(alloc, &ahead, work.size, run)
+}
+
+/// The number of candidates of the next round: more than of the last one if few contributions wait, and fewer if many do.
+fn next_size(size: u64, waiting: u64, wanted: u64) -> u64 {
+    if waiting < wanted / 2 {
+        size.saturating_mul(2).min(MOST_CANDIDATES)
+    } else if waiting / 2 > wanted {
+        size / 2
+    } else {
+        size
+    }
+}
+
+/// Tries the candidates of the next round, about `size` of them, while the contributions of the round before are fed.
+fn next_round<R: Threads + Sync, G: Gate>(
+    rt: &R,
+    alloc: Global,
+    work: &Work<'_>,
+    over: &BlockContext<'_>,
+    size: u64,
+    workers: u32,
+    gate: &G,
+    run: &mut BlockProgress,
+    ahead: &mut RoundOutput,
+) -> Result<Option<(u64, Wrong)>, OutOfMemory>
+    requires work { IsWork over.now work.now }
+    requires run { HasRun gregorian over.now work.now run.old }
+    requires ahead { IsAhead gregorian over.now work.now run.old ahead.old }
+    requires more { ahead.old.last < length work.now.candidates }
+    ensures { IfOk result (GoesOn gregorian over.now work.now ahead.old.last run.new ahead.new) }
+{
+    let first = ahead.last;
     // At least a chunk for each worker, also if chunks are large.
-    let most = (WAITING / work.size).max(u64::from(workers));
+    let most = (size / work.size).max(u64::from(workers));
     let round = work.size.saturating_mul(most).max(work.size);
     let last = first.saturating_add(round).min(work.candidates.count());
     let shared = Round {
@@ -53,19 +104,83 @@ pub(crate) fn next_round<R: Threads + Sync, G: Gate>(
         first,
         last,
     };
-    let chunks = last.saturating_sub(first).div_ceil(work.size);
-    let workers = u64::from(workers).min(chunks);
-    let parts = gathered::<R, G>(rt, alloc, &shared, workers, gate)?;
-    let order = in_order(alloc, parts.as_slice(), first, last, work.size)?;
-    mark_parts(parts.as_slice(), &mut run.found)?;
-    match feed_parts(alloc, parts.as_slice(), order.as_slice(), run)? {
+    let turn = one_turn::<R, G>(rt, alloc, &shared, workers, gate, ahead, run)?;
+    match turn.fault {
         Some(fault) => return Ok(Some(fault)),
         None => {}
     }
-    if run.at != last {
-        return Err(OutOfMemory);
-    }
+    *ahead = RoundOutput {
+        first,
+        last,
+        parts: turn.parts,
+    };
     Ok(None)
+}
+
+/// Returns the outputs of the workers of a round, and what feeding what waits gave.
+fn one_turn<R: Threads + Sync, G: Gate>(
+    rt: &R,
+    alloc: Global,
+    round: &Round<'_>,
+    workers: u32,
+    gate: &G,
+    ahead: &RoundOutput,
+    run: &mut BlockProgress,
+) -> Result<Turn, OutOfMemory>
+    requires { CanWork round.now }
+    ensures { IfOk result (λ turn. All (λ part. IfOk part (IsRoundPart gregorian round.now)) turn.parts.items × FeedsRound ahead.now run.old run.new turn.fault) }
+{
+    joined(gather_and_feed::<R, G>(rt, alloc, round, workers, gate, ahead, run))
+}
+
+/// Returns what both gave.
+fn joined(
+    both: (
+        Result<Vec<Result<WorkerOutput, OutOfMemory>>, OutOfMemory>,
+        Result<Option<(u64, Wrong)>, OutOfMemory>,
+    ),
+) -> Result<Turn, OutOfMemory>
+    ensures { IfOk result (λ turn. (both.0 ≡ Ok turn.parts) × (both.1 ≡ Ok turn.fault)) }
+{
+    let (parts, fed) = both;
+    match parts {
+        Err(OutOfMemory) => Err(OutOfMemory),
+        Ok(parts) => match fed {
+            Err(OutOfMemory) => Err(OutOfMemory),
+            Ok(fault) => Ok(Turn { parts, fault }),
+        },
+    }
+}
+
+/// Returns the outputs of the workers of a round. Meanwhile this thread feeds what waits.
+fn gather_and_feed<R: Threads + Sync, G: Gate>(
+    rt: &R,
+    alloc: Global,
+    round: &Round<'_>,
+    workers: u32,
+    gate: &G,
+    ahead: &RoundOutput,
+    run: &mut BlockProgress,
+) -> (
+    Result<Vec<Result<WorkerOutput, OutOfMemory>>, OutOfMemory>,
+    Result<Option<(u64, Wrong)>, OutOfMemory>,
+)
+    requires { CanWork round.now }
+    ensures parts { IfOk result.0 (λ parts. All (λ part. IfOk part (IsRoundPart gregorian round.now)) parts.items) }
+    ensures fed { IfOk result.1 (FeedsRound ahead.now run.old run.new) }
+{
+    let size = round.work.size;
+    if ahead.first >= ahead.last {
+        // Nothing waits before the first round.
+        let fed = feed_round(alloc, ahead, size, run);
+        return (gathered::<R, G>(rt, alloc, round, workers, gate), fed);
+    }
+    let mut gather = || -> Result<Vec<Result<WorkerOutput, OutOfMemory>>, OutOfMemory>
+        requires { CanWork round.now }
+        ensures { IfOk result (λ parts. All (λ part. IfOk part (IsRoundPart gregorian round.entry.now)) parts.items) }
+    { gathered::<R, G>(rt, alloc, round, workers, gate) };
+    let mut feed = || feed_round(alloc, ahead, size, run);
+    join_mut(rt, &mut gather, &mut feed)
 }
 
 /// Returns the outputs of the workers of a round: each draws chunk after chunk.
@@ -73,12 +188,17 @@ fn gathered<R: Threads + Sync, G: Gate>(
     rt: &R,
     alloc: Global,
     round: &Round<'_>,
-    workers: u64,
+    workers: u32,
     gate: &G,
 ) -> Result<Vec<Result<WorkerOutput, OutOfMemory>>, OutOfMemory>
     requires { CanWork round.now }
     ensures { IfOk result (λ parts. All (λ part. IfOk part (IsRoundPart gregorian round.now)) parts.items) }
 {
+    let chunks = round
+        .last
+        .saturating_sub(round.first)
+        .div_ceil(round.work.size.max(1));
+    let workers = u64::from(workers).min(chunks);
     let next = AtomicU64::new(0);
     let draws = &next;
     let part = |worker: usize| -> Result<WorkerOutput, OutOfMemory>

@@ -10,7 +10,7 @@ pub map_indices-requires-send-X : goal.map_indices-requires-send-X
 map_indices-requires-send-X g c = search (part_send, sendable) depth 20
 
 -- a separate lemma, without the many facts of the context
-closure_sync : (g : given.Over) (κs : _) → IsSync (row.G-row g.row.R g.row.G) → IsSync (denote.Param.param 3 (env.arg-1-3 g.row.R g.row.G g.R.laws g.G.laws g.R.Threads-dict g.G.Gate-dict κs))
+closure_sync : (g : given.Over) (κs : _) → IsSync (row.G-row g.row.R g.row.G) → IsSync (denote.Param.param 3 (env.arg-6-3 g.row.R g.row.G g.R.laws g.G.laws g.R.Threads-dict g.G.Gate-dict κs))
 closure_sync g κs gate = search (round_sync, sync, crosses, sendable) depth 40 fits 50000
 
 pub map_indices-requires-sync-F : goal.map_indices-requires-sync-F
