@@ -13,6 +13,10 @@ from script import Reference, script_text
 SHAPES = ((1, 1000, 16), (4, 1, 1), (7, 3, 256), (2, 2, 2), (64, 1, 16), (3, 5, 7), (4, 1024, 16), (64, 7, 64), (5, 1, 255))
 OTHERS = len(SHAPES) - 1
 SECONDS = 300
+# Signals that a shell ignores for what runs in its background, and so would the program: here it gets them as any other program does.
+SIGNALS = (signal.SIGINT, signal.SIGQUIT, signal.SIGHUP, signal.SIGTERM, signal.SIGUSR1)
+# How a script may end of which is known only that it can be read. A name of a file in it may be that of a folder, or one with a byte 0: status 3.
+ENDS_OF_READ = (0, 1, 3)
 # What is said of a script that can't be read.
 READING = re.compile(rb'"(line \d+: (not UTF-8|bad token|open comment|open text|number too big|nested too deep|syntax error)|arguments unreadable|missing file )')
 
@@ -90,7 +94,7 @@ def ran(program, words, folder, more=None):
     actions = [(os.POSIX_SPAWN_OPEN, 0, "/dev/null", os.O_RDONLY, 0), (os.POSIX_SPAWN_OPEN, 2, "/dev/null", os.O_WRONLY, 0),
                (os.POSIX_SPAWN_OPEN, 1, printed, os.O_WRONLY | os.O_CREAT | os.O_TRUNC, 0o600)]
     os.chdir(folder)
-    child = os.posix_spawn(program, [program, *words], dict(os.environ, **more or {}), file_actions=actions)
+    child = os.posix_spawn(program, [program, *words], dict(os.environ, **more or {}), file_actions=actions, setsigdef=SIGNALS)
     signal.alarm(SECONDS)
     try:
         status = os.waitstatus_to_exitcode(os.waitpid(child, 0)[1])
@@ -116,7 +120,7 @@ def difference(program, case, room, shapes=None, wanted=None):
     for shape in [[]] if "words" in case else shapes or shapes_of(case["seed"]):
         words = shape + words_of(case)
         got = ran(program, words, folder)
-        if wanted is None and got[1] in (0, 1) and not READING.search(got[0]):
+        if wanted is None and got[1] in ENDS_OF_READ and not READING.search(got[0]):
             wanted = got
         if got != wanted:
             return Difference(wanted or (b"is read", 0), got, words)
