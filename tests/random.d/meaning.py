@@ -46,7 +46,9 @@ class Run:
     def declare(self, kind, it):
         name = it["name"]
         self.kinds[name] = kind
-        self.openings[name] = content_of(kind, self.value(it["open"])) if it["open"] else opening(kind)
+        # (that of a vertex is evaluated where there are vertices)
+        is_evaluated = it["open"] and (name.startswith("@@") or self.world.vertices)
+        self.openings[name] = content_of(kind, self.value(it["open"])) if is_evaluated else opening(kind)
         if name.startswith("@@"):
             self.globals[name] = self.openings[name]
         else:

@@ -33,10 +33,16 @@ def in_query(maker, rng, script, queries):
     """Parts that no check takes, somewhere in a body."""
     query = rng.choice(queries)
     types, edges = maker.part if query["graph"] == "h" else (maker.vertex_types, maker.edge_types)
+    has = {it["text"] for body in (query.get("more", []), *bodies(query)) for it in body if it["k"] == "raw"}
     for definitions, text, message in chosen(maker, types, edges, "syntax v2" in query["modes"].lower(), rng.choice((1, 1, 2)), 0.02):
+        # (a part that stands there already would say its names twice)
+        if has & {definitions, text} - {""}:
+            continue
         body = rng.choice(bodies(query))
-        # (a query that is full has all the accumulators that it may have, or more)
-        first = "too many" if query.get("full") and "Accum" in definitions else message if not text else None
+        # (a query that is full has all the accumulators that it may have, or more: what is wrong in a kind is refused before that, the rest isn't)
+        of_kind = message and not text and " = " not in definitions and not message.startswith("name twice @")
+        is_too_many = query.get("full") and "Accum" in definitions and not of_kind
+        first = "too many" if is_too_many else None if text else message
         query.setdefault("more", []).append({"k": "raw", "text": definitions, "refused": first})
         if text:
             body.insert(rng.randint(bool(body), len(body)), {"k": "raw", "text": text, "refused": message})
