@@ -52,9 +52,10 @@ __attribute__((constructor)) static void begin(void) {
     for (int i = 0; i < KINDS; i++) counts[i] = 0;
 }
 
-/* Whether this call of a kind is to fail. */
+/* Whether this call of a kind is to fail. A signal that is to come at this growth of memory comes. */
 static int fails(int of) {
     long n = atomic_fetch_add(&counts[of], 1) + 1;
+    if (of == MEMORY && n == from && !strcmp(kind, "strike")) kill(getpid(), (int)value);
     return n >= from && n <= to && !strcmp(kind, names[of]);
 }
 
@@ -70,18 +71,12 @@ static void raise_at(int of) {
     }
 }
 
-static void strike(void) {
-    if (!strcmp(kind, "strike") && counts[MEMORY] == from) kill(getpid(), (int)value);
-}
-
 void *malloc(size_t size) {
-    strike();
     if (fails(MEMORY)) return errno = ENOMEM, NULL;
     return __libc_malloc(size);
 }
 
 void *realloc(void *old, size_t size) {
-    strike();
     if (fails(MEMORY)) return errno = ENOMEM, NULL;
     return __libc_realloc(old, size);
 }
