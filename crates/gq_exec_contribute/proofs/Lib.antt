@@ -15,3 +15,4 @@ pub mod KindLemmas
 pub mod FedLemmas
 pub mod ArithmeticLemmas
 pub mod AskedLemmas
+pub mod FilterLemmas

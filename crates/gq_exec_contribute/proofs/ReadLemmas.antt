@@ -57,7 +57,7 @@ last (Gives m) = refl
 last (Faults w) = refl
 last Stuck = refl
 
-behind_name : (look : Look Reference) (p : ℕ) (b : code.Behind) → value_of look (Post (tree.Name (Place p)) (view_parts (b ∷ []))) ≡ part_value look p (view_behind b)
+pub behind_name : (look : Look Reference) (p : ℕ) (b : code.Behind) → value_of look (Post (tree.Name (Place p)) (view_parts (b ∷ []))) ≡ part_value look p (view_behind b)
 behind_name look p b = go (look.named (Place p))
   where
     go : (o : Outcome) → (o >>= (λ m. meaning_part look m (view_behind b) >>= λ n. Gives n) >>= value_of_meant) ≡ (o >>= λ m. meaning_part look m (view_behind b) >>= value_of_meant)
@@ -85,7 +85,7 @@ pub int_field : (look : Look Reference) (p : ℕ) (b : code.Behind) (f : Field) 
 int_field look p b f None e h = tt
 int_field look p b f (Some x) e h = ap (part_value look p) (ap view_behind e ∙ view_behind-Field f) ∙ h
 
-attached_is : (clock : Calendar) (o : Over) (l : Leaves) (accums : Accums) (c : Candidate) (p n v : ℕ) (b : code.Behind) → b ≡ behind.Attached n → IsVertex l c p v
+pub attached_is : (clock : Calendar) (o : Over) (l : Leaves) (accums : Accums) (c : Candidate) (p n v : ℕ) (b : code.Behind) → b ≡ behind.Attached n → IsVertex l c p v
     → part_value (sees_in clock o l accums c) p (view_behind b) ≡ ((sees_in clock o l accums c).attached (Slot n) v >>= value_of_meant)
 attached_is clock o l accums c p n v b e at =
     ap (part_value (sees_in clock o l accums c) p) (ap view_behind e ∙ view_behind-Attached n)

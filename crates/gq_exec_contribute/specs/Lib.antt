@@ -6,3 +6,4 @@ pub mod Aliases
 pub mod Prepared
 pub mod Asked
 pub mod Scalars
+pub mod Filters

@@ -14,7 +14,8 @@
 //! faults, overflows, and values that aren't INTs, truths or vertices are left to the evaluation. Inputs
 //! of maps, groups and heaps that are made of INTs are kept as INTs (`src/rows.rt`), and become rows of values only
 //! when they are fed. Read `specs/Prepared.antt` first; the code begins in `src/gathering.rt` (ACCUM), `src/truths.rt`
-//! (WHERE) and `src/vertex.rt` (POST-ACCUM), and `src/leaves.rt` resolves names and accumulators.
+//! (WHERE) and `src/vertex.rt` (POST-ACCUM), and `src/leaves.rt` resolves names and accumulators. `src/filters.rt`
+//! resolves a WHERE over accumulators of the ends as a whole.
 #![tactic(auto)]
 
 mod acts;
@@ -25,6 +26,7 @@ mod bound;
 mod candidate;
 mod cells;
 mod feeding;
+mod filters;
 mod gathering;
 mod held;
 mod inputs;
@@ -43,6 +45,7 @@ pub use bound::{bind, no_alias};
 pub use candidate::{Outcome, contribute};
 pub use cells::{Cells, Taken};
 pub use feeding::Room;
+pub use filters::{EndCell, Filter, filter_of, passes_by};
 pub use gathering::gather;
 pub use inputs::run_feed;
 pub use leaves::{Leaves, leaves_of};

@@ -24,7 +24,7 @@ use gq_plan_ir::{Field, FieldPlaces, PlaceType};
 use gq_value::Value;
 
 /// Whether an alias has this place.
-fn is_at(alias: Option<u32>, place: u32) -> bool
+pub(crate) fn is_at(alias: Option<u32>, place: u32) -> bool
     ensures { result ≡ is_at alias place }
 {
     match alias {

@@ -217,7 +217,7 @@ fn related(sign: CmpSign, order: Ordering) -> bool
 
 /// Compares two INTs.
 #[tactic(auto, using(crate::proofs::TruthLemmas::int_laws))]
-fn ints_related(sign: CmpSign, x: i64, y: i64) -> bool
+pub(crate) fn ints_related(sign: CmpSign, x: i64, y: i64) -> bool
     ensures { compared sign (Int x) (Int y) ≡ truly result }
 {
     related(sign, x.cmp(&y))

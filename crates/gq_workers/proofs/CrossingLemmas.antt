@@ -42,6 +42,8 @@ use Rattle.gq_exec_source.specs.contracts.ends.End as end
 use Rattle.gq_exec_source.specs.contracts.ends.Ends as ends
 use Rattle.gq_exec_contribute.specs.contracts.cells.Taken as taken
 use Rattle.gq_exec_contribute.specs.contracts.cells.Cells as cells
+use Rattle.gq_exec_contribute.specs.contracts.filters.EndCell as end_cell
+use Rattle.gq_exec_contribute.specs.contracts.filters.Filter as filter
 use Rattle.gq_exec_contribute.specs.contracts.rows.Ints as ints
 use Rattle.gq_exec_contribute.specs.contracts.scalars.ScalarInput as scalar
 use Rattle.gq_exec_contribute.specs.contracts.leaves.Leaves as leaves
@@ -126,6 +128,15 @@ taken_field = search (sendable) depth 30 fits 50000
 pub cells_sync : IsSync cells.the_row
 cells_sync = search (taken_field, sendable) depth 30 fits 50000
 
+cells_field : IsSync (cells.the_field).row
+cells_field = search (taken_field, sendable) depth 30 fits 50000
+
+end_cell_field : IsSync (end_cell.the_field).row
+end_cell_field = search (cells_field, sendable) depth 30 fits 50000
+
+filter_field : IsSync (filter.the_field).row
+filter_field = search (end_cell_field, sendable) depth 30 fits 50000
+
 leaves_field : (l : NamedLft) → IsSync (leaves.the_field l).row
 leaves_field l = search (ends_sync, cells_sync, list_crosses.the_sync, crosses, sendable) depth 30 fits 50000
 
@@ -184,7 +195,7 @@ candidates_field : (l : NamedLft) → IsSync (candidates.the_field l).row
 candidates_field l = search (rows_of_candidates, list_crosses.the_sync, crosses, sendable) depth 30 fits 50000
 
 pub work_sync : (l : NamedLft) → IsSync (work.the_row l)
-work_sync l = search (block_sync, leaves_field, candidates_field, list_crosses.the_sync, crosses, sendable) depth 30 fits 50000
+work_sync l = search (block_sync, leaves_field, filter_field, candidates_field, list_crosses.the_sync, crosses, sendable) depth 30 fits 50000
 
 pub round_sync : (l : NamedLft) → IsSync (round.the_row l)
 round_sync l = search (graph_field, plan_sync, tuple_sync, frame_sync, work_sync, sync, crosses, sendable) depth 30 fits 50000

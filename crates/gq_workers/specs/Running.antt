@@ -1,5 +1,5 @@
 -- Running: the effects of candidates in order: which of them wait, which are fed, and which vertices are marked.
-use Rattle.std.specs.Prelude.{◌≡◌, ◌==◌, ◌||◌, ℕ, suc, ◌*◌, ◌<◌, ◌≤◌, Bool, true, false, List, [], ◌∷◌, ◌++◌, length, map, filter_map, take, slice_get, Option, Some, None}
+use Rattle.std.specs.Prelude.{◌≡◌, ◌==◌, ◌||◌, ℕ, suc, ◌*◌, ◌<◌, ◌≤◌, Bool, true, false, List, [], ◌∷◌, ◌++◌, length, map, filter_map, take, slice_get, Option, Some, None, IfSome}
 use Rattle.std.specs.Option.{option_map}
 use Rattle.std.specs.List.{All, flat_map}
 use Rattle.gq_value.specs.declared.kind.Input.{Input}
@@ -13,6 +13,7 @@ use Rattle.gq_rules_meaning.specs.Blocks.{BlockFault, AtPlace, Contribution, Mat
 use Rattle.gq_rules_meaning.specs.Calendars.{Calendar}
 use Rattle.gq_plan_ir.specs.declared.block.Block.{Block}
 use Rattle.gq_plan_ir.specs.BlockView.{view_block, view_walk}
+use Rattle.gq_plan_ir.specs.ExprView.{view}
 use Rattle.gq_plan_ir.specs.Reference.{Place}
 use Rattle.gq_frame.specs.Names.{Placed}
 use Rattle.gq_frame.specs.Slots.{slots_are}
@@ -31,6 +32,7 @@ use Rattle.gq_workers.specs.declared.work.Work.{Work}
 use Rattle.gq_workers.specs.declared.run.BlockProgress.{BlockProgress}
 use Rattle.gq_exec_contribute.specs.Scalars.{as_inputs}
 use Rattle.gq_exec_contribute.specs.Aliases.{bound_to}
+use Rattle.gq_exec_contribute.specs.Filters.{IsFilter}
 use Rattle.gq_exec_contribute.specs.Prepared.{AreFound}
 use Rattle.gq_exec_contribute.specs.declared.scalars.ScalarInput.{ScalarInput}
 
@@ -177,12 +179,17 @@ marks_end (Some w) v = v == w
 
 -- ---- some candidates one after another
 
+-- the condition of a block is the one that is resolved
+abbrev pub IsResolved : Work → Type 0
+IsResolved w = IfSome w.filter (IsFilter w.leaves (option_map view w.block.now.filter))
+
 -- the work of a run
 pub record IsWork (o : Over) (w : Work) : Type 0 where
   pub ends : HasEnds o.schema o.plan o.frame.things w.block.now w.leaves.ends.now
   pub edge : option_map Place w.leaves.edge ≡ edge_alias (view_walk w.block.now.walk)
   pub candidates : AreCandidates o w.block.now w.candidates
   pub found : AreFound o w.leaves
+  pub filter : IsResolved w
   pub some : 1 ≤ w.size
 
 abbrev pub come : Calendar → Over → Work → Candidate → Answer Wrong (List Match)

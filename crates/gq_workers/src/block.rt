@@ -12,7 +12,7 @@ use crate::work::Work;
 use crate::workers::try_rounds;
 use gq_base::OutOfMemory;
 use gq_eval_context::{After, BlockContext, BlockFault};
-use gq_exec_contribute::leaves_of;
+use gq_exec_contribute::{filter_of, leaves_of};
 use gq_exec_source::Ends;
 use gq_index::Candidates;
 use gq_io::{Gate, Shape};
@@ -94,9 +94,11 @@ fn work_of<'b>(
     ensures { IfOk result (IsWorkOf over.now block.entry.now) }
 {
     let leaves = leaves_of(alloc, &over.frame.accums.slots, &block.walk, ends)?;
+    let filter = filter_of(&block.filter, &leaves);
     Ok(Work {
         block,
         leaves,
+        filter,
         candidates,
         size: shape.chunk.max(1),
     })

@@ -10,14 +10,14 @@ ghost use Rattle.gq_rules_meaning.specs.Answers.{Gives};
 ghost use Rattle.gq_rules_meaning.specs.Blocks.{passes};
 ghost use Rattle.gq_plan_ir.specs.ExprView.{view};
 ghost use Rattle.gq_exec_contribute.specs.Prepared.{AreFound, sees};
-ghost use Rattle.gq_workers.specs.Running.{ComesUnder, Done, IsShaped, Tried, come, comes, marks_end};
+ghost use Rattle.gq_workers.specs.Running.{ComesUnder, Done, IsResolved, IsShaped, Tried, come, comes, marks_end};
 
 use crate::found::MatchBuffer;
 use crate::work::Work;
 use gq_base::{List, OutOfMemory};
 use gq_core::Batches;
 use gq_eval_context::BlockContext;
-use gq_exec_contribute::{Outcome, Room, bind, contribute, gather, no_alias, passes};
+use gq_exec_contribute::{Outcome, Room, bind, contribute, gather, no_alias, passes_by};
 use gq_exec_source::{Ends, mark};
 use gq_frame::Alias;
 use gq_graph::Candidate;
@@ -42,6 +42,7 @@ pub(crate) fn try_one(
     requires within { IsWithin (length over.now.vertices) candidate.now }
     requires shaped { IsShaped (length over.now.vertices) found.old }
     requires prepared { AreFound over.now work.now.leaves }
+    requires resolved { IsResolved work.now }
     ensures tried { IfOk result (Tried over.now (come gregorian over.now work.now candidate.now) found.old found.new) }
     ensures shaped { IfOk result (λ _. IsShaped (length over.now.vertices) found.new) }
 {
@@ -74,12 +75,20 @@ fn is_read(
     requires within { IsWithin (length over.now.vertices) candidate.now }
     requires shaped { IsShaped (length over.now.vertices) found.old }
     requires prepared { AreFound over.now work.now.leaves }
+    requires resolved { IsResolved work.now }
     ensures { IfOk result (Done over.now (come gregorian over.now work.now candidate.now) found.old found.new) }
 {
     if evaluated >= MOST_EVALUATED {
         return Ok(false);
     }
-    match passes(&work.block.filter, alloc, over, &work.leaves, candidate) {
+    match passes_by(
+        &work.filter,
+        &work.block.filter,
+        alloc,
+        over,
+        &work.leaves,
+        candidate,
+    ) {
         None => Ok(false),
         Some(false) => Ok(true),
         Some(true) => is_gathered(alloc, work, over, candidate, found),

@@ -2,7 +2,7 @@
 use gq_base::{List, OutOfMemory};
 use gq_core::Batches;
 use gq_eval_attributes::TupleType;
-use gq_exec_contribute::{Leaves, ScalarInput};
+use gq_exec_contribute::{Filter, Leaves, ScalarInput};
 use gq_frame::Frame;
 use gq_index::{Candidates, Graph};
 use gq_plan_ir::{Block, Plan};
@@ -15,6 +15,9 @@ pub(crate) struct Work<'b> {
 
     /// The names and accumulators of its expressions, resolved.
     pub leaves: Leaves<'b>,
+
+    /// WHERE, if its accumulators could be resolved.
+    pub filter: Option<Filter>,
     pub candidates: Candidates<'b>,
 
     /// The number of candidates per chunk, at least 1.
