@@ -19,12 +19,16 @@ use std::sync::atomic::{AtomicU64, Ordering};
 use std::thread::{Threads, join_mut};
 use std::{mem, thread};
 
-/// About how many contributions of a round wait to be fed: some 6 MB, at one input each. Those of two rounds may wait.
-const WAITING: u64 = 1 << 16;
+/// About how many candidates the first round of a block has, so that feeding begins soon.
+const FIRST: u64 = 1 << 16;
 
-/// With many workers more contributions wait, at least so many for each: starting a thread takes as long as some hundred
-/// candidates.
+/// With many workers the first round has more candidates, at least so many for each: starting a thread takes as long as
+/// some hundred of them.
 const FOR_A_WORKER: u64 = 1 << 12;
+
+/// Rounds grow until half of so many contributions wait to be fed, some 25 MB at one input each, since the start and end
+/// of a round take a millisecond or more where threads wake late. Those of two rounds may wait.
+const WAITING: u64 = 1 << 19;
 
 /// The most candidates of a round, however few of them contribute.
 const MOST_CANDIDATES: u64 = 1 << 20;
@@ -44,8 +48,7 @@ pub(crate) fn try_rounds<R: Threads + Sync, G: Gate>(
     requires run { HasRun gregorian over.now work.now run.old }
     ensures { IfOk result (RunsOut gregorian over.now work.now run.new) }
 {
-    let waiting = FOR_A_WORKER.saturating_mul(u64::from(workers)).max(WAITING);
-    let mut size = waiting;
+    let mut size = FOR_A_WORKER.saturating_mul(u64::from(workers)).max(FIRST);
     let mut ahead = RoundOutput {
         first: run.at,
         last: run.at,
@@ -56,16 +59,16 @@ pub(crate) fn try_rounds<R: Threads + Sync, G: Gate>(
             Some(fault) => return Ok(Some(fault)),
             None => {}
         }
-        size = next_size(size, ahead.waiting(), waiting);
+        size = next_size(size, ahead.waiting());
     }
     feed_round(alloc, &ahead, work.size, run)
 }
 
 /// The number of candidates of the next round: more than of the last one if few contributions wait, and fewer if many do.
-fn next_size(size: u64, waiting: u64, wanted: u64) -> u64 {
-    if waiting < wanted / 2 {
+fn next_size(size: u64, waiting: u64) -> u64 {
+    if waiting < WAITING / 2 {
         size.saturating_mul(2).min(MOST_CANDIDATES)
-    } else if waiting / 2 > wanted {
+    } else if waiting / 2 > WAITING {
         size / 2
     } else {
         size
