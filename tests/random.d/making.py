@@ -288,6 +288,14 @@ class Maker:
             else:
                 args = [self.argument(it) for it in query["params"]]
                 self.add({"k": "run", "name": name, "args": args})
+        if self.some(0.3):
+            self.run_again()
+
+    def run_again(self):
+        """One of the runs so far once more, which may be over other rows and behind further declarations."""
+        if self.some(0.5):
+            self.insert()
+        self.add(dict(self.rng.choice([it for it in self.case["script"] if it["k"] == "run"])))
 
     def argument(self, param):
         base = param["type"]

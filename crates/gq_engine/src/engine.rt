@@ -5,11 +5,13 @@ ghost use Rattle.gq_rules_meaning.specs.Answers.{Answer};
 ghost use Rattle.gq_rules_meaning.specs.Statements.{Fault};
 ghost use Rattle.gq_rules_calendar.specs.Gregorian.{gregorian};
 ghost use Rattle.gq_flow.specs.Plans.{Objects, Prints};
+ghost use Rattle.gq_scope.specs.Held.{graph_in};
+ghost use Rattle.gq_plan.specs.Prints.{PrintsAs};
 ghost use Rattle.gq_query_run.specs.Indexed.{IsIndexed};
 ghost use Rattle.gq_query_run.specs.Runs.{Runs};
 ghost use Rattle.gq_engine.specs.Engines.{plan_over};
 
-use gq_base::List;
+use gq_base::{List, OutOfMemory};
 use gq_exec_control::RunFault as PlanFault;
 use gq_flow::{Workers, run_query};
 use gq_index::{Graph, Index, Store};
@@ -31,15 +33,31 @@ pub struct Engine<'g> {
 }
 
 impl<'g> RunsQueries for Engine<'g> {
+    type Prepared = Plan;
+
+    ghost is_of = { λ plan schema graph query. PrintsAs schema (graph_in schema graph) query plan };
+
+    fn prepare(
+        &self,
+        alloc: Global,
+        catalog: &Catalog,
+        graph: Option<u32>,
+        query: &QueryTree,
+    ) -> Result<Plan, OutOfMemory> {
+        match plan(alloc, catalog, graph, query) {
+            Ok(plan) => Ok(plan),
+            Err(_) => Err(OutOfMemory),
+        }
+    }
+
     fn run<R: Threads + Sync>(
         &self,
         rt: &R,
         alloc: Global,
         catalog: &Catalog,
-        graph: Option<u32>,
         store: &Store,
         index: &Index,
-        query: &QueryTree,
+        prepared: &Plan,
         arguments: &Row,
         shape: &Shape,
         turns: u64,
@@ -49,12 +67,9 @@ impl<'g> RunsQueries for Engine<'g> {
             shape: *shape,
             gate: self.gate,
         };
-        match plan(alloc, catalog, graph, query) {
-            Err(_) => Err(QueryFault::OutOfMemory),
-            Ok(plan) => run_plan(
-                &workers, alloc, catalog, store, index, &plan, arguments, turns,
-            ),
-        }
+        run_plan(
+            &workers, alloc, catalog, store, index, prepared, arguments, turns,
+        )
     }
 }
 

@@ -4,3 +4,4 @@ pub mod AnswerLemmas
 pub mod RunLemmas
 pub mod InterpretLemmas
 pub mod PlaceLemmas
+pub mod ReadyLemmas

@@ -6,3 +6,4 @@ pub mod Sessions
 pub mod Answers
 pub mod Runs
 pub mod Indexed
+pub mod Ready

@@ -12,7 +12,7 @@ ghost use Rattle.gq_query_run.specs.Sessions.{session_of};
 use crate::judge::{graph_of, judge_interpreted};
 use crate::line::line_over;
 use crate::runner::{Runner, RunsQueries};
-use gq_base::List;
+use gq_base::{List, OutOfMemory};
 use gq_diagnostics::StatementFault;
 use gq_index::{Index, Store};
 use gq_schema::Catalog;
@@ -44,7 +44,12 @@ pub fn interpret_query<R: Threads + Sync, M: RunsQueries>(
         Ok(()) => {
             let graph = graph_of(catalog, in_use, tree);
             let none = List::new(alloc);
-            line_over(rt, alloc, runner, catalog, graph, store, index, tree, &none)
+            match runner.machine.prepare(alloc, catalog, graph, tree) {
+                Ok(prepared) => line_over(
+                    rt, alloc, runner, catalog, graph, store, index, tree, &prepared, &none,
+                ),
+                Err(OutOfMemory) => Err(StatementFault::OutOfMemory),
+            }
         }
         Err(fault) => Err(fault),
     }

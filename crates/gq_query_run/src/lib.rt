@@ -7,7 +7,8 @@
 //! `specs/Queries.antt` (creating and installing) and `specs/Answers.antt` (running). `Sessions.antt` of
 //! `gq_rules_meaning` defines `ran` and `interpreted`; `specs/Indexed.antt` says what a store and its index
 //! are when a query runs. The trait is in `src/runner.rt`, the statements in
-//! `src/create.rt`, `src/install.rt`, `src/run.rt` and `src/interpret.rt`. `src/queries.rt` finds queries by name.
+//! `src/create.rt`, `src/install.rt`, `src/run.rt` and `src/interpret.rt`. `src/queries.rt` finds queries by name,
+//! and `src/ready.rt` keeps what is prepared of them from run to run.
 #![tactic(auto)]
 
 mod create;
@@ -18,6 +19,7 @@ mod judge;
 mod line;
 mod modes;
 mod queries;
+mod ready;
 mod run;
 mod runner;
 mod slot;
@@ -27,6 +29,7 @@ pub use create::create_query;
 pub use install::install_queries;
 pub use interpret::interpret_query;
 pub use queries::Queries;
+pub use ready::Ready;
 pub use run::run_query;
 pub use runner::{QueryFault, Runner, RunsQueries};
 pub use stored::Stored;

@@ -27,8 +27,8 @@ use gq_value::{Row, Txt, Wrong};
 use std::alloc::Global;
 use std::thread::Threads;
 
-/// Returns the line that a query prints, for the graph with this number, over a store with its index and values of its
-/// parameters.
+/// Returns the line that a query prints, which is prepared for the graph with this number, over a store with its index
+/// and values of its parameters.
 pub(crate) fn line_over<R: Threads + Sync, M: RunsQueries>(
     rt: &R,
     alloc: Global,
@@ -38,9 +38,11 @@ pub(crate) fn line_over<R: Threads + Sync, M: RunsQueries>(
     store: &Store,
     index: &Index,
     query: &QueryTree,
+    prepared: &M::Prepared,
     arguments: &Row,
 ) -> Result<Vec<u8>, StatementFault>
-    requires { IsIndexed catalog.now store.now index.now }
+    requires indexed { IsIndexed catalog.now store.now index.now }
+    requires prepared { M.is_of prepared.now catalog.now graph (view_query query.now) }
     ensures { Tells (answer_over (graph_read catalog.now graph store.now) gregorian runner.now.turns (view_query query.now) (map val arguments.now)) result }
 {
     let turns = runner.turns;
@@ -48,10 +50,9 @@ pub(crate) fn line_over<R: Threads + Sync, M: RunsQueries>(
         rt,
         alloc,
         catalog,
-        graph,
         store,
         index,
-        query,
+        prepared,
         arguments,
         &runner.shape,
         turns,

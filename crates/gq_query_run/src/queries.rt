@@ -1,6 +1,5 @@
 // The queries of a session, with a fast lookup by name.
-ghost use Rattle.std.specs.Prelude.{◌≡◌, ◌↔◌, ◌<◌, ◌++◌, [], ◌∷◌, IsTrue, MatchResult, None, find, length, position};
-ghost use Rattle.std.specs.Option.{option_copied};
+ghost use Rattle.std.specs.Prelude.{◌≡◌, ◌↔◌, ◌<◌, ◌++◌, [], ◌∷◌, IsTrue, MatchResult, None, Some, length, position, slice_get};
 ghost use Rattle.gq_schema.specs.Kept.{name_at};
 ghost use Rattle.gq_query_run.specs.Placed.{names_of};
 ghost use Rattle.gq_query_run.specs.Queries as spec;
@@ -49,15 +48,12 @@ impl<'s> Queries<'s> {
         }
     }
 
-    /// Returns the query with a name.
-    #[tactic(auto, using(crate::proofs::PlaceLemmas::place_laws))]
-    pub(crate) fn named(&self, name: &str) -> Option<&Stored<'s>>
-        ensures { option_copied result ≡ find (spec.is_named name.now) self.now }
+    /// Returns the query at a place.
+    pub(crate) fn at(&self, place: usize) -> &Stored<'s>
+        requires { place < length self.now }
+        ensures { slice_get self.now place ≡ Some result.now }
     {
-        match self.place_of(name) {
-            Some(place) => self.stored.get(place),
-            None => None,
-        }
+        self.stored.at(place)
     }
 
     /// Whether there is a query with the name.
@@ -68,8 +64,8 @@ impl<'s> Queries<'s> {
         self.place_of(name).is_some()
     }
 
-    /// Returns the index of the query with a name.
-    fn place_of(&self, name: &str) -> Option<usize>
+    /// Returns the place of the query with a name.
+    pub(crate) fn place_of(&self, name: &str) -> Option<usize>
         ensures { result ≡ position (spec.is_named name.now) self.now }
     {
         match self.places.get(name) {

@@ -1,5 +1,5 @@
 // RUN QUERY.
-ghost use Rattle.std.specs.Prelude.{◌≡◌, ◌<◌, ℕ, List, Option, true, length, map, option_map};
+ghost use Rattle.std.specs.Prelude.{◌≡◌, ◌<◌, ℕ, List, Option, OnOk, is_some, true, length, map, option_map};
 ghost use Rattle.std.specs.Option.{ForSome};
 ghost use Rattle.gq_graph.specs.declared.rows.VertexRow.{VertexRow};
 ghost use Rattle.gq_rules_typing.specs.Statements.{Bytes, Parameter};
@@ -15,11 +15,13 @@ ghost use Rattle.gq_arguments.specs.Rows.{values_given, Tells as Due};
 ghost use Rattle.gq_query_run.specs.Kept.{Kept};
 ghost use Rattle.gq_query_run.specs.Answers.{Says, Tells};
 ghost use Rattle.gq_query_run.specs.Indexed.{IsIndexed};
+ghost use Rattle.gq_query_run.specs.Ready.{AreReady, IsReadyFor, OthersStay, ready_at};
 ghost use Rattle.gq_query_run.specs.Runs.{answer_found, answer_given, values_run};
 ghost use Rattle.gq_query_run.specs.Sessions.{graph_read, session_of};
 
 use crate::line::line_over;
 use crate::queries::Queries;
+use crate::ready::Ready;
 use crate::runner::{Runner, RunsQueries};
 use crate::stored::Stored;
 use gq_arguments::{Args, Arguments, argument_row};
@@ -27,12 +29,13 @@ use gq_base::OutOfMemory;
 use gq_diagnostics::{Refusal, StatementFault};
 use gq_index::{Index, Store};
 use gq_schema::Catalog;
-use gq_tree::{QueryTree, RunTree};
+use gq_tree::RunTree;
 use gq_value::Txt;
 use std::alloc::Global;
 use std::thread::Threads;
 
-/// Executes RUN QUERY over a store with its index. Returns the line that the query prints. The session isn't changed.
+/// Executes RUN QUERY over a store with its index. Returns the line that the query prints. The session isn't changed,
+/// but for what is prepared of its queries: a query is prepared when it is first run.
 ///
 /// Refused if there is no query with the name, else if it isn't installed, else for its arguments, else for the fault
 /// of its run.
@@ -44,20 +47,29 @@ pub fn run_query<R: Threads + Sync, M: RunsQueries>(
     store: &Store,
     index: &Index,
     queries: &Queries<'_>,
+    ready: &mut Ready<M::Prepared>,
     file: &Args,
     tree: &RunTree,
 ) -> Result<Vec<u8>, StatementFault>
-    requires { IsIndexed catalog.now store.now index.now }
-    ensures { (in_use : Option ℕ) → Says (session_of catalog.now in_use queries.now store.now)
+    requires indexed { IsIndexed catalog.now store.now index.now }
+    requires ready { AreReady M.is_of catalog.now queries.now ready.old.plans }
+    ensures says { (in_use : Option ℕ) → Says (session_of catalog.now in_use queries.now store.now)
         (ran (session_of catalog.now in_use queries.now store.now) gregorian runner.now.turns tree.now.name (option_map (map view_argument) tree.now.arguments) (members_for (held file.now) tree.now.name)) result }
+    ensures ready { AreReady M.is_of catalog.now queries.now ready.new.plans }
 {
     let name = tree.name.as_str();
-    match queries.named(name) {
-        Some(query) => run_found(rt, alloc, runner, catalog, store, index, query, file, tree),
+    match queries.place_of(name) {
+        Some(place) => {
+            let query = queries.at(place);
+            run_found(
+                rt, alloc, runner, catalog, store, index, query, place, ready, file, tree,
+            )
+        }
         None => Err(unknown(alloc, name)),
     }
 }
 
+/// Runs the query at a place, if it is installed.
 fn run_found<R: Threads + Sync, M: RunsQueries>(
     rt: &R,
     alloc: Global,
@@ -66,24 +78,21 @@ fn run_found<R: Threads + Sync, M: RunsQueries>(
     store: &Store,
     index: &Index,
     query: &Stored<'_>,
+    place: usize,
+    ready: &mut Ready<M::Prepared>,
     file: &Args,
     tree: &RunTree,
 ) -> Result<Vec<u8>, StatementFault>
-    requires { IsIndexed catalog.now store.now index.now }
-    ensures { Tells (answer_found catalog.now store.now gregorian runner.now.turns query.now tree.now (held file.now)) result }
+    requires indexed { IsIndexed catalog.now store.now index.now }
+    requires ready { IsReadyFor M.is_of catalog.now ready.old.plans place query.now }
+    ensures tells { Tells (answer_found catalog.now store.now gregorian runner.now.turns query.now tree.now (held file.now)) result }
+    ensures ready { IsReadyFor M.is_of catalog.now ready.new.plans place query.now }
+    ensures others { OthersStay ready.old.plans ready.new.plans place }
 {
     if query.is_installed() {
         let arguments = arguments_of(tree, file);
         run_with(
-            rt,
-            alloc,
-            runner,
-            catalog,
-            query.graph(),
-            store,
-            index,
-            query.tree(),
-            arguments,
+            rt, alloc, runner, catalog, store, index, query, place, ready, arguments,
         )
     } else {
         Err(not_installed(alloc, tree.name.as_str()))
@@ -101,36 +110,65 @@ fn arguments_of<'a>(tree: &'a RunTree, file: &'a Args) -> Arguments<'a>
     }
 }
 
+/// Runs the query at a place with these arguments. It is prepared if it wasn't yet.
 fn run_with<R: Threads + Sync, M: RunsQueries>(
     rt: &R,
     alloc: Global,
     runner: &Runner<'_, M>,
     catalog: &Catalog,
-    graph: Option<u32>,
     store: &Store,
     index: &Index,
-    query: &QueryTree,
+    query: &Stored<'_>,
+    place: usize,
+    ready: &mut Ready<M::Prepared>,
     arguments: Arguments<'_>,
 ) -> Result<Vec<u8>, StatementFault>
-    requires { IsIndexed catalog.now store.now index.now }
-    ensures { Tells (answer_given (graph_read catalog.now graph store.now) gregorian runner.now.turns (view_query query.now)
-        (values_given (sorts_of catalog.now (graph_in catalog.now graph)) store.now.vertices (map view_parameter query.now.parameters) arguments.entry)) result }
+    requires indexed { IsIndexed catalog.now store.now index.now }
+    requires ready { IsReadyFor M.is_of catalog.now ready.old.plans place query.now }
+    ensures tells { Tells (answer_given (graph_read catalog.now query.now.graph store.now) gregorian runner.now.turns (view_query query.now.tree)
+        (values_given (sorts_of catalog.now (graph_in catalog.now query.now.graph)) store.now.vertices (map view_parameter query.now.tree.parameters) arguments.entry)) result }
+    ensures ready { IsReadyFor M.is_of catalog.now ready.new.plans place query.now }
+    ensures others { OthersStay ready.old.plans ready.new.plans place }
 {
+    let (graph, tree) = (query.graph(), query.tree());
     if !is_there(catalog, graph) {
         return Err(StatementFault::OutOfMemory);
     }
-    let parameters = query.parameters.as_slice();
-    match argument_row(
-        alloc,
-        catalog,
-        graph,
-        &store.vertices,
-        parameters,
-        arguments,
-    ) {
-        Ok(row) => line_over(rt, alloc, runner, catalog, graph, store, index, query, &row),
-        Err(fault) => Err(fault),
+    let (vertices, parameters) = (&store.vertices, tree.parameters.as_slice());
+    let row = match argument_row(alloc, catalog, graph, vertices, parameters, arguments) {
+        Ok(row) => row,
+        Err(fault) => return Err(fault),
+    };
+    match prepare_at(alloc, runner.machine, catalog, query, place, ready) {
+        Ok(()) => {
+            let prepared = ready.at(place);
+            line_over(
+                rt, alloc, runner, catalog, graph, store, index, tree, prepared, &row,
+            )
+        }
+        Err(OutOfMemory) => Err(StatementFault::OutOfMemory),
     }
+}
+
+/// Prepares the query at a place, if it isn't prepared.
+fn prepare_at<M: RunsQueries>(
+    alloc: Global,
+    machine: &M,
+    catalog: &Catalog,
+    query: &Stored<'_>,
+    place: usize,
+    ready: &mut Ready<M::Prepared>,
+) -> Result<(), OutOfMemory>
+    requires { IsReadyFor M.is_of catalog.now ready.old.plans place query.now }
+    ensures there { OnOk result (is_some (ready_at ready.new.plans place) ≡ true) }
+    ensures ready { IsReadyFor M.is_of catalog.now ready.new.plans place query.now }
+    ensures others { OthersStay ready.old.plans ready.new.plans place }
+{
+    if ready.has(place) {
+        return Ok(());
+    }
+    let prepared = machine.prepare(alloc, catalog, query.graph(), query.tree())?;
+    ready.put(place, prepared)
 }
 
 // Whether there is a graph with this number. That of a stored query exists.

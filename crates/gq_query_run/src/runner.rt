@@ -1,7 +1,9 @@
 // The runner of queries.
-ghost use Rattle.std.specs.Prelude.{map};
+ghost use Rattle.std.specs.Prelude.{IfOk, map, ℕ, Option};
 ghost use Rattle.std.specs.Thread.{IsSync};
 ghost use Rattle.gq_value.specs.Views.{val};
+ghost use Rattle.gq_graph.specs.Catalog.{Schema};
+ghost use Rattle.gq_rules_typing.specs.Statements.{Bytes, Query};
 ghost use Rattle.gq_rules_typing.specs.StatementViews.{view_query};
 ghost use Rattle.gq_rules_meaning.specs.Queries as meaning;
 ghost use Rattle.gq_rules_calendar.specs.Gregorian.{gregorian};
@@ -9,7 +11,7 @@ ghost use Rattle.gq_query_run.specs.Indexed.{IsIndexed};
 ghost use Rattle.gq_query_run.specs.Runs.{Runs};
 ghost use Rattle.gq_query_run.specs.Sessions.{graph_read};
 
-use gq_base::List;
+use gq_base::{List, OutOfMemory};
 use gq_index::{Index, Store};
 use gq_io::Shape;
 use gq_json::Printed;
@@ -53,23 +55,39 @@ pub struct Runner<'r, M> {
 
 /// A machine that runs checked queries.
 pub trait RunsQueries {
-    /// Runs a query for the graph with this number, over a store with its index and a value for each parameter, with a
-    /// limit on turns. The runtime's threads and the shape, which says how the work of its blocks is divided, don't
-    /// affect any answer.
+    /// A query that is prepared for its runs.
+    type Prepared: Drop;
+
+    /// Whether it was prepared of a query, for the graph with this number in this catalog.
+    ghost is_of: { Self.Prepared → Schema → Option ℕ → Query Bytes → Type 0 };
+
+    /// Prepares a query for its runs, for the graph with this number.
+    fn prepare(
+        &self,
+        alloc: Global,
+        catalog: &Catalog,
+        graph: Option<u32>,
+        query: &QueryTree,
+    ) -> Result<Self::Prepared, OutOfMemory>
+        ensures { IfOk result (λ prepared. is_of prepared catalog.now graph (view_query query.now)) };
+
+    /// Runs a prepared query over a store of the catalog that it was prepared for, with its index and a value for each
+    /// parameter, with a limit on turns. The runtime's threads and the shape, which says how the work of its blocks is
+    /// divided, don't affect any answer.
     fn run<R: Threads + Sync>(
         &self,
         rt: &R,
         alloc: Global,
         catalog: &Catalog,
-        graph: Option<u32>,
         store: &Store,
         index: &Index,
-        query: &QueryTree,
+        prepared: &Self::Prepared,
         arguments: &Row,
         shape: &Shape,
         turns: u64,
     ) -> Result<List<Printed>, QueryFault>
         requires sync { IsSync R.row }
         requires indexed { IsIndexed catalog.now store.now index.now }
-        ensures { Runs (meaning.run_query (graph_read catalog.now graph store.now) gregorian (view_query query.now) (map val arguments.now) turns) result };
+        ensures { (graph : Option ℕ) (query : Query Bytes) → is_of prepared.now catalog.now graph query
+            → Runs (meaning.run_query (graph_read catalog.now graph store.now) gregorian query (map val arguments.now) turns) result };
 }

@@ -19,7 +19,7 @@ use gq_insert::insert_row;
 use gq_io::Files;
 use gq_load_run::run_job;
 use gq_query_run::{
-    Queries, Runner, RunsQueries, create_query, install_queries, interpret_query, run_query,
+    Queries, Ready, Runner, RunsQueries, create_query, install_queries, interpret_query, run_query,
 };
 use gq_schema::Catalog;
 use gq_tree::{
@@ -35,26 +35,29 @@ use std::thread::Threads;
 /// The state between two statements of a script: the catalog, the graph in use, the loading jobs, the queries, whose
 /// trees are borrowed from the script, and the store. The file of arguments and the runner of queries are borrowed too.
 ///
-/// The store's index is kept between queries, and is updated with what was added since when a query is run.
+/// The store's index is kept between queries, and is updated with what was added since when a query is run. What is
+/// prepared of a query when it is first run is kept until the catalog or a query changes.
 #[derive(Drop)]
-pub struct Session<'s, M> {
+pub struct Session<'s, M: RunsQueries> {
     alloc: Global,
     catalog: Catalog,
     in_use: Option<u32>,
     jobs: Jobs,
     queries: Queries<'s>,
+    ready: Ready<M::Prepared>,
     store: Store,
     index: KeptIndex,
     file: ArgsFile<'s>,
     runner: &'s Runner<'s, M>,
 }
 
-impl<'s, M> Model for Session<'s, M> {
+impl<'s, M: RunsQueries> Model for Session<'s, M> {
     ghost use Rattle.std.specs.Coded.{codes};
     ghost use Rattle.gq_value.specs.contracts.value.Value as value;
     ghost use Rattle.gq_value.specs.contracts.kind.BaseType as base;
     ghost use Rattle.gq_tree.specs.contracts.query.QueryTree as query;
     ghost use Rattle.gq_session.specs.Statements.{State};
+    ghost use Rattle.gq_query_run.specs.Ready.{AreReady};
     ghost use Rattle.gq_session.specs.Keeping.{SessionFits};
 
     ghost Value = { State };
@@ -63,7 +66,10 @@ impl<'s, M> Model for Session<'s, M> {
 
     ghost view = { λ s. record { schema = s.catalog; in_use = s.in_use; jobs = s.jobs; queries = s.queries; store = s.store; file = s.file; turns = s.runner.now.turns } };
 
-    ghost invariant = { λ s. SessionFits s.catalog s.in_use s.jobs s.store s.index };
+    ghost invariant = { λ s. record {
+      fits : SessionFits s.catalog s.in_use s.jobs s.store s.index;
+      ready : AreReady M.is_of s.catalog s.queries s.ready.plans;
+    } };
 }
 
 impl<'s, M: RunsQueries> Session<'s, M> {
@@ -77,6 +83,7 @@ impl<'s, M: RunsQueries> Session<'s, M> {
             in_use: None,
             jobs: Jobs::new(alloc),
             queries: Queries::new(alloc),
+            ready: Ready::new(alloc),
             store: no_rows(alloc),
             index: KeptIndex::new(alloc),
             file,
@@ -125,18 +132,21 @@ impl<'s, M: RunsQueries> Session<'s, M> {
     fn make_vertex(&mut self, tree: &VertexTree) -> Result<(), StatementFault>
         ensures { Answers (vertex_made self.old tree.now) self.old self.new result }
     {
+        self.ready.clear();
         create_vertex(self.alloc, &mut self.catalog, tree)
     }
 
     fn make_edge(&mut self, tree: &EdgeTree) -> Result<(), StatementFault>
         ensures { Answers (edge_made self.old tree.now) self.old self.new result }
     {
+        self.ready.clear();
         create_edge(self.alloc, &mut self.catalog, tree)
     }
 
     fn make_graph(&mut self, tree: &GraphTree) -> Result<(), StatementFault>
         ensures { Answers (graph_made self.old tree.now) self.old self.new result }
     {
+        self.ready.clear();
         match create_graph(&mut self.catalog, tree) {
             Ok(graph) => {
                 self.in_use = Some(graph);
@@ -175,6 +185,7 @@ impl<'s, M: RunsQueries> Session<'s, M> {
     ) -> Result<(), StatementFault>
         ensures { Answers (query_made self.old replace name.now tree.now) self.old self.new result }
     {
+        self.ready.clear();
         let (alloc, name) = (self.alloc, name.as_str());
         create_query(
             alloc,
@@ -190,6 +201,7 @@ impl<'s, M: RunsQueries> Session<'s, M> {
     fn install(&mut self, which: &Installed) -> Result<(), StatementFault>
         ensures { Answers (install_made self.old which.now) self.old self.new result }
     {
+        self.ready.clear();
         install_queries(self.alloc, &mut self.queries, which)
     }
 
@@ -215,6 +227,7 @@ impl<'s, M: RunsQueries> Session<'s, M> {
             store,
             self.index.index(),
             &self.queries,
+            &mut self.ready,
             file,
             tree,
         ))

@@ -13,8 +13,8 @@ use Rattle.gq_query_run.proofs.AnswerLemmas.{says, says_judged}
 use Rattle.gq_query_run.proofs.InterpretLemmas.{interpreted_due, interpreted_runs}
 use Rattle.gq_query_run.proofs.interpret.interpret_query.Goals as goal
 
-pub returns-in-Ok : goal.returns-in-Ok
-returns-in-Ok g c queries =
+pub returns-in-Ok-prepare : goal.returns-in-Ok-prepare
+returns-in-Ok-prepare g c queries =
     let s = session_of c.args.catalog.now c.args.in_use queries c.args.store.now in
     let tree = c.args.tree.now in
     let graph = graph_fixed c.args.catalog.now c.args.in_use tree in
@@ -25,8 +25,8 @@ returns-in-Ok g c queries =
     (interpreted_runs c.args.catalog.now c.args.in_use queries c.args.store.now clock c.args.runner.now.turns tree c.in-Ok.ensures)
     (subst Over c.new-none.ensures (subst For c.graph_of-graph.ensures c.line_over.ensures))
 
-pub returns-in-Err : goal.returns-in-Err
-returns-in-Err g c queries =
+pub returns : goal.returns
+returns g c queries =
     let s = session_of c.args.catalog.now c.args.in_use queries c.args.store.now in
     let tree = c.args.tree.now in
     says_judged s (interpreted s gregorian c.args.runner.now.turns tree.graph tree.modes (view_query tree)) (interpret_refusal c.args.catalog.now c.args.in_use tree) c.in-Err.fault

@@ -13,7 +13,7 @@ use Rattle.gq_query_run.proofs.line.line_over.Goals as goal
 
 pub returns-in-Ok : goal.returns-in-Ok
 returns-in-Ok g c =
-    let ran = c.in-Ok.ensures in
+    let ran = c.in-Ok.ensures c.args.graph (view_query c.args.query.now) c.requires.prepared in
     let P : Result Objects Bytes → Type 0 = λ meant. Tells meant c.line_of.result in
     subst P (sym (ap (answer_of_run (slot_names (view_query c.args.query.now).definitions) c.args.runner.now.turns) ran.1))
     (c.line_of.ensures ran.0 (ap (map (λ (p : Printed). p.members)) c.as_slice.ensures ∙ ran.2))
@@ -22,4 +22,4 @@ pub returns-in-Err : goal.returns-in-Err
 returns-in-Err g c =
     c.refused.ensures
     (run_query (graph_read c.args.catalog.now c.args.graph c.args.store.now) gregorian (view_query c.args.query.now) (map val c.args.arguments.now) c.args.runner.now.turns)
-    c.in-Err.ensures
+    (c.in-Err.ensures c.args.graph (view_query c.args.query.now) c.requires.prepared)

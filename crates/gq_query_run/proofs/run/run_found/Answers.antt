@@ -1,4 +1,4 @@
-use Rattle.std.proofs.Common.{sym, subst, ◌∙◌}
+use Rattle.std.proofs.Common.{refl, sym, subst, ◌∙◌}
 use Rattle.gq_arguments.specs.Holds.{held}
 use Rattle.gq_diagnostics.specs.declared.refusal.Refusal.TheVariants as refusal
 use Rattle.gq_rules_calendar.specs.Gregorian.{gregorian}
@@ -9,14 +9,14 @@ use Rattle.gq_query_run.proofs.AnswerLemmas.{told}
 use Rattle.gq_query_run.proofs.RunLemmas.{installed_tells, not_installed}
 use Rattle.gq_query_run.proofs.run.run_found.Goals as goal
 
-pub returns-then-is_installed : goal.returns-then-is_installed
-returns-then-is_installed g c =
+pub returns-then-is_installed-clause-tells : goal.returns-then-is_installed-clause-tells
+returns-then-is_installed-clause-tells g c =
     installed_tells c.args.catalog.now c.args.store.now gregorian c.args.runner.now.turns c.args.query.now c.args.tree.now (held c.args.file.now)
-    c.graph.result c.tree.result.now c.arguments_of-arguments.result c.run_with.result c.graph.ensures c.tree.ensures (sym c.is_installed.ensures ∙ c.if-is_installed.true)
-    c.arguments_of-arguments.ensures c.run_with.ensures
+    c.args.query.now.graph c.args.query.now.tree c.arguments_of-arguments.result c.run_with.result refl refl (sym c.is_installed.ensures ∙ c.if-is_installed.true)
+    c.arguments_of-arguments.ensures c.run_with.ensures.tells
 
-pub returns-else-is_installed : goal.returns-else-is_installed
-returns-else-is_installed g c =
+pub returns-else-is_installed-clause-tells : goal.returns-else-is_installed-clause-tells
+returns-else-is_installed-clause-tells g c =
     let P : Bytes → Type 0 = λ n. rows.Tells (refusal.NotInstalled n) c.not_installed.result in
     told (answer_found c.args.catalog.now c.args.store.now gregorian c.args.runner.now.turns c.args.query.now c.args.tree.now (held c.args.file.now))
     (refusal.NotInstalled c.args.tree.now.name) c.not_installed.result

@@ -14,9 +14,11 @@ returns-clause-prints g c =
 pub interpret_query-requires-clause-indexed : goal.interpret_query-requires-clause-indexed
 interpret_query-requires-clause-indexed g c κs within =
     let i = c.self.inside in
-    session_indexed i.catalog i.in_use i.jobs i.store i.index c.catch_up.new.self c.index.result.now c.self.invariant c.in-Ok.ensures.index c.index.ensures
+    session_indexed i.catalog i.in_use i.jobs i.store i.index c.catch_up.new.self c.index.result.now c.self.invariant.fits c.in-Ok.ensures.index c.index.ensures
 
 pub invariant_of-self : goal.invariant_of-self
 invariant_of-self g c =
-    let i = c.self.inside in
-    session_indexes i.catalog i.in_use i.jobs i.store i.index c.catch_up.new.self c.catch_up.ensures.kept c.self.invariant
+    let i = c.self.inside in record {
+      fits = session_indexes i.catalog i.in_use i.jobs i.store i.index c.catch_up.new.self c.catch_up.ensures.kept c.self.invariant.fits;
+      ready = c.self.invariant.ready;
+    }

@@ -33,5 +33,7 @@ returns-clause-left g c = λ before low.
 
 pub invariant_of-self : goal.invariant_of-self
 invariant_of-self g c =
-    let i = c.self.inside in
-    session_gains i.catalog i.in_use i.jobs i.store c.run_job.new.store i.index c.run_job.ensures.fits c.run_job.ensures.grown c.self.invariant
+    let i = c.self.inside in record {
+      fits = session_gains i.catalog i.in_use i.jobs i.store c.run_job.new.store i.index c.run_job.ensures.fits c.run_job.ensures.grown c.self.invariant.fits;
+      ready = c.self.invariant.ready;
+    }

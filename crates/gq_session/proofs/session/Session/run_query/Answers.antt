@@ -12,14 +12,23 @@ returns-clause-prints g c =
     ran_says c.args.self.now v c.self.view_is c.args.tree.now c.with_line.result i.queries (held c.given-file.result.now) c.run_query.result
     refl c.given-file.ensures
     (is_line c.run_query.result c.with_line.result c.with_line.ensures.done c.with_line.ensures.printed c.with_line.ensures.same)
-    (c.run_query.ensures i.in_use)
+    (c.run_query.ensures.says i.in_use)
 
-pub run_query-requires : goal.run_query-requires
-run_query-requires g c =
+pub run_query-requires-clause-indexed : goal.run_query-requires-clause-indexed
+run_query-requires-clause-indexed g c κs within =
     let i = c.self.inside in
-    (search rules, session_indexed i.catalog i.in_use i.jobs i.store i.index c.catch_up.new.self c.index.result.now c.self.invariant c.in-Ok.ensures.index c.index.ensures)
+    session_indexed i.catalog i.in_use i.jobs i.store i.index c.catch_up.new.self c.index.result.now c.self.invariant.fits c.in-Ok.ensures.index c.index.ensures
 
 pub invariant_of-self : goal.invariant_of-self
 invariant_of-self g c =
-    let i = c.self.inside in
-    session_indexes i.catalog i.in_use i.jobs i.store i.index c.catch_up.new.self c.catch_up.ensures.kept c.self.invariant
+    let i = c.self.inside in record {
+      fits = session_indexes i.catalog i.in_use i.jobs i.store i.index c.catch_up.new.self c.catch_up.ensures.kept c.self.invariant.fits;
+      ready = c.self.invariant.ready;
+    }
+
+pub invariant_of-self-2 : goal.invariant_of-self-2
+invariant_of-self-2 g c =
+    let i = c.self.inside in record {
+      fits = session_indexes i.catalog i.in_use i.jobs i.store i.index c.catch_up.new.self c.catch_up.ensures.kept c.self.invariant.fits;
+      ready = c.run_query.ensures.ready;
+    }
