@@ -16,3 +16,4 @@ pub mod FedLemmas
 pub mod ArithmeticLemmas
 pub mod AskedLemmas
 pub mod FilterLemmas
+pub mod WaitingLemmas

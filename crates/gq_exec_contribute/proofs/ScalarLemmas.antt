@@ -1,9 +1,10 @@
 -- ScalarLemmas: inputs made of INTs are fed in order.
 use Rattle.std.proofs.Common.{◌≡◌, ℕ, ◌+◌, ◌<◌, ◌≤◌, List, [], ◌∷◌, ◌++◌, map, take, set, length, get_or, refl, sym, ap, ap₂, subst, ◌∙◌, arith, length-append}
-use Rattle.std.specs.Prelude.{ℤ}
+use Rattle.std.specs.Prelude.{ℤ, Some, slice_get}
 use Rattle.std.specs.List.{All}
 use Rattle.std.proofs.lemmas.List.{map-append, take_all, take_more, take-set-le, length-set, get_or-set_same}
 use Rattle.std.proofs.lemmas.List.Elements.{All-nil, All-cons, All-head, All-tail}
+use Rattle.std.proofs.lemmas.Option.{slice_get_within, get_or_from_slice_get}
 use Rattle.gq_value.specs.AccumViews.{given}
 use Rattle.gq_value.specs.declared.kind.Input.{Input}
 use Rattle.gq_frame.specs.declared.slots.Slots.{Slots}
@@ -93,6 +94,10 @@ fed_more old was now xs i x l is takes so = record {
   takes = subst (λ l. TakesBatch old now l) (sym (map-append as_input (take i xs) (x ∷ [])) ∙ ap as_inputs (ap (λ z. take i xs ++ z ∷ []) is ∙ sym (take_more xs i x l)))
       (both_taken old was now (as_inputs (take i xs)) (as_inputs (x ∷ [])) so.takes takes);
 }
+
+pub fed_next : (old was now : Accums) (xs : List (ℕ × ScalarInput)) (i : ℕ) (x : ℕ × ScalarInput) → slice_get xs i ≡ Some x → TakesBatch was now (as_inputs (x ∷ [])) → FedTo old xs i was → FedTo old xs (i + 1) now
+fed_next old was now xs i x there takes so =
+    fed_more old was now xs i x (slice_get_within xs i x there) (sym (get_or_from_slice_get xs i x x there)) takes so
 
 pub fed_all : (old now : Accums) (xs : List (ℕ × ScalarInput)) (i : ℕ) → length xs ≤ i → FedTo old xs i now → TakesBatch old now (as_inputs xs)
 fed_all old now xs i l so = subst (λ l. TakesBatch old now (as_inputs l)) (take_all i xs l) so.takes

@@ -6,4 +6,5 @@ pub mod Aliases
 pub mod Prepared
 pub mod Asked
 pub mod Scalars
+pub mod Waiting
 pub mod Filters

@@ -13,7 +13,8 @@ use crate::leaves::Leaves;
 use crate::names::vertex_at;
 use crate::reading::read;
 use crate::scalars::ScalarInput;
-use gq_base::{List, OutOfMemory};
+use crate::waiting::WaitingInputs;
+use gq_base::OutOfMemory;
 use gq_eval_context::BlockContext;
 use gq_graph::Candidate;
 use gq_plan_ir::{Act, Change, Feed};
@@ -29,7 +30,7 @@ pub fn gather(
     over: &BlockContext<'_>,
     leaves: &Leaves<'_>,
     c: &Candidate,
-    into: &mut List<(u64, ScalarInput)>,
+    into: &mut WaitingInputs,
 ) -> Result<bool, OutOfMemory>
     requires { AreFound over.now leaves.now }
     ensures { IfOk result (Gathers over.now.frame.accums.slots (contributions (sees gregorian over.now leaves.now c.now) (slots_are over.now.frame.accums) (view_acts acts.now)) into.old into.new) }
@@ -52,7 +53,7 @@ fn add_act(
     over: &BlockContext<'_>,
     leaves: &Leaves<'_>,
     c: &Candidate,
-    into: &mut List<(u64, ScalarInput)>,
+    into: &mut WaitingInputs,
 ) -> Result<bool, OutOfMemory>
     requires { AreFound over.now leaves.now }
     ensures { IfOk result (Gathers over.now.frame.accums.slots (of_act (sees gregorian over.now leaves.now c.now) (slots_are over.now.frame.accums) (view_act act.now)) into.old into.new) }
@@ -77,7 +78,7 @@ fn add_change(
     c: &Candidate,
     slot: u32,
     vertex: u32,
-    into: &mut List<(u64, ScalarInput)>,
+    into: &mut WaitingInputs,
 ) -> Result<bool, OutOfMemory>
     requires { AreFound over.now leaves.now }
     ensures { IfOk result (Gathers over.now.frame.accums.slots (contributed (sees gregorian over.now leaves.now c.now) (slots_are over.now.frame.accums) (Slot slot) vertex (view_change change.now)) into.old into.new) }
@@ -86,7 +87,7 @@ fn add_change(
     match read_input(change, alloc, over, leaves, c, slot, vertex, &mut input) {
         None => Ok(false),
         Some(target) => {
-            into.push((target, input))?;
+            into.push(target, &input)?;
             Ok(true)
         }
     }

@@ -40,6 +40,7 @@ mod scalars;
 mod takes;
 mod truths;
 mod vertex;
+mod waiting;
 
 pub use bound::{bind, no_alias};
 pub use candidate::{Outcome, contribute};
@@ -53,3 +54,4 @@ pub use rows::Ints;
 pub use scalars::{ScalarInput, feed_scalars, input_of};
 pub use truths::passes;
 pub use vertex::{added_at, truth_at};
+pub use waiting::WaitingInputs;

@@ -1,10 +1,13 @@
 // Feeds inputs made of INTs or a truth.
-ghost use Rattle.std.specs.Prelude.{◌≡◌, [], ◌∷◌, IfOk, OnOk, length, map};
+ghost use Rattle.std.specs.Prelude.{◌≡◌, [], ◌∷◌, IfOk, OnOk, length, map, take, drop};
 ghost use Rattle.gq_exec_feed.specs.Feeding.{TakesBatch};
+ghost use Rattle.gq_value.specs.declared.kind.Input.TheVariants as input;
 ghost use Rattle.gq_value.specs.declared.value.Value.TheVariants as value;
 ghost use Rattle.gq_exec_contribute.specs.Scalars.{as_inputs, made_of, one_int};
+ghost use Rattle.gq_exec_contribute.specs.Waiting.{own};
 
 use crate::rows::Ints;
+use crate::waiting::{LentInput, WaitingInputs};
 use gq_base::{List, OutOfMemory};
 use gq_exec_feed::{feed_all, feed_ints, feed_one};
 use gq_frame::Accums;
@@ -137,36 +140,49 @@ fn set_part(to: &mut Input, x: i64)
     }
 }
 
-/// Replaces an input, reusing its memory if both have keys or both are tuples.
-fn refill(alloc: Global, x: &ScalarInput, spare: &mut Input) -> Result<(), OutOfMemory>
-    ensures { OnOk result (spare.new ≡ made_of x.now) }
+/// Replaces an input by a tuple of INTs, reusing the memory of a tuple.
+fn refill_tuple(alloc: Global, fields: &[i64], spare: &mut Input) -> Result<(), OutOfMemory>
+    ensures { OnOk result (spare.new ≡ input.One (value.Tuple (map value.Int fields.now))) }
 {
-    match x {
-        ScalarInput::Tuple(fields) => match spare {
-            Input::One(Value::Tuple(row)) => refill_row(row, fields.as_slice()),
-            _ => replace(alloc, x, spare),
-        },
-        ScalarInput::Keyed(count, ints) => match spare {
-            Input::Keyed(keys, parts) => {
-                let ints = ints.as_slice();
-                let count = (*count).min(ints.len());
-                refill_row(keys, &ints[..count])?;
-                refill_parts(parts, &ints[count..])
-            }
-            Input::One(_) => replace(alloc, x, spare),
-        },
-        ScalarInput::Int(_) | ScalarInput::Truth(_) | ScalarInput::Element(_) => {
-            replace(alloc, x, spare)
+    match spare {
+        Input::One(Value::Tuple(row)) => refill_row(row, fields),
+        _ => {
+            replace(spare, Input::One(Value::Tuple(row_of(alloc, fields)?)));
+            Ok(())
         }
     }
 }
 
-/// Replaces an input by a new one.
-fn replace(alloc: Global, x: &ScalarInput, spare: &mut Input) -> Result<(), OutOfMemory>
-    ensures { OnOk result (spare.new ≡ made_of x.now) }
+/// Replaces an input by one with this number of keys, and with the other INTs as parts, reusing the memory of one with
+/// keys.
+fn refill_keyed(
+    alloc: Global,
+    count: usize,
+    ints: &[i64],
+    spare: &mut Input,
+) -> Result<(), OutOfMemory>
+    ensures { OnOk result (spare.new ≡ input.Keyed (map value.Int (take count ints.now)) (map one_int (drop count ints.now))) }
 {
-    *spare = input_of(alloc, x)?;
-    Ok(())
+    let count = count.min(ints.len());
+    match spare {
+        Input::Keyed(keys, parts) => {
+            refill_row(keys, &ints[..count])?;
+            refill_parts(parts, &ints[count..])
+        }
+        Input::One(_) => {
+            let keys = row_of(alloc, &ints[..count])?;
+            let parts = parts_of(alloc, &ints[count..])?;
+            replace(spare, Input::Keyed(keys, parts));
+            Ok(())
+        }
+    }
+}
+
+/// Replaces an input.
+fn replace(old: &mut Input, new: Input)
+    ensures { old.new ≡ new }
+{
+    *old = new;
 }
 
 /// Feeds inputs in order, each to the target with its number. Allocates for inputs other than numbers and truths.
@@ -176,7 +192,7 @@ fn replace(alloc: Global, x: &ScalarInput, spare: &mut Input) -> Result<(), OutO
 pub fn feed_scalars(
     alloc: Global,
     accums: &mut Accums,
-    inputs: &[(u64, ScalarInput)],
+    inputs: &WaitingInputs,
 ) -> Result<(), OutOfMemory>
     ensures { OnOk result (TakesBatch accums.old accums.new (as_inputs inputs.now)) }
 {
@@ -192,15 +208,16 @@ pub fn feed_scalars(
 fn feed_over(
     alloc: Global,
     accums: &mut Accums,
-    inputs: &[(u64, ScalarInput)],
+    inputs: &WaitingInputs,
     single: &mut Input,
     keyed: &mut Input,
     tuple: &mut Input,
 ) -> Result<(), OutOfMemory>
     ensures { OnOk result (TakesBatch accums.old accums.new (as_inputs inputs.now)) }
 {
-    for (target, x) in inputs {
-        feed_scalar(alloc, accums, *target, x, single, keyed, tuple)?;
+    for place in 0..inputs.len() {
+        let (target, x) = inputs.lent_at(place);
+        feed_scalar(alloc, accums, target, x, single, keyed, tuple)?;
     }
     Ok(())
 }
@@ -210,35 +227,25 @@ fn feed_scalar(
     alloc: Global,
     accums: &mut Accums,
     target: u64,
-    x: &ScalarInput,
+    x: LentInput<'_>,
     single: &mut Input,
     keyed: &mut Input,
     tuple: &mut Input,
 ) -> Result<(), OutOfMemory>
-    ensures { OnOk result (TakesBatch accums.old accums.new (as_inputs ((target, x.now) ∷ []))) }
+    ensures { OnOk result (TakesBatch accums.old accums.new (as_inputs ((target, own x.entry) ∷ []))) }
 {
     match x {
-        ScalarInput::Int(x) => feed_ints(alloc, accums, &[(target, *x)]),
-        ScalarInput::Truth(_) | ScalarInput::Element(_) => {
-            let input = input_of(alloc, x)?;
-            feed_all(alloc, accums, &[(target, input)])
+        LentInput::Int(x) => feed_ints(alloc, accums, &[(target, x)]),
+        LentInput::Truth(x) => { feed_all(alloc, accums, &[(target, Input::One(Value::Bool(x)))]) }
+        LentInput::Element(x) => feed_all(alloc, accums, &[(target, Input::One(Value::Int(x)))]),
+        LentInput::Tuple(fields) => {
+            refill_tuple(alloc, fields.as_slice(), tuple)?;
+            feed_one(alloc, accums, target, tuple)
         }
-        ScalarInput::Tuple(_) => feed_made(alloc, accums, target, x, tuple),
-        ScalarInput::Keyed(1, _) => feed_made(alloc, accums, target, x, single),
-        ScalarInput::Keyed(_, _) => feed_made(alloc, accums, target, x, keyed),
+        LentInput::Keyed(count, ints) => {
+            let spare = if count == 1 { single } else { keyed };
+            refill_keyed(alloc, count, ints.as_slice(), spare)?;
+            feed_one(alloc, accums, target, spare)
+        }
     }
-}
-
-/// Makes an input in `spare` and feeds it.
-fn feed_made(
-    alloc: Global,
-    accums: &mut Accums,
-    target: u64,
-    x: &ScalarInput,
-    spare: &mut Input,
-) -> Result<(), OutOfMemory>
-    ensures { OnOk result (TakesBatch accums.old accums.new (as_inputs ((target, x.now) ∷ []))) }
-{
-    refill(alloc, x, spare)?;
-    feed_one(alloc, accums, target, spare)
 }

@@ -45,7 +45,8 @@ use Rattle.gq_exec_contribute.specs.contracts.cells.Cells as cells
 use Rattle.gq_exec_contribute.specs.contracts.filters.EndCell as end_cell
 use Rattle.gq_exec_contribute.specs.contracts.filters.Filter as filter
 use Rattle.gq_exec_contribute.specs.contracts.rows.Ints as ints
-use Rattle.gq_exec_contribute.specs.contracts.scalars.ScalarInput as scalar
+use Rattle.gq_exec_contribute.specs.contracts.waiting.PackedInput as packed
+use Rattle.gq_exec_contribute.specs.contracts.waiting.WaitingInputs as waiting
 use Rattle.gq_exec_contribute.specs.contracts.leaves.Leaves as leaves
 use Rattle.gq_index.specs.contracts.store.Store as store
 use Rattle.gq_index.specs.contracts.index.Index as index
@@ -65,14 +66,17 @@ pub use Rattle.gq_plan_ir.proofs.CrossingLemmas.{block_sync, plan_sync}
 batches_send : IsSend batches.the_row
 batches_send = search (sendable, input_send, crosses) depth 20
 
-ints_field : IsSend (ints.the_field).row
-ints_field = search (sendable, crosses) depth 30 fits 50000
+ints_send : IsSend ints.the_row
+ints_send = search (sendable, crosses) depth 30 fits 50000
 
-scalar_send : IsSend scalar.the_row
-scalar_send = search (sendable, ints_field, crosses) depth 30 fits 50000
+packed_send : IsSend packed.the_row
+packed_send = search (sendable) depth 30 fits 50000
+
+waiting_field : IsSend (waiting.the_field).row
+waiting_field = search (sendable, ints_send, packed_send, list_crosses.the_send, crosses) depth 30 fits 50000
 
 left_send : IsSend left.the_row
-left_send = search (sendable, batches_send, scalar_send, list_crosses.the_send, crosses) depth 30 fits 50000
+left_send = search (sendable, batches_send, waiting_field, list_crosses.the_send, crosses) depth 30 fits 50000
 
 pub part_send : IsSend part.the_row
 part_send = search (sendable, left_send, list_crosses.the_send, crosses) depth 30 fits 50000

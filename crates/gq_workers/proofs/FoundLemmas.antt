@@ -3,6 +3,7 @@ use Rattle.std.proofs.Common.{◌≡◌, ℕ, zero, suc, ◌+◌, ◌*◌, ◌/�
 use Rattle.std.specs.List.{All, AllByRecursion}
 use Rattle.std.proofs.lemmas.List.{map-append, take_all}
 use Rattle.std.proofs.lemmas.List.Elements.{All-nil, All-cons, recursion_from_All}
+use Rattle.std.proofs.lemmas.Option.{slice_get_within, get_or_from_slice_get}
 use Rattle.std.proofs.lemmas.Bool.Decides.{nat_tests}
 use Rattle.gq_value.specs.declared.kind.Input.{Input}
 use Rattle.gq_graph.specs.declared.rows.Candidate.{Candidate}
@@ -114,13 +115,9 @@ ints_more xs n x old was new l is before gains = record {
       ∙ ap (λ l. l ∷ []) (append_assoc batch (as_inputs (take n xs)) (as_input x ∷ []) ∙ ap (λ l. batch ++ l) (sym (map-append as_input (take n xs) (x ∷ []))) ∙ ap (λ l. batch ++ as_inputs l) (sym (take_next n xs x l is)));
 }
 
-get_or_same : {A : Type 0} (xs : List A) (n : ℕ) (d e : A) → n < length xs → get_or xs n d ≡ get_or xs n e
-get_or_same [] n d e l = absurd (omega (arith, l))
-get_or_same (x ∷ xs) zero d e l = refl
-get_or_same (x ∷ xs) (suc n) d e l = get_or_same xs n d e (omega (arith, l))
-
-pub ints_at : (xs : List (ℕ × ScalarInput)) (n : ℕ) (d : ℕ × ScalarInput) (v : Input) (old was new : List (List (ℕ × Input))) → n < length xs → v ≡ made_of (get_or xs n d).1 → Gains was new (get_or xs n d).0 v → AddsInputs (take n xs) old was → AddsInputs (take (n + 1) xs) old new
-ints_at xs n d v old was new l e gains before = ints_more xs n (get_or xs n d) old was new l (get_or_same xs n d (get_or xs n d) l) before (subst (λ (u : Input). Gains was new (get_or xs n d).0 u) e gains)
+pub ints_at : (xs : List (ℕ × ScalarInput)) (n : ℕ) (x : ℕ × ScalarInput) (v : Input) (old was new : List (List (ℕ × Input))) → slice_get xs n ≡ Some x → v ≡ made_of x.1 → Gains was new x.0 v → AddsInputs (take n xs) old was → AddsInputs (take (n + 1) xs) old new
+ints_at xs n x v old was new there e gains before =
+    ints_more xs n x old was new (slice_get_within xs n x there) (sym (get_or_from_slice_get xs n x x there)) before (subst (λ (u : Input). Gains was new x.0 u) e gains)
 
 pub ints_all : (xs : List (ℕ × ScalarInput)) (n : ℕ) (old new : List (List (ℕ × Input))) → length xs ≤ n → AddsInputs (take n xs) old new → AddsInputs xs old new
 ints_all xs n old new l h = subst (λ l. AddsInputs l old new) (take_all n xs l) h

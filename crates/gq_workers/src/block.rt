@@ -192,7 +192,7 @@ fn next_chunk<G: Gate>(
         &mut run.accums,
         run.fed,
         &found.batches,
-        found.inputs.as_slice(),
+        &found.inputs,
     )?;
     found.batches.clear();
     found.inputs.truncate(0);

@@ -4,7 +4,7 @@ ghost use Rattle.gq_workers.specs.Running.{AddsInputs, IsOpened, Settles};
 
 use gq_base::{List, OutOfMemory};
 use gq_core::Batches;
-use gq_exec_contribute::{Room, ScalarInput, input_of};
+use gq_exec_contribute::{Room, WaitingInputs, input_of};
 use gq_exec_source::unmarked;
 use std::alloc::Global;
 
@@ -14,7 +14,7 @@ pub(crate) struct MatchBuffer {
     pub batches: Batches,
 
     /// Inputs that are INTs or truth values, each with the number of its target. They come after those in the batch.
-    pub inputs: List<(u64, ScalarInput)>,
+    pub inputs: WaitingInputs,
     pub room: Room,
     pub sources: List<u64>,
     pub targets: List<u64>,
@@ -31,7 +31,7 @@ impl MatchBuffer {
     {
         Ok(MatchBuffer {
             batches: Batches::new(alloc, 1)?,
-            inputs: List::new(alloc),
+            inputs: WaitingInputs::new(alloc),
             room: Room::new(alloc),
             sources: unmarked(alloc, vertices)?,
             targets: unmarked(alloc, vertices)?,
@@ -47,7 +47,7 @@ impl MatchBuffer {
         ensures none { OnOk result (self.new.inputs ≡ []) }
     {
         if self.inputs.len() > 0 {
-            add_inputs(alloc, self.inputs.as_slice(), &mut self.batches)?;
+            add_inputs(alloc, &self.inputs, &mut self.batches)?;
             self.inputs.truncate(0);
         }
         Ok(())
@@ -56,16 +56,13 @@ impl MatchBuffer {
 
 /// Appends INTs and truth values to the batch, as inputs.
 #[tactic(auto, using(crate::proofs::FoundLemmas::ints_laws))]
-fn add_inputs(
-    alloc: Global,
-    inputs: &[(u64, ScalarInput)],
-    into: &mut Batches,
-) -> Result<(), OutOfMemory>
+fn add_inputs(alloc: Global, inputs: &WaitingInputs, into: &mut Batches) -> Result<(), OutOfMemory>
     requires { length into.old ≡ 1 }
     ensures { OnOk result (AddsInputs inputs.now into.old into.new) }
 {
-    for input in inputs {
-        into.add(input.0, input_of(alloc, &input.1)?)?;
+    for place in 0..inputs.len() {
+        let (target, input) = inputs.at(place);
+        into.add(target, input_of(alloc, &input)?)?;
     }
     Ok(())
 }

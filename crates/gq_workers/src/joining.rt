@@ -112,13 +112,7 @@ fn feed_left(
         Some(fault) => return Ok(Some(fault)),
         None => {}
     }
-    run.fed = feed(
-        alloc,
-        &mut run.accums,
-        run.fed,
-        &left.batches,
-        left.inputs.as_slice(),
-    )?;
+    run.fed = feed(alloc, &mut run.accums, run.fed, &left.batches, &left.inputs)?;
     run.at = left.end;
     Ok(None)
 }

@@ -7,7 +7,7 @@ use crate::found::MatchBuffer;
 use gq_base::OutOfMemory;
 use gq_core::Batches;
 use gq_eval_context::{After, BlockContext, BlockFault};
-use gq_exec_contribute::{ScalarInput, feed_scalars};
+use gq_exec_contribute::{WaitingInputs, feed_scalars};
 use gq_exec_feed::{feed_all, first_unfit, slot_number};
 use gq_exec_source::listed;
 use gq_frame::Accums;
@@ -52,7 +52,7 @@ pub(crate) fn feed(
     accums: &mut Accums,
     fed: u64,
     batches: &Batches,
-    inputs: &[(u64, ScalarInput)],
+    inputs: &WaitingInputs,
 ) -> Result<u64, OutOfMemory>
     ensures { IfOk result (FedFrom accums.old accums.new fed batches.now inputs.now) }
 {

@@ -2,7 +2,7 @@
 use gq_base::{List, OutOfMemory};
 use gq_core::Batches;
 use gq_eval_attributes::TupleType;
-use gq_exec_contribute::{Filter, Leaves, ScalarInput};
+use gq_exec_contribute::{Filter, Leaves, WaitingInputs};
 use gq_frame::Frame;
 use gq_index::{Candidates, Graph};
 use gq_plan_ir::{Block, Plan};
@@ -46,7 +46,7 @@ pub(crate) struct ChunkOutput {
     pub batches: Batches,
 
     /// They come after those in the batch.
-    pub inputs: List<(u64, ScalarInput)>,
+    pub inputs: WaitingInputs,
     pub fault: Option<(u64, Wrong)>,
 }
 

@@ -26,7 +26,7 @@ const FIRST: u64 = 1 << 16;
 /// some hundred of them.
 const FOR_A_WORKER: u64 = 1 << 12;
 
-/// Rounds grow until half of so many contributions wait to be fed, some 25 MB at one input each, since the start and end
+/// Rounds grow until half of so many contributions wait to be fed, some 6 MB at one INT each, since the start and end
 /// of a round take a millisecond or more where threads wake late. Those of two rounds may wait.
 const WAITING: u64 = 1 << 19;
 
@@ -296,7 +296,9 @@ fn work_chunk(
     let fault = try_chunk(alloc, work, over, start, end, found)?;
     let none = Batches::new(alloc, 1)?;
     let batches = mem::replace(&mut found.batches, none);
-    let inputs = mem::replace(&mut found.inputs, List::new(alloc));
+    // The buffer keeps its room for the next chunk, and what waits takes no more than it needs.
+    let inputs = found.inputs.copied(alloc)?;
+    found.inputs.truncate(0);
     Ok(ChunkOutput {
         start,
         end,

@@ -2,5 +2,5 @@ use Rattle.std.proofs.Common.{take}
 use Rattle.gq_workers.specs.Running.{AddsInputs}
 use Rattle.gq_workers.proofs.found.add_inputs.Given as goal
 
-abbrev pub invariant-loop-input : goal.invariant-loop-input
-invariant-loop-input l = AddsInputs (take l.input-index l.inputs) l.initial.into l.into
+abbrev pub invariant-loop-place : goal.invariant-loop-place
+invariant-loop-place l = AddsInputs (take l.place l.inputs) l.initial.into l.into
