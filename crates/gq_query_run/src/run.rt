@@ -91,7 +91,7 @@ fn run_found<R: Threads + Sync, M: RunsQueries>(
 {
     if query.is_installed() {
         let arguments = arguments_of(tree, file);
-        run_with(
+        run_at(
             rt, alloc, runner, catalog, store, index, query, place, ready, arguments,
         )
     } else {
@@ -108,6 +108,41 @@ fn arguments_of<'a>(tree: &'a RunTree, file: &'a Args) -> Arguments<'a>
         Some(listed) => Arguments::Listed(listed.as_slice()),
         None => Arguments::Named(file.of_query(tree.name.as_str())),
     }
+}
+
+/// Only the first queries are kept ready, so that a statement that clears them, and the next run after it, take no more
+/// time in a script of many queries.
+const MOST_READY: usize = 1 << 10;
+
+/// Runs the query at a place with these arguments. It isn't kept ready if its place is too high.
+fn run_at<R: Threads + Sync, M: RunsQueries>(
+    rt: &R,
+    alloc: Global,
+    runner: &Runner<'_, M>,
+    catalog: &Catalog,
+    store: &Store,
+    index: &Index,
+    query: &Stored<'_>,
+    place: usize,
+    ready: &mut Ready<M::Prepared>,
+    arguments: Arguments<'_>,
+) -> Result<Vec<u8>, StatementFault>
+    requires indexed { IsIndexed catalog.now store.now index.now }
+    requires ready { IsReadyFor M.is_of catalog.now ready.old.plans place query.now }
+    ensures tells { Tells (answer_given (graph_read catalog.now query.now.graph store.now) gregorian runner.now.turns (view_query query.now.tree)
+        (values_given (sorts_of catalog.now (graph_in catalog.now query.now.graph)) store.now.vertices (map view_parameter query.now.tree.parameters) arguments.entry)) result }
+    ensures ready { IsReadyFor M.is_of catalog.now ready.new.plans place query.now }
+    ensures others { OthersStay ready.old.plans ready.new.plans place }
+{
+    if place < MOST_READY {
+        return run_with(
+            rt, alloc, runner, catalog, store, index, query, place, ready, arguments,
+        );
+    }
+    let mut own = Ready::new(alloc);
+    run_with(
+        rt, alloc, runner, catalog, store, index, query, 0, &mut own, arguments,
+    )
 }
 
 /// Runs the query at a place with these arguments. It is prepared if it wasn't yet.

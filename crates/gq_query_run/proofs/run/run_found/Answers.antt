@@ -12,8 +12,8 @@ use Rattle.gq_query_run.proofs.run.run_found.Goals as goal
 pub returns-then-is_installed-clause-tells : goal.returns-then-is_installed-clause-tells
 returns-then-is_installed-clause-tells g c =
     installed_tells c.args.catalog.now c.args.store.now gregorian c.args.runner.now.turns c.args.query.now c.args.tree.now (held c.args.file.now)
-    c.args.query.now.graph c.args.query.now.tree c.arguments_of-arguments.result c.run_with.result refl refl (sym c.is_installed.ensures ∙ c.if-is_installed.true)
-    c.arguments_of-arguments.ensures c.run_with.ensures.tells
+    c.args.query.now.graph c.args.query.now.tree c.arguments_of-arguments.result c.run_at.result refl refl (sym c.is_installed.ensures ∙ c.if-is_installed.true)
+    c.arguments_of-arguments.ensures c.run_at.ensures.tells
 
 pub returns-else-is_installed-clause-tells : goal.returns-else-is_installed-clause-tells
 returns-else-is_installed-clause-tells g c =
