@@ -91,6 +91,10 @@ def installed(size):
     return script("".join(f"CREATE QUERY {it} () {{ PRINT 1; }}\n" for it in names) + "INSTALL QUERY " + ", ".join(reversed(names)))
 
 
+def run_in_turn(size):
+    return script("".join(f"CREATE QUERY q{at} () {{ PRINT 1; }}\nINSTALL QUERY q{at}\nRUN QUERY q{at}\n" for at in range(size // 64)))
+
+
 WITH_ARGS = ("--args", "a.json")
 OPERATORS = ("+", "-", "*", "AND", "OR")
 
@@ -143,6 +147,7 @@ INPUTS = (
     ("one graph of many types", "small queries", lambda size: script(GRAPH + "CREATE GRAPH h (v" + fill(size, ", e") + ")\n"), 0),
     ("many queries", "small queries", lambda size: script(fill(size, "CREATE QUERY q%d () { PRINT 1; }\n")), 0),
     ("many queries that are installed", "small queries", installed, 0),
+    ("many queries that run in turn", "small queries", run_in_turn, 0),
     ("many jobs", "small queries", lambda size: script(GRAPH + fill(size, "CREATE LOADING JOB j%d FOR GRAPH g { }\n")), 0),
     ("many names of files", "small queries", named_files, b"missing file x"),
     ("many values", "small queries", lambda size: script(GRAPH + "INSERT INTO v VALUES (" + fill(size, "1", ", ") + ")"), b"wrong number"),
