@@ -18,9 +18,10 @@ use Rattle.gq_exec_feed.proofs.FeedLemmas.{SoFar, so_far_first, so_far_more, so_
 use Rattle.gq_exec_feed.specs.Ints.{as_input, as_inputs}
 
 -- the content at a target takes one more INT
-pub target_takes : (old : Accums) (cs : List Content) (target : ℕ) (x : ℤ) → ChangesAt (TakesInt x) target old.contents cs → TakesOne old (record { slots = old.slots; contents = cs }) target (One (Int x))
-target_takes old cs target x h = record {
-  takes = record { middle = h.middle; same = h.same; was = h.was; now = h.now; stood = h.stood; becomes = takes_input h.was h.now (One (Int x)) h.becomes; contents = h.contents };
+pub target_takes : (old : Accums) (cs : List Content) (target : ℕ) (x : ℤ) → target < length old.contents → ChangesAt (TakesInt x) target old.contents cs → TakesOne old (record { slots = old.slots; contents = cs }) target (One (Int x))
+target_takes old cs target x l h = record {
+  takes = λ m. record { middle = h.middle; same = h.same; was = h.was; now = h.now; stood = h.stood; becomes = takes_input h.was h.now (One (Int x)) h.becomes; contents = h.contents };
+  stays = λ m. absurd (omega (arith, l, m));
   slots = refl;
 }
 

@@ -1,5 +1,5 @@
 -- FeedLemmas: accumulators after a contribution, and after a batch.
-use Rattle.std.proofs.Common.{if◌then◌else◌, ◌≡◌, ◌≢◌, ℕ, zero, suc, ◌+◌, ◌^◌, ◌<◌, ◌≤◌, ◌==◌, ◌&&◌, Bool, true, false, List, [], ◌∷◌, take, drop, length, map, set, get_or, slice_get, slice_set, Some, refl, sym, ap, ap₂, ◌∙◌, subst, arith, eq-eqb, ne_eqb}
+use Rattle.std.proofs.Common.{if◌then◌else◌, ◌≡◌, ◌≢◌, ℕ, zero, suc, ◌+◌, ◌^◌, ◌<◌, ◌≤◌, ◌==◌, ◌&&◌, Bool, true, false, List, [], ◌∷◌, take, drop, length, map, set, get_or, slice_get, slice_set, Option, Some, None, refl, sym, ap, ap₂, ◌∙◌, subst, arith, eq-eqb, ne_eqb}
 use Rattle.std.specs.List.{All}
 use Rattle.std.proofs.lemmas.List.Elements.{All-head, All-tail}
 use Rattle.gq_value.specs.declared.kind.Input.{Input}
@@ -25,7 +25,7 @@ use Rattle.gq_exec_feed.specs.Feeding.{IsFed, AreFed, AreAfter, TakesBatch}
 use Rattle.gq_exec_feed.specs.Steps.{TakesOne}
 use Rattle.gq_exec_feed.proofs.CopyLemmas.{copied_fed}
 use Rattle.gq_exec_feed.proofs.FormLemmas.{forms_after}
-use Rattle.gq_exec_feed.proofs.PlaceLemmas.{same_some, none_apart, take_set_front, drop_set_front, take_set_behind, drop_set_behind, taken_get, get_dropped, get_some, drop_item, drop_all}
+use Rattle.gq_exec_feed.proofs.PlaceLemmas.{same_some, none_apart, length_taken, length_dropped, past_end, within_end, take_set_front, drop_set_front, take_set_behind, drop_set_behind, taken_get, get_dropped, get_some, drop_item, drop_all}
 use Rattle.gq_exec_feed.proofs.SlotLemmas.{Every, EachSlot, EachTarget, Proper, seen_in, with_contents, every_map, slots_of_targets, targets_of_slots, slots_map, contents_same, slots_same, slots_append}
 
 -- ---- targets of contributions
@@ -187,13 +187,57 @@ one_put f old new x t was now fed few may e there takes same_slots put = (shown,
           (fed_one old.slots.vertices f x was now x.slot old.slots.declared may.slot old.contents (may.declared, may.within, becomes) each)));
     }
 
+-- ---- no such target
+
+module _ (c : Contribution) where
+  contents_past : (k : Accum) (n w : ℕ) (cs : List Content) → w + length cs ≤ c.vertex → Every (Proper k) cs → map (seen_in k) cs ≡ contents_after k n (c ∷ []) w (map (seen_in k) cs)
+  contents_past k n w [] l p = refl
+  contents_past k n w (x ∷ cs) l p = ap₂ ◌∷◌
+      (sym (ap (after k (seen_in k x)) (other_vertex c n w (λ q. absurd (omega (arith, q, l)))) ∙ after_none k (seen_in k x) p.0))
+      (contents_past k n (suc w) cs (omega (arith, l)) p.1)
+
+  slots_past : (vertices n j : ℕ) (ss : List Slot) (s : Slot) (cs : List Content) → c.slot ≡ n + j → slice_get ss j ≡ Some s → length cs ≤ target_number vertices (attached_in ss) j c.vertex → EachSlot Proper vertices ss cs
+      → slots_from vertices n ss cs ≡ slots_after (c ∷ []) n (slots_from vertices n ss cs)
+  slots_past vertices n j [] s cs e a l p = none_apart s a
+  slots_past vertices n zero (r ∷ ss) s cs e a l p = ap₂ ◌∷◌
+      (ap (with_contents n r) (contents_past (accum_of r.kind) n 0 (take (targets_of vertices r) cs) (let m = length_taken cs (targets_of vertices r) in omega (arith, l, m)) p.0))
+      (sym (slots_same vertices (suc n) (c ∷ []) ss (drop (targets_of vertices r) cs) (λ m w h. other_slot c m w (λ q. absurd (omega (arith, q, e, h)))) p.1))
+  slots_past vertices n (suc j) (r ∷ ss) s cs e a l p = ap₂ ◌∷◌
+      (sym (ap (with_contents n r) (contents_same (accum_of r.kind) n (c ∷ []) 0 (take (targets_of vertices r) cs) (λ w h. other_slot c n w (λ q. absurd (omega (arith, q, e)))) p.0)))
+      (slots_past vertices (suc n) j ss s (drop (targets_of vertices r) cs) (omega (arith, e)) a (length_dropped cs (targets_of vertices r) (target_number vertices (attached_in ss) j c.vertex) (omega (arith, l, at))) p.1)
+    where
+      at : target_number vertices (attached_in (r ∷ ss)) (suc j) c.vertex ≡ targets_of vertices r + target_number vertices (attached_in ss) j c.vertex
+      at = omega arith
+
+none_put : (f : ℕ) (old new : Accums) (x : Contribution) (t : ℕ) → AreFed f old → MayTake old.slots x → t ≡ number_of old.slots x.slot x.vertex → length old.contents ≤ t
+    → new.slots ≡ old.slots → new.contents ≡ old.contents → (slots_are new ≡ slots_after (x ∷ []) 0 (slots_are old)) × AreFed (suc f) new
+none_put f old new x t fed may e past same_slots stays = (shown, fed_then)
+  where
+    same : new ≡ old
+    same = λ i. record { slots = same_slots i; contents = stays i }
+
+    shown : slots_are new ≡ slots_after (x ∷ []) 0 (slots_are old)
+    shown = ap slots_are same ∙ slots_past x old.slots.vertices 0 x.slot old.slots.declared may.slot old.contents (omega arith) may.declared (omega (arith, past, e))
+        (slots_map (λ k c. IsFed k f c) Proper (λ k c h. proper_of k f c h) old.slots.vertices old.slots.declared old.contents
+        (slots_of_targets (λ k c. IsFed k f c) old.slots.vertices old.slots.declared old.contents fed.each))
+
+    fed_then : AreFed (suc f) new
+    fed_then = subst (AreFed (suc f)) (sym same) (record {
+      each = λ n v s c d l g. let h = fed.each n v s c d l g in record { shows = h.shows; forms = h.forms; fed = fed_law.more (accum_of s.kind) (seen_in (accum_of s.kind) c) f (suc f) (omega arith) h.fed };
+    })
+
 one_after : (f : ℕ) (old mid : Accums) (x : Contribution) (t : ℕ) (y : Given) → AreFed f old → f < 2 ^ 62 → MayTake old.slots x → t ≡ number_of old.slots x.slot x.vertex → y ≡ x.input → TakesOne old mid t y
     → (mid.slots ≡ old.slots) × (slots_are mid ≡ slots_after (x ∷ []) 0 (slots_are old)) × AreFed (suc f) mid
-one_after f old mid x t y fed few may e d takes =
-    let middle = with_all old takes.takes.middle in
-    let copy = copied_fed f old middle fed refl takes.takes.same in
-    let put = one_put f middle mid x t takes.takes.was takes.takes.now copy.1 few may e takes.takes.stood (subst (λ z. TakesInput takes.takes.was z takes.takes.now) d takes.takes.becomes) takes.slots takes.takes.contents in
-    (takes.slots, put.0 ∙ ap (slots_after (x ∷ []) 0) copy.0, put.1)
+one_after f old mid x t y fed few may e d takes = by (slice_get old.contents t) refl
+  where
+    by : (o : Option Content) → slice_get old.contents t ≡ o → (mid.slots ≡ old.slots) × (slots_are mid ≡ slots_after (x ∷ []) 0 (slots_are old)) × AreFed (suc f) mid
+    by None g = let put = none_put f old mid x t fed may e (past_end old.contents t g) takes.slots (takes.stays (past_end old.contents t g)) in (takes.slots, put.0, put.1)
+    by (Some c) g =
+        let change = takes.takes (within_end old.contents t c g) in
+        let middle = with_all old change.middle in
+        let copy = copied_fed f old middle fed refl change.same in
+        let put = one_put f middle mid x t change.was change.now copy.1 few may e change.stood (subst (λ z. TakesInput change.was z change.now) d change.becomes) takes.slots change.contents in
+        (takes.slots, put.0 ∙ ap (slots_after (x ∷ []) 0) copy.0, put.1)
 
 -- ---- a batch, from its first input to its last
 

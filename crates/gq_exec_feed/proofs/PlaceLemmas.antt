@@ -64,3 +64,24 @@ module _ {A : Type 0} where
   drop_all [] (suc i) h = refl
   drop_all (x ∷ xs) zero h = absurd (omega (arith, h))
   drop_all (x ∷ xs) (suc i) h = drop_all xs i (omega (arith, h))
+
+  -- how many there are
+  pub length_taken : (xs : List A) (t : ℕ) → length (take t xs) ≤ length xs
+  length_taken xs zero = omega arith
+  length_taken [] (suc t) = omega arith
+  length_taken (x ∷ xs) (suc t) = let h = length_taken xs t in omega (arith, h)
+
+  pub length_dropped : (xs : List A) (t r : ℕ) → length xs ≤ t + r → length (drop t xs) ≤ r
+  length_dropped xs zero r l = omega (arith, l)
+  length_dropped [] (suc t) r l = omega arith
+  length_dropped (x ∷ xs) (suc t) r l = length_dropped xs t r (omega (arith, l))
+
+  pub past_end : (xs : List A) (i : ℕ) → slice_get xs i ≡ None → length xs ≤ i
+  past_end [] i h = omega arith
+  past_end (x ∷ xs) zero h = absurd (cc h)
+  past_end (x ∷ xs) (suc i) h = let l = past_end xs i h in omega (arith, l)
+
+  pub within_end : (xs : List A) (i : ℕ) (x : A) → slice_get xs i ≡ Some x → i < length xs
+  within_end [] i x h = none_apart x h
+  within_end (y ∷ xs) zero x h = omega arith
+  within_end (y ∷ xs) (suc i) x h = let l = within_end xs i x h in omega (arith, l)

@@ -1,5 +1,5 @@
 -- Steps: one input at a time, and the contents of one slot.
-use Rattle.std.specs.Prelude.{◌≡◌, ℕ, Bool, true, false, List, map}
+use Rattle.std.specs.Prelude.{◌≡◌, ◌<◌, ◌≤◌, ℕ, Bool, true, false, List, length, map}
 use Rattle.std.specs.List.{All, list_all}
 use Rattle.gq_value.specs.Accums.{Accum, SumAccum, AvgAccum, MapAccum, GroupByAccum, Given}
 use Rattle.gq_accum_laws.specs.Fits.{fits}
@@ -9,9 +9,10 @@ use Rattle.gq_frame.specs.declared.accums.Accums.{Accums}
 use Rattle.gq_frame.specs.Pages.{ChangesAt, Takes}
 use Rattle.gq_exec_feed.specs.Feeding.{IsFed}
 
--- the content at a target takes one more input, and the others show the same as before
+-- the content at a target takes one more input, and the others show the same as before; if there is no such target, none takes it
 pub record TakesOne (old new : Accums) (target : ℕ) (x : Given) : Type 0 where
-  pub takes : ChangesAt (Takes x) target old.contents new.contents
+  pub takes : target < length old.contents → ChangesAt (Takes x) target old.contents new.contents
+  pub stays : length old.contents ≤ target → new.contents ≡ old.contents
   pub slots : new.slots ≡ old.slots
 
 -- a kind without a sum or an average at any level, whose contents always fit. A group isn't looked into

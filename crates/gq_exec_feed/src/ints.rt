@@ -10,10 +10,8 @@ use gq_base::OutOfMemory;
 use gq_frame::Accums;
 use std::alloc::Global;
 
-/// Feeds INTs in order, each to the target with its number. Allocates only if the target's page is shared by copies.
-///
-/// Also returns `OutOfMemory` if there is no such target, or its kind isn't a scalar one that takes INTs. After an
-/// error some inputs may have been fed.
+/// Feeds INTs in order, each to the target with its number, if there is one. For a number, truth or average it allocates
+/// only if the target's page is shared by copies. After an error some inputs may have been fed.
 #[tactic(auto, using(crate::proofs::BatchLemmas::ints_laws))]
 pub fn feed_ints(
     alloc: Global,
@@ -28,12 +26,12 @@ pub fn feed_ints(
     Ok(())
 }
 
-/// Feeds an INT to the target with this number.
+/// Feeds an INT to the target with this number, if there is one.
 fn feed_int(alloc: Global, accums: &mut Accums, target: u64, x: i64) -> Result<(), OutOfMemory>
     ensures { OnOk result (TakesOne accums.old accums.new target (One (Int x))) }
 {
     if target >= accums.contents.len() as u64 {
-        return Err(OutOfMemory);
+        return Ok(());
     }
     accums.contents.feed_int(alloc, target as usize, x)
 }

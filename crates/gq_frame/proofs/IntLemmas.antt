@@ -3,7 +3,7 @@ use Rattle.std.proofs.Common.{◌≡◌, ℕ, ◌+◌, ◌*◌, ◌^◌, ◌<◌
 use Rattle.std.specs.Int.{w128, int_min, int_max}
 use Rattle.std.proofs.lemmas.Int.{ints, to_z-of_z}
 use Rattle.gq_value.specs.Val.{Int}
-use Rattle.gq_value.specs.Accums.{One}
+use Rattle.gq_value.specs.Accums.{Given, One}
 use Rattle.gq_accum_laws.specs.After.{after}
 use Rattle.gq_accum_laws.specs.Fits.{HasRoom}
 use Rattle.gq_accum.specs.declared.scalar.Mean.{Mean}
@@ -12,9 +12,10 @@ use Rattle.gq_accum.specs.declared.scalar.Scalar.TheVariants.{SumInt, MinInt, Ma
 use Rattle.gq_accum.specs.Scalars.{kind_of, IsFar}
 use Rattle.gq_accum.proofs.SumSteps.{near, widened, count_room}
 use Rattle.gq_accum.proofs.NumberSteps.{min_is, max_is, either_is, both_is}
-use Rattle.gq_nest.specs.declared.content.Content.{Content-F, out-Content}
+use Rattle.gq_nest.specs.declared.content.Content.{Content, Content-F, out-Content}
 use Rattle.gq_nest.specs.declared.content.Content.TheVariants as made
-use Rattle.gq_nest.specs.Forms.{Feeds}
+use Rattle.gq_nest.specs.Forms.{Feeds, view}
+use Rattle.gq_nest.specs.Shows.{TakesInput}
 use Rattle.gq_nest.proofs.LevelLemmas.{opened-Scalar, scalar_view, scalar_deep}
 use Rattle.gq_nest.proofs.FeedSteps.{feeds_by}
 use Rattle.gq_frame.specs.Ints.{AddsInt}
@@ -65,6 +66,10 @@ adds_mean s m y x r n f g k h e t u is = of_scalar s _ _ x is (record {
 })
 
 -- ---- and in its content
+
+-- what takes an input is fed by it
+pub feeds_of : (old new : Content) (x : Given) → TakesInput old x new → Feeds (out-Content old) x (out-Content new)
+feeds_of old new x takes = record { each = λ k of_kind proper room suit. let s = takes.each k (view k (out-Content old)) (record { of_kind = of_kind; holds = refl; proper = proper }) room suit in (s.of_kind, s.holds) }
 
 pub scalar_feeds : (s r : Scalar) (x : ℤ) → AddsInt s x r → Feeds (Content-F.Scalar s) (One (Int x)) (out-Content (made.Scalar r))
 scalar_feeds s r x h = feeds_by (λ (u : Unit {0}). kind_of s) (Content-F.Scalar s) (Content-F.Scalar r) (made.Scalar r) (One (Int x)) (opened-Scalar r) (λ k e. (tt, e))

@@ -52,6 +52,11 @@ set_get [] i x e = refl
 set_get (a ∷ xs) zero x e = ap (λ b. b ∷ xs) (let d : x ≡ a = cc in d)
 set_get (a ∷ xs) (suc i) x e = ap (λ ys. a ∷ ys) (set_get xs i x e)
 
+set_end : {A : Type 0} (xs : List A) (i : ℕ) (x y z : A) → slice_get xs i ≡ Some x → set (xs ++ z ∷ []) i y ≡ set xs i y ++ z ∷ []
+set_end [] i x y z e = cc
+set_end (a ∷ xs) zero x y z e = refl
+set_end (a ∷ xs) (suc i) x y z e = ap (λ ys. a ∷ ys) (set_end xs i x y z e)
+
 same_self : (n : ℕ) → (n == n) ≡ true
 same_self n = grind (arith, nat_tests)
 
@@ -119,6 +124,70 @@ new_lives places old new u thing s t things log accums at h l = record {
   slots = l.slots ∙ ap slots_are (sym accums);
 }
 
+-- a place whose name is visible has something
+nothing : (held : Option PlaceType) (old : states.Thing) → held_thing held None ≡ Some old → ⊥
+nothing None old h = cc
+nothing (Some (held.Variable b)) old h = cc
+nothing (Some (held.Set ts)) old h = cc
+nothing (Some (held.Alias ts)) old h = cc
+nothing (Some (held.EdgeAlias ts)) old h = cc
+
+there : (places : List PlaceType) (things : List (Option Thing)) (p : ℕ) (old : states.Thing) → thing_in places things p ≡ Some old → (was : Option Thing) × (slice_get things p ≡ Some was)
+there places things p old h = of_entry (slice_get things p) refl h
+  where
+    of_entry : (o : Option (Option Thing)) → slice_get things p ≡ o → held_thing (slice_get places p) o ≡ Some old → (was : Option Thing) × (slice_get things p ≡ Some was)
+    of_entry (Some was) e h = (was, e)
+    of_entry None e h = absurd (nothing (slice_get places p) old h)
+
+-- ---- a frame with one place more, which has nothing
+
+held_nothing : (h : Option PlaceType) → held_thing h (Some None) ≡ held_thing h None
+held_nothing None = refl
+held_nothing (Some (held.Variable b)) = refl
+held_nothing (Some (held.Set ts)) = refl
+held_nothing (Some (held.Alias ts)) = refl
+held_nothing (Some (held.EdgeAlias ts)) = refl
+
+held_more : (h : Option PlaceType) (things : List (Option Thing)) (n : ℕ) → held_thing h (slice_get (things ++ None ∷ []) n) ≡ held_thing h (slice_get things n)
+held_more h [] zero = held_nothing h
+held_more h [] (suc n) = refl
+held_more h (a ∷ things) zero = refl
+held_more h (a ∷ things) (suc n) = held_more h things n
+
+thing_more : (places : List PlaceType) (things : List (Option Thing)) (x : Reference) → thing_for places (things ++ None ∷ []) x ≡ thing_for places things x
+thing_more places things (Place n) = held_more (slice_get places n) things n
+thing_more places things (Slot n) = refl
+thing_more places things (VertexType n) = refl
+thing_more places things (EdgeType n) = refl
+thing_more places things (TupleType n) = refl
+thing_more places things TypeName = refl
+thing_more places things (FieldAt c) = refl
+thing_more places things (Calls f) = refl
+thing_more places things (Does m) = refl
+
+alike_more : (places : List PlaceType) (things : List (Option Thing)) (ns : List (Reference × states.Thing)) → Alike places things ns → Alike places (things ++ None ∷ []) ns
+alike_more places things ns a = record { each = λ x. a.each x ∙ sym (thing_more places things x) }
+
+first_name : (p : ℕ) (n : Reference × states.Thing) (ns : List (Reference × states.Thing)) → n.0 ≡ Place p → under same (Place p) (n ∷ ns) ≡ Some n.1
+first_name p n ns e = ap (λ r. cond (same r (Place p)) (Some n.1) (under same (Place p) ns)) e ∙ ap (λ b. cond b (Some n.1) (under same (Place p) ns)) (same_self p)
+
+unwinds_more : (places : List PlaceType) (things : List (Option Thing)) (us : List Undo) (ns : List (Reference × states.Thing)) → Unwinds places things us ns → Unwinds places (things ++ None ∷ []) us ns
+unwinds_more places things [] [] h = alike_more places things [] h
+unwinds_more places things (u ∷ us) (n ∷ ns) h =
+    let w = there places things u.place n.1 (sym (h.0.each (Place u.place)) ∙ first_name u.place n ns h.1) in
+    (alike_more places things (n ∷ ns) h.0, h.1, subst (λ xs. Unwinds places xs us ns) (sym (set_end things u.place w.0 u.was None w.1)) (unwinds_more places (set things u.place u.was) us ns h.2))
+unwinds_more places things [] (n ∷ ns) h = absurd h
+unwinds_more places things (u ∷ us) [] h = absurd h
+
+pub lives_more : (places : List PlaceType) (old new : Live) (s : State Reference) → new.frame.things ≡ old.frame.things ++ None ∷ [] → new.undo.items ≡ old.undo.items → new.frame.accums ≡ old.frame.accums
+    → Lives places old s → Lives places new s
+lives_more places old new s things log accums l = record {
+  names =
+      subst (λ xs. Unwinds places xs (reverse new.undo.items) s.names) (sym things)
+      (subst (λ us. Unwinds places (old.frame.things ++ None ∷ []) us s.names) (sym (ap reverse log)) (unwinds_more places old.frame.things (reverse old.undo.items) s.names l.names));
+  slots = l.slots ∙ ap slots_are (sym accums);
+}
+
 -- ---- names that are assigned
 
 same_place : (x : Reference) (p : ℕ) → same x (Place p) ≡ true → x ≡ Place p
@@ -175,21 +244,6 @@ under_changed p old t (n ∷ ns) x e = by_name (λ d. under_changed p old t ns x
         ap (λ b. under same x (cond b ((Place p, t) ∷ ns) (n ∷ changed same (Place p) t ns))) d
         ∙ ap (cond (same n.0 x) (Some n.1)) (next d)
         ∙ exchanged (same n.0 x) (same (Place p) x) (Some n.1) (Some t) (under same x ns) (not_both p n.0 x d)
-
--- a place whose name is visible has something
-nothing : (held : Option PlaceType) (old : states.Thing) → held_thing held None ≡ Some old → ⊥
-nothing None old h = cc
-nothing (Some (held.Variable b)) old h = cc
-nothing (Some (held.Set ts)) old h = cc
-nothing (Some (held.Alias ts)) old h = cc
-nothing (Some (held.EdgeAlias ts)) old h = cc
-
-there : (places : List PlaceType) (things : List (Option Thing)) (p : ℕ) (old : states.Thing) → thing_in places things p ≡ Some old → (was : Option Thing) × (slice_get things p ≡ Some was)
-there places things p old h = of_entry (slice_get things p) refl h
-  where
-    of_entry : (o : Option (Option Thing)) → slice_get things p ≡ o → held_thing (slice_get places p) o ≡ Some old → (was : Option Thing) × (slice_get things p ≡ Some was)
-    of_entry (Some was) e h = (was, e)
-    of_entry None e h = absurd (nothing (slice_get places p) old h)
 
 alike_changed : (places : List PlaceType) (things : List (Option Thing)) (p : ℕ) (thing : Thing) (old t : states.Thing) (ns : List (Reference × states.Thing))
     → Alike places things ns → under same (Place p) ns ≡ Some old → held_thing (slice_get places p) (Some (Some thing)) ≡ Some t

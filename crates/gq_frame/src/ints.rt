@@ -9,20 +9,24 @@ ghost use Rattle.gq_frame.specs.Ints.{AddsInt};
 use gq_accum::{Scalar, count, total};
 use gq_base::OutOfMemory;
 use gq_nest::Content;
+use gq_value::Value;
 
-/// Feeds a content with an INT. Returns `OutOfMemory` if its kind takes no INT.
+/// Feeds a content with an INT. Only a collection needs memory.
 pub(crate) fn feed_content(content: &mut Content, x: i64) -> Result<(), OutOfMemory>
     ensures { OnOk result (Feeds (out-Content content.old) (One (Int x)) (out-Content content.new)) }
 {
     match content {
-        Content::Scalar(scalar) => add(scalar, x),
-        _ => Err(OutOfMemory),
+        Content::Scalar(scalar) => {
+            add(scalar, x);
+            Ok(())
+        }
+        _ => content.push(Value::Int(x)),
     }
 }
 
-/// Adds an INT to a scalar. Returns `OutOfMemory` if its kind takes no INT.
-fn add(scalar: &mut Scalar, x: i64) -> Result<(), OutOfMemory>
-    ensures { OnOk result (AddsInt scalar.old x scalar.new) }
+/// Adds an INT to a scalar. As in `Scalar::feed`, one whose kind takes no INT stays as it is.
+fn add(scalar: &mut Scalar, x: i64)
+    ensures { AddsInt scalar.old x scalar.new }
 {
     match scalar {
         Scalar::SumInt(sum) => *sum = total(*sum, i128::from(x)),
@@ -38,7 +42,6 @@ fn add(scalar: &mut Scalar, x: i64) -> Result<(), OutOfMemory>
         | Scalar::MinUInt(_)
         | Scalar::MaxUInt(_)
         | Scalar::Or(_)
-        | Scalar::And(_) => return Err(OutOfMemory),
+        | Scalar::And(_) => {}
     }
-    Ok(())
 }

@@ -1,5 +1,5 @@
 // Scopes: how names come into view and leave it.
-ghost use Rattle.std.specs.Prelude.{◌≡◌, ◌-◌, ℕ, List, Some, OnOk, length, is_some, slice_get, slice_set};
+ghost use Rattle.std.specs.Prelude.{◌≡◌, ◌<◌, ◌-◌, ℕ, List, Some, OnOk, length, is_some, slice_get, slice_set};
 ghost use Rattle.gq_rules_meaning.specs.Expressions.{World};
 ghost use Rattle.gq_rules_meaning.specs.States as states;
 ghost use Rattle.gq_rules_meaning.specs.States.{State, with_new, with_name};
@@ -37,18 +37,27 @@ impl Live {
         self.undo.len()
     }
 
-    /// Declares a name, which hides an earlier one of the same place. Returns `OutOfMemory` for a place past the frame's
-    /// end, too.
+    /// Declares a name, which hides an earlier one of the same place.
     pub fn declare(&mut self, place: u32, thing: Thing) -> Result<(), OutOfMemory>
         ensures names { OnOk result ((places : List PlaceType) (s : State Reference) (t : states.Thing) → Lives places self.old s
             → held_thing (slice_get places place) (Some (Some thing)) ≡ Some t → Lives places self.new (with_new (Place place) t s)) }
         ensures accums { self.new.frame.accums ≡ self.old.frame.accums }
     {
-        if place as usize >= self.frame.things.len() {
-            return Err(OutOfMemory);
-        }
+        self.reach(place)?;
         let was = replace(self.frame.things.at_mut(place as usize), Some(thing));
         self.undo.push(Undo { place, was })?;
+        Ok(())
+    }
+
+    /// Adds places with nothing until the frame has this one.
+    fn reach(&mut self, place: u32) -> Result<(), OutOfMemory>
+        ensures there { OnOk result (place < length self.new.frame.things) }
+        ensures names { OnOk result ((places : List PlaceType) (s : State Reference) → Lives places self.old s → Lives places self.new s) }
+        ensures accums { self.new.frame.accums ≡ self.old.frame.accums }
+    {
+        for _more in self.frame.things.len()..place as usize + 1 {
+            self.frame.things.push(None)?;
+        }
         Ok(())
     }
 

@@ -140,7 +140,7 @@ pub(crate) fn feed(
     }
 }
 
-/// Feeds the content at an index with an INT. Returns `OutOfMemory` if its kind takes no INT, too.
+/// Feeds the content at an index with an INT.
 #[tactic(auto, using(crate::proofs::PageLemmas::own_laws))]
 pub(crate) fn feed_int(alloc: Global, page: &mut Page, at: usize, x: i64) -> Result<(), OutOfMemory>
     requires { at < length (items_of page.old) }

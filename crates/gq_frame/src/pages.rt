@@ -103,7 +103,7 @@ impl Pages {
         )
     }
 
-    /// Feeds the content at an index with an INT. Returns `OutOfMemory` if its kind takes no INT, too.
+    /// Feeds the content at an index with an INT. On `OutOfMemory` it may be spoiled.
     pub fn feed_int(&mut self, alloc: Global, at: usize, x: i64) -> Result<(), OutOfMemory>
         requires { at < length self.old }
         ensures { OnOk result (ChangesAt (TakesInt x) at self.old self.new) }

@@ -1,6 +1,7 @@
 -- FeedSteps: one more input, at each variant.
-use Rattle.std.proofs.Common.{if◌then◌else◌, ◌≡◌, Bool, true, false, List, [], ◌∷◌, ◌++◌, map, Result, Ok, Err, OnOk, refl, sym, ap, ◌∙◌, subst, subst₂}
+use Rattle.std.proofs.Common.{if◌then◌else◌, ◌≡◌, Bool, true, false, ◌&&◌, length, List, [], ◌∷◌, ◌++◌, map, Result, Ok, Err, OnOk, refl, sym, ap, ◌∙◌, subst, subst₂}
 use Rattle.std.specs.Ordering.{is_eq}
+use Rattle.std.proofs.lemmas.List.{length-map}
 use Rattle.std.specs.BTreeMap.{BTreeMap}
 use Rattle.std.specs.BTreeSet.{BTreeSet}
 use Rattle.gq_value.specs.declared.value.Value.{Value}
@@ -9,8 +10,8 @@ use Rattle.gq_value.specs.Views.{val}
 use Rattle.gq_value.specs.declared.kind.Input.{Input}
 use Rattle.gq_value.specs.AccumViews.{given, givens}
 use Rattle.gq_value.specs.Order.{place}
-use Rattle.gq_value.specs.Accums.{Base, Accum, SetAccum, BagAccum, ListAccum, MapAccum, HeapAccum, Given, One, Keyed, given_and, no_given}
-use Rattle.gq_value.specs.Typed.{suits, row_is_of}
+use Rattle.gq_value.specs.Accums.{Base, Accum, SetAccum, BagAccum, ListAccum, MapAccum, HeapAccum, Given, Givens, One, Keyed, given_and, no_given}
+use Rattle.gq_value.specs.Typed.{suits, is_of, row_is_of}
 use Rattle.gq_accum_laws.specs.Gather.{put, sorted, distinct}
 use Rattle.gq_accum_laws.specs.Holds.{Holds, row_cmp, heap_cmp}
 use Rattle.gq_accum_laws.specs.Inputs.{own, first}
@@ -23,6 +24,7 @@ use Rattle.gq_accum_laws.proofs.RowLaws.{place_linear, row_linear, heap_linear}
 use Rattle.gq_accum_laws.proofs.KindLaws.{both}
 use Rattle.gq_accum_laws.proofs.ProperLaws.{after_none}
 use Rattle.gq_accum.specs.declared.scalar.Scalar.{Scalar}
+use Rattle.gq_accum.specs.declared.scalar.Scalar.TheVariants.{SumInt, SumUInt, MinInt, MinUInt, MaxInt, MaxUInt, Or, And, BitOr, BitAnd, Avg}
 use Rattle.gq_accum.specs.Scalars.{kind_of, content}
 use Rattle.gq_nest.specs.declared.content.Heap.{Heap}
 use Rattle.gq_nest.specs.declared.content.Content.{Content, Content-F, out-Content}
@@ -127,3 +129,71 @@ feed_map o m m' v y c = feeds_by map_of (Content-F.Map o m) (Content-F.Map o m')
 pub feed_keyed : (o : Content) (m m' : BTreeMap Value Content) (row : List Value) (xs : List Input) (key : Value) (x : Input) → row ≡ key ∷ [] → xs ≡ x ∷ []
     → FeedsAt o m.entries (val key ∷ []) (given x) m'.entries → Feeds (Content-F.Map o m) (Keyed (map val row) (givens (map given xs))) (out-Content (made.Map o m'))
 feed_keyed o m m' row xs key x e f c = subst₂ (λ (r : List Value) (ys : List Input). Feeds (Content-F.Map o m) (Keyed (map val r) (givens (map given ys))) (out-Content (made.Map o m'))) (sym e) (sym f) (feed_map o m m' (val key) (given x) c)
+
+-- ---- inputs of another form, which no kind of the content takes
+
+not_keyed : (s : Scalar) (row : List Val) (xs : Givens) → suits (kind_of s) (Keyed row xs) ≡ true → ⊥
+not_keyed (SumInt c) row xs e = cc e
+not_keyed (SumUInt c) row xs e = cc e
+not_keyed (MinInt c) row xs e = cc e
+not_keyed (MinUInt c) row xs e = cc e
+not_keyed (MaxInt c) row xs e = cc e
+not_keyed (MaxUInt c) row xs e = cc e
+not_keyed (Or c) row xs e = cc e
+not_keyed (And c) row xs e = cc e
+not_keyed (BitOr c) row xs e = cc e
+not_keyed (BitAnd c) row xs e = cc e
+not_keyed (Avg c) row xs e = cc e
+
+-- whether a level takes keyed inputs
+abbrev pub is_keyed : Content-F Content → Bool
+is_keyed (Content-F.Map o m) = true
+is_keyed (Content-F.Group os m) = true
+is_keyed l = false
+
+pub feed_unkeyed : (l : Content-F Content) (row : List Val) (xs : Givens) → is_keyed l ≡ false → Feeds l (Keyed row xs) l
+feed_unkeyed l row xs flat = record { each = λ k mine proper room suit. absurd (no l flat k mine.0 suit) }
+  where
+    no : (l : Content-F Content) → is_keyed l ≡ false → (k : Accum) → HasForm l k → suits k (Keyed row xs) ≡ true → ⊥
+    no (Content-F.Scalar s) flat k h e = not_keyed s row xs (subst (λ (j : Accum). suits j (Keyed row xs) ≡ true) h e)
+    no (Content-F.Set m) flat k h e = let f = subst (λ (j : Accum). suits j (Keyed row xs) ≡ true) h.1 e in cc f
+    no (Content-F.Bag items) flat k h e = let f = subst (λ (j : Accum). suits j (Keyed row xs) ≡ true) h.1 e in cc f
+    no (Content-F.List items) flat k h e = let f = subst (λ (j : Accum). suits j (Keyed row xs) ≡ true) h.1 e in cc f
+    no (Content-F.Heap m) flat k h e = let f = subst (λ (j : Accum). suits j (Keyed row xs) ≡ true) h.1 e in cc f
+    no (Content-F.Map o m) flat k h e = cc flat
+    no (Content-F.Group os m) flat k h e = cc flat
+    no Content-F.Spoiled flat k h e = h
+
+pub feed_unkeyed_one : (l : Content-F Content) (v : Val) → is_keyed l ≡ true → Feeds l (One v) l
+feed_unkeyed_one l v keyed = record { each = λ k mine proper room suit. absurd (no l keyed k mine.0 suit) }
+  where
+    no : (l : Content-F Content) → is_keyed l ≡ true → (k : Accum) → HasForm l k → suits k (One v) ≡ true → ⊥
+    no (Content-F.Scalar s) keyed k h e = cc keyed
+    no (Content-F.Set m) keyed k h e = cc keyed
+    no (Content-F.Bag items) keyed k h e = cc keyed
+    no (Content-F.List items) keyed k h e = cc keyed
+    no (Content-F.Heap m) keyed k h e = cc keyed
+    no (Content-F.Map o m) keyed k h e = let f = subst (λ (j : Accum). suits j (One v) ≡ true) h.2 e in cc f
+    no (Content-F.Group os m) keyed k h e = let f = subst (λ (j : Accum). suits j (One v) ≡ true) h.2 e in cc f
+    no Content-F.Spoiled keyed k h e = h
+
+-- a map takes one key with one input
+pub feed_map_other : (o : Content) (m : BTreeMap Value Content) (row : List Val) (xs : List Given) → (length row ≡ 1 → length xs ≡ 1 → ⊥) → Feeds (Content-F.Map o m) (Keyed row (givens xs)) (Content-F.Map o m)
+feed_map_other o m row xs n = record { each = λ k mine proper room suit. absurd (no row xs n mine.0.0 mine.0.1 (subst (λ (j : Accum). suits j (Keyed row (givens xs)) ≡ true) mine.0.2 suit)) }
+  where
+    no : (row : List Val) (xs : List Given) → (length row ≡ 1 → length xs ≡ 1 → ⊥) → (b : Base) (j : Accum) → suits (MapAccum b j) (Keyed row (givens xs)) ≡ true → ⊥
+    no [] [] n b j e = cc e
+    no [] (x ∷ []) n b j e = cc e
+    no [] (x ∷ y ∷ xs) n b j e = cc e
+    no (v ∷ []) [] n b j e = cc e
+    no (v ∷ []) (x ∷ []) n b j e = n refl refl
+    no (v ∷ []) (x ∷ y ∷ xs) n b j e = cc e
+    no (v ∷ w ∷ row) [] n b j e = cc e
+    no (v ∷ w ∷ row) (x ∷ []) n b j e = absurd (let f : (is_of b v && false) ≡ true = (both (is_of b v && false) (suits j x) e).0 in let g : false ≡ true = (both (is_of b v) false f).1 in cc g)
+    no (v ∷ w ∷ row) (x ∷ y ∷ xs) n b j e = cc e
+
+pub feed_other_key : (o : Content) (m : BTreeMap Value Content) (row seen : List Value) (xs : List Input) → seen ≡ row → (length seen ≡ 1 → ⊥) → Feeds (Content-F.Map o m) (Keyed (map val row) (givens (map given xs))) (out-Content (made.Map o m))
+feed_other_key o m row seen xs e n = subst (λ (l : Content-F Content). Feeds (Content-F.Map o m) (Keyed (map val row) (givens (map given xs))) l) (sym (opened-Map o m)) (feed_map_other o m (map val row) (map given xs) (λ a b. n (ap length e ∙ sym (length-map row val) ∙ a)))
+
+pub feed_other_inputs : (o : Content) (m : BTreeMap Value Content) (row : List Value) (xs seen : List Input) → seen ≡ xs → (length seen ≡ 1 → ⊥) → Feeds (Content-F.Map o m) (Keyed (map val row) (givens (map given xs))) (out-Content (made.Map o m))
+feed_other_inputs o m row xs seen e n = subst (λ (l : Content-F Content). Feeds (Content-F.Map o m) (Keyed (map val row) (givens (map given xs))) l) (sym (opened-Map o m)) (feed_map_other o m (map val row) (map given xs) (λ a b. n (ap length e ∙ sym (length-map xs given) ∙ b)))

@@ -40,7 +40,7 @@ use Rattle.gq_nest.proofs.FreshSteps.{shows_at}
 use Rattle.gq_nest.proofs.FeedSteps.{feeds_by, rows_more}
 use Rattle.gq_nest.proofs.CopySteps.{copies_by}
 use Rattle.gq_nest.proofs.TellSteps.{tells_by}
-use Rattle.gq_nest.proofs.PartSteps.{fresh_are, copies_are, feeds_are, part_there, no_part_there}
+use Rattle.gq_nest.proofs.PartSteps.{as_many, fresh_are, copies_are, feeds_are, part_there, no_part_there}
 use Rattle.gq_nest.proofs.GroupLemmas.{key_cmp, group_test, groups_stay}
 
 abbrev pub group_of : List (List ℕ × Base) × Parts → Accum
@@ -76,7 +76,7 @@ module _ (os : List Content) (m m' : BTreeMap (Vec Value) (List Content)) (row :
   entered : Each group_row (λ cs. AreOf ps cs) m'.entries × ((q : List Val) → at q m'.entries ≡ (if is_eq (row_cmp q row) then after_each ps (at q m.entries) (givens xs ∷ []) else at q m.entries))
   entered = changed group_row look (fresh_each ps) _ _ (λ cs. AreOf ps cs) (λ d. after_each ps d (givens xs ∷ [])) m.entries m'.entries row c deep.1
       (λ cs h. let e = copies_are ps os cs h deep.0.0.0 in (e.0, e.1 ∙ deep.0.0.1))
-      (λ was now s of_kind same. feeds_are ps was xs now s of_kind (subst (AreProper ps) (sym same) (proper.2 row)) (subst (HaveRoom ps) (sym same) (room.0, room.1, room.2 row)) suits_each)
+      (λ was now s of_kind same. feeds_are ps was xs now (s (as_many ps was xs of_kind suits_each)) of_kind (subst (AreProper ps) (sym same) (proper.2 row)) (subst (HaveRoom ps) (sym same) (room.0, room.1, room.2 row)) suits_each)
 
   by : (q : List Val) (d : Bool) → (if d then after_each ps (at q m.entries) (givens xs ∷ []) else at q m.entries) ≡ after_each ps (at q m.entries) ((if d then givens xs ∷ [] else []) ++ [])
   by q true = refl

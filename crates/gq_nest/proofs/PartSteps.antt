@@ -1,7 +1,7 @@
 -- PartSteps: the parts of a group, each read as a content of its kind.
 use Rattle.std.proofs.Common.{◌≡◌, ℕ, zero, suc, ◌+◌, ◌<◌, ◌≤◌, true, false, ◌&&◌, List, [], ◌∷◌, ◌++◌, map, take, drop, length, get_or, set, Some, refl, sym, ap, ap₂, ◌∙◌, subst, arith}
 use Rattle.std.specs.List.{slice_get}
-use Rattle.std.proofs.lemmas.List.{drop_more}
+use Rattle.std.proofs.lemmas.List.{drop_more, length-map}
 use Rattle.gq_value.specs.declared.kind.Kind.{Kind}
 use Rattle.gq_value.specs.Accums.{Parts, no_part, part_and, Given}
 use Rattle.gq_value.specs.AccumViews.{accum_of, parts_of, givens}
@@ -12,7 +12,7 @@ use Rattle.gq_accum_laws.specs.Fits.{fits, fit, AreProper}
 use Rattle.gq_accum_laws.proofs.KindLaws.{both}
 use Rattle.gq_nest.specs.declared.content.Content.{Content, out-Content}
 use Rattle.gq_nest.specs.Entries.{Pairs, StepsEach}
-use Rattle.gq_nest.specs.Forms.{view, view_each, AreOf, FeedsEach, MergesEach, CopyEach, HaveRoom}
+use Rattle.gq_nest.specs.Forms.{view, view_each, AreOf, FeedsEach, FeedsParts, MergesEach, CopyEach, HaveRoom}
 use Rattle.gq_nest.specs.Shows.{Shows, AreFresh, ShowEach}
 use Rattle.gq_nest.specs.Tells.{Tells, EachTells, ShowsPart, has_part}
 
@@ -99,6 +99,15 @@ feeds_are (part_and name k ps) (c ∷ old) (x ∷ xs) (d ∷ new) h a p room s =
     let r = feeds_are ps old xs new h.1 a.1 p.1 (room.0, room.1, room.2.1) t.1 in
     let g = h.0.each k a.0 p.0 (room.0, room.1, room.2.0) t.0 in
     ((g.0, r.0), ap₂ (λ a b. (a, b)) g.1 r.1)
+
+-- as many contents as parts
+pub as_many : (ps : Parts) (cs : List Content) (xs : List Given) → AreOf ps cs → suit ps (givens xs) ≡ true → length xs ≡ length cs
+as_many no_part [] [] a s = refl
+as_many no_part [] (x ∷ xs) a s = absurd (cc s)
+as_many no_part (c ∷ cs) xs a s = absurd a
+as_many (part_and name k ps) [] xs a s = absurd a
+as_many (part_and name k ps) (c ∷ cs) [] a s = absurd (cc s)
+as_many (part_and name k ps) (c ∷ cs) (x ∷ xs) a s = ap suc (as_many ps cs xs a.1 (both (suits k x) (suit ps (givens xs)) s).1)
 
 pub merges_are : (ps : Parts) (old other new : List Content) → MergesEach old other new → AreOf ps old → AreOf ps other → AreProper ps (view_each ps old)
     → HaveRoom ps (view_each ps old) → HaveRoom ps (view_each ps other) → AreOf ps new × (view_each ps new ≡ merged_each ps (view_each ps old) (view_each ps other))
@@ -203,3 +212,7 @@ left_none [] zero l = refl
 left_none [] (suc i) l = refl
 left_none (x ∷ xs) zero l = absurd (omega (arith, l))
 left_none (x ∷ xs) (suc i) l = left_none xs i (omega (arith, l))
+
+-- more or fewer of them
+pub other_many : {A : Type 0} (old : List Content) (xs : List A) (f : A → Given) → (length xs ≡ length old → ⊥) → FeedsParts old (map f xs) old
+other_many old xs f n = λ e. absurd (n (sym (length-map xs f) ∙ e))

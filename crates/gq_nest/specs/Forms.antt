@@ -1,7 +1,7 @@
 -- Forms: what a content of the code holds, read as the content of a kind.
 -- Bags and heaps are kept in no order, and read in order. Sets and maps are read through the order of their keys.
 use Rattle.std.specs.Global.{Vec}
-use Rattle.std.specs.Prelude.{◌≡◌, ◌<◌, ◌^◌, ℕ, true, false, List, [], ◌∷◌, ◌++◌, map, take}
+use Rattle.std.specs.Prelude.{◌≡◌, ◌<◌, ◌^◌, ℕ, true, false, List, [], ◌∷◌, ◌++◌, length, map, take}
 use Rattle.gq_value.specs.declared.value.Value.{Value}
 use Rattle.gq_value.specs.Val.{Val}
 use Rattle.gq_value.specs.Views.{val}
@@ -49,6 +49,15 @@ groups_in l = []
 abbrev pub parts_in : Content-F Content → List (List Content)
 parts_in (Content-F.Group os m) = os ∷ []
 parts_in l = []
+
+-- a map; a group
+abbrev pub IsMap : Content-F Content → Type 0
+IsMap (Content-F.Map o m) = Unit {0}
+IsMap l = ⊥
+
+abbrev pub IsGroup : Content-F Content → Type 0
+IsGroup (Content-F.Group os m) = Unit {0}
+IsGroup l = ⊥
 
 -- the first of some parts, and the others
 abbrev pub first_in : List Content → Content-F Content
@@ -163,6 +172,10 @@ pub record Unites (opening : Content) (old all new : List (Value × Content)) : 
 abbrev pub FeedsEach : List Content → List Given → List Content → Type 0
 FeedsEach = StepsEach (λ c x d. Feeds (out-Content c) x (out-Content d))
 
+-- if there are as many inputs
+abbrev pub FeedsParts : List Content → List Given → List Content → Type 0
+FeedsParts old xs new = length xs ≡ length old → FeedsEach old xs new
+
 -- each part with that of the other
 abbrev pub MergesEach : List Content → List Content → List Content → Type 0
 MergesEach = StepsEach (λ c p d. Merges (out-Content c) (out-Content p) (out-Content d))
@@ -173,7 +186,7 @@ CopyEach = Pairs (λ c d. Copies (out-Content c) (out-Content d))
 
 -- an input for each part under a key row
 abbrev pub FeedsGroup : List Content → List (Vec Value × List Content) → List Val → List Given → List (Vec Value × List Content) → Type 0
-FeedsGroup openings old row xs new = Changes group_row (CopyEach openings) (λ was now. FeedsEach was xs now) old row new
+FeedsGroup openings old row xs new = Changes group_row (CopyEach openings) (λ was now. FeedsParts was xs now) old row new
 
 -- other parts merged into those at a key row
 abbrev pub MergesGroup : List Content → List (Vec Value × List Content) → List Val → List Content → List (Vec Value × List Content) → Type 0

@@ -1,7 +1,7 @@
 // Deep copies of contents.
 ghost use Rattle.std.specs.Prelude.{◌≡◌, IfOk};
 ghost use Rattle.gq_nest.specs.declared.content.Content.{out-Content};
-ghost use Rattle.gq_nest.specs.Forms.{Copies, CopiesEntries, CopiesGroups, CopyEach, entries_in, groups_in};
+ghost use Rattle.gq_nest.specs.Forms.{Copies, CopiesEntries, CopiesGroups, CopyEach, IsGroup, IsMap, entries_in, groups_in};
 
 use crate::content::{Content, Heap, Parts};
 use crate::map::SortedMap;
@@ -56,12 +56,13 @@ pub(crate) fn duplicate_parts(alloc: Global, parts: &[Content]) -> Result<Parts,
     Ok(copy)
 }
 
-/// A copy of a group's key rows with their parts. Any other content returns `OutOfMemory`.
+/// A copy of a group's key rows with their parts.
 #[cycle(copying)]
 fn duplicate_groups(
     alloc: Global,
     content: &Content,
 ) -> Result<SortedMap<Vec<Value>, Parts>, OutOfMemory>
+    requires { IsGroup (out-Content content.now) }
     ensures { IfOk result (λ copy. CopiesGroups (groups_in (out-Content content.now)) copy.entries) }
 {
     match content {
@@ -73,7 +74,7 @@ fn duplicate_groups(
             }
             Ok(copy)
         }
-        _ => Err(OutOfMemory),
+        _ => unreachable!(),
     }
 }
 
@@ -88,12 +89,13 @@ pub(crate) fn key_row(alloc: Global, row: &[Value]) -> Result<Vec<Value>, OutOfM
     Ok(copy)
 }
 
-/// A copy of a map's entries. Any other content returns `OutOfMemory`.
+/// A copy of a map's entries.
 #[cycle(copying)]
 fn duplicate_entries(
     alloc: Global,
     content: &Content,
 ) -> Result<SortedMap<Value, Content>, OutOfMemory>
+    requires { IsMap (out-Content content.now) }
     ensures { IfOk result (λ copy. CopiesEntries (entries_in (out-Content content.now)) copy.entries) }
 {
     match content {
@@ -105,6 +107,6 @@ fn duplicate_entries(
             }
             Ok(copy)
         }
-        _ => Err(OutOfMemory),
+        _ => unreachable!(),
     }
 }

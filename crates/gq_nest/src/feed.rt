@@ -4,7 +4,7 @@ ghost use Rattle.gq_value.specs.Accums as plain;
 ghost use Rattle.gq_value.specs.Views.{val};
 ghost use Rattle.gq_value.specs.AccumViews.{given};
 ghost use Rattle.gq_nest.specs.declared.content.Content.{out-Content};
-ghost use Rattle.gq_nest.specs.Forms.{Feeds, FeedsAt, FeedsEach, FeedsGroup};
+ghost use Rattle.gq_nest.specs.Forms.{Feeds, FeedsAt, FeedsGroup, FeedsParts};
 ghost use Rattle.gq_nest.specs.Shows.{is_one, is_plain, is_spoiled};
 
 use crate::content::{Content, Parts};
@@ -16,7 +16,7 @@ use gq_base::OutOfMemory;
 use gq_value::{Input, Value};
 use std::alloc::Global;
 
-/// Feeds one input. Returns `OutOfMemory` if the input doesn't have the form of the content's kind.
+/// Feeds one input. An input that no kind of this content takes changes nothing.
 #[cycle(feeding)]
 pub(crate) fn feed(alloc: Global, content: &mut Content, input: &Input) -> Result<(), OutOfMemory>
     ensures fed { OnOk result (Feeds (out-Content content.old) (given input.now) (out-Content content.new)) }
@@ -29,9 +29,9 @@ pub(crate) fn feed(alloc: Global, content: &mut Content, input: &Input) -> Resul
             Content::Map(opening, entries) => match row.as_slice() {
                 [key] => match inputs.as_slice() {
                     [input] => feed_entry(alloc, opening.get(), entries, key, input),
-                    _ => Err(OutOfMemory),
+                    [] | [_, _, ..] => Ok(()),
                 },
-                _ => Err(OutOfMemory),
+                [] | [_, _, ..] => Ok(()),
             },
             Content::Group(openings, groups) => {
                 feed_group(
@@ -42,7 +42,12 @@ pub(crate) fn feed(alloc: Global, content: &mut Content, input: &Input) -> Resul
                     row.as_slice(),
                 )
             }
-            _ => Err(OutOfMemory),
+            Content::Scalar(_) => Ok(()),
+            Content::Set(_) => Ok(()),
+            Content::Bag(_) => Ok(()),
+            Content::List(_) => Ok(()),
+            Content::Heap(_) => Ok(()),
+            Content::Spoiled => Err(OutOfMemory),
         },
     }
 }
@@ -62,7 +67,8 @@ fn feed_one(alloc: Global, content: &mut Content, value: &Value) -> Result<(), O
         Content::Bag(items) => add_item(alloc, items, value),
         Content::List(items) => add_item(alloc, items, value),
         Content::Heap(heap) => heap.add(alloc, value),
-        Content::Map(_, _) | Content::Group(_, _) | Content::Spoiled => Err(OutOfMemory),
+        Content::Map(_, _) | Content::Group(_, _) => Ok(()),
+        Content::Spoiled => Err(OutOfMemory),
     }
 }
 
@@ -108,13 +114,13 @@ fn feed_group(
     }
 }
 
-/// Feeds one input to each part. Returns `OutOfMemory` if there are more or fewer inputs than parts.
+/// Feeds one input to each part, if there are as many inputs as parts.
 #[cycle(feeding)]
 fn feed_parts(alloc: Global, inputs: &[Input], parts: &mut Parts) -> Result<(), OutOfMemory>
-    ensures { OnOk result (FeedsEach parts.old (map given inputs.now) parts.new) }
+    ensures { OnOk result (FeedsParts parts.old (map given inputs.now) parts.new) }
 {
     if inputs.len() != parts.len() {
-        return Err(OutOfMemory);
+        return Ok(());
     }
     for (i, input) in inputs.iter().enumerate() {
         feed(alloc, parts.at_mut(i), input)?;

@@ -7,4 +7,4 @@ use Rattle.gq_exec_feed.proofs.ints.feed_int.Goals as goal
 pub returns : goal.returns
 returns c =
     let f : FitsSigned w64 c.args.x = search rules in
-    on_ok _ (rw (to_z-of_z w64 c.args.x f) at c.feed_int.ensures) (target_takes _ _ _ _)
+    on_ok _ (rw (to_z-of_z w64 c.args.x f) at c.feed_int.ensures) (target_takes _ _ _ _ (search rules))

@@ -25,8 +25,8 @@ duplicate_entries-loop-key-init t c = rw (c.in-Map.is, opened-Map c.in-Map.field
 pub duplicate_entries-loop-key-preserved : goal.duplicate_entries-loop-key-preserved
 duplicate_entries-loop-key-preserved t c = copying_more key_row _ _ _ _ _ _ _ _ _ (rest_more deref_pair _ _ _ _ c.in-Some.is c.next.ensures.steps) (value_puts _ _ _ _ _ (ap val c.in_ok-duplicate-in-Map.ensures) c.in_ok-put_entry-in-Map.ensures) c.in_ok-part-in-Map.ensures c.loop-key.invariant
 
-pub duplicate_entries-returns-in-None : goal.duplicate_entries-returns-in-None
-duplicate_entries-returns-in-None t c = copying_all key_row _ _ _ _ (rest_all deref_pair _ _ _ c.in-None.is c.next.ensures.steps) c.loop-key.invariant
+pub duplicate_entries-returns : goal.duplicate_entries-returns
+duplicate_entries-returns t c = copying_all key_row _ _ _ _ (rest_all deref_pair _ _ _ c.in-None.is c.next.ensures.steps) c.loop-key.invariant
 
 pub duplicate_parts-loop-part-preserved : goal.duplicate_parts-loop-part-preserved
 duplicate_parts-loop-part-preserved t c = pairs_next (λ x y. Copies (out-Content x) (out-Content y)) _ _ _ _ _ _ (search rules) c.part-item.is c.in_ok-duplicate.ensures c.in_ok-push.ensures.ok c.loop-part.invariant
