@@ -1,2 +1,3 @@
 pub mod SoundSteps
 pub mod TypedLemmas
+mod MisfitSteps

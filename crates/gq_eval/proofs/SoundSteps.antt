@@ -1,27 +1,31 @@
 -- SoundSteps: the results of operators, functions and tests are values, so nothing is borrowed there.
 use Rattle.std.specs.Prelude.{ℕ, zero, suc, ℤ, [], ◌∷◌, Option, Some, None, Result, Ok, Err, IfOk}
-use Rattle.std.proofs.Common.{subst}
+use Rattle.std.proofs.Common.{◌≡◌, sym, ap, subst}
 use Rattle.gq_tree.specs.declared.expr.AddSign.TheVariants as plus
 use Rattle.gq_tree.specs.declared.expr.AddSign.{AddSign}
 use Rattle.gq_tree.specs.declared.expr.MulSign.TheVariants as times
 use Rattle.gq_tree.specs.declared.expr.MulSign.{MulSign}
 use Rattle.gq_value.specs.declared.value.Wrong.{Wrong}
 use Rattle.gq_value.specs.Val.{Val, Int, UInt, Truth, Text, Vertex, Tuple, Fraction}
-use Rattle.gq_value.specs.Accums.{STRING}
+use Rattle.gq_value.specs.Accums.{Base, STRING}
 use Rattle.gq_value.specs.Arithmetic.{multiplied, divided, remainder, added, subtracted, negated}
 use Rattle.gq_rules_typing.specs.Words.{DatetimeAdd, unit_named}
 use Rattle.gq_plan_ir.specs.Reference.{Reference}
 use Rattle.gq_rules_meaning.specs.Answers.{Answer, Gives, Faults, Stuck, ◌>>=◌, found, of_result}
 use Rattle.gq_rules_meaning.specs.Calendars.{IsCalendar}
 use Rattle.gq_rules_meaning.specs.Calls.{function_of}
-use Rattle.gq_rules_meaning.specs.Meanings.{Meant, Is, Outcome, numbered, as_number, as_bytes, at_time}
-use Rattle.gq_rules_meaning.specs.Expressions.{Look, calculated, product, summed, minus}
+use Rattle.gq_rules_meaning.specs.Meanings.{Meant, Is, Outcome, numbered, as_number, as_bytes, at_time, converted_to}
+use Rattle.gq_rules_meaning.specs.Expressions.{Look, value_of, wanted, calculated, product, summed, minus}
 use Rattle.gq_eval_operand.specs.declared.seen.Seen.{Seen}
 use Rattle.gq_eval_operand.specs.declared.seen.Seen.TheVariants as seen
 use Rattle.gq_eval_operand.specs.declared.halt.Halt.{Halt}
-use Rattle.gq_eval_operand.specs.Meant.{meant, Tells}
+use Rattle.gq_eval_operand.specs.declared.seen.Operand.{Operand}
+use Rattle.gq_eval_operand.specs.Meant.{meant, valued, Halts, Tells}
 use Rattle.gq_eval_operand.specs.Sound.{Sound}
+use Rattle.gq_tree.specs.Tree.{Tree}
 use Rattle.gq_eval_builtins.specs.Clock.{ByClock}
+use Rattle.gq_eval_builtins.specs.Steps.{wanted_value}
+use Rattle.gq_eval_builtins.proofs.TimeLemmas.{stops}
 
 -- a value, of a type
 abbrev pub IsValue : Meant → Type 0
@@ -107,3 +111,16 @@ later_sound look v w u r is p = sound_of (function_of look.world.calendar Dateti
     then_values (as_bytes u) _ (λ s. then_values (found (unit_named s)) _ (λ unit. at_time_only (look.world.calendar.add unit n x)))))) (p.each look.world.calendar is)
 
 pub ruleset sound_laws = (product_sound, summed_sound, minus_sound)
+
+-- ---- arguments, converted if a type is wanted
+
+pub wanted_stops : (look : Look Reference) (t : Tree Reference) (w : Option Base) (h : Halt) → Halts (value_of look t) h → Halts (wanted_value look w t) h
+wanted_stops look t w h p = stops (value_of look t) (wanted w) h p
+
+pub wanted_as_is : (look : Look Reference) (t : Tree Reference) (v : Val) → value_of look t ≡ Gives v → wanted_value look None t ≡ Gives v
+wanted_as_is look t v e = ap (λ o. o >>= wanted None) e
+
+pub wanted_as : (look : Look Reference) (t : Tree Reference) (v : Val) (b : Base) (r : Result Operand Halt) → value_of look t ≡ Gives v → Tells valued (converted_to b v) r → Tells valued (wanted_value look (Some b) t) r
+wanted_as look t v b r e p = subst (λ o. Tells valued (o >>= wanted (Some b)) r) (sym e) p
+
+pub ruleset wanted_laws = (wanted_stops, wanted_as_is, wanted_as)

@@ -1,5 +1,5 @@
 -- TypedLemmas: a well typed expression is never stuck, and has its type.
-use Rattle.std.proofs.Common.{◌≡◌, ℕ, List, refl, subst, ◌∙◌}
+use Rattle.std.proofs.Common.{◌≡◌, ℕ, List, refl, sym, subst, ◌∙◌}
 use Rattle.gq_tree.specs.Tree.{Tree}
 use Rattle.gq_value.specs.Accums.{Accum}
 use Rattle.gq_value.specs.AccumViews.{accum_of}
@@ -20,7 +20,10 @@ use Rattle.gq_rules_meaning.specs.Fitting.{Safe, Suits}
 use Rattle.gq_rules_meaning.proofs.NeverStuck.{expression_law}
 use Rattle.gq_value.specs.Accums as plain
 use Rattle.gq_eval_operand.specs.Sound.{IsSound}
-use Rattle.gq_eval.specs.Typed.{IsTyped, IsOfValues, HasType, IsContentOf, HoldsTyped, HasContent}
+use Rattle.gq_eval.specs.Typed.{IsTyped, IsOfValues, HasType, IsContentOf, HoldsTyped, HasContent, whole_of_meant}
+use Rattle.gq_eval_operand.specs.declared.halt.Halt.{Halt}
+use Rattle.gq_eval_operand.specs.Meant.{Halts}
+use Rattle.gq_eval_builtins.proofs.TimeLemmas.{stops}
 
 gives_inj : {A : Type 0} {a b : A} → ◌≡◌ {A = Answer Wrong A} (Gives a) (Gives b) → a ≡ b
 gives_inj e = cc
@@ -159,7 +162,13 @@ content_told o m c e h = record { kind = h.kind; holds = h.holds; meant = e ∙ 
 pub content_typed : (look : Look Reference) (t : Tree Reference) (m : Meant) (c : Content) → meaning look t ≡ Gives m → IsContentOf (Gives m) c → (known : IsTyped look t) → HasContent look.world known.type c
 content_typed look t m c e h known = content_has look.world c known.type h.kind h.holds h.shows (subst (Safe (Suits look.world known.type)) (e ∙ h.meant) (safe look t known))
 
-pub ruleset whole_laws = (content_told, content_typed)
+pub whole_stops : (o : Outcome) (h : Halt) → Halts o h → Halts (o >>= whole_of_meant) h
+whole_stops o h p = stops o whole_of_meant h p
+
+pub whole_halts : (o : Outcome) (m : Meant) (h : Halt) → o ≡ Gives m → Halts (whole_of_meant m) h → Halts (o >>= whole_of_meant) h
+whole_halts o m h e p = subst (λ o. Halts (o >>= whole_of_meant) h) (sym e) p
+
+pub ruleset whole_laws = (content_told, content_typed, whole_stops, whole_halts)
 
 pub whole_content : (k : Kind) (old new : Content) → IsSound (accum_of k) old → ShowsTheSame old new → IsContentOf (Gives (IsContent (accum_of k) (view (accum_of k) (out-Content old)))) new
 whole_content k old new s same = record { kind = accum_of k; holds = view (accum_of k) (out-Content old); meant = refl; shows = same.each (accum_of k) (view (accum_of k) (out-Content old)) s.shows }

@@ -8,11 +8,11 @@ use Rattle.gq_nest.specs.declared.content.Content.{Content}
 use Rattle.gq_nest.specs.Shows.{Shows}
 use Rattle.gq_rules_typing.specs.Judging.{Typed, Of, Average, AliasOf, Whole}
 use Rattle.gq_rules_typing.specs.ExpressionTypes.{Names, typing}
-use Rattle.gq_rules_meaning.specs.Answers.{Gives}
-use Rattle.gq_rules_meaning.specs.Expressions.{World, Look}
+use Rattle.gq_rules_meaning.specs.Answers.{Gives, Stuck, ◌>>=◌}
+use Rattle.gq_rules_meaning.specs.Expressions.{World, Look, meaning}
 use Rattle.gq_rules_meaning.specs.Fitting.{is_value, is_vertex_of, HoldsValues}
 use Rattle.gq_rules_meaning.specs.Laws.{LookFits}
-use Rattle.gq_rules_meaning.specs.Meanings.{IsContent, Outcome}
+use Rattle.gq_rules_meaning.specs.Meanings.{Meant, IsContent, Outcome}
 
 -- an expression has a type, for names that the context fits
 pub record IsTyped {N : Type 0} (look : Look N) (t : Tree N) : Type 0 where
@@ -38,6 +38,15 @@ HasType world (AliasOf types) (Vertex v) = is_vertex_of world.graph types v ≡ 
 HasType world _ _ = ⊥
 
 -- ---- collections
+
+-- a whole collection; anything else is none
+abbrev pub whole_of_meant : Meant → Outcome
+whole_of_meant (IsContent k c) = Gives (IsContent k c)
+whole_of_meant _ = Stuck
+
+-- the whole collection that an expression means
+abbrev pub whole_meaning : {N : Type 0} → Look N → Tree N → Outcome
+whole_meaning look t = meaning look t >>= whole_of_meant
 
 -- the content shows the collection that is meant
 pub record IsContentOf (o : Outcome) (c : Content) : Type 0 where

@@ -1,5 +1,6 @@
 // Expressions, part by part.
-ghost use Rattle.std.specs.Prelude.{◌≡◌, IfOk, map, Some};
+ghost use Rattle.std.specs.Prelude.{◌≡◌, IfOk, [], ◌∷◌, map, Some, None};
+ghost use Rattle.gq_value.specs.Accums.{INT};
 ghost use Rattle.gq_value.specs.Views.{val};
 ghost use Rattle.gq_tree.specs.Tree as plain;
 ghost use Rattle.gq_rules_typing.specs.Words as words;
@@ -13,12 +14,13 @@ ghost use Rattle.gq_plan_ir.specs.ExprView.{view, views, view_behind, view_parts
 ghost use Rattle.gq_eval_operand.specs.Meant.{meant, valued, itself, Tells};
 ghost use Rattle.gq_eval_operand.specs.Sound.{Sound};
 ghost use Rattle.gq_eval_builtins.specs.Wants.{wants_are};
-ghost use Rattle.gq_eval_builtins.specs.Steps.{true_meant, times_meaning, plus_meaning, int_value};
+ghost use Rattle.gq_eval_builtins.specs.Steps.{IsSingle, true_meant, times_meaning, plus_meaning, int_value, spoiled, want_is, wanted_value};
+ghost use Rattle.gq_eval.specs.Operations.{IsOperation};
 
 use gq_base::List;
 use gq_eval_builtins::{
-    Wants, attached, contained, contains, contains_key, datetime_diff, degree_of, earlier, get,
-    is_single, key_wants, one, sized, units_later,
+    Arity, Wants, arity_of, attached, contained, contains, contains_key, datetime_diff, degree_of,
+    earlier, get, key_wants, one, sized, units_later,
 };
 use gq_eval_operand::{
     Halt, Operand, Seen, Sees, Sort, compared, converted, converted_to, minus, nots, own, product,
@@ -27,7 +29,7 @@ use gq_eval_operand::{
 use gq_plan_ir::{Behind, Expr, Function, Method};
 use gq_rules_typing::Builtin;
 use gq_tree::{AddSign, MulSign};
-use gq_value::{Number, Row, Value};
+use gq_value::{BaseType, Number, Row, Value};
 use std::alloc::Global;
 
 /// Evaluates an expression, or returns the first fault in order of text.
@@ -48,9 +50,13 @@ pub fn run<'v, V: Sees>(expr: &'v Expr, alloc: Global, sight: &'v V) -> Result<S
             let x = run(first.get(), alloc, sight)?;
             run_parts(parts.as_slice(), alloc, sight, x)
         }
-        Expr::Neg(_, _) | Expr::Mul(_, _) | Expr::Sum(_, _) => operated(expr, alloc, sight),
-        Expr::Cmp(_, _, _) | Expr::Not(_, _) => operated(expr, alloc, sight),
-        Expr::And(_, _) | Expr::Or(_, _) => operated(expr, alloc, sight),
+        Expr::Neg(_, _) => operated(expr, alloc, sight),
+        Expr::Mul(_, _) => operated(expr, alloc, sight),
+        Expr::Sum(_, _) => operated(expr, alloc, sight),
+        Expr::Cmp(_, _, _) => operated(expr, alloc, sight),
+        Expr::Not(_, _) => operated(expr, alloc, sight),
+        Expr::And(_, _) => operated(expr, alloc, sight),
+        Expr::Or(_, _) => operated(expr, alloc, sight),
     }
 }
 
@@ -59,6 +65,7 @@ pub fn run<'v, V: Sees>(expr: &'v Expr, alloc: Global, sight: &'v V) -> Result<S
 #[cycle(eval)]
 #[tactic(auto, using(gq_plan_ir::proofs::ViewLaws::view_laws, gq_eval_builtins::proofs::RunLemmas::run_laws, gq_eval_builtins::proofs::RunLemmas::cmp_laws, crate::proofs::SoundSteps::minus_sound))]
 fn operated<'v, V: Sees>(expr: &'v Expr, alloc: Global, sight: &'v V) -> Result<Seen<'v>, Halt>
+    requires { IsOperation (view expr.now) }
     ensures told { Tells meant (meaning (V.look sight.entry.now) (view expr.entry.now)) result }
     ensures sound { IfOk result Sound }
 {
@@ -92,9 +99,13 @@ fn operated<'v, V: Sees>(expr: &'v Expr, alloc: Global, sight: &'v V) -> Result<
             let truth = run_truth(first.get(), alloc, sight)?;
             run_any(others.as_slice(), alloc, sight, truth)
         }
-        Expr::Number(_) | Expr::Text(_) | Expr::Truth(_) => Err(Halt::Outside),
-        Expr::Global(_) | Expr::Name(_) => Err(Halt::Outside),
-        Expr::Call(_, _) | Expr::Post(_, _) => Err(Halt::Outside),
+        Expr::Number(_) => unreachable!(),
+        Expr::Text(_) => unreachable!(),
+        Expr::Truth(_) => unreachable!(),
+        Expr::Global(_) => unreachable!(),
+        Expr::Name(_) => unreachable!(),
+        Expr::Call(_, _) => unreachable!(),
+        Expr::Post(_, _) => unreachable!(),
     }
 }
 
@@ -330,9 +341,11 @@ fn called<'v, V: Sees>(
 {
     match function {
         Function::Tuple(number, _) => made(arguments, *number, alloc, sight),
-        Function::Own(Builtin::DatetimeDiff) => difference(arguments, alloc, sight),
-        Function::Own(Builtin::DatetimeAdd) => later(arguments, alloc, sight),
-        Function::Own(builtin) => single(arguments, *builtin, alloc, sight),
+        Function::Own(builtin) => match arity_of(*builtin) {
+            Arity::One => single(arguments, *builtin, alloc, sight),
+            Arity::Two => difference(arguments, alloc, sight),
+            Arity::Three => later(arguments, alloc, sight),
+        },
     }
 }
 
@@ -357,7 +370,7 @@ fn made<'v, V: Sees>(
     }
 }
 
-/// A function of one argument. Nothing is said of another number of arguments.
+/// A function of one argument.
 #[cycle(eval)]
 #[tactic(auto, using(gq_eval_builtins::proofs::ListSteps::one_found))]
 fn single<'v, V: Sees>(
@@ -366,18 +379,17 @@ fn single<'v, V: Sees>(
     alloc: Global,
     sight: &'v V,
 ) -> Result<Seen<'v>, Halt>
+    requires { IsSingle (Calls (builtin_is builtin)) (builtin_is builtin) }
     ensures told { Tells meant (meaning (V.look sight.entry.now) (plain.Call (Calls (builtin_is builtin)) (views arguments.entry.now))) result }
     ensures sound { IfOk result Sound }
 {
-    if !is_single(builtin) {
-        return Err(Halt::Outside);
-    }
     match arguments {
         [argument] => {
             let x = run_value(argument, alloc, sight)?;
             one(alloc, builtin, &x)
         }
-        [] | [_, _, ..] => Err(Halt::Outside),
+        [] => misfit(arguments, alloc, sight, &[None]),
+        [_, _, ..] => misfit(arguments, alloc, sight, &[None]),
     }
 }
 
@@ -397,7 +409,9 @@ fn difference<'v, V: Sees>(
             let y = run_value(right, alloc, sight)?;
             datetime_diff(&x, &y)
         }
-        [] | [_] | [_, _, _, ..] => Err(Halt::Outside),
+        [] => misfit(arguments, alloc, sight, &[None, None]),
+        [_] => misfit(arguments, alloc, sight, &[None, None]),
+        [_, _, _, ..] => misfit(arguments, alloc, sight, &[None, None]),
     }
 }
 
@@ -414,7 +428,10 @@ fn later<'v, V: Sees>(arguments: &'v [Expr], alloc: Global, sight: &'v V) -> Res
             let u = run_value(unit, alloc, sight)?;
             units_later(x, n, u)
         }
-        [] | [_] | [_, _] | [_, _, _, _, ..] => Err(Halt::Outside),
+        [] => misfit_later(arguments, alloc, sight),
+        [_] => misfit_later(arguments, alloc, sight),
+        [_, _] => misfit_later(arguments, alloc, sight),
+        [_, _, _, _, ..] => misfit_later(arguments, alloc, sight),
     }
 }
 
@@ -425,6 +442,63 @@ fn run_int<'v, V: Sees>(expr: &'v Expr, alloc: Global, sight: &'v V) -> Result<O
 {
     let n = run_value(expr, alloc, sight)?;
     converted_to(Number::Int, &n)
+}
+
+/// Evaluates the arguments of a call that has no result for as many of them. `wants` has the types to which the call
+/// converts its arguments.
+#[cycle(eval)]
+#[tactic(auto, using(gq_eval_builtins::proofs::MisfitLemmas::spoiled_laws))]
+fn misfit<'v, V: Sees>(
+    arguments: &'v [Expr],
+    alloc: Global,
+    sight: &'v V,
+    wants: &[Option<&BaseType>],
+) -> Result<Seen<'v>, Halt>
+    ensures told { Tells meant (spoiled (V.look sight.entry.now) (map want_is wants.now) (views arguments.entry.now)) result }
+    ensures sound { IfOk result Sound }
+{
+    for (place, argument) in arguments.iter().enumerate() {
+        match wants.get(place) {
+            None => return Err(Halt::Stuck),
+            Some(want) => {
+                let _value = run_wanted(argument, alloc, sight, *want)?;
+            }
+        }
+    }
+    Err(Halt::Stuck)
+}
+
+/// The same for `datetime_add`, which converts its second argument to an INT.
+#[cycle(eval)]
+#[tactic(auto, using(gq_eval_operand::proofs::ConvertLemmas::base_laws, crate::proofs::MisfitSteps::int_wanted))]
+fn misfit_later<'v, V: Sees>(
+    arguments: &'v [Expr],
+    alloc: Global,
+    sight: &'v V,
+) -> Result<Seen<'v>, Halt>
+    ensures told { Tells meant (spoiled (V.look sight.entry.now) (None ∷ Some INT ∷ None ∷ []) (views arguments.entry.now)) result }
+    ensures sound { IfOk result Sound }
+{
+    let int = BaseType::Int;
+    misfit(arguments, alloc, sight, &[None, Some(&int), None])
+}
+
+/// The value of an argument, converted if a type is wanted.
+#[cycle(eval)]
+#[tactic(auto, using(crate::proofs::SoundSteps::wanted_laws))]
+fn run_wanted<'v, V: Sees>(
+    expr: &'v Expr,
+    alloc: Global,
+    sight: &'v V,
+    want: Option<&BaseType>,
+) -> Result<Operand<'v>, Halt>
+    ensures { Tells valued (wanted_value (V.look sight.entry.now) (want_is want.entry) (view expr.entry.now)) result }
+{
+    let x = run_value(expr, alloc, sight)?;
+    match want {
+        None => Ok(x),
+        Some(base) => converted(base, x),
+    }
 }
 
 // ---- methods
@@ -451,7 +525,7 @@ fn method_called<'v, V: Sees>(
 }
 
 #[cycle(eval)]
-#[tactic(auto, using(gq_eval_builtins::proofs::MethodSteps::contains_stuck, gq_eval_builtins::proofs::ListSteps::contains_found))]
+#[tactic(auto, using(gq_eval_builtins::proofs::MethodSteps::contains_stuck, gq_eval_builtins::proofs::ListSteps::contains_found, crate::proofs::MisfitSteps::contained_misfits))]
 fn containing<'v, V: Sees>(
     arguments: &'v [Expr],
     alloc: Global,
@@ -470,7 +544,8 @@ fn containing<'v, V: Sees>(
                 let x = converted(base, x)?;
                 contains(alloc, before, &x)
             }
-            [] | [_, _, ..] => Err(Halt::Outside),
+            [] => misfit(arguments, alloc, sight, &[Some(base)]),
+            [_, _, ..] => misfit(arguments, alloc, sight, &[Some(base)]),
         },
     }
 }
@@ -488,7 +563,7 @@ fn containing_key<'v, V: Sees>(
     ensures sound { IfOk result Sound }
 {
     let row = run_row(arguments, alloc, sight, key_wants(before))?;
-    contains_key(before, &row)
+    contains_key(alloc, before, &row)
 }
 
 #[cycle(eval)]

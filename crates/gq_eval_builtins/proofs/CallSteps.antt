@@ -20,7 +20,7 @@ use Rattle.gq_eval_builtins.proofs.TimeLemmas.{stops}
 use Rattle.gq_eval_builtins.specs.Steps.{IsSingle, int_value}
 use Rattle.gq_eval_builtins.proofs.RunLemmas.{goes}
 
-called_is : {N : Type 0} (look : Look N) (f : N) (ts : Trees N) (g : Function) → function_named (setting look.world) f ≡ Some g → meaning look (Call f ts) ≡ (arguments look (function_wants g) ts >>= function_of look.world.calendar g)
+pub called_is : {N : Type 0} (look : Look N) (f : N) (ts : Trees N) (g : Function) → function_named (setting look.world) f ≡ Some g → meaning look (Call f ts) ≡ (arguments look (function_wants g) ts >>= function_of look.world.calendar g)
 called_is look f ts g e = ap (λ o. found {F = Wrong} o >>= λ g. arguments look (function_wants g) ts >>= function_of look.world.calendar g) e
 
 pub called_stops : {N : Type 0} (look : Look N) (f : N) (ts : Trees N) (g : Function) (h : Halt) → function_named (setting look.world) f ≡ Some g → Halts (arguments look (function_wants g) ts) h → Halts (meaning look (Call f ts)) h

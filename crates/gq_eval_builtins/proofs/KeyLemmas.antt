@@ -2,11 +2,15 @@
 use Rattle.std.proofs.Common.{◌≡◌, ℕ, zero, suc, ◌≤◌, length, arith, Bool, true, false, ◌&&◌, ◌||◌, List, [], ◌∷◌, map, None, refl, sym, ap, subst, ◌∙◌}
 use Rattle.std.specs.List.{list_all, slice_get}
 use Rattle.std.specs.Option.{option_map}
-use Rattle.std.specs.Ordering.{is_eq}
+use Rattle.std.specs.Ordering.{is_eq, on, ordering_then}
+use Rattle.std.specs.Cmp.Lexicographic.{slice_cmp}
 use Rattle.std.specs.Prelude.{if◌then◌else◌}
 use Rattle.gq_value.specs.declared.kind.BaseType.{BaseType}
 use Rattle.gq_value.specs.declared.kind.GroupShape.{GroupShape}
 use Rattle.gq_value.specs.Val.{Val}
+use Rattle.gq_value.specs.Views.{val}
+use Rattle.gq_value.specs.Order.{place}
+use Rattle.gq_value.specs.declared.value.Value.{Value}
 use Rattle.gq_value.specs.Accums.{Base, Accum, MapAccum, GroupByAccum, Parts}
 use Rattle.gq_value.specs.AccumViews.{base_of, accum_of, parts_of}
 use Rattle.gq_value.specs.declared.kind.Kind.{Kind}
@@ -17,7 +21,7 @@ use Rattle.gq_accum_laws.specs.Fits.{fits}
 use Rattle.gq_nest.specs.declared.content.Content.{Content, out-Content}
 use Rattle.gq_nest.specs.Forms.{view}
 use Rattle.gq_nest.specs.Shows.{Shows}
-use Rattle.gq_nest.specs.Tells.{LacksKey, HasKey, LacksPart, HasPart, has_part}
+use Rattle.gq_nest.specs.Tells.{Tells, LacksKey, HasKey, LacksPart, HasPart, has_part, keys_of}
 use Rattle.gq_nest.proofs.EntryLemmas.{same_row}
 use Rattle.gq_rules_meaning.specs.Answers.{Gives}
 use Rattle.gq_rules_meaning.specs.Meanings.{IsContent, IsRow, truly, read}
@@ -63,6 +67,18 @@ group_holds a keys ps c part row s e h = group_row a keys ps c row true e (λ x 
 
 pub group_lacks : (a : Accum) (keys : List (List ℕ × Base)) (ps : Parts) (c : Content) (key : List Val) → IsSound a c → a ≡ GroupByAccum keys ps → has_part ps 0 ≡ true → LacksPart c key 0 → holds_row a c key ≡ truly false
 group_lacks a keys ps c row s e p h = group_row a keys ps c row false e (λ x shown. h.each keys ps x shown p) s
+
+-- a group's rows, searched one by one
+pub group_searched : (a : Accum) (keys : List (List ℕ × Base)) (ps : Parts) (c : Content) (key : List Val) (rows : List (List Val)) (f : Bool) → IsSound a c → a ≡ GroupByAccum keys ps → Tells c rows keys_of → f ≡ among row_cmp key rows
+    → holds_row a c key ≡ truly f
+group_searched a keys ps c key rows f s e t is = group_row a keys ps c key f e (λ h shown. ap (among row_cmp key) (sym (t.each (GroupByAccum keys ps) h shown)) ∙ sym is) s
+
+-- comparing rows of values is comparing their plain data
+pub cmp_mapped : (xs ys : List Value) → slice_cmp (on val place) xs ys ≡ row_cmp (map val xs) (map val ys)
+cmp_mapped [] [] = refl
+cmp_mapped [] (y ∷ ys) = refl
+cmp_mapped (x ∷ xs) [] = refl
+cmp_mapped (x ∷ xs) (y ∷ ys) = ap (ordering_then (place (val x) (val y))) (cmp_mapped xs ys)
 
 pub yet_holds : (k : Accum) (row : List Val) → contains_key_meant (IsContent k (fresh k)) row ≡ opening_row k
 yet_holds (MapAccum b k) row = refl

@@ -7,3 +7,4 @@ pub mod RunLemmas
 pub mod CallSteps
 pub mod MethodSteps
 pub mod ListSteps
+pub mod MisfitLemmas

@@ -170,7 +170,7 @@ contains_found_goes look m b es e v u r k c n o i a d p = contains_one_goes look
 
 -- ---- AND and OR, at a place of the list of operands
 
-at_place : (es : List Expr) (i : ℕ) (e : Expr) → i < length es → e ≡ get_or es i e → drop i es ≡ e ∷ drop (i + 1) es
+pub at_place : (es : List Expr) (i : ℕ) (e : Expr) → i < length es → e ≡ get_or es i e → drop i es ≡ e ∷ drop (i + 1) es
 at_place es i e n is = drop_more es i e n ∙ ap (λ x. x ∷ drop (i + 1) es) (sym is)
 
 all_here : (look : Look Reference) (b d : Bool) (es : List Expr) (i : ℕ) (e : Expr) → meaning_all look (true_meant b) (views es) ≡ meaning_all look (true_meant d) (views (drop i es)) → d ≡ true → i < length es → e ≡ get_or es i e

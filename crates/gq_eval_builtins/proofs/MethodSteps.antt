@@ -22,7 +22,7 @@ use Rattle.gq_eval_operand.specs.Meant.{meant, Halts, Tells}
 use Rattle.gq_eval_builtins.specs.Elements.{size_meant, contains_meant, contains_key_meant, get_meant, contained_in, keys_in}
 use Rattle.gq_eval_builtins.proofs.TimeLemmas.{stops}
 
-method_is : (look : Look Reference) (f : words.Method) (m : Meant) (ts : Trees Reference) → look.world.words.method (Does f) ≡ Some f
+pub method_is : (look : Look Reference) (f : words.Method) (m : Meant) (ts : Trees Reference) → look.world.words.method (Does f) ≡ Some f
     → meaning_part look m (Method (Does f) ts) ≡ (arguments look (method_wants f m) ts >>= method_of look.world.graph f m)
 method_is look f m ts e = ap (λ o. found {F = Wrong} o >>= λ f. arguments look (method_wants f m) ts >>= method_of look.world.graph f m) e
 

@@ -1,16 +1,18 @@
-// Whether a collection has a value.
+// Whether a collection has a value, and whether it has a key row.
 ghost use Rattle.std.specs.Prelude.{◌≡◌, IfOk, true, Some, map};
 ghost use Rattle.std.specs.Ordering.{is_eq};
 ghost use Rattle.gq_value.specs.Order.{compare};
 ghost use Rattle.gq_value.specs.AccumViews.{base_of, accum_of};
 ghost use Rattle.gq_value.specs.Views.{val};
+ghost use Rattle.gq_accum_laws.specs.Gather.{among};
+ghost use Rattle.gq_accum_laws.specs.Holds.{row_cmp};
 ghost use Rattle.gq_rules_typing.specs.Kinds.{contained_type};
 ghost use Rattle.gq_eval_operand.specs.Sound.{IsSound, has_form};
 ghost use Rattle.gq_eval_builtins.specs.Elements.{has_in, has_equal};
 
 use gq_base::OutOfMemory;
 use gq_nest::Content;
-use gq_value::{BaseType, Kind, Value, compare};
+use gq_value::{BaseType, Kind, Row, Value, compare};
 use std::alloc::Global;
 use std::cmp::Ordering;
 
@@ -51,6 +53,25 @@ fn is_equal(value: &Value, other: &Value) -> bool
     ensures { result ≡ is_eq (compare (val value.now) (val other.now)) }
 {
     compare(value, other) == Ordering::Equal
+}
+
+/// Whether a row is among key rows.
+pub(crate) fn has_row(rows: &[Row], row: &Row) -> bool
+    ensures { result ≡ among row_cmp (map val row.now) (map (map val) rows.now) }
+{
+    for other in rows {
+        if is_row(row, other) {
+            return true;
+        }
+    }
+    false
+}
+
+#[tactic(auto, using(crate::proofs::KeyLemmas::cmp_mapped))]
+fn is_row(row: &Row, other: &Row) -> bool
+    ensures { result ≡ is_eq (row_cmp (map val row.now) (map val other.now)) }
+{
+    row.as_slice().cmp(other.as_slice()) == Ordering::Equal
 }
 
 /// Whether a value is of a type; tuples aren't checked.

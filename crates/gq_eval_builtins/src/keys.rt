@@ -10,9 +10,11 @@ ghost use Rattle.gq_eval_operand.specs.Sound.{IsSound, Sound};
 ghost use Rattle.gq_eval_builtins.specs.Elements.{contains_key_meant, get_meant, keys_in, got_in, holds_row, opening_row, opening_got};
 ghost use Rattle.gq_eval_builtins.specs.Wants.{wants_are};
 
+use crate::elements::has_row;
 use gq_eval_operand::{Halt, Seen, opening, read, truly};
 use gq_nest::Content;
 use gq_value::{BaseType, GroupShape, Kind, Row, Txt};
+use std::alloc::Global;
 
 /// The types to which arguments are converted.
 #[derive(Clone, Copy)]
@@ -66,14 +68,14 @@ pub fn keys_wanted<'a>(kind: &'a Kind) -> Wants<'a>
     }
 }
 
-/// `containsKey`: whether a map or group holds a key row. Takes no memory.
+/// `containsKey`: whether a map or group holds a key row. Takes no memory, except for a group without parts.
 #[tactic(auto, using(crate::proofs::KeyLemmas::holds_laws))]
-pub fn contains_key<'a>(seen: &Seen<'_>, row: &Row) -> Result<Seen<'a>, Halt>
+pub fn contains_key<'a>(alloc: Global, seen: &Seen<'_>, row: &Row) -> Result<Seen<'a>, Halt>
     requires { Sound seen.now }
     ensures { Tells meant (contains_key_meant (meant seen.now) (map val row.now)) result }
 {
     match seen {
-        Seen::Whole(kind, content) => holds(kind, content, row),
+        Seen::Whole(kind, content) => holds(alloc, kind, content, row),
         Seen::Opening(kind) => holds_yet(kind),
         Seen::Set(_) | Seen::Member(_, _, _) | Seen::Edge(_, _) => Err(Halt::Stuck),
         Seen::Value(_, _) | Seen::Average(_) => Err(Halt::Stuck),
@@ -82,7 +84,7 @@ pub fn contains_key<'a>(seen: &Seen<'_>, row: &Row) -> Result<Seen<'a>, Halt>
 }
 
 #[tactic(auto, using(gq_value::proofs::AccumLemmas::accum_laws, crate::proofs::KeyLemmas::holds_laws))]
-fn holds<'a>(kind: &Kind, content: &Content, row: &Row) -> Result<Seen<'a>, Halt>
+fn holds<'a>(alloc: Global, kind: &Kind, content: &Content, row: &Row) -> Result<Seen<'a>, Halt>
     requires { IsSound (accum_of kind.now) content.now }
     ensures { Tells meant (holds_row (accum_of kind.now) content.now (map val row.now)) result }
 {
@@ -91,9 +93,12 @@ fn holds<'a>(kind: &Kind, content: &Content, row: &Row) -> Result<Seen<'a>, Halt
             Some(_) => Ok(truly(true)),
             None => Ok(truly(false)),
         },
-        // A group without parts isn't written.
+        // A group without parts, which the grammar doesn't have, holds nothing at a row: its rows are searched.
         Kind::Group(shape) => match shape.parts.as_slice() {
-            [] => Err(Halt::Outside),
+            [] => {
+                let rows = content.keys(alloc)?;
+                Ok(truly(has_row(rows.as_slice(), row)))
+            }
             [_, ..] => match content.part(row, 0) {
                 Some(_) => Ok(truly(true)),
                 None => Ok(truly(false)),

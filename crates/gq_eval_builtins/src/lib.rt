@@ -16,7 +16,7 @@ mod method;
 mod methods;
 mod times;
 
-pub use call::{is_single, units_later};
+pub use call::{Arity, arity_of, units_later};
 pub use functions::one;
 pub use keys::{Wants, contains_key, get, key_wants, keys_wanted};
 pub use method::{attached, degree_of, earlier, sized};

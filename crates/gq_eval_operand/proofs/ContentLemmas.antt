@@ -1,10 +1,14 @@
 -- ContentLemmas: the values that sound contents read as.
-use Rattle.std.proofs.Common.{◌≡◌, ℕ, ℤ, true, false, refl, sym, ap, ◌∙◌}
-use Rattle.gq_value.specs.Val.{Val, Fraction}
+use Rattle.std.proofs.Common.{◌≡◌, ℕ, zero, suc, ℤ, Bool, true, false, List, refl, sym, ap, subst, ◌∙◌}
+use Rattle.gq_value.specs.Val.{Val, Int, UInt, Truth, Text, Vertex, Tuple, Fraction}
+use Rattle.gq_value.specs.Views.{val, vals}
+use Rattle.gq_value.specs.ViewLaws.{val-Int, val-UInt, val-Bool, val-Text, val-Vertex, val-Tuple}
+use Rattle.gq_value.specs.declared.value.Value.{Value}
+use Rattle.gq_value.specs.declared.value.Value.TheVariants as value
 use Rattle.gq_value.specs.declared.kind.Number.{Number}
 use Rattle.gq_value.specs.Accums.{Base, INT, BOOL, Accum, SumAccum, MinAccum, MaxAccum, OrAccum, AndAccum, BitwiseOrAccum, BitwiseAndAccum, AvgAccum, SetAccum, BagAccum, ListAccum, MapAccum, GroupByAccum, HeapAccum}
 use Rattle.gq_value.specs.Typed.{is_scalar, number_type}
-use Rattle.gq_accum_laws.specs.Reads.{value_in}
+use Rattle.gq_accum_laws.specs.Reads.{average, value_in}
 use Rattle.gq_nest.specs.declared.content.Content.{Content, out-Content}
 use Rattle.gq_nest.specs.Forms.{view}
 use Rattle.gq_nest.specs.Tells.{Tells, IsFitting}
@@ -70,6 +74,56 @@ average_read k c v x n s e t is = go k e (view k (out-Content c)) (sym (value_is
     go (MapAccum b j) e h is = absurd (cc)
     go (GroupByAccum ks ps) e h is = absurd (cc)
     go (HeapAccum b m by) e h is = absurd (cc)
+
+abbrev IsFraction : Val → Type 0
+IsFraction (Fraction x n) = Unit {0}
+IsFraction _ = ⊥
+
+-- the value of an average is a fraction
+only_average : (k : Accum) (c : Content) (v : Val) → IsSound k c → k ≡ AvgAccum → Tells c v value_in → IsFraction v
+only_average k c v s e t = subst IsFraction (sym (value_is k c v s t)) (go k e (view k (out-Content c)))
+  where
+    averages : (x : ℤ) (n : ℕ) → IsFraction (average x n)
+    averages x zero = tt
+    averages x (suc n) = tt
+
+    go : (k : Accum) → k ≡ AvgAccum → (h : Holds k) → IsFraction (value_in k h)
+    go AvgAccum e h = averages h.0 h.1
+    go (SumAccum m) e h = absurd (cc)
+    go (MinAccum m) e h = absurd (cc)
+    go (MaxAccum m) e h = absurd (cc)
+    go OrAccum e h = absurd (cc)
+    go AndAccum e h = absurd (cc)
+    go BitwiseOrAccum e h = absurd (cc)
+    go BitwiseAndAccum e h = absurd (cc)
+    go (SetAccum b) e h = absurd (cc)
+    go (BagAccum b) e h = absurd (cc)
+    go (ListAccum b) e h = absurd (cc)
+    go (MapAccum b j) e h = absurd (cc)
+    go (GroupByAccum ks ps) e h = absurd (cc)
+    go (HeapAccum b m by) e h = absurd (cc)
+
+module _ (k : Accum) (c : Content) (v : Value) (s : IsSound k c) (e : k ≡ AvgAccum) (t : Tells c (val v) value_in) where
+  other : (u : Val) → val v ≡ u → IsFraction u
+  other u is = subst IsFraction is (only_average k c (val v) s e t)
+
+  pub average_int : (x : ℤ) → v ≡ value.Int x → ⊥
+  average_int x is = other (Int x) (ap val is ∙ val-Int x)
+
+  pub average_uint : (n : ℕ) → v ≡ value.UInt n → ⊥
+  average_uint n is = other (UInt n) (ap val is ∙ val-UInt n)
+
+  pub average_truth : (b : Bool) → v ≡ value.Bool b → ⊥
+  average_truth b is = other (Truth b) (ap val is ∙ val-Bool b)
+
+  pub average_text : (bs : List ℕ) → v ≡ value.Text bs → ⊥
+  average_text bs is = other (Text bs) (ap val is ∙ val-Text bs)
+
+  pub average_vertex : (n : ℕ) → v ≡ value.Vertex n → ⊥
+  average_vertex n is = other (Vertex n) (ap val is ∙ val-Vertex n)
+
+  pub average_tuple : (row : List Value) → v ≡ value.Tuple row → ⊥
+  average_tuple row is = other (Tuple (vals row)) (ap val is ∙ val-Tuple row)
 
 whole : (k : Accum) → is_scalar k ≡ false → (h : Holds k) → read k h ≡ IsContent k h
 whole (SetAccum b) e h = refl

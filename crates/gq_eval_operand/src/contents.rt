@@ -52,8 +52,12 @@ fn averaged<'a>(kind: &Kind, content: &Content) -> Result<Seen<'a>, Halt>
 {
     match content.value() {
         Value::Fraction(average) => Ok(Seen::Average(average)),
-        Value::Int(_) | Value::UInt(_) | Value::Bool(_) | Value::Text(_) => Err(Halt::Outside),
-        Value::Vertex(_) | Value::Tuple(_) => Err(Halt::Outside),
+        Value::Int(_) => unreachable!(),
+        Value::UInt(_) => unreachable!(),
+        Value::Bool(_) => unreachable!(),
+        Value::Text(_) => unreachable!(),
+        Value::Vertex(_) => unreachable!(),
+        Value::Tuple(_) => unreachable!(),
     }
 }
 

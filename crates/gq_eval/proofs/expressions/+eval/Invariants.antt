@@ -7,6 +7,7 @@ use Rattle.gq_eval_operand.specs.Sound.{Sound}
 use Rattle.gq_eval_builtins.specs.Wants.{wants_are}
 use Rattle.gq_eval_builtins.specs.Steps.{true_meant}
 use Rattle.gq_eval_builtins.proofs.RunLemmas.{after}
+use Rattle.gq_eval_builtins.proofs.MisfitLemmas.{SpoiledAt}
 use Rattle.gq_eval.proofs.expressions.+eval.Given as goal
 
 abbrev pub invariant-run_factors-loop-factor : goal.invariant-run_factors-loop-factor
@@ -32,6 +33,9 @@ invariant-run_any-loop-other g l =
 abbrev pub invariant-run_row-loop-place : goal.invariant-run_row-loop-place
 invariant-run_row-loop-place g l =
     arguments (g.V.Sees.look l.sight) (map Some (wants_are l.wants)) (views l.exprs) ≡ after (g.V.Sees.look l.sight) (map val l.row) (arguments (g.V.Sees.look l.sight) (map Some (drop l.place (wants_are l.wants))) (views (drop l.place l.exprs)))
+
+abbrev pub invariant-misfit-loop-place : goal.invariant-misfit-loop-place
+invariant-misfit-loop-place g l = SpoiledAt (g.V.Sees.look l.sight) l.wants l.arguments l.place
 
 -- ---- the remaining depth; a function that passes on its own argument counts for more
 
@@ -77,26 +81,35 @@ decreases-run_part g l = 8 * goal.size-run_part g l + 1
 abbrev pub decreases-run_row : goal.decreases-run_row
 decreases-run_row g l = 8 * goal.size-run_row g l + 3
 
+abbrev pub decreases-misfit : goal.decreases-misfit
+decreases-misfit g l = 8 * goal.size-misfit g l + 4
+
+abbrev pub decreases-misfit_later : goal.decreases-misfit_later
+decreases-misfit_later g l = 8 * goal.size-misfit_later g l + 5
+
+abbrev pub decreases-run_wanted : goal.decreases-run_wanted
+decreases-run_wanted g l = 8 * goal.size-run_wanted g l + 3
+
 abbrev pub decreases-called : goal.decreases-called
-decreases-called g l = 8 * goal.size-called g l + 5
+decreases-called g l = 8 * goal.size-called g l + 7
 
 abbrev pub decreases-made : goal.decreases-made
 decreases-made g l = 8 * goal.size-made g l + 4
 
 abbrev pub decreases-single : goal.decreases-single
-decreases-single g l = 8 * goal.size-single g l + 3
+decreases-single g l = 8 * goal.size-single g l + 5
 
 abbrev pub decreases-difference : goal.decreases-difference
-decreases-difference g l = 8 * goal.size-difference g l + 3
+decreases-difference g l = 8 * goal.size-difference g l + 5
 
 abbrev pub decreases-later : goal.decreases-later
-decreases-later g l = 8 * goal.size-later g l + 4
+decreases-later g l = 8 * goal.size-later g l + 6
 
 abbrev pub decreases-method_called : goal.decreases-method_called
-decreases-method_called g l = 8 * goal.size-method_called g l + 5
+decreases-method_called g l = 8 * goal.size-method_called g l + 6
 
 abbrev pub decreases-containing : goal.decreases-containing
-decreases-containing g l = 8 * goal.size-containing g l + 3
+decreases-containing g l = 8 * goal.size-containing g l + 5
 
 abbrev pub decreases-containing_key : goal.decreases-containing_key
 decreases-containing_key g l = 8 * goal.size-containing_key g l + 4
