@@ -44,7 +44,7 @@ look_there clock b f s shows = look_shows clock (over_of b f) s shows
 
 pub ends_told : {A : Type 0} (o : Answer Wrong A) (h : Halt) → Halts o h → Ends (blaming Evaluation o) (fault_of h)
 ends_told o (halt.Wrong w) e = ap (blaming Evaluation) e
-ends_told o halt.Stuck e = tt
+ends_told o halt.Stuck e = ap (blaming Evaluation) e
 ends_told o halt.Outside e = tt
 ends_told o halt.OutOfMemory e = tt
 

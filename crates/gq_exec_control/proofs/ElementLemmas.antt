@@ -1,5 +1,5 @@
 -- ElementLemmas: the elements of collections, and their types.
-use Rattle.std.proofs.Common.{◌≡◌, ℕ, Bool, List, [], ◌∷◌, map, Some, Result, refl, sym, ap, ap₂, subst, ◌∙◌}
+use Rattle.std.proofs.Common.{◌≡◌, ℕ, Bool, List, [], ◌∷◌, map, Some, None, Result, refl, sym, ap, ap₂, subst, ◌∙◌}
 use Rattle.gq_value.specs.declared.kind.BaseType.{BaseType}
 use Rattle.gq_value.specs.declared.value.Value.{Value}
 use Rattle.gq_value.specs.Accums.{Base, TUPLE, Accum, SumAccum, MinAccum, MaxAccum, OrAccum, AndAccum, BitwiseOrAccum, BitwiseAndAccum, AvgAccum, SetAccum, BagAccum, ListAccum, MapAccum, GroupByAccum, HeapAccum}
@@ -11,16 +11,18 @@ use Rattle.gq_nest.specs.declared.content.Content.{Content, out-Content}
 use Rattle.gq_nest.specs.Forms.{view}
 use Rattle.gq_nest.specs.Tells as nest
 use Rattle.gq_rules_typing.specs.Kinds.{element_type}
-use Rattle.gq_rules_meaning.specs.Answers.{Gives}
+use Rattle.gq_rules_meaning.specs.Answers.{Gives, Stuck, ◌>>=◌, found}
+use Rattle.gq_rules_meaning.specs.Collections.{elements}
 use Rattle.gq_rules_meaning.specs.Meanings.{Meant, IsContent, Outcome}
 use Rattle.gq_rules_meaning.specs.Statements.{elements_of, with_base}
 use Rattle.gq_eval_operand.specs.declared.halt.Halt.{Halt}
+use Rattle.gq_eval_operand.specs.declared.halt.Halt.TheVariants as halt
 use Rattle.gq_eval_operand.specs.Meant.{Halts, Tells}
 use Rattle.gq_eval_operand.specs.Sound.{IsSound}
 use Rattle.gq_exec_control.specs.declared.running.Rounds.{Rounds}
 use Rattle.gq_exec_control.specs.declared.running.Rounds.TheVariants as rounds
 use Rattle.gq_exec_control.proofs.Steps.{halts_bind}
-use Rattle.gq_exec_control.specs.Rounds.{all_elements, rounds_in}
+use Rattle.gq_exec_control.specs.Rounds.{NotHeld, all_elements, rounds_in}
 
 -- ---- the value of an expression
 
@@ -73,7 +75,22 @@ whole_gives k c b row s e t = given k (view k (out-Content c)) b e ∙ ap (λ vs
 pub opening_gives : (k : Accum) (b : Base) (row : List Value) → element_type k ≡ Some b → row ≡ [] → elements_of (IsContent k (fresh k)) ≡ Gives (rounds_in b (rounds.Elements row))
 opening_gives k b row e n = given k (fresh k) b e ∙ ap (λ vs. Gives (with_base b vs)) (none_fresh k b e ∙ ap (map val) (sym n))
 
-pub ruleset whole_laws = (whole_gives, opening_gives)
+none_held : (k : Accum) (h : Holds k) → element_type k ≡ None → elements_of (IsContent k h) ≡ Stuck
+none_held k h e = ap (λ o. found o >>= λ b. found (elements k h) >>= λ vs. Gives (with_base b vs)) e
+
+not_held : (k : Accum) (h : Holds k) (e : Halt) → NotHeld k e → Halts (elements_of (IsContent k h)) e
+not_held k h halt.Stuck none = none_held k h none
+not_held k h halt.OutOfMemory none = tt
+not_held k h halt.Outside none = absurd none
+not_held k h (halt.Wrong w) none = absurd none
+
+pub whole_halts : (k : Accum) (c : Content) (e : Halt) → NotHeld k e → Halts (elements_of (IsContent k (view k (out-Content c)))) e
+whole_halts k c e none = not_held k (view k (out-Content c)) e none
+
+pub opening_halts : (k : Accum) (e : Halt) → NotHeld k e → Halts (elements_of (IsContent k (fresh k))) e
+opening_halts k e none = not_held k (fresh k) e none
+
+pub ruleset whole_laws = (whole_gives, opening_gives, whole_halts, opening_halts)
 
 -- ---- types
 

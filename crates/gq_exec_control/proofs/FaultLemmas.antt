@@ -11,6 +11,7 @@ ends_bind o f (fault.Eval w) h = ap (λ x. x >>= f) h
 ends_bind o f (fault.SumRange n) h = ap (λ x. x >>= f) h
 ends_bind o f fault.LoopBound h = ap (λ x. x >>= f) h
 ends_bind o f fault.PathBound h = ap (λ x. x >>= f) h
+ends_bind o f fault.Stuck h = ap (λ x. x >>= f) h
 ends_bind o f fault.OutOfMemory h = tt
 
 pub ends_same : {A : Type 0} (o p : Answer Fault A) (e : RunFault) → o ≡ p → Ends p e → Ends o e
@@ -18,6 +19,7 @@ ends_same o p (fault.Eval w) h g = h ∙ g
 ends_same o p (fault.SumRange n) h g = h ∙ g
 ends_same o p fault.LoopBound h g = h ∙ g
 ends_same o p fault.PathBound h g = h ∙ g
+ends_same o p fault.Stuck h g = h ∙ g
 ends_same o p fault.OutOfMemory h g = tt
 
 pub leads_same : {A : Type 0} (P : A → Type 0) (o p : Answer Fault A) (r : Result (Unit {0}) RunFault) → o ≡ p → Leads P p r → Leads P o r

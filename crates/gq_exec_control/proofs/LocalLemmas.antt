@@ -12,7 +12,7 @@ use Rattle.gq_value.specs.AccumViews.{base_of}
 use Rattle.gq_value.specs.Accums.{Base}
 use Rattle.gq_value.specs.Val.{Val}
 use Rattle.gq_value.specs.Views.{val}
-use Rattle.gq_rules_meaning.specs.Answers.{Gives, ◌>>=◌, blaming, found, through}
+use Rattle.gq_rules_meaning.specs.Answers.{Gives, Stuck, ◌>>=◌, blaming, found, through}
 use Rattle.gq_rules_meaning.specs.Calendars.{Calendar}
 use Rattle.gq_rules_meaning.specs.Expressions.{World}
 use Rattle.gq_rules_meaning.specs.States as states
@@ -31,12 +31,13 @@ use Rattle.gq_frame.specs.Names.{held_thing}
 use Rattle.gq_frame.specs.declared.live.Live.{Live}
 use Rattle.gq_frame.specs.Lives.{Lives}
 use Rattle.gq_exec_control.specs.declared.running.RunFault.{RunFault}
+use Rattle.gq_exec_control.specs.declared.running.RunFault.TheVariants as fault
 use Rattle.gq_exec_control.proofs.FaultLemmas.{ends_bind, ends_same}
 use Rattle.gq_exec_control.specs.Contexts.{Basis, world_on}
 use Rattle.gq_exec_control.specs.Changes.{Becomes, Reads}
 use Rattle.gq_exec_control.proofs.ContextLemmas.{shows_of}
 use Rattle.gq_exec_control.proofs.Steps.{bound, unblamed}
-use Rattle.gq_exec_control.specs.Locals.{declared_all, declared_one, base_declared, IsKnown}
+use Rattle.gq_exec_control.specs.Locals.{declared_all, declared_one, base_declared, IsKnown, IsUnknown}
 
 -- ---- the type
 
@@ -50,6 +51,20 @@ base_known clock b declared.Bool k = refl
 base_known clock b declared.Text k = refl
 base_known clock b declared.AnyVertex k = refl
 base_known clock b (declared.VertexOf t) k = ap (λ c. found (if c then Some t else Option.None) >>= λ n. Gives (base_declared (declared.VertexOf n))) k
+
+pub base_unknown : (clock : Calendar) (b : Basis) (d : Declared) → IsUnknown b.plan.vertices d → base_of_tree (world_on clock b) (view_declared d) ≡ Stuck
+base_unknown clock b declared.Int k = absurd k
+base_unknown clock b declared.UInt k = absurd k
+base_unknown clock b declared.Bool k = absurd k
+base_unknown clock b declared.Text k = absurd k
+base_unknown clock b declared.AnyVertex k = absurd k
+base_unknown clock b (declared.VertexOf t) k = ap (λ c. found (if c then Some t else Option.None) >>= λ n. Gives (base_declared (declared.VertexOf n))) k
+
+pub type_stops : (places : List PlaceType) (clock : Calendar) (b : Basis) (d : Declared) (xs : List (Reference × Option (Tree Reference))) (old new : Live) → IsUnknown b.plan.vertices d
+    → Becomes places (declared_all (world_on clock b) (view_declared d) xs) old new (Err fault.Stuck)
+type_stops places clock b d xs old new k = record {
+  each = λ s l. ap (λ o. blaming Evaluation o >>= λ c. blaming Evaluation (through (with_local (world_on clock b) c) s xs)) (base_unknown clock b d k);
+}
 
 -- ---- one variable
 

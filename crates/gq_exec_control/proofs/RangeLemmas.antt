@@ -1,17 +1,19 @@
 -- RangeLemmas: the numbers between two ends.
-use Rattle.std.proofs.Common.{◌≡◌, ℕ, ℤ, pos, Bool, true, false, cond, Result, refl, sym, ap, ap₂, ◌∙◌}
-use Rattle.std.specs.Prelude.{◌&&◌}
+use Rattle.std.proofs.Common.{◌≡◌, ℕ, ℤ, pos, Bool, true, false, cond, List, Result, Ok, Err, refl, sym, ap, ap₂, subst, ◌∙◌}
+use Rattle.std.specs.Prelude.{◌&&◌, if◌then◌else◌}
 use Rattle.gq_value.specs.declared.kind.Number.{Number}
 use Rattle.gq_value.specs.declared.kind.Number.TheVariants as number
 use Rattle.gq_value.specs.declared.value.Wrong.{Wrong}
+use Rattle.gq_value.specs.declared.value.Wrong.TheVariants as wrong
 use Rattle.gq_value.specs.Accums.{Base, INT, UINT}
-use Rattle.gq_value.specs.Arithmetic.{in_type, type_of_both}
+use Rattle.gq_value.specs.Arithmetic.{as_type, in_type, is_within, type_of_both}
 use Rattle.gq_value.specs.Typed.{number_type}
-use Rattle.gq_value.specs.Val.{Val, Int, UInt, Truth, Text, Vertex, Tuple, Fraction}
-use Rattle.gq_rules_meaning.specs.Answers.{Answer, Gives, ◌>>=◌, of_result}
+use Rattle.gq_value.specs.Val.{Val, Vals, Int, UInt, Truth, Text, Vertex, Tuple, Fraction}
+use Rattle.gq_rules_meaning.specs.Answers.{Answer, Gives, Faults, Stuck, ◌>>=◌, of_result}
 use Rattle.gq_rules_meaning.specs.Meanings.{as_number}
 use Rattle.gq_rules_meaning.specs.Statements.{between, end_of, numbers_between, with_base}
 use Rattle.gq_eval_operand.specs.declared.halt.Halt.{Halt}
+use Rattle.gq_eval_operand.specs.declared.halt.Halt.TheVariants as halt
 use Rattle.gq_eval_operand.specs.Meant.{Halts, Tells, is_unsigned, number_in, number_to}
 use Rattle.gq_exec_control.specs.declared.running.Rounds.{Rounds}
 use Rattle.gq_exec_control.specs.declared.running.Rounds.TheVariants as rounds
@@ -101,6 +103,100 @@ int_end_goes v u x e f = end_is number.Int v ∙ ap (λ o. o >>= as_number) e �
 pub uint_end_goes : (v u : Val) (n : ℕ) → number_to number.UInt v ≡ Gives u → number_in u ≡ Gives (UInt n) → end_of number.UInt v ≡ Gives (pos n)
 uint_end_goes v u n e f = end_is number.UInt v ∙ ap (λ o. o >>= as_number) e ∙ uint_is u n f
 
-pub ruleset int_end_laws = (end_stops, int_end_goes)
+-- a number that is none
+none_whole : (u : Val) (h : Halt) → Halts (number_in u) h → Halts (as_number u) h
+none_whole (Int x) (halt.Wrong w) e = absurd (let no : ⊥ = cc in no)
+none_whole (UInt n) (halt.Wrong w) e = absurd (let no : ⊥ = cc in no)
+none_whole (Truth b) (halt.Wrong w) e = absurd (let no : ⊥ = cc in no)
+none_whole (Text s) (halt.Wrong w) e = absurd (let no : ⊥ = cc in no)
+none_whole (Vertex n) (halt.Wrong w) e = absurd (let no : ⊥ = cc in no)
+none_whole (Tuple vs) (halt.Wrong w) e = absurd (let no : ⊥ = cc in no)
+none_whole (Fraction s n) (halt.Wrong w) e = absurd (let no : ⊥ = cc in no)
+none_whole (Int x) halt.Stuck e = absurd (let no : ⊥ = cc in no)
+none_whole (UInt n) halt.Stuck e = absurd (let no : ⊥ = cc in no)
+none_whole (Truth b) halt.Stuck e = refl
+none_whole (Text s) halt.Stuck e = refl
+none_whole (Vertex n) halt.Stuck e = refl
+none_whole (Tuple vs) halt.Stuck e = refl
+none_whole (Fraction s n) halt.Stuck e = refl
+none_whole u halt.Outside e = tt
+none_whole u halt.OutOfMemory e = tt
 
-pub ruleset uint_end_laws = (end_stops, uint_end_goes)
+pub end_none : (n : Number) (v u : Val) (h : Halt) → number_to n v ≡ Gives u → Halts (number_in u) h → Halts (end_of n v) h
+end_none n v u h e g = halts_same (end_of n v) (as_number u) h (end_is n v ∙ ap (λ o. o >>= as_number) e) (none_whole u h g)
+
+-- what is converted to a type is of it
+abbrev IsIn : Number → Val → Type 0
+IsIn number.Int (Int x) = Unit {0}
+IsIn number.UInt (UInt n) = Unit {0}
+IsIn n v = ⊥
+
+converted_in : (n : Number) (v u : Val) → number_to n v ≡ Gives u → IsIn n u
+converted_in n v u e = by (as_number v) e
+  where
+    typed : (n : Number) (x : ℤ) → IsIn n (as_type n x)
+    typed number.Int x = tt
+    typed number.UInt x = tt
+
+    within : (x : ℤ) (b : Bool) → of_result (if b then Ok (as_type n x) else Err wrong.Range) ≡ Gives u → IsIn n u
+    within x true e = subst (IsIn n) (let f : as_type n x ≡ u = cc in f) (typed n x)
+    within x false e = absurd (let no : ⊥ = cc in no)
+
+    by : (o : Answer Wrong ℤ) → (o >>= λ x. of_result (in_type n x)) ≡ Gives u → IsIn n u
+    by (Gives x) e = within x (is_within n x) e
+    by (Faults w) e = absurd (let no : ⊥ = cc in no)
+    by Stuck e = absurd (let no : ⊥ = cc in no)
+
+is_itself : (u w : Val) → number_in u ≡ Gives w → u ≡ w
+is_itself (Int x) w e = let f : Int x ≡ w = cc in f
+is_itself (UInt n) w e = let f : UInt n ≡ w = cc in f
+is_itself (Truth b) w e = absurd (let no : ⊥ = cc in no)
+is_itself (Text s) w e = absurd (let no : ⊥ = cc in no)
+is_itself (Vertex n) w e = absurd (let no : ⊥ = cc in no)
+is_itself (Tuple vs) w e = absurd (let no : ⊥ = cc in no)
+is_itself (Fraction s n) w e = absurd (let no : ⊥ = cc in no)
+
+read_in : (n : Number) (v u w : Val) → number_to n v ≡ Gives u → number_in u ≡ Gives w → IsIn n w
+read_in n v u w e f = subst (IsIn n) (is_itself u w f) (converted_in n v u e)
+
+pub int_not_uint : (v u : Val) (k : ℕ) → number_to number.Int v ≡ Gives u → number_in u ≡ Gives (UInt k) → ⊥
+int_not_uint v u k e f = read_in number.Int v u (UInt k) e f
+
+pub uint_not_int : (v u : Val) (x : ℤ) → number_to number.UInt v ≡ Gives u → number_in u ≡ Gives (Int x) → ⊥
+uint_not_int v u x e f = read_in number.UInt v u (Int x) e f
+
+-- what is read as a whole number is one
+abbrev IsNumber : Val → Type 0
+IsNumber (Int x) = Unit {0}
+IsNumber (UInt n) = Unit {0}
+IsNumber v = ⊥
+
+read_whole : (u w : Val) → number_in u ≡ Gives w → IsNumber w
+read_whole (Int x) w e = subst IsNumber (let f : Int x ≡ w = cc in f) tt
+read_whole (UInt n) w e = subst IsNumber (let f : UInt n ≡ w = cc in f) tt
+read_whole (Truth b) w e = absurd (let no : ⊥ = cc in no)
+read_whole (Text s) w e = absurd (let no : ⊥ = cc in no)
+read_whole (Vertex n) w e = absurd (let no : ⊥ = cc in no)
+read_whole (Tuple vs) w e = absurd (let no : ⊥ = cc in no)
+read_whole (Fraction s n) w e = absurd (let no : ⊥ = cc in no)
+
+pub no_truth : (u : Val) (b : Bool) → number_in u ≡ Gives (Truth b) → ⊥
+no_truth u b f = read_whole u (Truth b) f
+
+pub no_text : (u : Val) (s : List ℕ) → number_in u ≡ Gives (Text s) → ⊥
+no_text u s f = read_whole u (Text s) f
+
+pub no_vertex : (u : Val) (n : ℕ) → number_in u ≡ Gives (Vertex n) → ⊥
+no_vertex u n f = read_whole u (Vertex n) f
+
+pub no_tuple : (u : Val) (vs : Vals) → number_in u ≡ Gives (Tuple vs) → ⊥
+no_tuple u vs f = read_whole u (Tuple vs) f
+
+pub no_fraction : (u : Val) (x : ℤ) (n : ℕ) → number_in u ≡ Gives (Fraction x n) → ⊥
+no_fraction u x n f = read_whole u (Fraction x n) f
+
+pub ruleset other_values = (int_not_uint, uint_not_int, no_truth, no_text, no_vertex, no_tuple, no_fraction)
+
+pub ruleset int_end_laws = (end_stops, end_none, int_end_goes)
+
+pub ruleset uint_end_laws = (end_stops, end_none, uint_end_goes)

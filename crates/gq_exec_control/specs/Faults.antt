@@ -9,7 +9,7 @@ use Rattle.gq_exec_control.specs.declared.running.RunFault.TheVariants as fault
 
 abbrev pub fault_of : Halt → RunFault
 fault_of (halt.Wrong w) = fault.Eval w
-fault_of halt.Stuck = fault.OutOfMemory
+fault_of halt.Stuck = fault.Stuck
 fault_of halt.Outside = fault.OutOfMemory
 fault_of halt.OutOfMemory = fault.OutOfMemory
 
@@ -20,4 +20,5 @@ faults_of (Err h) = Err (fault_of h)
 abbrev pub fault_of_block : BlockFault → RunFault
 fault_of_block (block.Eval at w) = fault.Eval w
 fault_of_block (block.SumRange n) = fault.SumRange n
+fault_of_block block.Stuck = fault.Stuck
 fault_of_block block.OutOfMemory = fault.OutOfMemory

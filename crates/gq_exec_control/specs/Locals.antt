@@ -1,5 +1,5 @@
 -- Locals: declarations of a body, and the types that they name.
-use Rattle.std.specs.Prelude.{◌≡◌, ℕ, true, List, Option}
+use Rattle.std.specs.Prelude.{◌≡◌, ℕ, true, false, List, Option}
 use Rattle.std.specs.List.{list_any}
 use Rattle.std.specs.Prelude.{◌==◌}
 use Rattle.gq_tree.specs.Tree.{Tree}
@@ -32,3 +32,8 @@ base_declared (declared.VertexOf t) = VERTEX_OF t
 abbrev pub IsKnown : List ℕ → Declared → Type 0
 IsKnown own (declared.VertexOf t) = list_any (λ m. m == t) own ≡ true
 IsKnown own d = Unit {0}
+
+-- it isn't
+abbrev pub IsUnknown : List ℕ → Declared → Type 0
+IsUnknown own (declared.VertexOf t) = list_any (λ m. m == t) own ≡ false
+IsUnknown own d = ⊥

@@ -7,7 +7,7 @@ use Rattle.gq_value.specs.Accums.{Base}
 use Rattle.gq_value.specs.AccumViews.{base_of}
 use Rattle.gq_value.specs.Val.{Val}
 use Rattle.gq_rules_typing.specs.Statements.{Over}
-use Rattle.gq_rules_meaning.specs.Answers.{Answer, Gives, Faults, blaming}
+use Rattle.gq_rules_meaning.specs.Answers.{Answer, Gives, Faults, Stuck, blaming}
 use Rattle.gq_rules_meaning.specs.Built.{built_print}
 use Rattle.gq_rules_meaning.specs.Expressions.{World}
 use Rattle.gq_rules_meaning.specs.States.{seen}
@@ -40,6 +40,7 @@ Ends o (fault.Eval w) = o ≡ Faults (Evaluation w)
 Ends o (fault.SumRange n) = o ≡ Faults (SumOutOfRange n)
 Ends o fault.LoopBound = o ≡ Faults LoopBound
 Ends o fault.PathBound = o ≡ Faults PathBound
+Ends o fault.Stuck = o ≡ Stuck
 Ends o fault.OutOfMemory = Unit {0}
 
 -- the value has a property, or the fault is that of the definitions

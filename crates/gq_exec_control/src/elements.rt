@@ -8,7 +8,7 @@ ghost use Rattle.gq_rules_meaning.specs.Statements.{elements_of};
 ghost use Rattle.gq_plan_ir.specs.ExprView.{view};
 ghost use Rattle.gq_eval_operand.specs.Meant.{Tells, meant};
 ghost use Rattle.gq_eval_operand.specs.Sound.{Sound};
-ghost use Rattle.gq_exec_control.specs.Rounds.{all_elements, rounds_in};
+ghost use Rattle.gq_exec_control.specs.Rounds.{NotHeld, all_elements, rounds_in};
 
 use crate::running::Rounds;
 use gq_base::List;
@@ -43,19 +43,33 @@ fn elements_in(alloc: Global, base: &BaseType, seen: &Seen<'_>) -> Result<Rounds
             if holds_these(kind, base) {
                 Ok(Rounds::Elements(content.elements(alloc)?))
             } else {
-                Err(Halt::Outside)
+                Err(unlike(kind))
             }
         }
         Seen::Opening(kind) => {
             if holds_these(kind, base) {
                 Ok(Rounds::Elements(List::new(alloc)))
             } else {
-                Err(Halt::Outside)
+                Err(unlike(kind))
             }
         }
         Seen::Value(_, _) | Seen::Average(_) => Err(Halt::Stuck),
         Seen::Row(_, _, _) | Seen::OpeningRow(_) => Err(Halt::Stuck),
         Seen::Edge(_, _) | Seen::Set(_) | Seen::Member(_, _, _) => Err(Halt::Stuck),
+    }
+}
+
+/// Why collections of a kind aren't gone over, if they don't hold elements of the place's type. A map or a group is
+/// `Stuck`, as it has no elements, and a place of another type is `OutOfMemory`.
+#[tactic(auto, using(gq_value::proofs::AccumLemmas::accum_laws))]
+fn unlike(kind: &Kind) -> Halt
+    ensures { NotHeld (accum_of kind.now) result }
+{
+    match kind {
+        Kind::Set(_) | Kind::Bag(_) | Kind::List(_) | Kind::Heap(_) => Halt::OutOfMemory,
+        Kind::Sum(_) | Kind::Min(_) | Kind::Max(_) | Kind::Or | Kind::And => Halt::Stuck,
+        Kind::BitOr | Kind::BitAnd | Kind::Avg => Halt::Stuck,
+        Kind::Map(_, _) | Kind::Group(_) => Halt::Stuck,
     }
 }
 

@@ -6,8 +6,8 @@ use crate::running::RunFault;
 use gq_eval_context::BlockFault;
 use gq_eval_operand::Halt;
 
-/// Converts the fault of an evaluation to that of a run. An evaluation that is stuck or outside, which no plan of a
-/// checked query is, becomes `OutOfMemory`.
+/// Converts the fault of an evaluation to that of a run. `Outside`, of which nothing is promised, becomes
+/// `OutOfMemory`.
 pub fn or_fault<T>(told: Result<T, Halt>) -> Result<T, RunFault>
     ensures { result ≡ faults_of told }
 {
@@ -23,7 +23,8 @@ pub fn run_fault(halt: Halt) -> RunFault
 {
     match halt {
         Halt::Wrong(fault) => RunFault::Eval(fault),
-        Halt::Stuck | Halt::Outside | Halt::OutOfMemory => RunFault::OutOfMemory,
+        Halt::Stuck => RunFault::Stuck,
+        Halt::Outside | Halt::OutOfMemory => RunFault::OutOfMemory,
     }
 }
 
@@ -34,6 +35,7 @@ pub fn block_fault(fault: BlockFault) -> RunFault
     match fault {
         BlockFault::Eval { at: _, fault } => RunFault::Eval(fault),
         BlockFault::SumRange { slot } => RunFault::SumRange(slot),
+        BlockFault::Stuck => RunFault::Stuck,
         BlockFault::OutOfMemory => RunFault::OutOfMemory,
     }
 }

@@ -1,5 +1,5 @@
 // Declarations.
-ghost use Rattle.std.specs.Prelude.{◌≡◌, IfSome, Some, slice_get, true};
+ghost use Rattle.std.specs.Prelude.{◌≡◌, IfSome, Some, slice_get, true, false};
 ghost use Rattle.std.specs.Option.{option_map};
 ghost use Rattle.gq_value.specs.AccumViews.{base_of};
 ghost use Rattle.gq_rules_calendar.specs.Gregorian.{gregorian};
@@ -10,7 +10,7 @@ ghost use Rattle.gq_plan_ir.specs.Reference.{Place};
 ghost use Rattle.gq_frame.specs.Slots.{AreSound};
 ghost use Rattle.gq_exec_control.specs.Changes.{Becomes};
 ghost use Rattle.gq_exec_control.specs.Contexts.{world_on};
-ghost use Rattle.gq_exec_control.specs.Locals.{IsKnown, base_declared, declared_all, declared_one};
+ghost use Rattle.gq_exec_control.specs.Locals.{IsKnown, IsUnknown, base_declared, declared_all, declared_one};
 
 use crate::places::variable_at;
 use crate::run_context::RunContext;
@@ -24,7 +24,8 @@ use std::alloc::Global;
 /// Declares variables of a type, one after the other: each sees those before it. A variable without a value gets the
 /// default of its type.
 ///
-/// Returns `OutOfMemory` for a place to which the plan gives another type.
+/// Returns `Stuck` for a type that isn't one of the graph, and `OutOfMemory` for a place to which the plan gives
+/// another type.
 pub fn declare(
     context: &RunContext<'_>,
     alloc: Global,
@@ -37,7 +38,7 @@ pub fn declare(
     ensures accums { live.new.frame.accums ≡ live.old.frame.accums }
 {
     if !is_known(declared, context.plan.vertices.as_slice()) {
-        return Err(RunFault::OutOfMemory);
+        return Err(RunFault::Stuck);
     }
     for local in locals {
         declare_one(context, alloc, declared, local.0, &local.1, live)?;
@@ -47,7 +48,8 @@ pub fn declare(
 
 /// Whether a type is built in, or a vertex type of the graph.
 fn is_known(declared: Declared, own: &[u32]) -> bool
-    ensures { result ≡ true → IsKnown own.now declared }
+    ensures known { result ≡ true → IsKnown own.now declared }
+    ensures unknown { result ≡ false → IsUnknown own.now declared }
 {
     match declared {
         Declared::Int | Declared::UInt | Declared::Bool | Declared::Text => true,

@@ -15,7 +15,8 @@ use gq_plan_ir::Expr;
 use gq_value::{BaseType, Number, Value};
 use std::alloc::Global;
 
-/// Returns the numbers from one to another, including both. They are UINT if both ends are, else INT.
+/// Returns the numbers from one to another, including both. They are UINT if both ends are, else INT. A place of
+/// another type is `OutOfMemory`.
 #[tactic(auto, using(crate::proofs::RangeLemmas::range_laws))]
 pub(crate) fn range<V: Sees>(
     first: &Expr,
@@ -52,8 +53,10 @@ fn ints(base: &BaseType, first: &Operand<'_>, last: &Operand<'_>) -> Result<Roun
             let last = int_end(last)?;
             Ok(Rounds::Ints(first, last))
         }
-        BaseType::UInt | BaseType::Bool | BaseType::Text | BaseType::Time => Err(Halt::Outside),
-        BaseType::AnyVertex | BaseType::VertexOf(_) | BaseType::Tuple(_, _) => Err(Halt::Outside),
+        BaseType::UInt | BaseType::Bool | BaseType::Text | BaseType::Time => Err(Halt::OutOfMemory),
+        BaseType::AnyVertex | BaseType::VertexOf(_) | BaseType::Tuple(_, _) => Err(
+            Halt::OutOfMemory,
+        ),
     }
 }
 
@@ -67,31 +70,39 @@ fn uints(base: &BaseType, first: &Operand<'_>, last: &Operand<'_>) -> Result<Rou
             let last = uint_end(last)?;
             Ok(Rounds::UInts(first, last))
         }
-        BaseType::Int | BaseType::Bool | BaseType::Text | BaseType::Time => Err(Halt::Outside),
-        BaseType::AnyVertex | BaseType::VertexOf(_) | BaseType::Tuple(_, _) => Err(Halt::Outside),
+        BaseType::Int | BaseType::Bool | BaseType::Text | BaseType::Time => Err(Halt::OutOfMemory),
+        BaseType::AnyVertex | BaseType::VertexOf(_) | BaseType::Tuple(_, _) => Err(
+            Halt::OutOfMemory,
+        ),
     }
 }
 
 /// Evaluates an end, converted to INT.
-#[tactic(auto, using(gq_value::specs::ViewLaws::view_laws, crate::proofs::RangeLemmas::int_end_laws))]
+#[tactic(auto, using(gq_value::specs::ViewLaws::view_laws, crate::proofs::RangeLemmas::int_end_laws, crate::proofs::RangeLemmas::other_values))]
 fn int_end(operand: &Operand<'_>) -> Result<i64, Halt>
     ensures { Tells itself (end_of number.Int (valued operand.now)) result }
 {
     let end = converted_to(Number::Int, operand)?;
     match number(&end) {
         Ok(Value::Int(x)) => Ok(x),
-        Ok(_) | Err(_) => Err(Halt::Outside),
+        Ok(Value::UInt(_)) => unreachable!(),
+        Ok(Value::Bool(_)) | Ok(Value::Text(_)) | Ok(Value::Vertex(_)) => unreachable!(),
+        Ok(Value::Tuple(_)) | Ok(Value::Fraction(_)) => unreachable!(),
+        Err(halt) => Err(halt),
     }
 }
 
 /// Evaluates an end, converted to UINT.
-#[tactic(auto, using(gq_value::specs::ViewLaws::view_laws, crate::proofs::RangeLemmas::uint_end_laws))]
+#[tactic(auto, using(gq_value::specs::ViewLaws::view_laws, crate::proofs::RangeLemmas::uint_end_laws, crate::proofs::RangeLemmas::other_values))]
 fn uint_end(operand: &Operand<'_>) -> Result<u64, Halt>
     ensures { Tells pos (end_of number.UInt (valued operand.now)) result }
 {
     let end = converted_to(Number::UInt, operand)?;
     match number(&end) {
         Ok(Value::UInt(n)) => Ok(n),
-        Ok(_) | Err(_) => Err(Halt::Outside),
+        Ok(Value::Int(_)) => unreachable!(),
+        Ok(Value::Bool(_)) | Ok(Value::Text(_)) | Ok(Value::Vertex(_)) => unreachable!(),
+        Ok(Value::Tuple(_)) | Ok(Value::Fraction(_)) => unreachable!(),
+        Err(halt) => Err(halt),
     }
 }

@@ -27,13 +27,16 @@ pub enum RunFault {
     Eval(Wrong),
 
     /// A sum in the accumulator of this slot is out of range.
-    SumRange(u32),
+    SumRange(usize),
 
     /// No iteration is left for a body.
     LoopBound,
 
     /// A path with too many bindings.
     PathBound,
+
+    /// The run's meaning is stuck; never so for a plan of a well typed query.
+    Stuck,
     OutOfMemory,
 }
 

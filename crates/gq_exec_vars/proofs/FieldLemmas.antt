@@ -1,5 +1,5 @@
 -- FieldLemmas: declared types, and the fields of a tuple type one after the other.
-use Rattle.std.proofs.Common.{◌≡◌, ℕ, ◌+◌, ◌<◌, ◌≤◌, ◌==◌, true, false, not, List, [], ◌∷◌, ◌++◌, drop, map, length, get_or, Ok, Err, refl, sym, ap, ap₂, subst, ◌∙◌, arith}
+use Rattle.std.proofs.Common.{◌≡◌, ℕ, ◌+◌, ◌<◌, ◌≤◌, ◌==◌, Bool, true, false, not, List, [], ◌∷◌, ◌++◌, drop, map, length, get_or, Ok, Err, refl, sym, ap, ap₂, subst, ◌∙◌, arith}
 use Rattle.std.specs.List.{list_any, zip}
 use Rattle.std.specs.Prelude.{nat_lt}
 use Rattle.std.proofs.lemmas.Bool.Decides.{nat_tests}
@@ -12,9 +12,10 @@ use Rattle.gq_rules_typing.specs.Statements.{BaseTree, Bytes}
 use Rattle.gq_rules_typing.specs.Sorts.{Fields}
 use Rattle.gq_rules_typing.specs.Judging as judging
 use Rattle.gq_rules_typing.specs.Judging.{Judged, ◌>>=◌, ◌>>◌, or_fault, unless}
-use Rattle.gq_rules_typing.specs.Scopes.{unknown}
+use Rattle.gq_rules_typing.specs.Scopes.{base_written, unknown}
 use Rattle.gq_rules_typing.specs.KindTypes.{fields_written, own_name, stands_in}
-use Rattle.gq_rules_meaning.specs.Answers.{Gives}
+use Rattle.gq_value.specs.declared.value.Wrong.{Wrong}
+use Rattle.gq_rules_meaning.specs.Answers.{Gives, Stuck}
 use Rattle.gq_rules_meaning.specs.Expressions.{World, setting}
 use Rattle.gq_rules_meaning.specs.Queries.{judged, scope_of}
 use Rattle.gq_plan_ir.specs.declared.plan.Declared.{Declared}
@@ -23,8 +24,9 @@ use Rattle.gq_plan_ir.specs.PlanView.{view_declared}
 use Rattle.gq_plan_ir.specs.Reference.{Reference, VertexType}
 use Rattle.gq_eval_operand.proofs.ConvertLemmas.{base_of-Int, base_of-UInt, base_of-Bool, base_of-Text, base_of-AnyVertex, base_of-VertexOf}
 use Rattle.gq_eval_attributes.specs.declared.tuple_type.TupleType.{TupleType}
-use Rattle.gq_exec_vars.specs.Begun.{HasFields, IsDeclared, KnowsTypes}
-use Rattle.gq_exec_vars.proofs.NameLemmas.{vertex_runs}
+use Rattle.gq_eval_operand.specs.declared.halt.Halt.TheVariants as halt
+use Rattle.gq_exec_vars.specs.Begun.{FieldsHalt, HasFields, IsDeclared, IsForeign, KnowsTypes, is_refused}
+use Rattle.gq_exec_vars.proofs.NameLemmas.{no_vertex_runs, vertex_runs}
 
 -- ---- declared types
 
@@ -50,6 +52,12 @@ pub is_vertex_of : (own : List ℕ) (d : Declared) (b : BaseType) (t : ℕ) → 
 is_vertex_of own d b t e is known_one = same_declared own d (declared.VertexOf t) b (base.VertexOf t) e is (record {
   runs = λ world known. vertex_runs own t world known known_one ∙ ap Gives (sym (base_of-VertexOf t));
   written = λ world known. ap (λ o. or_fault (unknown (scope_of (setting world)) (VertexType t)) o >>= λ n. Ok (VERTEX_OF n)) (known.each t known_one) ∙ ap Ok (sym (base_of-VertexOf t));
+})
+
+pub foreign_type : (own : List ℕ) (d : Declared) (t : ℕ) → d ≡ declared.VertexOf t → list_any (λ m. m == t) own ≡ false → IsForeign own d
+foreign_type own d t e none = subst (IsForeign own) (sym e) (record {
+  runs = λ world known. no_vertex_runs own t world known none;
+  written = λ world known. ap (λ o. is_refused (or_fault (unknown (scope_of (setting world)) (VertexType t)) o >>= λ n. Ok (VERTEX_OF n))) (known.none t none);
 })
 
 pub ruleset declared_laws = (is_int, is_uint, is_bool, is_text, is_vertex, is_vertex_of)
@@ -96,6 +104,31 @@ free_name names n few none =
     ap (λ b. unless (judging.NameTwice n) (not b) >> unless judging.TooMany (nat_lt (length names) 16) >> Ok (names ++ n ∷ [])) none
     ∙ ap (λ b. unless judging.TooMany b >> Ok (names ++ n ∷ [])) (let t : nat_lt (length names) 16 ≡ true = grind (arith, nat_tests) in t)
 
+-- a name that another field has, or that is one too many
+pub taken_name : (names : List Bytes) (n : Bytes) → stands_in names n ≡ true → is_refused (own_name 16 names n) ≡ true
+taken_name names n taken = ap (λ b. is_refused (unless (judging.NameTwice n) (not b) >> unless judging.TooMany (nat_lt (length names) 16) >> Ok (names ++ n ∷ []))) taken
+
+pub too_many : (names : List Bytes) (n : Bytes) → 16 ≤ length names → is_refused (own_name 16 names n) ≡ true
+too_many names n many =
+    ap (λ b. is_refused (unless (judging.NameTwice n) (not (stands_in names n)) >> unless judging.TooMany b >> Ok (names ++ n ∷ []))) (let t : nat_lt (length names) 16 ≡ false = grind (arith, nat_tests) in t)
+    ∙ either (stands_in names n)
+  where
+    either : (b : Bool) → is_refused (unless (judging.NameTwice n) (not b) >> unless judging.TooMany false >> Ok (names ++ n ∷ [])) ≡ true
+    either true = refl
+    either false = refl
+
+-- what is refused stays refused
+refused_on : {A B : Type 0} (j : Judged A) (f : A → Judged B) → is_refused j ≡ true → is_refused (j >>= f) ≡ true
+refused_on (Ok a) f e = absurd (let no : ⊥ = cc in no)
+refused_on (Err e) f is = refl
+
+refused_judged : {A : Type 0} (j : Judged A) → is_refused j ≡ true → judged {F = Wrong} j ≡ Stuck
+refused_judged (Ok a) e = absurd (let no : ⊥ = cc in no)
+refused_judged (Err e) is = refl
+
+pub no_memory : (own : List ℕ) (fields : List (Declared × Bytes)) → FieldsHalt own fields halt.OutOfMemory
+no_memory own fields = record { each = λ world known. tt }
+
 module _ (own : List ℕ) (fields : List (Declared × Bytes)) where
   pub written_none : Written own fields 0 [] []
   written_none = record { same = refl; each = λ world known. before_none (fields_written (scope_of (setting world)) 16 [] (map field_view fields)) }
@@ -131,5 +164,27 @@ module _ (own : List ℕ) (fields : List (Declared × Bytes)) where
         ∙ ap Ok (append-nil (paired names types)))
         ∙ ap Gives (sym (ap₂ paired ne te));
   }
+
+  -- the next field is refused
+  stopped : (i : ℕ) (f : Declared × Bytes) (names : List Bytes) (types : List BaseType) → i < length fields → f ≡ get_or fields i f → Written own fields i names types
+      → ((world : World Reference) → KnowsTypes own world → is_refused (base_written (scope_of (setting world)) (view_declared f.0) >>= λ b. own_name 16 names f.1 >>= λ more. fields_written (scope_of (setting world)) 16 more (map field_view (drop (i + 1) fields)) >>= λ rest. Ok ((f.1, b) ∷ rest)) ≡ true)
+      → FieldsHalt own fields halt.Stuck
+  stopped i f names types n is w refused = record {
+    each = λ world known.
+        ap judged (w.each world known ∙ ap (λ fs. before (paired names types) (fields_written (scope_of (setting world)) 16 names (map field_view fs))) (drop_more fields i f n ∙ ap (λ g. g ∷ drop (i + 1) fields) (sym is)))
+        ∙ refused_judged (before (paired names types) (fields_written (scope_of (setting world)) 16 names (map field_view (f ∷ drop (i + 1) fields))))
+        (refused_on (fields_written (scope_of (setting world)) 16 names (map field_view (f ∷ drop (i + 1) fields))) (λ rest. Ok (paired names types ++ rest)) (refused world known));
+  }
+
+  pub type_refused : (i : ℕ) (f : Declared × Bytes) (names : List Bytes) (types : List BaseType) → i < length fields → f ≡ get_or fields i f → IsForeign own f.0 → Written own fields i names types → FieldsHalt own fields halt.Stuck
+  type_refused i f names types n is foreign w = stopped i f names types n is w (λ world known.
+      refused_on (base_written (scope_of (setting world)) (view_declared f.0)) (λ b. own_name 16 names f.1 >>= λ more. fields_written (scope_of (setting world)) 16 more (map field_view (drop (i + 1) fields)) >>= λ rest. Ok ((f.1, b) ∷ rest)) (foreign.written world known))
+
+  pub name_refused : (i : ℕ) (f : Declared × Bytes) (b : BaseType) (names lent : List Bytes) (types : List BaseType) (said : Bytes) → i < length fields → f ≡ get_or fields i f → IsDeclared own f.0 b → lent ≡ names → said ≡ f.1
+      → is_refused (own_name 16 lent said) ≡ true → Written own fields i names types → FieldsHalt own fields halt.Stuck
+  name_refused i f b names lent types said n is d l e refused w = stopped i f names types n is w (λ world known.
+      ap (λ j. is_refused (j >>= λ c. own_name 16 names f.1 >>= λ more. fields_written (scope_of (setting world)) 16 more (map field_view (drop (i + 1) fields)) >>= λ rest. Ok ((f.1, c) ∷ rest))) (d.written world known)
+      ∙ refused_on (own_name 16 names f.1) (λ more. fields_written (scope_of (setting world)) 16 more (map field_view (drop (i + 1) fields)) >>= λ rest. Ok ((f.1, base_of b) ∷ rest))
+      (subst (λ ns. is_refused (own_name 16 ns f.1) ≡ true) l (subst (λ t. is_refused (own_name 16 lent t) ≡ true) e refused)))
 
 pub ruleset field_laws = (written_none, written_more, written_all)

@@ -1,6 +1,6 @@
 -- OpenLemmas: accumulators and definitions, one after the other.
 use Rattle.std.proofs.Common.{◌≡◌, ℕ, suc, ◌+◌, ◌<◌, ◌≤◌, List, [], ◌∷◌, ◌++◌, drop, map, length, get_or, reverse, if◌then◌else◌, Option, Result, Ok, Err, refl, sym, ap, subst, ◌∙◌, arith}
-use Rattle.std.specs.Prelude.{IsErrAnd}
+use Rattle.std.specs.Prelude.{IfErr, IsErrAnd, OnOk}
 use Rattle.std.specs.Option.{option_map}
 use Rattle.std.proofs.lemmas.List.{drop_more, drop_all}
 use Rattle.std.proofs.lemmas.Result.{err_from_is_err_and}
@@ -21,7 +21,7 @@ use Rattle.gq_rules_meaning.specs.Calendars.{Calendar}
 use Rattle.gq_rules_meaning.specs.Expressions.{World}
 use Rattle.gq_rules_meaning.specs.States as states
 use Rattle.gq_rules_meaning.specs.States.{State, Thing, seen}
-use Rattle.gq_rules_meaning.specs.Queries.{Defining, defined, opened, opening, places, with_tuples}
+use Rattle.gq_rules_meaning.specs.Queries.{Defining, bound, defined, opened, opening, places, with_tuples}
 use Rattle.gq_plan_ir.specs.declared.plan.Accum as code_accum
 use Rattle.gq_plan_ir.specs.declared.plan.Definition.{Definition}
 use Rattle.gq_plan_ir.specs.declared.plan.Definition.TheVariants as defs
@@ -29,7 +29,7 @@ use Rattle.gq_plan_ir.specs.declared.plan.Declared.{Declared}
 use Rattle.gq_plan_ir.specs.declared.plan.PlaceType.{PlaceType}
 use Rattle.gq_plan_ir.specs.declared.plan.Plan.{Plan}
 use Rattle.gq_plan_ir.specs.ExprView.{view}
-use Rattle.gq_plan_ir.specs.PlanView.{view_accum, view_definition}
+use Rattle.gq_plan_ir.specs.PlanView.{view_accum, view_definition, view_parameter}
 use Rattle.gq_plan_ir.specs.Reference as reference
 use Rattle.gq_plan_ir.specs.Reference.{Reference}
 use Rattle.gq_rules_typing.specs.Statements.{Bytes}
@@ -42,7 +42,7 @@ use Rattle.gq_frame.specs.Slots.{AreSound, slots_are}
 use Rattle.gq_frame.specs.declared.live.Live.{Live}
 use Rattle.gq_frame.specs.Lives.{Lives, Unwinds}
 use Rattle.gq_exec_vars.specs.declared.opening.Opened.{Opened}
-use Rattle.gq_exec_vars.specs.Begun.{AddsSlot, AddsTuple, AreReady, Begins, Goes, IsBound, KnowsTypes, Leads, MayOpen, Stands, TellsFirst, begins, no_accums, opens_with, world_with}
+use Rattle.gq_exec_vars.specs.Begun.{AddsSlot, AddsTuple, AreReady, Begins, BoundHalts, FieldsHalt, Goes, IsBound, KnowsTypes, Leads, MayOpen, Stands, TellsFirst, begins, fields_as, no_accums, opens_with, world_with}
 use Rattle.gq_exec_vars.proofs.NameLemmas.{knows_own}
 use Rattle.gq_exec_vars.proofs.ValueLemmas.{many_places, stops}
 
@@ -163,6 +163,12 @@ module _ (clock : Calendar) (g : code.Graph) (plan : Plan) (tuples : List TupleT
 
 -- ---- one definition
 
+-- the fields' end, as the code returns it
+pub fields_end : (own lent : List ℕ) (fields given : List (Declared × Bytes)) (h : Halt) (r : Result (Unit {0}) Halt) → IsErrAnd r (λ y. y ≡ h) → lent ≡ own → given ≡ fields → FieldsHalt lent given h → IfErr r (FieldsHalt own fields)
+fields_end own lent fields given h r e o f halts =
+    let p = err_from_is_err_and r e in
+    subst (λ x. IfErr x (FieldsHalt own fields)) (sym (p.1 ∙ ap Err p.2)) (subst (λ os. FieldsHalt os fields h) o (subst (λ fs. FieldsHalt lent fs h) f halts))
+
 tuples_more : (n m : ℕ) (ts : List TupleType) (t : TupleType) → m ≡ n + length ts → tuples_from n (ts ++ t ∷ []) ≡ tuples_from n ts ++ (reference.TupleType m, fields_in t) ∷ []
 tuples_more n m [] t e = ap (λ (i : ℕ). (reference.TupleType i, fields_in t) ∷ []) (let f : n ≡ m = omega (arith, e) in f)
 tuples_more n m (r ∷ ts) t e = ap (λ rest. (reference.TupleType n, fields_in r) ∷ rest) (tuples_more (suc n) m ts t (omega (arith, e)))
@@ -172,7 +178,7 @@ module _ (clock : Calendar) (g : code.Graph) (plan : Plan) where
   base_world = world_with clock g plan []
 
   known_in : (tuples : List (Reference × Fields)) → KnowsTypes plan.vertices (with_tuples tuples base_world)
-  known_in tuples = record { each = (knows_own clock g plan []).each }
+  known_in tuples = record { each = (knows_own clock g plan []).each; none = (knows_own clock g plan []).none }
 
   abbrev pub rule : Defining Reference → Definition → Answer Wrong (Defining Reference)
   rule d definition = defined base_world (λ w k. Gives k) d (view_definition definition)
@@ -213,6 +219,18 @@ module _ (clock : Calendar) (g : code.Graph) (plan : Plan) where
       lives = subst (λ (l : Live). Lives plan.places l d.state) (sym live) stands.lives;
     },
   )
+
+  pub tuple_halts : (definition : Definition) (fields : List (Declared × Bytes)) (number : ℕ) (new : Opened) (h : Halt) → definition ≡ defs.Tuple fields number → FieldsHalt plan.vertices fields h
+      → (d : Defining Reference) → Leads (Stands plan.places new) (rule d definition) (Err h)
+  tuple_halts definition fields number new h is halts d =
+      halts_same (rule d definition) (rule d (defs.Tuple fields number)) h (ap (rule d) is)
+      (stops (fields_as (with_tuples d.tuples base_world) fields) (λ fs. Gives (record d { tuples = d.tuples ++ (reference.TupleType number, fs) ∷ [] })) h (halts.each (with_tuples d.tuples base_world) (known_in d.tuples)))
+
+  -- by what adds it
+  pub tuple_led : (definition : Definition) (fields : List (Declared × Bytes)) (number : ℕ) (old new : Opened) (r : Result (Unit {0}) Halt) → definition ≡ defs.Tuple fields number → OnOk r (AddsTuple plan.vertices fields number old.tuples new.tuples)
+      → IfErr r (FieldsHalt plan.vertices fields) → new.live ≡ old.live → (d : Defining Reference) → Stands plan.places old d → Leads (Stands plan.places new) (rule d definition) r
+  tuple_led definition fields number old new (Ok u) is adds halts live d stands = tuple_defined definition fields number old new is adds live d stands
+  tuple_led definition fields number old new (Err h) is adds halts live d stands = tuple_halts definition fields number new h is halts d
 
   pub accums_defined : (definition : Definition) (kind : Kind) (trees : List code_accum.Accum) (old new : Opened) (r : Result (Unit {0}) Halt) → definition ≡ defs.Accums kind trees → new.tuples ≡ old.tuples
       → ((s : State Reference) → Lives plan.places old.live s → Leads (Lives plan.places new.live) (through (opened (world_with clock g plan old.tuples) (accum_of kind)) s (map view_accum trees)) r)
@@ -262,6 +280,13 @@ module _ (clock : Calendar) (g : code.Graph) (plan : Plan) where
     begins_err h result is e =
         let p = err_from_is_err_and result is in
         subst (Begins plan.places (whole (map val arguments))) (sym (p.1 ∙ ap Err p.2)) (halts_same (whole (map val arguments)) (behind names_bound) h begun (subst (Leads (Stands plan.places new) (behind names_bound)) e led))
+
+  -- its parameters can't be bound
+  pub begins_unbound : (arguments : List Value) (h : Halt) (result : Result Opened Halt) → IsErrAnd result (λ y. y ≡ h) → BoundHalts plan arguments h → Begins plan.places (whole (map val arguments)) result
+  begins_unbound arguments h result is halts =
+      let p = err_from_is_err_and result is in
+      subst (Begins plan.places (whole (map val arguments))) (sym (p.1 ∙ ap Err p.2))
+      (stops (bound base_world (map view_parameter plan.parameters) (map val arguments)) behind h (halts.each base_world (knows_own clock g plan [])))
 
 -- ---- before the first definition
 

@@ -12,10 +12,11 @@ use Rattle.gq_graph.specs.declared.rows.VertexRow.{VertexRow}
 use Rattle.gq_value.specs.declared.value.Wrong.{Wrong}
 use Rattle.gq_rules_typing.specs.Statements as plain
 use Rattle.gq_rules_typing.specs.Words.{under}
-use Rattle.gq_rules_meaning.specs.Answers.{Answer, Gives, ◌>>=◌, found, through}
+use Rattle.gq_rules_meaning.specs.Answers.{Answer, Gives, Stuck, ◌>>=◌, found, through}
 use Rattle.gq_rules_meaning.specs.Expressions.{World}
 use Rattle.gq_rules_meaning.specs.States as states
 use Rattle.gq_rules_meaning.specs.States.{State, SetOf, thing_named, with_name}
+use Rattle.gq_rules_meaning.specs.Statements.{is_set}
 use Rattle.gq_rules_meaning.specs.Sets.{TypedSet, set_in, set_named, term_of, joined, sets_of, types_fixed, types_kept, set_assigned}
 use Rattle.gq_plan_ir.specs.declared.step.Seed.{Seed}
 use Rattle.gq_plan_ir.specs.declared.step.SetTerm.{SetTerm}
@@ -43,6 +44,17 @@ use Rattle.gq_exec_vars.specs.Written.{Fixes, Agrees, typed, is_bare, others_of,
 pub set_seen : (at : Lookup) (world : World Reference) (s : State Reference) (p : ℕ) (types vs : List ℕ) → IsSeen at world s → thing_in at.places.now at.frame.now.things p ≡ Some (SetOf types vs) → set_named world s (Place p) ≡ Gives (types, vs)
 set_seen at world s p types vs seen e =
     ap (λ f. found (under f (Place p) s.names) >>= set_in) seen.over.like ∙ ap (λ o. found o >>= set_in) (seen.shows.names (Place p) ∙ e)
+
+not_set : (o : Option states.Thing) → is_set o ≡ false → (found o >>= set_in) ≡ Stuck
+not_set None e = refl
+not_set (Some (states.Variable b v)) e = refl
+not_set (Some (SetOf types vs)) e = cc
+not_set (Some (states.EdgeRow r t)) e = refl
+not_set (Some (states.Member types vs v)) e = refl
+
+pub set_unseen : (at : Lookup) (world : World Reference) (s : State Reference) (p : ℕ) → IsSeen at world s → is_set (thing_in at.places.now at.frame.now.things p) ≡ false → set_named world s (Place p) ≡ Stuck
+set_unseen at world s p seen e =
+    ap (λ f. found (under f (Place p) s.names) >>= set_in) seen.over.like ∙ ap (λ o. found o >>= set_in) (seen.shows.names (Place p)) ∙ not_set (thing_in at.places.now at.frame.now.things p) e
 
 -- ---- chains
 

@@ -1,5 +1,5 @@
 -- Begun: when the state that the code opens is the initial state of a run in the definitions.
-use Rattle.std.specs.Prelude.{◌≡◌, ◌==◌, ◌≤◌, ℕ, Bool, true, if◌then◌else◌, List, [], ◌∷◌, ◌++◌, map, length, Option, Some, None, Result, Ok, Err, slice_get}
+use Rattle.std.specs.Prelude.{◌≡◌, ◌==◌, ◌≤◌, ℕ, Bool, true, false, if◌then◌else◌, List, [], ◌∷◌, ◌++◌, map, length, Option, Some, None, Result, Ok, Err, slice_get}
 use Rattle.std.specs.List.{list_any}
 use Rattle.gq_index.specs.declared.store.Graph as code
 use Rattle.gq_index.specs.Sights.{sight_of}
@@ -9,10 +9,10 @@ use Rattle.gq_graph.specs.Catalog.{most_types}
 use Rattle.gq_value.specs.declared.kind.BaseType.{BaseType}
 use Rattle.gq_value.specs.declared.value.Value.{Value}
 use Rattle.gq_value.specs.declared.value.Wrong.{Wrong}
-use Rattle.gq_value.specs.Accums.{Accum}
+use Rattle.gq_value.specs.Accums.{INT, Accum, SumAccum, MinAccum, MaxAccum, OrAccum, AndAccum, BitwiseOrAccum, BitwiseAndAccum}
 use Rattle.gq_value.specs.AccumViews.{base_of}
 use Rattle.gq_value.specs.Val.{Val}
-use Rattle.gq_value.specs.Typed.{takes}
+use Rattle.gq_value.specs.Typed.{is_of, number_type, takes}
 use Rattle.gq_value.specs.Views.{val}
 use Rattle.gq_accum_laws.specs.Holds.{Holds}
 use Rattle.gq_accum_laws.specs.After.{fresh}
@@ -25,11 +25,12 @@ use Rattle.gq_frame.specs.declared.accums.Accums.{Accums}
 use Rattle.gq_frame.specs.Targets.{attached_in}
 use Rattle.gq_tree.specs.Tree.{Tree}
 use Rattle.gq_rules_typing.specs.Statements.{Bytes}
-use Rattle.gq_rules_typing.specs.Kinds.{set_type}
 use Rattle.gq_rules_typing.specs.Scopes.{base_written}
-use Rattle.gq_rules_meaning.specs.Answers.{Answer, Gives, ◌>>=◌, each, found}
+use Rattle.gq_rules_typing.specs.Judging.{Judged}
+use Rattle.gq_rules_typing.specs.Sorts.{Fields}
+use Rattle.gq_rules_meaning.specs.Answers.{Answer, Gives, Stuck, each}
 use Rattle.gq_rules_meaning.specs.Calendars.{Calendar}
-use Rattle.gq_rules_meaning.specs.Expressions.{World, Look, setting, value_as}
+use Rattle.gq_rules_meaning.specs.Expressions.{World, Look, setting}
 use Rattle.gq_rules_meaning.specs.Statements.{base_of_tree}
 use Rattle.gq_rules_meaning.specs.States as states
 use Rattle.gq_rules_meaning.specs.States.{State, Variable, Thing}
@@ -43,6 +44,7 @@ use Rattle.gq_plan_ir.specs.PlanView.{accum_names, view_declared, view_parameter
 use Rattle.gq_plan_ir.specs.Reference as reference
 use Rattle.gq_plan_ir.specs.Reference.{Reference, Place, VertexType}
 use Rattle.gq_eval_operand.specs.declared.halt.Halt.{Halt}
+use Rattle.gq_eval_operand.specs.declared.halt.Halt.TheVariants as halt
 use Rattle.gq_eval_operand.specs.Meant.{Halts, Tells}
 use Rattle.gq_eval_attributes.specs.declared.tuple_type.TupleType.{TupleType}
 use Rattle.gq_eval_attributes.specs.Tuples.{fields_in, tuples_are}
@@ -108,18 +110,37 @@ pub record Goes {A S : Type 0} (P : S → A → Type 0) (whole rest : A → Answ
 
 -- ---- types
 
--- vertex types are known by these numbers
+-- vertex types are known by these numbers, and no others
 pub record KnowsTypes (own : List ℕ) (world : World Reference) : Type 0 where
   pub each : (t : ℕ) → list_any (λ m. m == t) own ≡ true → world.words.vertex_type (VertexType t) ≡ Some t
+  pub none : (t : ℕ) → list_any (λ m. m == t) own ≡ false → world.words.vertex_type (VertexType t) ≡ None
 
 -- a declared type is this one, both as written and in a run
 pub record IsDeclared (own : List ℕ) (declared : Declared) (base : BaseType) : Type 0 where
   pub runs : (world : World Reference) → KnowsTypes own world → base_of_tree world (view_declared declared) ≡ Gives (base_of base)
   pub written : (world : World Reference) → KnowsTypes own world → base_written (scope_of (setting world)) (view_declared declared) ≡ Ok (base_of base)
 
--- the fields are these, up to the limit, each with a name of its own
+-- a rule refuses it
+abbrev pub is_refused : {A : Type 0} → Judged A → Bool
+is_refused (Ok a) = false
+is_refused (Err e) = true
+
+-- a declared type isn't one of the graph, both as written and in a run
+pub record IsForeign (own : List ℕ) (declared : Declared) : Type 0 where
+  pub runs : (world : World Reference) → KnowsTypes own world → base_of_tree world (view_declared declared) ≡ Stuck
+  pub written : (world : World Reference) → KnowsTypes own world → is_refused (base_written (scope_of (setting world)) (view_declared declared)) ≡ true
+
+-- the fields of a tuple type: up to the limit, each with a name of its own; or a rule refuses them
+abbrev pub fields_as : World Reference → List (Declared × Bytes) → Answer Wrong Fields
+fields_as world fields = fields_of world (map (λ f. (view_declared f.0, f.1)) fields)
+
+-- the fields are these
 pub record HasFields (own : List ℕ) (fields : List (Declared × Bytes)) (t : TupleType) : Type 0 where
-  pub each : (world : World Reference) → KnowsTypes own world → fields_of world (map (λ f. (view_declared f.0, f.1)) fields) ≡ Gives (fields_in t)
+  pub each : (world : World Reference) → KnowsTypes own world → fields_as world fields ≡ Gives (fields_in t)
+
+-- it ends as the fields do
+pub record FieldsHalt (own : List ℕ) (fields : List (Declared × Bytes)) (h : Halt) : Type 0 where
+  pub each : (world : World Reference) → KnowsTypes own world → Halts (fields_as world fields) h
 
 -- one more tuple type, which gets the next number
 pub record AddsTuple (own : List ℕ) (fields : List (Declared × Bytes)) (number : ℕ) (old new : List TupleType) : Type 0 where
@@ -143,6 +164,16 @@ pub record IsBound (plan : Plan) (arguments : List Value) (live : Live) : Type 0
   pub each : (world : World Reference) → KnowsTypes plan.vertices world
       → (names : List (Reference × Thing)) × (bound world (map view_parameter plan.parameters) (map val arguments) ≡ Gives names) × Lives plan.places live (record { names = names; slots = [] })
 
+-- it ends as the parameters do
+pub record BoundHalts (plan : Plan) (arguments : List Value) (h : Halt) : Type 0 where
+  pub each : (world : World Reference) → KnowsTypes plan.vertices world → Halts (bound world (map view_parameter plan.parameters) (map val arguments)) h
+
+-- why a parameter doesn't come into view: its type is none of the graph's
+abbrev pub BindHalts : Plan → Parameter → Halt → Type 0
+BindHalts plan parameter halt.Stuck = IsForeign plan.vertices parameter.base
+BindHalts plan parameter halt.OutOfMemory = Unit {0}
+BindHalts plan parameter h = ⊥
+
 -- one more parameter comes into view
 pub record Binds (plan : Plan) (parameter : Parameter) (argument : Value) (old new : Live) : Type 0 where
   pub base : BaseType
@@ -156,9 +187,20 @@ abbrev pub opens_with : (k : Accum) → Option Value → Holds k
 opens_with k None = fresh k
 opens_with k (Some v) = set_to k (val v)
 
--- the value of an opening, converted to the type that the kind is set to
-abbrev pub value_opened : {N : Type 0} → Look N → Accum → Tree N → Answer Wrong Val
-value_opened look k tree = found (set_type k) >>= λ b. value_as look b tree
+-- the content that a value sets a kind to
+abbrev pub sets : (k : Accum) → Value → Holds k
+sets k v = set_to k (val v)
+
+-- a value of the type that a kind is set to, if that is a number
+abbrev pub Sets : Accum → Val → Type 0
+Sets (SumAccum n) v = is_of (number_type n) v ≡ true
+Sets (MinAccum n) v = is_of (number_type n) v ≡ true
+Sets (MaxAccum n) v = is_of (number_type n) v ≡ true
+Sets BitwiseOrAccum v = is_of INT v ≡ true
+Sets BitwiseAndAccum v = is_of INT v ≡ true
+Sets OrAccum v = Unit {0}
+Sets AndAccum v = Unit {0}
+Sets k v = ⊥
 
 -- the answer is the initial value of each of some targets
 pub record TellsFirst {N : Type 0} (look : Look N) (k : Accum) (targets : List ℕ) (tree : Option (Tree N)) (result : Result (Option Value) Halt) : Type 0 where

@@ -1,5 +1,5 @@
 -- Written: the representation of sets in the code: a set with its types, and bits that gain numbers.
-use Rattle.std.specs.Prelude.{◌≡◌, ℕ, ◌||◌, Bool, true, false, List, [], map, filter, length, Option, Result, Ok, Err}
+use Rattle.std.specs.Prelude.{◌≡◌, ◌≤◌, ℕ, ◌||◌, Bool, true, false, List, [], map, filter, length, Option, Some, None, Result, Ok, Err}
 use Rattle.std.specs.List.{range_with_len}
 use Rattle.gq_graph.specs.declared.rows.VertexRow.{VertexRow}
 use Rattle.gq_value.specs.declared.value.Wrong.{Wrong}
@@ -10,13 +10,10 @@ use Rattle.gq_tree.specs.declared.body.SetOp.{SetOp}
 use Rattle.gq_rules_typing.specs.Statements as plain
 use Rattle.gq_rules_meaning.specs.Answers.{Answer, Gives, ◌>>=◌, through}
 use Rattle.gq_rules_meaning.specs.Expressions.{World}
-use Rattle.gq_rules_meaning.specs.Meanings.{IsContent}
-use Rattle.gq_rules_meaning.specs.States.{State, read_slot}
+use Rattle.gq_rules_meaning.specs.Meanings.{Meant}
+use Rattle.gq_rules_meaning.specs.States.{State}
 use Rattle.gq_plan_ir.specs.declared.step.SetTerm.{SetTerm}
-use Rattle.gq_plan_ir.specs.Reference.{Reference, Slot}
-use Rattle.gq_plan_ir.specs.References.{same}
-use Rattle.gq_frame.specs.declared.accums.Accums.{Accums}
-use Rattle.gq_frame.specs.Slots.{slots_are}
+use Rattle.gq_plan_ir.specs.Reference.{Reference}
 use Rattle.gq_plan_ir.specs.PlanView.{view_term}
 use Rattle.gq_rules_meaning.specs.Sets as sets
 use Rattle.gq_eval_operand.specs.declared.halt.Halt.{Halt}
@@ -45,9 +42,13 @@ set_is (operand.Made t) = typed t
 abbrev pub vertices_under : List VertexRow → List ℕ → List ℕ
 vertices_under vertices kinds = filter (is_target (vertex_kinds vertices) kinds) (range_with_len 0 (length vertices))
 
--- the marks are those before, and these numbers
+-- words for every number of 32 bits
+abbrev pub most_words : ℕ
+most_words = 67108864
+
+-- the marks are those before, and these numbers; for them there are enough words
 pub record Gains (xs old new : List ℕ) : Type 0 where
-  pub len : length new ≡ length old
+  pub few : length old ≤ most_words → length new ≤ most_words
   pub marks : (v : ℕ) → is_marked new v ≡ (is_marked old v || among xs v)
 
 -- the types and the vertices of a set are marked
@@ -55,22 +56,38 @@ pub record GainsSet (set : sets.TypedSet) (old new : SetBitmap) : Type 0 where
   pub types : Gains set.0 old.types new.types
   pub vertices : Gains set.1 old.vertices new.vertices
 
+-- no more words than for all numbers of 32 bits
+pub record HasFew (bits : SetBitmap) : Type 0 where
+  pub types : length bits.types ≤ most_words
+  pub vertices : length bits.vertices ≤ most_words
+
 -- the vertices of a seed are marked, or it ends as the seed does
 abbrev pub Seeded : Answer Wrong sets.TypedSet → SetBitmap → SetBitmap → Result (Unit {0}) Halt → Type 0
 Seeded o old new (Ok u) = (set : sets.TypedSet) × (o ≡ Gives set) × GainsSet set old new
 Seeded o old new (Err h) = Halts o h
 
--- a global accumulator is a whole collection, in any world of a plan
-pub record ReadsWhole (a : Accums) (n : ℕ) (k : Accum) (c : Content) : Type 0 where
-  pub each : (world : World Reference) → world.words.same ≡ same → read_slot world (slots_are a) (Slot n) 0 ≡ Gives (IsContent k (view k (out-Content c)))
-  pub sound : IsSound k c
+-- the type of the vertices of a set
+abbrev pub set_base : Accum → Option Base
+set_base (SetAccum b) = Some b
+set_base k = None
 
--- the vertices of a content that reads as a set are marked
+-- the vertices of a content that reads as a set are marked, with their types; or it is no set
 abbrev pub PutContent : Accum → Content → List ℕ → SetBitmap → SetBitmap → Result (Unit {0}) Halt → Type 0
 PutContent k c own old new (Ok u) = IsSound k c → (b : Base) × (vs : List ℕ) × (k ≡ SetAccum b) × (vs ≡ sets.vertices_in (elements_of k (view k (out-Content c)))) × GainsSet (base_types own b, vs) old new
-PutContent k c own old new (Err halt.Outside) = Unit {0}
+PutContent k c own old new (Err halt.Stuck) = set_base k ≡ None
 PutContent k c own old new (Err halt.OutOfMemory) = Unit {0}
-PutContent k c own old new (Err h) = ⊥
+PutContent k c own old new (Err e) = ⊥
+
+-- a set without vertices
+abbrev pub PutNone : Accum → List ℕ → SetBitmap → SetBitmap → Result (Unit {0}) Halt → Type 0
+PutNone k own old new (Ok u) = (b : Base) × (k ≡ SetAccum b) × GainsSet (base_types own b, []) old new
+PutNone k own old new (Err halt.Stuck) = set_base k ≡ None
+PutNone k own old new (Err halt.OutOfMemory) = Unit {0}
+PutNone k own old new (Err e) = ⊥
+
+-- the vertices of what an accumulator reads as are marked, or it ends as the seed does
+pub record PutRead (m : Meant) (own : List ℕ) (old new : SetBitmap) (result : Result (Unit {0}) Halt) : Type 0 where
+  pub each : (world : World Reference) → world.graph.sorts.own_vertices ≡ own → Seeded (sets.of_content world m) old new result
 
 -- ---- set expressions
 

@@ -80,7 +80,7 @@ fn step(
     ensures { (world : World Reference) (s : State Reference) → IsSeen at.now world s → Tells typed (step_of world s (set_is left.entry) op (view_term right.now)) result }
 {
     let other = operand(alloc, right, at)?;
-    Ok(join(alloc, op, &left, &other, at.vertices.len())?)
+    Ok(join(alloc, op, &left, &other)?)
 }
 
 /// A set variable's set, borrowed, or a written set.
@@ -94,13 +94,13 @@ fn operand<'a>(alloc: Global, term: &SetTerm, at: &Lookup<'a>) -> Result<SetOper
     }
 }
 
-/// The set of a variable, borrowed. A name that isn't a set is `Outside`.
-#[tactic(auto, using(crate::proofs::SetLemmas::set_seen))]
+/// The set of a variable, borrowed. A name that isn't a set is `Stuck`.
+#[tactic(auto, using(crate::proofs::SetLemmas::set_seen, crate::proofs::SetLemmas::set_unseen))]
 fn lent<'a>(place: u32, at: &Lookup<'a>) -> Result<SetOperand<'a>, Halt>
     ensures { (world : World Reference) (s : State Reference) → IsSeen at.now world s → Tells set_is (set_named world s (Place place)) result }
 {
     match set_at(at.places, at.frame.things.as_slice(), place) {
         Some((types, vertices)) => Ok(SetOperand::Lent(types, vertices)),
-        None => Err(Halt::Outside),
+        None => Err(Halt::Stuck),
     }
 }

@@ -1,11 +1,12 @@
 // Declared types, and fields of tuple types.
-ghost use Rattle.std.specs.Prelude.{◌≡◌, ◌++◌, ◌∷◌, [], true, IfOk, IfSome, Ok};
+ghost use Rattle.std.specs.Prelude.{◌≡◌, ◌++◌, ◌∷◌, [], true, false, IfErr, IfOk, MatchOption, Ok};
 ghost use Rattle.gq_rules_typing.specs.KindTypes as kinds;
 ghost use Rattle.gq_value.specs.declared.kind.BaseType.TheVariants as bases;
-ghost use Rattle.gq_exec_vars.specs.Begun.{HasFields, IsDeclared};
+ghost use Rattle.gq_exec_vars.specs.Begun.{FieldsHalt, HasFields, IsDeclared, IsForeign, is_refused};
 
-use gq_base::{List, OutOfMemory};
+use gq_base::List;
 use gq_eval_attributes::TupleType;
+use gq_eval_operand::Halt;
 use gq_exec_source::is_own;
 use gq_plan_ir::Declared;
 use gq_value::{BaseType, Txt};
@@ -14,23 +15,24 @@ use std::alloc::Global;
 /// The largest number of fields of a tuple type.
 const MOST_FIELDS: usize = 16;
 
-/// A tuple type of these fields; one that isn't well formed is `OutOfMemory`.
-#[tactic(auto, using(crate::proofs::FieldLemmas::field_laws))]
+/// A tuple type of these fields; one that isn't well formed is `Stuck`.
+#[tactic(auto, using(crate::proofs::FieldLemmas::field_laws, crate::proofs::FieldLemmas::no_memory))]
 pub(crate) fn tuple_type(
     alloc: Global,
     own: &[u32],
     fields: &[(Declared, Txt)],
-) -> Result<TupleType, OutOfMemory>
-    ensures { IfOk result (HasFields own.now fields.now) }
+) -> Result<TupleType, Halt>
+    ensures fields { IfOk result (HasFields own.now fields.now) }
+    ensures halts { IfErr result (FieldsHalt own.now fields.now) }
 {
     let mut names = List::new(alloc);
     let mut types = List::new(alloc);
     for field in fields {
         match declared_base(field.0, own) {
-            None => return Err(OutOfMemory),
+            None => return Err(Halt::Stuck),
             Some(base) => {
                 if !is_free(names.as_slice(), field.1.as_str()) {
-                    return Err(OutOfMemory);
+                    return Err(Halt::Stuck);
                 }
                 names.push(Txt::of(alloc, field.1.as_str())?)?;
                 types.push(base)?;
@@ -41,9 +43,9 @@ pub(crate) fn tuple_type(
 }
 
 /// The declared type, if it is one of the graph.
-#[tactic(auto, using(crate::proofs::FieldLemmas::declared_laws))]
-pub(crate) fn declared_base(declared: Declared, own: &[u32]) -> Option<BaseType>
-    ensures { IfSome result (IsDeclared own.now declared) }
+#[tactic(auto, using(crate::proofs::FieldLemmas::declared_laws, crate::proofs::FieldLemmas::foreign_type))]
+fn declared_base(declared: Declared, own: &[u32]) -> Option<BaseType>
+    ensures { MatchOption result (IsForeign own.now declared) (IsDeclared own.now declared) }
 {
     match declared {
         Declared::Int => Some(BaseType::Int),
@@ -58,6 +60,18 @@ pub(crate) fn declared_base(declared: Declared, own: &[u32]) -> Option<BaseType>
                 None
             }
         }
+    }
+}
+
+/// Whether a declared type is built in, or one of the graph.
+#[tactic(auto, using(crate::proofs::FieldLemmas::foreign_type))]
+pub(crate) fn is_known(declared: Declared, own: &[u32]) -> bool
+    ensures { result ≡ false → IsForeign own.now declared }
+{
+    match declared {
+        Declared::Int | Declared::UInt | Declared::Bool | Declared::Text => true,
+        Declared::AnyVertex => true,
+        Declared::VertexOf(kind) => is_own(own, kind),
     }
 }
 
@@ -108,9 +122,10 @@ fn is_vertex_of(base: &BaseType, kind: u32) -> bool
 }
 
 /// Whether a field may have a name after these.
-#[tactic(auto, using(crate::proofs::FieldLemmas::free_name))]
+#[tactic(auto, using(crate::proofs::FieldLemmas::free_name, crate::proofs::FieldLemmas::taken_name, crate::proofs::FieldLemmas::too_many))]
 fn is_free(names: &[Txt], name: &str) -> bool
-    ensures { result ≡ true → kinds.own_name 16 names.now name.now ≡ Ok (names.now ++ name.now ∷ []) }
+    ensures free { result ≡ true → kinds.own_name 16 names.now name.now ≡ Ok (names.now ++ name.now ∷ []) }
+    ensures taken { result ≡ false → is_refused (kinds.own_name 16 names.now name.now) ≡ true }
 {
     if stands_in(names, name) {
         return false;

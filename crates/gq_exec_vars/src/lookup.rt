@@ -1,11 +1,11 @@
 // The context of set expressions.
 ghost use Rattle.std.specs.Prelude.{◌≡◌, Some, IfSome, slice_get};
+ghost use Rattle.std.specs.Option.{option_map};
 ghost use Rattle.gq_value.specs.AccumViews.{base_of};
-ghost use Rattle.gq_value.specs.Val.{Vertex};
 ghost use Rattle.gq_value.specs.Views.{val};
-ghost use Rattle.gq_rules_meaning.specs.States.{Variable};
 ghost use Rattle.gq_plan_ir.specs.declared.plan.PlaceType.TheVariants as held;
 ghost use Rattle.gq_frame.specs.Names.{thing_in};
+ghost use Rattle.gq_exec_vars.specs.Lookups.{variable_in, vertex_in, vertex_of};
 
 use gq_frame::{Frame, Thing};
 use gq_plan_ir::PlaceType;
@@ -39,13 +39,12 @@ pub fn types_at<'a>(places: &'a [PlaceType], place: u32) -> Option<&'a [u32]>
 }
 
 /// The type and the vertex of the variable at a place, if one is in view.
-#[tactic(auto, using(crate::proofs::SeedLemmas::vertex_held))]
 pub fn vertex_at<'a>(
     places: &'a [PlaceType],
     things: &'a [Option<Thing>],
     place: u32,
 ) -> Option<(&'a BaseType, u32)>
-    ensures { IfSome result (λ v. thing_in places.entry.now things.entry.now place ≡ Some (Variable (base_of v.0.now) (Vertex v.1))) }
+    ensures { option_map (λ v. (base_of v.0.now, v.1)) result ≡ vertex_in (variable_in (thing_in places.entry.now things.entry.now place)) }
 {
     match variable_at(places, things, place) {
         Some((base, value)) => match vertex_of(value) {
@@ -62,7 +61,7 @@ fn variable_at<'a>(
     things: &'a [Option<Thing>],
     place: u32,
 ) -> Option<(&'a BaseType, &'a Value)>
-    ensures { IfSome result (λ v. thing_in places.entry.now things.entry.now place ≡ Some (Variable (base_of v.0.now) (val v.1.now))) }
+    ensures { option_map (λ v. (base_of v.0.now, val v.1.now)) result ≡ variable_in (thing_in places.entry.now things.entry.now place) }
 {
     match places.get(place as usize) {
         Some(PlaceType::Variable(base)) => match things.get(place as usize) {
@@ -79,7 +78,7 @@ fn variable_at<'a>(
 /// The vertex, if the value is one.
 #[tactic(auto, using(gq_value::specs::ViewLaws::view_laws))]
 fn vertex_of(value: &Value) -> Option<u32>
-    ensures { IfSome result (λ vertex. val value.now ≡ Vertex vertex) }
+    ensures { result ≡ vertex_of (val value.now) }
 {
     match value {
         Value::Vertex(vertex) => Some(*vertex),

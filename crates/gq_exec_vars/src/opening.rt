@@ -1,5 +1,5 @@
 // Opening a query, definition by definition.
-ghost use Rattle.std.specs.Prelude.{◌≡◌, ◌≤◌, [], IfOk, OnOk, length, map};
+ghost use Rattle.std.specs.Prelude.{◌≡◌, ◌≤◌, [], IfErr, IfOk, OnOk, length, map};
 ghost use Rattle.gq_graph.specs.Catalog.{most_types};
 ghost use Rattle.gq_value.specs.Views.{val};
 ghost use Rattle.gq_index.specs.Sights.{sight_of};
@@ -10,12 +10,12 @@ ghost use Rattle.gq_rules_meaning.specs.Queries.{Defining, defined};
 ghost use Rattle.gq_rules_calendar.specs.Gregorian.{gregorian};
 ghost use Rattle.gq_plan_ir.specs.PlanView.{view_definition};
 ghost use Rattle.gq_plan_ir.specs.Reference.{Reference};
-ghost use Rattle.gq_exec_vars.specs.Begun.{AddsTuple, AreReady, Begins, Leads, MayOpen, Stands, begins, world_with};
+ghost use Rattle.gq_exec_vars.specs.Begun.{AddsTuple, AreReady, Begins, FieldsHalt, Leads, MayOpen, Stands, begins, world_with};
 
 use crate::accums::accums;
 use crate::fields::tuple_type;
 use crate::parameters::bound;
-use gq_base::{List, OutOfMemory};
+use gq_base::List;
 use gq_eval_attributes::TupleType;
 use gq_eval_operand::Halt;
 use gq_frame::Live;
@@ -33,7 +33,7 @@ pub struct Opened {
 
 /// Opens a query: its parameters with their arguments, then its tuple types and accumulators in order.
 ///
-/// The query is already checked: a plan that isn't well typed, or arguments of wrong types, end with `OutOfMemory`.
+/// The query is already checked: a plan whose numbers or places aren't those of its query ends with `OutOfMemory`.
 #[tactic(auto, using(crate::proofs::OpenLemmas::may_open, crate::proofs::OpenLemmas::ready_none))]
 pub fn open(alloc: Global, graph: Graph<'_>, plan: &Plan, arguments: &Row) -> Result<Opened, Halt>
     requires indexed { graph.index.now ≡ adjacency (sight_of graph.catalog.now graph.store.now.vertices graph.store.now.edges) }
@@ -89,8 +89,7 @@ fn define(
 {
     match definition {
         Definition::Tuple(fields, number) => {
-            add_tuple(alloc, plan, fields, *number, &mut opened.tuples)?;
-            Ok(())
+            add_tuple(alloc, plan, fields, *number, &mut opened.tuples)
         }
         Definition::Accums(kind, trees) => {
             accums(
@@ -107,17 +106,19 @@ fn define(
 }
 
 /// Adds a tuple type, which gets the next number.
+#[tactic(auto, using(crate::proofs::FieldLemmas::no_memory))]
 fn add_tuple(
     alloc: Global,
     plan: &Plan,
     fields: &List<(Declared, Txt)>,
     number: u32,
     tuples: &mut List<TupleType>,
-) -> Result<(), OutOfMemory>
-    ensures { OnOk result (AddsTuple plan.now.vertices fields.now number tuples.old tuples.new) }
+) -> Result<(), Halt>
+    ensures adds { OnOk result (AddsTuple plan.now.vertices fields.now number tuples.old tuples.new) }
+    ensures halts { IfErr result (FieldsHalt plan.now.vertices fields.now) }
 {
     if tuples.len() != number as usize {
-        return Err(OutOfMemory);
+        return Err(Halt::OutOfMemory);
     }
     let own = plan.vertices.as_slice();
     let lent = fields.as_slice();

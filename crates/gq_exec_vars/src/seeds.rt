@@ -1,5 +1,5 @@
 // The vertices of written sets.
-ghost use Rattle.std.specs.Prelude.{◌≡◌, OnOk, IfSome, map};
+ghost use Rattle.std.specs.Prelude.{◌≡◌, OnOk, map};
 ghost use Rattle.gq_value.specs.AccumViews.{base_of, accum_of};
 ghost use Rattle.gq_rules_typing.specs.Statements as plain;
 ghost use Rattle.gq_rules_meaning.specs.Expressions.{World};
@@ -7,17 +7,18 @@ ghost use Rattle.gq_rules_meaning.specs.States.{State};
 ghost use Rattle.gq_rules_meaning.specs.Sets.{seed_of, term_of};
 ghost use Rattle.gq_plan_ir.specs.Reference.{Reference, Place, Slot, VertexType};
 ghost use Rattle.gq_plan_ir.specs.PlanView.{view_seed};
-ghost use Rattle.gq_eval_operand.specs.Meant.{Tells};
+ghost use Rattle.gq_eval_operand.specs.Meant.{Tells, meant};
+ghost use Rattle.gq_eval_operand.specs.Sound.{Sound};
 ghost use Rattle.gq_frame.specs.Slots.{AreSound};
 ghost use Rattle.gq_exec_vars.specs.Lookups.{IsSeen, base_types};
-ghost use Rattle.gq_exec_vars.specs.Written.{Gains, ReadsWhole, PutContent, Seeded, typed};
+ghost use Rattle.gq_exec_vars.specs.Written.{Gains, HasFew, PutContent, PutNone, PutRead, Seeded, typed};
 
 use crate::bits::{SetBitmap, marked, marked_numbers, put, put_all, put_row};
 use crate::lookup::{Lookup, vertex_at};
 use crate::typed::TypedSet;
 use gq_base::{List, OutOfMemory};
 use gq_eval_operand::{Halt, Seen};
-use gq_frame::{Accums, read_target};
+use gq_frame::read_target;
 use gq_nest::Content;
 use gq_plan_ir::Seed;
 use gq_value::{BaseType, Kind};
@@ -37,10 +38,11 @@ pub fn gathered(alloc: Global, seeds: &[Seed], at: &Lookup<'_>) -> Result<TypedS
     Ok(TypedSet { types, vertices })
 }
 
-/// Marks the vertices of a seed. A type of another graph, or a name that isn't a vertex, is `Outside`.
+/// Marks the vertices of a seed. A type of another graph, or a name that isn't a vertex or a set, is `Stuck`.
 fn gather(alloc: Global, seed: Seed, at: &Lookup<'_>, bits: &mut SetBitmap) -> Result<(), Halt>
     requires { AreSound at.now.frame.now.accums }
-    ensures { (world : World Reference) (s : State Reference) → IsSeen at.now world s → Seeded (seed_of world s (view_seed seed)) bits.old bits.new result }
+    ensures seeded { (world : World Reference) (s : State Reference) → IsSeen at.now world s → Seeded (seed_of world s (view_seed seed)) bits.old bits.new result }
+    ensures few { OnOk result (HasFew bits.old → HasFew bits.new) }
 {
     match seed {
         Seed::Type(kind) => gather_type(alloc, kind, at, bits),
@@ -51,29 +53,33 @@ fn gather(alloc: Global, seed: Seed, at: &Lookup<'_>, bits: &mut SetBitmap) -> R
 }
 
 /// Marks all vertices of a type.
-#[tactic(auto, using(crate::proofs::SeedLemmas::type_seeded))]
+#[tactic(auto, using(crate::proofs::BitLemmas::few_laws, crate::proofs::SeedLemmas::type_seeded, crate::proofs::SeedLemmas::type_unknown))]
 fn gather_type(alloc: Global, kind: u32, at: &Lookup<'_>, bits: &mut SetBitmap) -> Result<(), Halt>
-    ensures { (world : World Reference) (s : State Reference) → IsSeen at.now world s → Seeded (seed_of world s (plain.AllOf (VertexType kind))) bits.old bits.new result }
+    ensures seeded { (world : World Reference) (s : State Reference) → IsSeen at.now world s → Seeded (seed_of world s (plain.AllOf (VertexType kind))) bits.old bits.new result }
+    ensures few { OnOk result (HasFew bits.old → HasFew bits.new) }
 {
     if !at.own.contains(&kind) {
-        return Err(Halt::Outside);
+        return Err(Halt::Stuck);
     }
     bits.put_kinds(alloc, &[kind], at.vertices)?;
     Ok(())
 }
 
 /// Marks all vertices of the graph.
-#[tactic(auto, using(crate::proofs::SeedLemmas::every_seeded))]
+#[tactic(auto, using(crate::proofs::BitLemmas::few_laws, crate::proofs::SeedLemmas::every_seeded))]
 fn gather_every(alloc: Global, at: &Lookup<'_>, bits: &mut SetBitmap) -> Result<(), Halt>
-    ensures { (world : World Reference) (s : State Reference) → IsSeen at.now world s → Seeded (seed_of world s plain.AllVertices) bits.old bits.new result }
+    ensures seeded { (world : World Reference) (s : State Reference) → IsSeen at.now world s → Seeded (seed_of world s plain.AllVertices) bits.old bits.new result }
+    ensures few { OnOk result (HasFew bits.old → HasFew bits.new) }
 {
     bits.put_kinds(alloc, at.own, at.vertices)?;
     Ok(())
 }
 
 /// Marks the vertex of a variable.
+#[tactic(auto, using(crate::proofs::BitLemmas::few_laws))]
 fn gather_vertex(place: u32, at: &Lookup<'_>, bits: &mut SetBitmap) -> Result<(), Halt>
-    ensures { (world : World Reference) (s : State Reference) → IsSeen at.now world s → Seeded (seed_of world s (plain.OneVertex (Place place))) bits.old bits.new result }
+    ensures seeded { (world : World Reference) (s : State Reference) → IsSeen at.now world s → Seeded (seed_of world s (plain.OneVertex (Place place))) bits.old bits.new result }
+    ensures few { OnOk result (HasFew bits.old → HasFew bits.new) }
 {
     match vertex_at(at.places, at.frame.things.as_slice(), place) {
         Some((base, vertex)) => {
@@ -81,7 +87,7 @@ fn gather_vertex(place: u32, at: &Lookup<'_>, bits: &mut SetBitmap) -> Result<()
             put(&mut bits.vertices, vertex)?;
             Ok(())
         }
-        None => Err(Halt::Outside),
+        None => Err(Halt::Stuck),
     }
 }
 
@@ -105,29 +111,50 @@ fn gather_content(
     bits: &mut SetBitmap,
 ) -> Result<(), Halt>
     requires { AreSound at.now.frame.now.accums }
-    ensures { (world : World Reference) (s : State Reference) → IsSeen at.now world s → Seeded (seed_of world s (plain.ContentOf (Slot slot))) bits.old bits.new result }
+    ensures seeded { (world : World Reference) (s : State Reference) → IsSeen at.now world s → Seeded (seed_of world s (plain.ContentOf (Slot slot))) bits.old bits.new result }
+    ensures few { OnOk result (HasFew bits.old → HasFew bits.new) }
 {
-    match global_content(&at.frame.accums, slot) {
-        Some((kind, content)) => put_content(alloc, kind, content, at.own, bits),
-        None => Err(Halt::Outside),
+    match read_target(&at.frame.accums, slot, 0) {
+        Ok(seen) => put_seen(alloc, &seen, at.own, bits),
+        Err(halt) => Err(halt),
     }
 }
 
-/// The kind and the content of a global accumulator, if it is a collection.
-#[tactic(auto, using(crate::proofs::SeedLemmas::reads_whole))]
-fn global_content(accums: &Accums, slot: u32) -> Option<(&Kind, &Content)>
-    requires { AreSound accums.now }
-    ensures { IfSome result (λ read. ReadsWhole accums.now slot (accum_of read.0.now) read.1.now) }
+/// Marks the vertices of what an accumulator reads as. One that isn't a set is `Stuck`.
+#[tactic(auto, using(crate::proofs::SeedLemmas::read_laws))]
+fn put_seen(alloc: Global, seen: &Seen<'_>, own: &[u32], bits: &mut SetBitmap) -> Result<(), Halt>
+    requires { Sound seen.now }
+    ensures put { PutRead (meant seen.now) own.now bits.old bits.new result }
+    ensures few { OnOk result (HasFew bits.old → HasFew bits.new) }
 {
-    match read_target(accums, slot, 0) {
-        Ok(Seen::Whole(kind, content)) => Some((kind, content)),
-        Ok(_) => None,
-        Err(_) => None,
+    match seen {
+        Seen::Whole(kind, content) => put_content(alloc, kind, content, own, bits),
+        Seen::Opening(kind) => put_none(kind, own, bits),
+        Seen::Value(_, _) | Seen::Average(_) => Err(Halt::Stuck),
+        Seen::Row(_, _, _) | Seen::OpeningRow(_) => Err(Halt::Stuck),
+        Seen::Edge(_, _) | Seen::Set(_) | Seen::Member(_, _, _) => Err(Halt::Stuck),
+    }
+}
+
+/// Marks the types of a set that has no vertices yet.
+#[tactic(auto, using(gq_value::proofs::AccumLemmas::accum_laws, crate::proofs::BitLemmas::gains_none, crate::proofs::BitLemmas::few_laws))]
+fn put_none(kind: &Kind, own: &[u32], bits: &mut SetBitmap) -> Result<(), Halt>
+    ensures put { PutNone (accum_of kind.now) own.now bits.old bits.new result }
+    ensures few { OnOk result (HasFew bits.old → HasFew bits.new) }
+{
+    match kind {
+        Kind::Set(base) => {
+            put_base(&mut bits.types, base, own)?;
+            Ok(())
+        }
+        Kind::Sum(_) | Kind::Min(_) | Kind::Max(_) | Kind::Or | Kind::And => Err(Halt::Stuck),
+        Kind::BitOr | Kind::BitAnd | Kind::Avg | Kind::Bag(_) => Err(Halt::Stuck),
+        Kind::List(_) | Kind::Map(_, _) | Kind::Group(_) | Kind::Heap(_) => Err(Halt::Stuck),
     }
 }
 
 /// Marks the vertices of a set.
-#[tactic(auto, using(gq_value::proofs::AccumLemmas::accum_laws))]
+#[tactic(auto, using(gq_value::proofs::AccumLemmas::accum_laws, crate::proofs::BitLemmas::few_laws))]
 fn put_content(
     alloc: Global,
     kind: &Kind,
@@ -135,7 +162,8 @@ fn put_content(
     own: &[u32],
     bits: &mut SetBitmap,
 ) -> Result<(), Halt>
-    ensures { PutContent (accum_of kind.now) content.now own.now bits.old bits.new result }
+    ensures put { PutContent (accum_of kind.now) content.now own.now bits.old bits.new result }
+    ensures few { OnOk result (HasFew bits.old → HasFew bits.new) }
 {
     match kind {
         Kind::Set(base) => {
@@ -144,8 +172,8 @@ fn put_content(
             put_row(&mut bits.vertices, row.as_slice())?;
             Ok(())
         }
-        Kind::Sum(_) | Kind::Min(_) | Kind::Max(_) | Kind::Or | Kind::And => Err(Halt::Outside),
-        Kind::BitOr | Kind::BitAnd | Kind::Avg | Kind::Bag(_) => Err(Halt::Outside),
-        Kind::List(_) | Kind::Map(_, _) | Kind::Group(_) | Kind::Heap(_) => Err(Halt::Outside),
+        Kind::Sum(_) | Kind::Min(_) | Kind::Max(_) | Kind::Or | Kind::And => Err(Halt::Stuck),
+        Kind::BitOr | Kind::BitAnd | Kind::Avg | Kind::Bag(_) => Err(Halt::Stuck),
+        Kind::List(_) | Kind::Map(_, _) | Kind::Group(_) | Kind::Heap(_) => Err(Halt::Stuck),
     }
 }

@@ -44,7 +44,7 @@ impl<'a> SetOperand<'a> {
         }
     }
 
-    /// The set, owned. A vertex that isn't below `vertices` is `OutOfMemory` too.
+    /// The set, owned. `vertices` is the number of vertices.
     pub fn own(self, alloc: Global, vertices: u32) -> Result<TypedSet, OutOfMemory>
         ensures { IfOk result (λ set. typed set ≡ set_is self.entry) }
     {
@@ -71,7 +71,7 @@ fn duplicate(alloc: Global, list: &[u32], vertices: u32) -> Result<VertexList, O
     Ok(copy)
 }
 
-/// Appends a vertex that isn't marked, and marks it. One that is marked, or has no bit, is `OutOfMemory`.
+/// Appends a vertex that isn't marked, and marks it. One that is marked is `OutOfMemory`.
 #[tactic(auto, using(crate::proofs::BitLemmas::not_there, crate::proofs::BitLemmas::marks_pushed))]
 fn push_new(words: &mut List<u64>, copy: &mut VertexList, vertex: u32) -> Result<(), OutOfMemory>
     requires { Marks words.old copy.old }

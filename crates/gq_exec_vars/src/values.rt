@@ -6,7 +6,7 @@ ghost use Rattle.gq_value.specs.Typed.{number_type, takes};
 ghost use Rattle.gq_value.specs.Views.{val};
 ghost use Rattle.gq_nest.specs.Tells.{is_settable};
 ghost use Rattle.gq_rules_typing.specs.Kinds as kinds;
-ghost use Rattle.gq_rules_meaning.specs.Queries.{places};
+ghost use Rattle.gq_rules_meaning.specs.Queries.{opening, places};
 ghost use Rattle.gq_rules_meaning.specs.States.{State, seen};
 ghost use Rattle.gq_rules_calendar.specs.Gregorian.{gregorian};
 ghost use Rattle.gq_plan_ir.specs.ExprView.{view};
@@ -17,9 +17,9 @@ ghost use Rattle.gq_frame.specs.Slots.{AreSound};
 ghost use Rattle.gq_eval_context.specs.Looks.{look_of};
 ghost use Rattle.gq_eval_context.specs.Viewed.{viewed};
 ghost use Rattle.gq_frame.specs.Lives.{Lives};
-ghost use Rattle.gq_exec_vars.specs.Begun.{CanOpen, MayOpen, TellsFirst, over_of, value_opened, world_with};
+ghost use Rattle.gq_exec_vars.specs.Begun.{CanOpen, MayOpen, Sets, TellsFirst, over_of, sets, world_with};
 
-use gq_base::{List, OutOfMemory};
+use gq_base::List;
 use gq_eval::run_value;
 use gq_eval_attributes::TupleType;
 use gq_eval_context::BlockContext;
@@ -93,7 +93,7 @@ fn value_over(
     over: &BlockContext<'_>,
     aliases: &[Alias<'_>],
 ) -> Result<Value, Halt>
-    ensures told { Tells val (value_opened (look_of gregorian (viewed over.now (map alias_of aliases.now) over.now.frame.accums over.now.frame.accums)) (accum_of kind.now) (view expr.now)) result }
+    ensures told { Tells (sets (accum_of kind.now)) (opening (look_of gregorian (viewed over.now (map alias_of aliases.now) over.now.frame.accums over.now.frame.accums)) (accum_of kind.now) (Some (view expr.now))) result }
     ensures suited { IfOk result (λ v. CanOpen (accum_of kind.now) (Some v)) }
 {
     let accums = &over.frame.accums;
@@ -104,7 +104,7 @@ fn value_over(
 /// The value of an opening, converted to the type that the kind is set to.
 #[tactic(auto, using(crate::proofs::ValueLemmas::open_laws))]
 fn value_seen<V: Sees>(expr: &Expr, alloc: Global, kind: &Kind, sight: &V) -> Result<Value, Halt>
-    ensures told { Tells val (value_opened (V.look sight.now) (accum_of kind.now) (view expr.now)) result }
+    ensures told { Tells (sets (accum_of kind.now)) (opening (V.look sight.now) (accum_of kind.now) (Some (view expr.now))) result }
     ensures suited { IfOk result (λ v. CanOpen (accum_of kind.now) (Some v)) }
 {
     match set_base(kind) {
@@ -112,20 +112,21 @@ fn value_seen<V: Sees>(expr: &Expr, alloc: Global, kind: &Kind, sight: &V) -> Re
         Some(base) => {
             let value = run_value(expr, alloc, sight)?;
             let value = converted(&base, value)?;
-            Ok(suited(own(alloc, value)?, kind)?)
+            Ok(suited(own(alloc, value)?, kind))
         }
     }
 }
 
-/// The value, if a kind takes it.
-fn suited(value: Value, kind: &Kind) -> Result<Value, OutOfMemory>
-    ensures same { IfOk result (λ v. v ≡ value) }
-    ensures suits { IfOk result (λ v. takes (accum_of kind.now) (val v) ≡ true) }
+/// The value, or a truth that sets an accumulator of the kind to the same: what isn't a truth is false.
+fn suited(value: Value, kind: &Kind) -> Value
+    requires { Sets (accum_of kind.now) (val value) }
+    ensures same { sets (accum_of kind.now) result ≡ sets (accum_of kind.now) value }
+    ensures suits { takes (accum_of kind.now) (val result) ≡ true }
 {
     if takes(&value, kind) {
-        Ok(value)
+        value
     } else {
-        Err(OutOfMemory)
+        Value::Bool(false)
     }
 }
 

@@ -1,16 +1,17 @@
 -- ColumnLemmas: a set with columns, vertex after vertex.
-use Rattle.std.proofs.Common.{◌≡◌, ℕ, zero, suc, ◌+◌, ◌<◌, ◌≤◌, List, [], ◌∷◌, ◌++◌, length, get_or, Option, Some, sym, ap, subst, ◌∙◌, arith}
+use Rattle.std.proofs.Common.{◌≡◌, ℕ, zero, suc, ◌+◌, ◌<◌, ◌≤◌, List, [], ◌∷◌, ◌++◌, length, get_or, false, Option, Some, None, Result, refl, sym, ap, subst, ◌∙◌, arith}
 use Rattle.gq_json.specs.declared.out.Out as json
 use Rattle.gq_json.specs.declared.out.Out.TheVariants as out
 use Rattle.gq_rules_typing.specs.Statements.{Bytes}
-use Rattle.gq_rules_meaning.specs.Answers.{Gives, ◌>>=◌, each}
+use Rattle.gq_rules_meaning.specs.Answers.{Gives, Stuck, ◌>>=◌, each}
 use Rattle.gq_rules_meaning.specs.Calendars.{Calendar}
 use Rattle.gq_rules_meaning.specs.Expressions.{World, Look}
-use Rattle.gq_rules_meaning.specs.States.{Slot, Thing, SetOf}
+use Rattle.gq_rules_meaning.specs.Statements.{is_set}
+use Rattle.gq_rules_meaning.specs.States.{Slot, Thing, Variable, SetOf, EdgeRow, Member}
 use Rattle.gq_plan_ir.specs.declared.expr.Expr.{Expr}
 use Rattle.gq_plan_ir.specs.Reference.{Reference}
 use Rattle.gq_eval_operand.specs.declared.halt.Halt.{Halt}
-use Rattle.gq_eval_operand.specs.Meant.{Halts}
+use Rattle.gq_eval_operand.specs.Meant.{itself, Halts, Tells}
 use Rattle.gq_eval_context.specs.Viewed.{Over}
 use Rattle.gq_output.specs.Vertices.{vertex_shown}
 use Rattle.gq_output.proofs.EachLemmas.{EachFrom, each_first, each_next, each_all}
@@ -19,13 +20,13 @@ use Rattle.gq_output.specs.Items.{members_shown, member_shown, member_at, column
 use Rattle.gq_output.proofs.EachSteps.{stops, each_stops}
 
 module _ (world : World Reference) (look : Look Reference) (slots : List (Slot Reference)) (columns : List (Expr × Bytes)) (v : ℕ) where
-  pub member_given : (ms : List (Bytes × json.Out)) (o : json.Out) → members_shown world look slots columns ≡ Gives ms → vertex_shown world v ms ≡ Gives o → member_shown world look slots columns v ≡ Gives o
-  member_given ms o e h = ap (λ p. p >>= vertex_shown world v) e ∙ h
+  pub member_told : (ms : List (Bytes × json.Out)) (r : Result json.Out Halt) → members_shown world look slots columns ≡ Gives ms → Tells itself (vertex_shown world v ms) r → Tells itself (member_shown world look slots columns v) r
+  member_told ms r e told = subst (λ o. Tells (itself {A = json.Out}) o r) (sym (ap (λ p. p >>= vertex_shown world v) e)) told
 
   pub member_stops : (h : Halt) → Halts (members_shown world look slots columns) h → Halts (member_shown world look slots columns v) h
   member_stops h e = stops (members_shown world look slots columns) (vertex_shown world v) h e
 
-pub ruleset member_laws = (member_given, member_stops)
+pub ruleset member_laws = (member_told, member_stops)
 
 at_default : (vs : List ℕ) (i v : ℕ) → i < length vs → v ≡ get_or vs i 0 → v ≡ get_or vs i v
 at_default [] i v n is = let no : ⊥ = omega arith in absurd no
@@ -54,9 +55,16 @@ module _ (clock : Calendar) (s : Over) (columns : List (Expr × Bytes)) (n : ℕ
   pub columns_given : (o : Option Thing) (types vs : List ℕ) (os : List json.Out) → o ≡ Some (SetOf types vs) → each (member_at clock s columns n types vs) vs ≡ Gives os → columns_shown clock s columns n o ≡ Gives (out.List os)
   columns_given o types vs os e h = ap (columns_shown clock s columns n) e ∙ ap (λ p. p >>= λ os. Gives (out.List os)) h
 
+  pub columns_stuck : (o : Option Thing) → is_set o ≡ false → columns_shown clock s columns n o ≡ Stuck
+  columns_stuck None e = refl
+  columns_stuck (Some (SetOf types vs)) e = absurd (cc e)
+  columns_stuck (Some (Variable b v)) e = refl
+  columns_stuck (Some (EdgeRow r t)) e = refl
+  columns_stuck (Some (Member types vs v)) e = refl
+
   pub columns_stop : (o : Option Thing) (types vs : List ℕ) (h : Halt) → o ≡ Some (SetOf types vs) → Halts (each (member_at clock s columns n types vs) vs) h → Halts (columns_shown clock s columns n o) h
   columns_stop o types vs h e g = subst (λ p. Halts (columns_shown clock s columns n p) h) (sym e) (stops (each (member_at clock s columns n types vs) vs) (λ os. Gives (out.List os)) h g)
 
 pub ruleset vertex_laws = (vertices_first, vertices_next, vertices_stop, vertices_all)
 
-pub ruleset column_laws = (columns_given, columns_stop)
+pub ruleset column_laws = (columns_given, columns_stuck, columns_stop)

@@ -1,12 +1,9 @@
 -- ContentLemmas: the printed form of contents.
 use Rattle.std.specs.Global.{Vec}
-use Rattle.std.proofs.Common.{◌≡◌, ℕ, zero, suc, ◌+◌, ◌<◌, ◌≤◌, ℤ, Bool, true, List, [], ◌∷◌, ◌++◌, drop, map, length, get_or, Option, Some, None, Bor, IfSome, Result, Ok, Err, IfOk, refl, sym, ap, ap₂, subst, ◌∙◌}
-use Rattle.std.specs.List.{slice_get}
-use Rattle.std.specs.Option.{option_copied}
-use Rattle.std.specs.Slice.{IsItemAt}
+use Rattle.std.proofs.Common.{◌≡◌, ℕ, zero, suc, ◌+◌, ◌<◌, ◌≤◌, ℤ, Bool, true, false, ◌&&◌, List, [], ◌∷◌, ◌++◌, drop, map, length, get_or, Option, Some, Result, Ok, Err, IfOk, refl, sym, ap, ap₂, subst, ◌∙◌, arith}
+use Rattle.std.specs.List.{slice_get, list_all}
 use Rattle.std.specs.Ordering.{on}
 use Rattle.std.specs.Map.{keys_of}
-use Rattle.std.proofs.lemmas.Option.{slice_get_past}
 use Rattle.std.specs.List.Sorted.{IsStrictlySortedBy}
 use Rattle.std.specs.BTreeMap.{BTreeMap}
 use Rattle.std.specs.BTreeSet.{BTreeSet}
@@ -20,12 +17,12 @@ use Rattle.gq_value.specs.Val.{Val}
 use Rattle.gq_value.specs.Views.{val}
 use Rattle.gq_value.specs.Order.{place}
 use Rattle.gq_value.specs.AccumViews.{accum_of}
-use Rattle.gq_value.specs.Accums.{Base, INT, Accum, SumAccum, MinAccum, MaxAccum, OrAccum, AndAccum, BitwiseOrAccum, BitwiseAndAccum, AvgAccum, SetAccum, BagAccum, ListAccum, MapAccum, GroupByAccum, HeapAccum, Parts}
+use Rattle.gq_value.specs.Accums.{Base, INT, Accum, SumAccum, MinAccum, MaxAccum, OrAccum, AndAccum, BitwiseOrAccum, BitwiseAndAccum, AvgAccum, SetAccum, BagAccum, ListAccum, MapAccum, GroupByAccum, HeapAccum, Parts, part_and}
 use Rattle.gq_value.specs.Typed.{is_scalar}
 use Rattle.gq_accum_laws.specs.Gather.{distinct}
 use Rattle.gq_accum_laws.specs.Holds.{Holds, HoldsEach, entries, row_cmp}
 use Rattle.gq_accum_laws.specs.After.{fresh, fresh_each}
-use Rattle.gq_accum_laws.specs.Fits.{fits, IsProper, AreProper}
+use Rattle.gq_accum_laws.specs.Fits.{fits, fit, IsProper, AreProper}
 use Rattle.gq_accum_laws.specs.Reads.{value_in}
 use Rattle.gq_accum_laws.proofs.RowLaws.{place_linear}
 use Rattle.gq_nest.specs.declared.content.Content.{Content, Content-F, out-Content}
@@ -49,6 +46,7 @@ use Rattle.gq_rules_meaning.specs.Expressions.{World}
 use Rattle.gq_rules_meaning.specs.Outs.{Out, OutList, OutObject, outs, members, key_text, first_text, out_content, out_value, out_named, out_parts}
 use Rattle.gq_plan_ir.specs.Reference.{Reference}
 use Rattle.gq_eval_operand.specs.Meant.{keys_are, parts_are}
+use Rattle.gq_eval_operand.specs.Sound.{IsSound}
 use Rattle.gq_output.specs.Printed.{AreShown, IsGroup, IsMap, IsShown, content_shown, elements_out, elements_shown, key_fields, groups_shown, map_shown, named_shown, part_kinds, parts_shown, plain_shown, scalar_shown, value_shown}
 use Rattle.gq_output.proofs.NamedLemmas.{at_get, drop_at}
 
@@ -69,6 +67,9 @@ map_map f g (x ∷ xs) = ap (λ ys. f (g x) ∷ ys) (map_map f g xs)
 pub print_joined : (ms ns : List (Bytes × Out)) → built_print (ms ++ ns) ≡ built_print ms ++ built_print ns
 print_joined [] ns = refl
 print_joined (m ∷ ms) ns = ap (λ ps. (m.0, built m.1) ∷ ps) (print_joined ms ns)
+
+pub sound_shown : (k : Accum) (c : Content) → IsSound k c → IsShown k c
+sound_shown k c s = record { shows = s.shows; within = s.fit }
 
 -- ---- numbers, truth values and averages
 
@@ -98,11 +99,11 @@ scalar_is world (HeapAccum b n by) h e = absurd (cc e)
 pub scalar_there : (world : World Reference) (k : Accum) (c : Content) (o : json.Out) → is_scalar k ≡ true → o ≡ scalar_shown k c → o ≡ content_shown world k c
 scalar_there world k c o s e = e ∙ sym (scalar_is world k (view k (out-Content c)) s)
 
-pub is_fitting : (k : Accum) (c : Content) (b : Bool) → IsShown k c → is_scalar k ≡ true → Tells c b fits → b ≡ true → IsFitting c
-is_fitting k c b shown s t e = record { kind = k; holds = view k (out-Content c); shows = shown; scalar = s; fitting = sym (t.each k (view k (out-Content c)) shown) ∙ e }
+pub is_fitting : (k : Accum) (c : Content) → IsShown k c → is_scalar k ≡ true → IsFitting c
+is_fitting k c shown s = record { kind = k; holds = view k (out-Content c); shows = shown.shows; scalar = s; fitting = shown.within }
 
 pub plain_told : (k : Accum) (c : Content) (v : Val) (o : json.Out) → IsShown k c → Tells c v value_in → o ≡ plain_shown v → o ≡ scalar_shown k c
-plain_told k c v o shown t e = e ∙ ap plain_shown (t.each k (view k (out-Content c)) shown)
+plain_told k c v o shown t e = e ∙ ap plain_shown (t.each k (view k (out-Content c)) shown.shows)
 
 pub ruleset scalar_laws = (is_fitting, plain_told)
 
@@ -119,19 +120,19 @@ module _ (world : World Reference) (b : Base) where
   list_is vs = ap out.List (sym (listed (map (out_value world b) vs) ∙ map_map built (out_value world b) vs))
 
   pub set_told : {E : Type 0} (j : Accum) (c : Content) (r : Result json.Out E) → j ≡ SetAccum b → IsShown j c → IfOk r (λ o. Tells c o (elements_out world b)) → IfOk r (λ o. o ≡ content_shown world j c)
-  set_told j c (Ok o) e s t = t.each j (view j (out-Content c)) s ∙ subst (λ (k : Accum). elements_out world b k (view k (out-Content c)) ≡ content_shown world k c) (sym e) (list_is (view (SetAccum b) (out-Content c)))
+  set_told j c (Ok o) e s t = t.each j (view j (out-Content c)) s.shows ∙ subst (λ (k : Accum). elements_out world b k (view k (out-Content c)) ≡ content_shown world k c) (sym e) (list_is (view (SetAccum b) (out-Content c)))
   set_told j c (Err m) e s t = tt
 
   pub bag_told : {E : Type 0} (j : Accum) (c : Content) (r : Result json.Out E) → j ≡ BagAccum b → IsShown j c → IfOk r (λ o. Tells c o (elements_out world b)) → IfOk r (λ o. o ≡ content_shown world j c)
-  bag_told j c (Ok o) e s t = t.each j (view j (out-Content c)) s ∙ subst (λ (k : Accum). elements_out world b k (view k (out-Content c)) ≡ content_shown world k c) (sym e) (list_is (view (BagAccum b) (out-Content c)))
+  bag_told j c (Ok o) e s t = t.each j (view j (out-Content c)) s.shows ∙ subst (λ (k : Accum). elements_out world b k (view k (out-Content c)) ≡ content_shown world k c) (sym e) (list_is (view (BagAccum b) (out-Content c)))
   bag_told j c (Err m) e s t = tt
 
   pub list_told : {E : Type 0} (j : Accum) (c : Content) (r : Result json.Out E) → j ≡ ListAccum b → IsShown j c → IfOk r (λ o. Tells c o (elements_out world b)) → IfOk r (λ o. o ≡ content_shown world j c)
-  list_told j c (Ok o) e s t = t.each j (view j (out-Content c)) s ∙ subst (λ (k : Accum). elements_out world b k (view k (out-Content c)) ≡ content_shown world k c) (sym e) (list_is (view (ListAccum b) (out-Content c)))
+  list_told j c (Ok o) e s t = t.each j (view j (out-Content c)) s.shows ∙ subst (λ (k : Accum). elements_out world b k (view k (out-Content c)) ≡ content_shown world k c) (sym e) (list_is (view (ListAccum b) (out-Content c)))
   list_told j c (Err m) e s t = tt
 
   pub heap_told : {E : Type 0} (j : Accum) (c : Content) (n : ℕ) (by : List (ℕ × Bool)) (r : Result json.Out E) → j ≡ HeapAccum b n by → IsShown j c → IfOk r (λ o. Tells c o (elements_out world b)) → IfOk r (λ o. o ≡ content_shown world j c)
-  heap_told j c n by (Ok o) e s t = t.each j (view j (out-Content c)) s ∙ subst (λ (k : Accum). elements_out world b k (view k (out-Content c)) ≡ content_shown world k c) (sym e) (list_is (view (HeapAccum b n by) (out-Content c)))
+  heap_told j c n by (Ok o) e s t = t.each j (view j (out-Content c)) s.shows ∙ subst (λ (k : Accum). elements_out world b k (view k (out-Content c)) ≡ content_shown world k c) (sym e) (list_is (view (HeapAccum b n by) (out-Content c)))
   heap_told j c n by (Err m) e s t = tt
 
   pub list_made : (c : Content) (os : List json.Out) → Tells c os (elements_shown world b) → Tells c (out.List os) (elements_out world b)
@@ -179,6 +180,11 @@ pub group_put : (world : World Reference) (shape : GroupShape) (row : List Value
 group_put world shape row parts none one two ks qs n e f h g =
     ap out.Object (g ∙ ap₂ (λ ms (ps : List (Bytes × Kind)). ms ++ parts_shown world (part_kinds ps) parts) (h ∙ ap₂ (λ ms (ls : List (Bytes × BaseType)). ms ++ named_shown world (key_fields ls) (map val row)) n e) f)
 
+both : (a b : Bool) → (a && b) ≡ true → (a ≡ true) × (b ≡ true)
+both true true e = (refl, refl)
+both true false e = absurd (cc e)
+both false b e = absurd (cc e)
+
 module _ {K X : Type 0} (row : K → List Val) (whole : List (K × X)) where
   abbrev Within : List (K × X) → Type 0
   Within es = (q : List Val) (p : X) → under row q es ≡ Some p → under row q whole ≡ Some p
@@ -190,9 +196,11 @@ module _ {K X : Type 0} (row : K → List Val) (whole : List (K × X)) where
   rows_read F [] r h = refl
   rows_read F (e ∷ es) r h = ap₂ (λ b bs. b ∷ bs) (ap (F (row e.0)) (h (row e.0) e.1 (first_under row e.0 e.1 es))) (rows_read F es r.1 (within_rest e es r h))
 
-  all_under : (R : X → Type 0) (es : List (K × X)) → Rising row es → Within es → ((q : List Val) (p : X) → under row q whole ≡ Some p → R p) → every (λ e. R e.1) es
-  all_under R [] r h each = tt
-  all_under R (e ∷ es) r h each = (each (row e.0) e.1 (h (row e.0) e.1 (first_under row e.0 e.1 es)), all_under R es r.1 (within_rest e es r h) each)
+  all_under : (T : List Val → Bool) (R : X → Type 0) (es : List (K × X)) → Rising row es → Within es → list_all T (rows row es) ≡ true → ((q : List Val) (p : X) → under row q whole ≡ Some p → T q ≡ true → R p) → every (λ e. R e.1) es
+  all_under T R [] r h t each = tt
+  all_under T R (e ∷ es) r h t each =
+      let b = both (T (row e.0)) (list_all T (rows row es)) t in
+      (each (row e.0) e.1 (h (row e.0) e.1 (first_under row e.0 e.1 es)) b.0, all_under T R es r.1 (within_rest e es r h) b.1 each)
 
 -- ---- maps, entry after entry
 
@@ -215,9 +223,21 @@ module _ (world : World Reference) (k : Accum) (c : Content) where
       same : (q : List Val) → at_or (λ d. view k (out-Content d)) (fresh k) (under key_row q m.entries) ≡ (view (MapAccum is.0 k) (out-Content c)).1 q
       same q = ap (λ l. (view (MapAccum is.0 k) l).1 q) (sym level)
 
+      there : (q : List Val) (p : Content) → under key_row q m.entries ≡ Some p → (view (MapAccum is.0 k) (out-Content c)).1 q ≡ view k (out-Content p)
+      there q p g = sym (same q) ∙ ap (at_or (λ d. view k (out-Content d)) (fresh k)) g
+
+      fits_at : List Val → Bool
+      fits_at q = fits k ((view (MapAccum is.0 k) (out-Content c)).1 q)
+
+      all_fit : list_all fits_at (rows key_row m.entries) ≡ true
+      all_fit = ap (list_all fits_at) (sym (ap (λ l. (view (MapAccum is.0 k) l).0) level ∙ rows_stay m.entries up)) ∙ is.1.within
+
       shown : every (λ e. IsShown k e.1) m.entries
-      shown = all_under key_row m.entries (IsShown k) m.entries (value_rising m.entries up) (λ q p g. g)
-          (λ q p g. record { of_kind = (subst (IsOf (MapAccum is.0 k)) level is.1.of_kind).1.1 q p g; holds = refl; proper = subst (IsProper k) (sym (same q) ∙ ap (at_or (λ d. view k (out-Content d)) (fresh k)) g) (is.1.proper.2 q) })
+      shown = all_under key_row m.entries fits_at (IsShown k) m.entries (value_rising m.entries up) (λ q p g. g) all_fit
+          (λ q p g t. record {
+            shows = record { of_kind = (subst (IsOf (MapAccum is.0 k)) level is.1.shows.of_kind).1.1 q p g; holds = refl; proper = subst (IsProper k) (there q p g) (is.1.shows.proper.2 q) };
+            within = ap (fits k) (sym (there q p g)) ∙ t;
+          })
 
       printed : List Val → Holds k → Bytes × json.Out
       printed q h = (first_text world.graph q, built (out_content world k h))
@@ -267,9 +287,21 @@ module _ (world : World Reference) (keys : Fields) (ps : Parts) (c : Content) wh
       same : (q : List Val) → at_or (λ d. view_each ps d) (fresh_each ps) (under group_row q m.entries) ≡ (view (GroupByAccum keys ps) (out-Content c)).1 q
       same q = ap (λ l. (view (GroupByAccum keys ps) l).1 q) (sym level)
 
+      there : (q : List Val) (p : List Content) → under group_row q m.entries ≡ Some p → (view (GroupByAccum keys ps) (out-Content c)).1 q ≡ view_each ps p
+      there q p g = sym (same q) ∙ ap (at_or (λ d. view_each ps d) (fresh_each ps)) g
+
+      fit_at : List Val → Bool
+      fit_at q = fit ps ((view (GroupByAccum keys ps) (out-Content c)).1 q)
+
+      all_fit : list_all fit_at (rows group_row m.entries) ≡ true
+      all_fit = ap (list_all fit_at) (sym (ap (λ l. (view (GroupByAccum keys ps) l).0) level ∙ groups_stay m.entries up)) ∙ is.within
+
       shown : every (λ e. AreShown ps e.1) m.entries
-      shown = all_under group_row m.entries (AreShown ps) m.entries (group_rising m.entries up) (λ q p g. g)
-          (λ q p g. shown_each ps p ((subst (IsOf (GroupByAccum keys ps)) level is.of_kind).1.1 q p g) (subst (AreProper ps) (sym (same q) ∙ ap (at_or (λ d. view_each ps d) (fresh_each ps)) g) (is.proper.2 q)))
+      shown = all_under group_row m.entries fit_at (AreShown ps) m.entries (group_rising m.entries up) (λ q p g. g) all_fit
+          (λ q p g t. record {
+            shows = shown_each ps p ((subst (IsOf (GroupByAccum keys ps)) level is.shows.of_kind).1.1 q p g) (subst (AreProper ps) (there q p g) (is.shows.proper.2 q));
+            within = ap (fit ps) (sym (there q p g)) ∙ t;
+          })
 
       printed : List Val → HoldsEach ps → json.Out
       printed q h = out.Object (built_print (out_named world keys q) ++ built_print (out_parts world ps h))
@@ -301,6 +333,13 @@ module _ (world : World Reference) (keys : Fields) (ps : Parts) (c : Content) wh
 
 -- ---- parts, one after the other
 
+-- the first of some parts, and the others
+first_shown : (name : Bytes) (k : Accum) (ps : Parts) (c : Content) (cs : List Content) → AreShown (part_and name k ps) (c ∷ cs) → IsShown k c
+first_shown name k ps c cs s = record { shows = s.shows.0; within = (both (fits k (view k (out-Content c))) (fit ps (view_each ps cs)) s.within).0 }
+
+rest_shown : (name : Bytes) (k : Accum) (ps : Parts) (c : Content) (cs : List Content) → AreShown (part_and name k ps) (c ∷ cs) → AreShown ps cs
+rest_shown name k ps c cs s = record { shows = s.shows.1; within = (both (fits k (view k (out-Content c))) (fit ps (view_each ps cs)) s.within).1 }
+
 -- the invariant: the members so far, followed by the parts from a place on, which are contents of their kinds
 pub record PartsFrom (world : World Reference) (kinds : List (Bytes × Kind)) (cs : List Content) (whole done : List (Bytes × json.Out)) (i : ℕ) : Type 0 where
   pub shown : AreShown (part_kinds (drop i kinds)) (drop i cs)
@@ -318,7 +357,7 @@ module _ (world : World Reference) (kinds : List (Bytes × Kind)) (cs : List Con
   here whole done i part kind u e f = subst (λ ds. Goes whole done (kind ∷ drop (i + 1) kinds) ds) (drop_at cs i part f) (subst (λ ks. Goes whole done ks (drop i cs)) (drop_at kinds i kind e) (u.shown, u.goes))
 
   pub part_there : (whole done : List (Bytes × json.Out)) (i : ℕ) (part : Content) (kind : Bytes × Kind) → PartsFrom world kinds cs whole done i → slice_get kinds i ≡ Some kind → slice_get cs i ≡ Some part → IsShown (accum_of kind.1) part
-  part_there whole done i part kind u e f = (here whole done i part kind u e f).0.0
+  part_there whole done i part kind u e f = first_shown kind.0 (accum_of kind.1) (part_kinds (drop (i + 1) kinds)) part (drop (i + 1) cs) (here whole done i part kind u e f).0
 
   pub parts_more : (whole done new : List (Bytes × json.Out)) (i : ℕ) (part : Content) (kind : Bytes × Kind) (o : json.Out) → PartsFrom world kinds cs whole done i → slice_get kinds i ≡ Some kind → slice_get cs i ≡ Some part
       → o ≡ content_shown world (accum_of kind.1) part → new ≡ done ++ (kind.0, o) ∷ [] → PartsFrom world kinds cs whole new (i + 1)
@@ -326,7 +365,7 @@ module _ (world : World Reference) (kinds : List (Bytes × Kind)) (cs : List Con
       let h = here whole done i part kind u e f in
       let rest = parts_shown world (part_kinds (drop (i + 1) kinds)) (drop (i + 1) cs) in
       record {
-        shown = h.0.1;
+        shown = rest_shown kind.0 (accum_of kind.1) (part_kinds (drop (i + 1) kinds)) part (drop (i + 1) cs) h.0;
         goes = ap (λ ms. ms ++ rest) (is ∙ ap (λ q. done ++ (kind.0, q) ∷ []) p) ∙ append_assoc done ((kind.0, content_shown world (accum_of kind.1) part) ∷ []) rest ∙ h.1;
       }
 
@@ -339,25 +378,23 @@ module _ (world : World Reference) (kinds : List (Bytes × Kind)) (cs : List Con
     where
       ended : (ks : List (Bytes × Kind)) → Goes whole done ks [] → done ≡ whole
       ended [] h = sym (append-nil done) ∙ h.1
-      ended (k ∷ ks) h = absurd h.0
+      ended (k ∷ ks) h = absurd h.0.shows
 
-shown_at : (kinds : List (Bytes × Kind)) (cs : List Content) (i : ℕ) (kind : Bytes × Kind) (part : Content) → AreShown (part_kinds kinds) cs → slice_get kinds i ≡ Some kind → slice_get cs i ≡ Some part → IsShown (accum_of kind.1) part
+pub as_many : (kinds : List (Bytes × Kind)) (cs : List Content) (i : ℕ) (part : Content) → AreShown (part_kinds kinds) cs → slice_get cs i ≡ Some part → i < length kinds
+as_many [] [] i part s f = absurd (cc f)
+as_many [] (c ∷ cs) i part s f = absurd s.shows
+as_many (k ∷ kinds) [] i part s f = absurd (cc f)
+as_many (k ∷ kinds) (c ∷ cs) zero part s f = omega arith
+as_many (k ∷ kinds) (c ∷ cs) (suc i) part s f = let n = as_many kinds cs i part (rest_shown k.0 (accum_of k.1) (part_kinds kinds) c cs s) f in omega (arith, n)
+
+pub shown_at : (kinds : List (Bytes × Kind)) (cs : List Content) (i : ℕ) (kind : Bytes × Kind) (part : Content) → AreShown (part_kinds kinds) cs → slice_get kinds i ≡ Some kind → slice_get cs i ≡ Some part → IsShown (accum_of kind.1) part
 shown_at [] cs i kind part s e f = absurd (cc e)
-shown_at (k ∷ kinds) [] i kind part s e f = absurd s
+shown_at (k ∷ kinds) [] i kind part s e f = absurd (cc f)
 shown_at (k ∷ kinds) (c ∷ cs) zero kind part s e f =
     let a : k ≡ kind = some_inj e in
     let b : c ≡ part = some_inj f in
-    subst (λ (q : Bytes × Kind). IsShown (accum_of q.1) part) a (subst (IsShown (accum_of k.1)) b s.0)
-shown_at (k ∷ kinds) (c ∷ cs) (suc i) kind part s e f = shown_at kinds cs i kind part s.1 e f
-
--- the item of a slice at a place, if there is one
-pub lent_at : {A : Type 0} (xs : List A) (i : ℕ) (o : Option (Bor A)) → IsItemAt xs i o → slice_get xs i ≡ option_copied o
-lent_at xs i None h = slice_get_past xs i h.3
-lent_at xs i (Some x) h = at_get xs i x.now h.3.0 (h.3.1 x.now)
-
-pub kind_shown : (kinds : List (Bytes × Kind)) (cs : List Content) (i : ℕ) (part : Content) (o : Option (Bor (Bytes × Kind))) → AreShown (part_kinds kinds) cs → slice_get cs i ≡ Some part → slice_get kinds i ≡ option_copied o → IfSome o (λ kind. IsShown (accum_of kind.now.1) part)
-kind_shown kinds cs i part None s f e = tt
-kind_shown kinds cs i part (Some kind) s f e = shown_at kinds cs i kind.now part s e f
+    subst (λ (q : Bytes × Kind). IsShown (accum_of q.1) part) a (subst (IsShown (accum_of k.1)) b (first_shown k.0 (accum_of k.1) (part_kinds kinds) c cs s))
+shown_at (k ∷ kinds) (c ∷ cs) (suc i) kind part s e f = shown_at kinds cs i kind part (rest_shown k.0 (accum_of k.1) (part_kinds kinds) c cs s) e f
 
 pub ruleset part_laws = (parts_first, parts_all, at_get)
 

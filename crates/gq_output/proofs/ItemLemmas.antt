@@ -1,5 +1,5 @@
 -- ItemLemmas: expressions with their keys.
-use Rattle.std.proofs.Common.{◌≡◌, ℕ, ◌+◌, ◌<◌, ◌≤◌, List, [], ◌∷◌, ◌++◌, length, get_or, ap, ◌∙◌}
+use Rattle.std.proofs.Common.{◌≡◌, ℕ, ◌+◌, ◌<◌, ◌≤◌, List, [], ◌∷◌, ◌++◌, length, get_or, Result, sym, ap, subst}
 use Rattle.gq_json.specs.declared.out.Out as json
 use Rattle.gq_tree.specs.Tree.{Tree}
 use Rattle.gq_rules_typing.specs.Statements.{Bytes}
@@ -12,15 +12,15 @@ use Rattle.gq_plan_ir.specs.declared.expr.Expr.{Expr}
 use Rattle.gq_plan_ir.specs.ExprView.{view}
 use Rattle.gq_plan_ir.specs.Reference.{Reference}
 use Rattle.gq_eval_operand.specs.declared.halt.Halt.{Halt}
-use Rattle.gq_eval_operand.specs.Meant.{Halts}
+use Rattle.gq_eval_operand.specs.Meant.{itself, Halts, Tells}
 use Rattle.gq_output.specs.Printed.{shown, meant_shown}
 use Rattle.gq_output.proofs.EachLemmas.{EachFrom, each_first}
 use Rattle.gq_output.specs.Items.{item_shown, member_of, members_shown}
 use Rattle.gq_output.proofs.EachSteps.{stops, keyed_next, keyed_stops, keyed_all}
 
 module _ (world : World Reference) (look : Look Reference) (slots : List (Slot Reference)) where
-  pub item_given : (tree : Tree Reference) (m : Meant) (o : json.Out) → meaning look tree ≡ Gives m → meant_shown world slots m ≡ Gives o → item_shown world look slots tree ≡ Gives o
-  item_given tree m o e h = ap (λ p. shown (p >>= out_meant world slots)) e ∙ h
+  pub item_told : (tree : Tree Reference) (m : Meant) (r : Result json.Out Halt) → meaning look tree ≡ Gives m → Tells itself (meant_shown world slots m) r → Tells itself (item_shown world look slots tree) r
+  item_told tree m r e told = subst (λ o. Tells (itself {A = json.Out}) o r) (sym (ap (λ p. shown (p >>= out_meant world slots)) e)) told
 
   pub item_stops : (tree : Tree Reference) (h : Halt) → Halts (meaning look tree) h → Halts (item_shown world look slots tree) h
   item_stops tree h e = stops (meaning look tree >>= out_meant world slots) _ h (stops (meaning look tree) (out_meant world slots) h e)
@@ -42,6 +42,6 @@ module _ (world : World Reference) (look : Look Reference) (slots : List (Slot R
   pub members_all : (items : List (Expr × Bytes)) (i : ℕ) (done : List (Bytes × json.Out)) → MembersFrom items i done → length items ≤ i → members_shown world look slots items ≡ Gives done
   members_all items i done inv l = keyed_all (λ (x : Expr × Bytes). item_shown world look slots (view x.0)) (λ (x : Expr × Bytes). x.1) items i done inv l
 
-pub ruleset item_laws = (item_given, item_stops)
+pub ruleset item_laws = (item_told, item_stops)
 
 pub ruleset member_laws = (members_first, members_next, members_stop, members_all)

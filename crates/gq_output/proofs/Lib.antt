@@ -1,8 +1,10 @@
 pub mod NamedLemmas
+pub mod TimeLemmas
 pub mod ValueLemmas
 pub mod KeyLemmas
 pub mod ContentLemmas
 pub mod EachLemmas
+pub mod ListLemmas
 pub mod SlotLemmas
 pub mod VertexLemmas
 pub mod SeenLemmas

@@ -1,5 +1,5 @@
 -- NamedLemmas: fields with their values, one after the other.
-use Rattle.std.proofs.Common.{◌≡◌, ℕ, zero, suc, ◌+◌, ◌<◌, ◌≤◌, List, [], ◌∷◌, ◌++◌, drop, map, length, get_or, Some, refl, sym, ap, ap₂, ◌∙◌, arith}
+use Rattle.std.proofs.Common.{◌≡◌, ℕ, zero, suc, ◌+◌, ◌<◌, ◌≤◌, List, [], ◌∷◌, ◌++◌, drop, map, length, get_or, Some, None, refl, sym, ap, ap₂, ◌∙◌, arith}
 use Rattle.std.specs.List.{slice_get, zip}
 use Rattle.std.proofs.lemmas.List.{append_assoc, append-nil, length-map, drop_all}
 use Rattle.std.proofs.lemmas.Option.{slice_get-map}
@@ -43,8 +43,37 @@ zip_at (x' ∷ xs) [] i x y e f = absurd (cc f)
 zip_at (x' ∷ xs) (y' ∷ ys) zero x y e f = ap₂ (λ a b. Some (a, b)) (cc e) (cc f)
 zip_at (x' ∷ xs) (y' ∷ ys) (suc i) x y e f = zip_at xs ys i x y e f
 
+-- a place with no item is past the end
+pub past_end : {A : Type 0} (xs : List A) (i : ℕ) → slice_get xs i ≡ None → length xs ≤ i
+past_end [] i e = omega arith
+past_end (x ∷ xs) zero e = absurd (cc e)
+past_end (x ∷ xs) (suc i) e = let n = past_end xs i e in omega (arith, n)
+
+zip_no_left : {A B : Type 0} (xs : List A) (ys : List B) (i : ℕ) → slice_get xs i ≡ None → slice_get (zip xs ys) i ≡ None
+zip_no_left [] ys i e = refl
+zip_no_left (x ∷ xs) [] i e = refl
+zip_no_left (x ∷ xs) (y ∷ ys) zero e = absurd (cc e)
+zip_no_left (x ∷ xs) (y ∷ ys) (suc i) e = zip_no_left xs ys i e
+
+zip_no_right : {A B : Type 0} (xs : List A) (ys : List B) (i : ℕ) → slice_get ys i ≡ None → slice_get (zip xs ys) i ≡ None
+zip_no_right [] ys i e = refl
+zip_no_right (x ∷ xs) [] i e = refl
+zip_no_right (x ∷ xs) (y ∷ ys) zero e = absurd (cc e)
+zip_no_right (x ∷ xs) (y ∷ ys) (suc i) e = zip_no_right xs ys i e
+
+nothing_mapped : {A B : Type 0} (f : A → B) (xs : List A) (i : ℕ) → slice_get xs i ≡ None → slice_get (map f xs) i ≡ None
+nothing_mapped f xs i e = slice_get-map f xs i ∙ ap (option_map f) e
+
 pub field_at : (t : TupleType) (i : ℕ) (name : Bytes) (b : BaseType) → slice_get t.names i ≡ Some name → slice_get t.types i ≡ Some b → slice_get (fields_in t) i ≡ Some (name, base_of b)
 field_at t i name b e f = mapped_at (λ g. (g.0, base_of g.1)) (zip t.names t.types) i (name, b) (zip_at t.names t.types i name b e f)
+
+pub no_field_name : (t : TupleType) (i : ℕ) → slice_get t.names i ≡ None → slice_get (fields_in t) i ≡ None
+no_field_name t i e = nothing_mapped (λ g. (g.0, base_of g.1)) (zip t.names t.types) i (zip_no_left t.names t.types i e)
+
+pub no_field_type : (t : TupleType) (i : ℕ) → slice_get t.types i ≡ None → slice_get (fields_in t) i ≡ None
+no_field_type t i e = nothing_mapped (λ g. (g.0, base_of g.1)) (zip t.names t.types) i (zip_no_right t.names t.types i e)
+
+pub ruleset place_laws = (field_at, no_field_name, no_field_type)
 
 -- ---- fields with their values
 
@@ -79,6 +108,9 @@ module _ (world : World Reference) where
 
   pub named_fields : (fs : Fields) (vs : List Val) (whole done : List (Bytes × Out)) (i : ℕ) → NamedFrom fs vs whole done i → length fs ≤ i → done ≡ whole
   named_fields fs vs whole done i inv l = sym (append-nil done) ∙ ap (λ ms. done ++ ms) (sym (ap (λ gs. named_shown world gs (drop i vs)) (drop_all i fs l))) ∙ inv
+
+  pub named_past : (fs : Fields) (vs : List Val) (whole done : List (Bytes × Out)) (i : ℕ) → NamedFrom fs vs whole done i → slice_get fs i ≡ None → done ≡ whole
+  named_past fs vs whole done i inv e = named_fields fs vs whole done i inv (past_end fs i e)
 
   -- the same for values of the code
   pub row_field : (fs : Fields) (row : List Value) (whole done new : List (Bytes × Out)) (i : ℕ) (name : Bytes) (b : Base) (v : Value) → NamedFrom fs (map val row) whole done i

@@ -1,66 +1,57 @@
 -- SlotLemmas: the members of a vertex for its accumulators, one after the other.
-use Rattle.std.proofs.Common.{◌≡◌, ℕ, zero, suc, ◌+◌, ◌-◌, ◌<◌, ◌≤◌, true, false, ℤ, List, [], ◌∷◌, ◌++◌, take, drop, map, length, get_or, Option, Some, None, Result, Ok, Err, OnOk, refl, sym, ap, ap₂, ◌∙◌, arith}
+use Rattle.std.proofs.Common.{if◌then◌else◌, ◌≡◌, ℕ, zero, suc, ◌+◌, ◌-◌, ◌<◌, ◌≤◌, Bool, true, false, List, [], ◌∷◌, ◌++◌, take, drop, map, length, get_or, Option, Some, None, Result, Ok, Err, OnOk, refl, sym, ap, ap₂, ◌∙◌, arith}
 use Rattle.std.specs.List.{slice_get, flat_map}
 use Rattle.std.specs.Option.{option_map, unwrap_or}
-use Rattle.std.proofs.lemmas.List.{append_assoc, append-nil}
+use Rattle.std.proofs.lemmas.List.{append_assoc, append-nil, drop_all}
 use Rattle.std.proofs.lemmas.Option.{slice_get-map}
 use Rattle.gq_value.specs.declared.kind.Slot as code
-use Rattle.gq_value.specs.declared.value.Wrong.{Wrong}
-use Rattle.gq_value.specs.Accums.{Accum, SumAccum, MinAccum, MaxAccum, OrAccum, AndAccum, BitwiseOrAccum, BitwiseAndAccum, AvgAccum, SetAccum, BagAccum, ListAccum, MapAccum, GroupByAccum, HeapAccum}
+use Rattle.gq_value.specs.AccumViews.{accum_of}
 use Rattle.gq_accum_laws.specs.Holds.{Holds}
-use Rattle.gq_nest.specs.declared.content.Content.{Content}
+use Rattle.gq_accum_laws.specs.Targets.{target_count}
+use Rattle.gq_nest.specs.declared.content.Content.{Content, out-Content}
+use Rattle.gq_nest.specs.Forms.{view}
 use Rattle.gq_frame.specs.declared.accums.Accums.{Accums}
-use Rattle.gq_frame.specs.Targets.{targets_of}
+use Rattle.gq_frame.specs.declared.slots.Slots.{Slots}
+use Rattle.gq_frame.specs.Targets.{attached_in, number_of, targets_of}
 use Rattle.gq_json.specs.declared.out.Out as json
 use Rattle.gq_rules_typing.specs.Statements.{Bytes}
-use Rattle.gq_rules_meaning.specs.Answers.{Answer, Gives, ◌>>=◌, found}
-use Rattle.gq_rules_meaning.specs.Built.{built, built_print}
+use Rattle.gq_rules_meaning.specs.Built.{built_print}
 use Rattle.gq_rules_meaning.specs.Calendars.{Calendar}
 use Rattle.gq_rules_meaning.specs.Expressions.{World}
-use Rattle.gq_rules_meaning.specs.Meanings.{read}
-use Rattle.gq_rules_meaning.specs.Outs.{out_content}
-use Rattle.gq_rules_meaning.specs.Printing.{of_content, out_attached, out_meant}
+use Rattle.gq_rules_meaning.specs.Printing.{of_content, out_attached}
 use Rattle.gq_rules_meaning.specs.States as states
-use Rattle.gq_rules_meaning.specs.States.{slot_number, slot_named, read_slot}
+use Rattle.gq_rules_meaning.specs.States.{slot_number, slot_named}
 use Rattle.gq_plan_ir.specs.declared.plan.Accum as plan
 use Rattle.gq_plan_ir.specs.declared.plan.Definition.{Definition}
 use Rattle.gq_plan_ir.specs.PlanView.{accum_names, names_in}
 use Rattle.gq_plan_ir.specs.Reference.{Reference, Slot}
-use Rattle.gq_frame.specs.Slots.{slots_from, slots_are}
-use Rattle.gq_frame.proofs.SlotLemmas.{number_there, named_some, slot_there}
+use Rattle.gq_frame.specs.Slots.{AreSound, slots_from, slots_are}
+use Rattle.gq_frame.proofs.SlotLemmas.{number_there, named_some, slot_there, from_first}
 use Rattle.gq_eval_context.specs.Viewed.{Over}
 use Rattle.gq_eval_context.specs.Looks.{world_over}
-use Rattle.gq_output.specs.Printed.{shown}
-use Rattle.gq_output.specs.Vertices.{IsAttached, attached_shown, slot_shown, read_shown}
-use Rattle.gq_output.proofs.ContentLemmas.{print_joined}
+use Rattle.gq_output.specs.Printed.{IsShown, content_shown}
+use Rattle.gq_output.specs.Vertices.{IsFirst, attached_shown, slot_shown}
+use Rattle.gq_output.proofs.ContentLemmas.{print_joined, sound_shown}
 use Rattle.gq_output.proofs.NamedLemmas.{at_get, drop_at, mapped_at}
 
--- ---- the value that an accumulator reads as is printed like its content
+-- ---- items of a part of a list
 
-average_read : (world : World Reference) (s : ℤ) (n : ℕ) → shown (out_meant world [] (read AvgAccum (s, n))) ≡ Gives (built (out_content world AvgAccum (s, n)))
-average_read world s zero = refl
-average_read world s (suc n) = refl
+get_drop : {A : Type 0} (n i : ℕ) (xs : List A) → slice_get (drop n xs) i ≡ slice_get xs (n + i)
+get_drop zero i xs = ap (slice_get xs) (let e : i ≡ 0 + i = omega arith in e)
+get_drop (suc n) i [] = refl
+get_drop (suc n) i (x ∷ xs) = get_drop n i xs ∙ ap (slice_get (x ∷ xs)) (let e : suc (n + i) ≡ suc n + i = omega arith in e)
 
-read_printed : (world : World Reference) (k : Accum) (h : Holds k) → shown (out_meant world [] (read k h)) ≡ Gives (built (out_content world k h))
-read_printed world (SumAccum n) h = refl
-read_printed world (MinAccum n) h = refl
-read_printed world (MaxAccum n) h = refl
-read_printed world OrAccum h = refl
-read_printed world AndAccum h = refl
-read_printed world BitwiseOrAccum h = refl
-read_printed world BitwiseAndAccum h = refl
-read_printed world AvgAccum h = average_read world h.0 h.1
-read_printed world (SetAccum b) h = refl
-read_printed world (BagAccum b) h = refl
-read_printed world (ListAccum b) h = refl
-read_printed world (MapAccum b k) h = refl
-read_printed world (GroupByAccum keys ps) h = refl
-read_printed world (HeapAccum b n by) h = refl
+get_take : {A : Type 0} (n i : ℕ) (xs : List A) → i < n → slice_get (take n xs) i ≡ slice_get xs i
+get_take zero i xs h = absurd (omega (arith, h))
+get_take (suc n) i [] h = refl
+get_take (suc n) zero (x ∷ xs) h = refl
+get_take (suc n) (suc i) (x ∷ xs) h = get_take n i xs (omega (arith, h))
 
--- the result, or a default
-abbrev given_or : {A : Type 0} → A → Answer Wrong A → A
-given_or a (Gives b) = b
-given_or a o = a
+get_past : {A : Type 0} (n i : ℕ) (xs : List A) → n ≤ i → slice_get (take n xs) i ≡ None
+get_past zero i xs h = refl
+get_past (suc n) i [] h = refl
+get_past (suc n) zero (x ∷ xs) h = absurd (omega (arith, h))
+get_past (suc n) (suc i) (x ∷ xs) h = get_past n i xs (omega (arith, h))
 
 -- ---- the slot with a number
 
@@ -68,62 +59,69 @@ abbrev at_number : List (states.Slot Reference) → Option ℕ → Option (state
 at_number slots None = None
 at_number slots (Some n) = slice_get slots n
 
-module _ (clock : Calendar) (s : Over) (n : ℕ) where
-  named_is : slot_named (world_over clock s) (slots_are s.frame.accums) (Slot n) ≡ at_number (slots_are s.frame.accums) (slot_number (world_over clock s) (slots_are s.frame.accums) (Slot n))
+module _ (clock : Calendar) (s : Over) (a : Accums) (n : ℕ) (d : code.Slot) (e : slice_get a.slots.declared n ≡ Some d) where
+  named_is : slot_named (world_over clock s) (slots_are a) (Slot n) ≡ at_number (slots_are a) (slot_number (world_over clock s) (slots_are a) (Slot n))
   named_is = refl
 
-  slot_is : (d : code.Slot) → slice_get s.frame.accums.slots.declared n ≡ Some d → slice_get (slots_are s.frame.accums) n ≡ Some (slot_there s.frame.accums n d)
-  slot_is d e =
-      sym (named_is ∙ ap (at_number (slots_are s.frame.accums)) (number_there (world_over clock s) s.frame.accums n refl ∙ ap (option_map (λ d. n)) e))
-      ∙ named_some (world_over clock s) s.frame.accums n d refl e
+  slot_is : slice_get (slots_are a) n ≡ Some (slot_there a n d)
+  slot_is =
+      sym (named_is ∙ ap (at_number (slots_are a)) (number_there (world_over clock s) a n refl ∙ ap (option_map (λ d. n)) e))
+      ∙ named_some (world_over clock s) a n d refl e
+
+  abbrev put_of : Bool → Option (Holds (accum_of d.kind)) → List (Bytes × json.Out)
+  put_of b p = built_print (of_content (world_over clock s) ((world_over clock s).words.said (Slot (0 + n))) (accum_of d.kind) b p)
+
+  shown_is : (v : ℕ) → slot_shown (world_over clock s) v (slice_get (slots_are a) n) ≡ put_of d.attached (slice_get (slot_there a n d).contents v)
+  shown_is v = ap (slot_shown (world_over clock s) v) slot_is
+
+  adds_nothing : (v : ℕ) (old : List (Bytes × json.Out)) → put_of d.attached (slice_get (slot_there a n d).contents v) ≡ [] → old ≡ old ++ slot_shown (world_over clock s) v (slice_get (slots_are a) n)
+  adds_nothing v old h = sym (append-nil old) ∙ ap (λ ms. old ++ ms) (sym (shown_is v ∙ h))
 
   -- an accumulator that isn't attached adds nothing
-  pub slot_left : (v : ℕ) (d : code.Slot) (old : List (Bytes × json.Out)) → slice_get s.frame.accums.slots.declared n ≡ Some d → d.attached ≡ false
-      → old ≡ old ++ slot_shown (world_over clock s) v (slice_get (slots_are s.frame.accums) n)
-  slot_left v d old e f =
-      let st = slot_there s.frame.accums n d in
-      sym (append-nil old)
-      ∙ ap (λ ms. old ++ ms) (sym (ap (slot_shown (world_over clock s) v) (slot_is d e) ∙ ap (λ b. built_print (of_content (world_over clock s) ((world_over clock s).words.said st.name) st.kind b (slice_get st.contents v))) f))
+  pub slot_left : (v : ℕ) (old : List (Bytes × json.Out)) → d.attached ≡ false → old ≡ old ++ slot_shown (world_over clock s) v (slice_get (slots_are a) n)
+  slot_left v old f = adds_nothing v old (ap (λ b. put_of b (slice_get (slot_there a n d).contents v)) f)
 
-  said_is : (name : Bytes) → slice_get (accum_names s.plan) n ≡ Some name → (world_over clock s).words.said (Slot (0 + n)) ≡ name
-  said_is name e = ap (λ m. unwrap_or (slice_get (accum_names s.plan) m) []) (let z : 0 + n ≡ n = omega arith in z) ∙ ap (λ o. unwrap_or o []) e
+  abbrev as_seen : Option Content → Option (Holds (accum_of d.kind))
+  as_seen o = option_map (λ c. view (accum_of d.kind) (out-Content c)) o
 
-  -- and an attached one adds its name with the value that it reads as
-  pub slot_read : (v : ℕ) (name : Bytes) (o : json.Out) → IsAttached s n → slice_get (accum_names s.plan) n ≡ Some name → read_shown (world_over clock s) (slots_are s.frame.accums) n v ≡ Gives o
-      → (name, o) ∷ [] ≡ slot_shown (world_over clock s) v (slice_get (slots_are s.frame.accums) n)
-  slot_read v name o is named h = by (slice_get st.contents v) read_is ∙ sym there
-    where
-      st : states.Slot Reference
-      st = slot_there s.frame.accums n is.0
+  contents_are : (v : ℕ) → slice_get (slot_there a n d).contents v ≡ as_seen (slice_get (take (targets_of a.slots.vertices d) (from_first a.slots.vertices n a.slots.declared a.contents)) v)
+  contents_are v = slice_get-map (λ c. view (accum_of d.kind) (out-Content c)) (take (targets_of a.slots.vertices d) (from_first a.slots.vertices n a.slots.declared a.contents)) v
 
-      read_of : Option (Holds st.kind) → Answer Wrong json.Out
-      read_of p = shown (found p >>= (λ c. Gives (read st.kind c)) >>= out_meant (world_over clock s) [])
+  module _ (attached : d.attached ≡ true) where
+    targets_are : targets_of a.slots.vertices d ≡ a.slots.vertices
+    targets_are = ap (λ b. if b then a.slots.vertices else 1) attached
 
-      put_of : Option (Holds st.kind) → List (Bytes × json.Out)
-      put_of p = built_print (of_content (world_over clock s) ((world_over clock s).words.said st.name) st.kind true p)
+    -- neither does an attached one that has no content at the vertex
+    pub slot_past : (v : ℕ) (old : List (Bytes × json.Out)) → a.slots.vertices ≤ v → old ≡ old ++ slot_shown (world_over clock s) v (slice_get (slots_are a) n)
+    slot_past v old l =
+        adds_nothing v old (
+        ap (λ b. put_of b (slice_get (slot_there a n d).contents v)) attached
+        ∙ ap (put_of true) (contents_are v ∙ ap as_seen (get_past (targets_of a.slots.vertices d) v (from_first a.slots.vertices n a.slots.declared a.contents) (omega (arith, targets_are, l)))))
 
-      read_is : read_of (slice_get st.contents v) ≡ Gives o
-      read_is = sym (ap (λ p. shown (found p >>= (λ (t : states.Slot Reference). found (slice_get t.contents v) >>= λ c. Gives (read t.kind c)) >>= out_meant (world_over clock s) [])) (named_some (world_over clock s) s.frame.accums n is.0 refl is.1)) ∙ h
+    content_is : (v t : ℕ) → v < a.slots.vertices → t ≡ number_of a.slots n v → slice_get (slot_there a n d).contents v ≡ as_seen (slice_get a.contents t)
+    content_is v t l at =
+        contents_are v
+        ∙ ap as_seen (get_take (targets_of a.slots.vertices d) v (from_first a.slots.vertices n a.slots.declared a.contents) (omega (arith, targets_are, l))
+        ∙ get_drop (target_count a.slots.vertices (take n (attached_in a.slots.declared))) v a.contents ∙ ap (slice_get a.contents) (sym at))
 
-      there : slot_shown (world_over clock s) v (slice_get (slots_are s.frame.accums) n) ≡ put_of (slice_get st.contents v)
-      there = ap (slot_shown (world_over clock s) v) (slot_is is.0 is.1) ∙ ap (λ b. built_print (of_content (world_over clock s) ((world_over clock s).words.said st.name) st.kind b (slice_get st.contents v))) is.2
+    put_there : (v t : ℕ) → v < a.slots.vertices → t ≡ number_of a.slots n v → put_of d.attached (slice_get (slot_there a n d).contents v) ≡ put_of true (as_seen (slice_get a.contents t))
+    put_there v t l at = ap (λ b. put_of b (slice_get (slot_there a n d).contents v)) attached ∙ ap (put_of true) (content_is v t l at)
 
-      by : (p : Option (Holds st.kind)) → read_of p ≡ Gives o → (name, o) ∷ [] ≡ put_of p
-      by None e = absurd (cc e)
-      by (Some c) e =
-          let one = ap (given_or o) (sym (read_printed (world_over clock s) st.kind c) ∙ e) in
-          ap₂ (λ a b. (a, b) ∷ []) (sym (said_is name named)) (sym one)
+    pub slot_empty : (v t : ℕ) (old : List (Bytes × json.Out)) → v < a.slots.vertices → t ≡ number_of a.slots n v → slice_get a.contents t ≡ None
+        → old ≡ old ++ slot_shown (world_over clock s) v (slice_get (slots_are a) n)
+    slot_empty v t old l at h = adds_nothing v old (put_there v t l at ∙ ap (λ o. put_of true (as_seen o)) h)
 
-  pub slot_put : (v : ℕ) (name : Bytes) (o : json.Out) (old new : List (Bytes × json.Out)) → IsAttached s n → slice_get (accum_names s.plan) n ≡ Some name → read_shown (world_over clock s) (slots_are s.frame.accums) n v ≡ Gives o
-      → new ≡ old ++ (name, o) ∷ [] → new ≡ old ++ slot_shown (world_over clock s) v (slice_get (slots_are s.frame.accums) n)
-  slot_put v name o old new is named h e = e ∙ ap (λ ms. old ++ ms) (slot_read v name o is named h)
+    -- and one that has a content adds its name with it
+    pub slot_told : {A E : Type 0} (v t : ℕ) (c : Content) (said : Bytes) (o : json.Out) (old new : List (Bytes × json.Out)) (r : Result A E) → v < a.slots.vertices → t ≡ number_of a.slots n v → slice_get a.contents t ≡ Some c
+        → said ≡ unwrap_or (slice_get (accum_names s.plan) n) [] → o ≡ content_shown (world_over clock s) (accum_of d.kind) c → OnOk r (new ≡ old ++ (said, o) ∷ []) → OnOk r (new ≡ old ++ slot_shown (world_over clock s) v (slice_get (slots_are a) n))
+    slot_told v t c said o old new (Ok u) l at h name is put =
+        put ∙ ap (λ ms. old ++ ms) (ap₂ (λ m p. (m, p) ∷ []) (name ∙ ap (λ m. unwrap_or (slice_get (accum_names s.plan) m) []) (let z : n ≡ 0 + n = omega arith in z)) is ∙ sym (shown_is v ∙ put_there v t l at ∙ ap (λ o. put_of true (as_seen o)) h))
+    slot_told v t c said o old new (Err m) l at h name is put = tt
 
-  pub slot_told : {A E : Type 0} (v : ℕ) (name said : Bytes) (o : json.Out) (old new : List (Bytes × json.Out)) (r : Result A E) → IsAttached s n → slice_get (accum_names s.plan) n ≡ Some name → read_shown (world_over clock s) (slots_are s.frame.accums) n v ≡ Gives o
-      → said ≡ name → OnOk r (new ≡ old ++ (said, o) ∷ []) → OnOk r (new ≡ old ++ slot_shown (world_over clock s) v (slice_get (slots_are s.frame.accums) n))
-  slot_told v name said o old new (Ok u) is named h same e = slot_put v name o old new is named h (e ∙ ap (λ m. old ++ (m, o) ∷ []) same)
-  slot_told v name said o old new (Err m) is named h same e = tt
+    pub sound_there : (v t : ℕ) (c : Content) → AreSound a → v < a.slots.vertices → t ≡ number_of a.slots n v → slice_get a.contents t ≡ Some c → IsShown (accum_of d.kind) c
+    sound_there v t c sound l at h = sound_shown (accum_of d.kind) c (sound.each n v d c e (omega (arith, targets_are, l)) (ap (slice_get a.contents) (sym at) ∙ h))
 
-pub ruleset slot_laws = (slot_left, slot_told)
+pub ruleset slot_laws = (slot_left, slot_past)
 
 -- ---- all of them
 
@@ -162,6 +160,34 @@ module _ (world : World Reference) (v : ℕ) where
 
 pub ruleset attached_laws = (attached_none, attached_more, attached_all)
 
+-- ---- the first target of each slot
+
+taken : {A : Type 0} (xs : List A) (i : ℕ) (x : A) → slice_get xs i ≡ Some x → take (suc i) xs ≡ take i xs ++ x ∷ []
+taken [] i x e = absurd (cc e)
+taken (y ∷ xs) zero x e = ap (λ z. z ∷ []) (cc e)
+taken (y ∷ xs) (suc i) x e = ap (λ zs. y ∷ zs) (taken xs i x e)
+
+counted : (vertices : ℕ) (bs : List Bool) (b : Bool) → target_count vertices (bs ++ b ∷ []) ≡ target_count vertices bs + (if b then vertices else 1)
+counted vertices [] b = omega arith
+counted vertices (c ∷ bs) b = let h = counted vertices bs b in omega (arith, h)
+
+pub first_zero : (slots : Slots) → IsFirst slots 0 0
+first_zero slots = record { is = refl; room = omega arith }
+
+pub first_next : (slots : Slots) (n m first count : ℕ) (d : code.Slot) → IsFirst slots n first → slice_get slots.declared n ≡ Some d → count ≡ targets_of slots.vertices d → count < 4294967296 → m ≡ n + 1 → IsFirst slots m (first + count)
+first_next slots n m first count d h e is few same = record {
+  is =
+      (let k = counted slots.vertices (take n (attached_in slots.declared)) d.attached in
+      let l = ap (target_count slots.vertices) (taken (attached_in slots.declared) n d.attached (mapped_at (λ (c : code.Slot). c.attached) slots.declared n d e)) in
+      let q = ap (λ i. target_count slots.vertices (take i (attached_in slots.declared))) (let z : m ≡ suc n = omega (arith, same) in z) in
+      let f = h.is in
+      omega (arith, k, l, q, f, is));
+  room = (let r = h.room in omega (arith, r, few, same));
+}
+
+pub at_target : (slots : Slots) (n v first : ℕ) → IsFirst slots n first → first + v ≡ number_of slots n v
+at_target slots n v first h = let e = h.is in omega (arith, e)
+
 -- ---- names
 
 get_front : {A : Type 0} (xs ys : List A) (i : ℕ) (x : A) → slice_get xs i ≡ Some x → slice_get (xs ++ ys) i ≡ Some x
@@ -189,7 +215,10 @@ name_later ds slot i left now d h l e f is =
     ∙ get_behind (names_in d) (flat_map names_in (drop (i + 1) ds)) left f
     ∙ ap (slice_get (flat_map names_in (drop (i + 1) ds))) (sym is)
 
-pub ruleset name_laws = (name_first, name_there, name_later)
+pub name_nowhere : (ds : List Definition) (slot i left : ℕ) → NamedFrom ds slot i left → length ds ≤ i → slice_get (flat_map names_in ds) slot ≡ None
+name_nowhere ds slot i left h l = h ∙ ap (λ es. slice_get (flat_map names_in es) left) (drop_all i ds l)
+
+pub ruleset name_laws = (name_first, name_there, name_later, name_nowhere)
 
 pub line_name : (xs : List plan.Accum) (i : ℕ) (a : plan.Accum) → slice_get xs i ≡ Some a → slice_get (map (λ (a : plan.Accum). a.name) xs) i ≡ Some a.name
 line_name xs i a e = mapped_at (λ (a : plan.Accum). a.name) xs i a e

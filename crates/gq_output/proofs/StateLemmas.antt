@@ -9,7 +9,7 @@ use Rattle.gq_rules_meaning.specs.Answers.{Answer, Gives, Faults, Stuck, ◌>>=�
 use Rattle.gq_rules_meaning.specs.Built.{built, built_print}
 use Rattle.gq_rules_meaning.specs.Calendars.{Calendar}
 use Rattle.gq_rules_meaning.specs.Expressions.{World, Look, meaning}
-use Rattle.gq_rules_meaning.specs.Outs.{Out, OutList, outs}
+use Rattle.gq_rules_meaning.specs.Outs.{Out}
 use Rattle.gq_rules_meaning.specs.Printing.{out_item, out_member, out_meant, out_vertex, selection, printed}
 use Rattle.gq_rules_meaning.specs.States.{State, Slot, Thing, Variable, SetOf, EdgeRow, Member, seen, sight, with_new}
 use Rattle.gq_plan_ir.specs.declared.expr.Expr.{Expr}
@@ -25,8 +25,8 @@ use Rattle.gq_eval_context.specs.Looks.{world_over}
 use Rattle.gq_eval_context.specs.LookLaws.{look_over, look_shows}
 use Rattle.gq_output.specs.Printed.{shown}
 use Rattle.gq_output.specs.Vertices.{vertex_shown}
-use Rattle.gq_output.proofs.ContentLemmas.{listed}
 use Rattle.gq_output.proofs.EachLemmas.{each_made}
+use Rattle.gq_output.proofs.ListLemmas.{list_value}
 use Rattle.gq_output.proofs.VertexLemmas.{vertex_printed}
 use Rattle.gq_output.specs.Items.{item_shown, member_of, members_shown, member_shown, member_at, columns_shown, keyed_shown}
 
@@ -48,14 +48,6 @@ keyed_value : (key : Bytes) (p : Answer Wrong Out) → (p >>= (λ o. Gives (key,
 keyed_value key (Gives o) = refl
 keyed_value key (Faults w) = refl
 keyed_value key Stuck = refl
-
-list_value : {A : Type 0} (f : A → Answer Wrong Out) (xs : List A) → shown (each f xs >>= λ os. Gives (OutList (outs os))) ≡ (each (λ x. shown (f x)) xs >>= λ os. Gives (out.List os))
-list_value f xs = by (each f xs) ∙ ap (λ p. p >>= λ os. Gives (out.List os)) (sym (each_made built f xs))
-  where
-    by : (p : Answer Wrong (List Out)) → shown (p >>= λ os. Gives (OutList (outs os))) ≡ (p >>= (λ os. Gives (map built os)) >>= λ os. Gives (out.List os))
-    by (Gives os) = ap (λ qs. Gives (out.List qs)) (listed os)
-    by (Faults w) = refl
-    by Stuck = refl
 
 -- ---- expressions with their keys
 

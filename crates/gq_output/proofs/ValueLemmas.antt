@@ -1,5 +1,5 @@
 -- ValueLemmas: the printed form of each variant of a value.
-use Rattle.std.proofs.Common.{◌≡◌, ℕ, zero, suc, ◌+◌, ℤ, Bool, List, [], ◌∷◌, map, Option, Some, None, Result, Ok, Err, IfOk, refl, sym, ap, subst, ◌∙◌, arith}
+use Rattle.std.proofs.Common.{◌≡◌, ℕ, zero, suc, ◌+◌, ℤ, Bool, List, [], ◌∷◌, map, Option, Some, None, Result, Ok, Err, IfOk, refl, sym, ap, ◌∙◌, arith}
 use Rattle.std.specs.List.{slice_get}
 use Rattle.std.specs.Option.{option_map}
 use Rattle.gq_value.specs.Val.{Val, Int, UInt, Truth, Text, Vertex, Tuple, Fraction, vals_of}
@@ -7,15 +7,13 @@ use Rattle.gq_value.specs.Views.{val, vals}
 use Rattle.gq_value.specs.Accums.{Base, INT, UINT, BOOL, STRING, DATETIME, VERTEX, VERTEX_OF, TUPLE, Bases}
 use Rattle.gq_value.specs.declared.value.Fraction as fraction
 use Rattle.gq_value.specs.declared.value.Value.{Value}
-use Rattle.gq_time.specs.Moments.{IsDatetime}
-use Rattle.gq_time.specs.Texts.{IsWritten}
 use Rattle.gq_json.specs.declared.out.Out as json
 use Rattle.gq_json.specs.declared.out.Out.TheVariants as out
 use Rattle.gq_rules_typing.specs.Statements.{Bytes}
 use Rattle.gq_rules_typing.specs.Sorts.{Fields}
 use Rattle.gq_rules_typing.specs.FieldTypes.{tuple_fields}
 use Rattle.gq_rules_meaning.specs.Built.{built_members}
-use Rattle.gq_rules_meaning.specs.Calendars.{Calendar, IsCalendar}
+use Rattle.gq_rules_meaning.specs.Calendars.{Calendar}
 use Rattle.gq_rules_meaning.specs.Expressions.{World, setting}
 use Rattle.gq_rules_meaning.specs.Outs.{out_fields, id_of}
 use Rattle.gq_plan_ir.specs.Reference as reference
@@ -24,11 +22,7 @@ use Rattle.gq_eval_attributes.specs.declared.tuple_type.TupleType.{TupleType}
 use Rattle.gq_eval_attributes.specs.Tuples.{fields_in, tuples_from}
 use Rattle.gq_eval_context.specs.Viewed.{Over}
 use Rattle.gq_eval_context.specs.Looks.{world_over}
-use Rattle.gq_output.specs.Printed.{value_shown, named_shown, time_shown}
-
-abbrev pub IsNoTime : Base → Type 0
-IsNoTime DATETIME = ⊥
-IsNoTime b = Unit {0}
+use Rattle.gq_output.specs.Printed.{int_shown, value_shown, named_shown}
 
 module _ (world : World Reference) (b : Base) (v : Val) where
   pub uint_shown : (n : ℕ) → v ≡ UInt n → out.UInt n ≡ value_shown world b v
@@ -99,30 +93,23 @@ module _ (world : World Reference) (b : Base) (v : Val) where
   pub same_shown : (w : Val) (o : json.Out) → v ≡ w → o ≡ value_shown world b w → o ≡ value_shown world b v
   same_shown w o e h = h ∙ ap (value_shown world b) (sym e)
 
-pub ruleset value_laws = (uint_shown, truth_shown, text_shown, vertex_shown, fraction_shown, same_shown)
+-- ---- numbers
 
--- ---- times
+-- a signed number of a type
+pub number_shown : (clock : Calendar) (s : Over) (b : Base) (v : Val) (x : ℤ) (o : json.Out) → v ≡ Int x → o ≡ int_shown clock b x → o ≡ value_shown (world_over clock s) b v
+number_shown clock s b v x o e h = h ∙ by b ∙ sym (ap (value_shown (world_over clock s) b) e)
+  where
+    by : (c : Base) → int_shown clock c x ≡ value_shown (world_over clock s) c (Int x)
+    by INT = refl
+    by UINT = refl
+    by BOOL = refl
+    by STRING = refl
+    by DATETIME = refl
+    by VERTEX = refl
+    by (VERTEX_OF t) = refl
+    by (TUPLE m bs) = refl
 
--- a number of a type other than DATETIME
-pub whole_shown : (world : World Reference) (b : Base) (x : ℤ) → IsNoTime b → out.Int x ≡ value_shown world b (Int x)
-whole_shown world INT x h = refl
-whole_shown world UINT x h = refl
-whole_shown world BOOL x h = refl
-whole_shown world STRING x h = refl
-whole_shown world DATETIME x h = absurd h
-whole_shown world VERTEX x h = refl
-whole_shown world (VERTEX_OF t) x h = refl
-whole_shown world (TUPLE m bs) x h = refl
-
-pub ruleset whole_laws = (whole_shown)
-
-pub written_shown : (clock : Calendar) (x : ℤ) (text : List ℕ) → IsCalendar clock → IsDatetime x → ((other : List ℕ) → IsWritten x other → other ≡ text) → out.Text text ≡ time_shown clock x
-written_shown clock x text is there only = ap out.Text (sym (only (clock.write x) (is.writes x there)))
-
-pub written_as : (clock : Calendar) (x y : ℤ) (text : List ℕ) → IsCalendar clock → y ≡ x → IsDatetime x → ((other : List ℕ) → IsWritten y other → other ≡ text) → out.Text text ≡ time_shown clock x
-written_as clock x y text is same there only = written_shown clock x text is there (λ other w. only other (subst (λ z. IsWritten z other) (sym same) w))
-
-pub ruleset time_laws = (written_as)
+pub ruleset value_laws = (uint_shown, truth_shown, text_shown, vertex_shown, fraction_shown, same_shown, number_shown)
 
 -- ---- tuples
 
@@ -153,4 +140,14 @@ pub tuple_told : {E : Type 0} (clock : Calendar) (s : Over) (b : Base) (n : ℕ)
 tuple_told clock s b n bs t row (Ok ms) e f h = tuple_shown clock s n bs t row ms f h ∙ ap (λ c. value_shown (world_over clock s) c (Tuple (vals row))) (sym e)
 tuple_told clock s b n bs t row (Err m) e f h = tt
 
-pub ruleset tuple_laws = (tuple_told)
+-- a tuple type that isn't there has no fields
+type_missing : (clock : Calendar) (s : Over) (n : ℕ) → slice_get s.tuples n ≡ None → tuple_fields (setting (world_over clock s)) n ≡ []
+type_missing clock s n e = ap fields_at (types_from 0 n s.tuples ∙ ap (option_map (λ t. (reference.TupleType (0 + n), fields_in t))) e)
+
+pub untyped_shown : (clock : Calendar) (s : Over) (b : Base) (n : ℕ) (bs : Bases) (row : List Value) (members : List (Bytes × json.Out)) → b ≡ TUPLE n bs → slice_get s.tuples n ≡ None → members ≡ []
+    → out.Object members ≡ value_shown (world_over clock s) b (Tuple (vals row))
+untyped_shown clock s b n bs row members e f is =
+    ap out.Object (is ∙ sym (ap (λ fs. built_members (out_fields (world_over clock s) fs (vals row))) (type_missing clock s n f)))
+    ∙ ap (λ c. value_shown (world_over clock s) c (Tuple (vals row))) (sym e)
+
+pub ruleset tuple_laws = (tuple_told, untyped_shown)

@@ -1,10 +1,10 @@
 -- VertexLemmas: the printed form of vertices.
-use Rattle.std.proofs.Common.{if◌then◌else◌, ◌≡◌, ℕ, ◌+◌, ◌<◌, ◌≤◌, Bool, true, false, List, [], ◌∷◌, ◌++◌, map, length, get_or, Option, Some, None, IfSome, Bor, Result, Ok, Err, IfOk, refl, sym, ap, ◌∙◌, arith}
+use Rattle.std.proofs.Common.{if◌then◌else◌, ◌≡◌, ℕ, ◌+◌, ◌<◌, ◌≤◌, Bool, true, false, List, [], ◌∷◌, ◌++◌, map, length, get_or, Option, Some, None, Bor, Result, refl, sym, ap, subst, ◌∙◌, arith}
 use Rattle.std.specs.List.{slice_get}
 use Rattle.std.specs.Option.{option_map, option_copied}
-use Rattle.std.specs.Prelude.{codes}
+use Rattle.std.specs.Prelude.{codes, MatchOption}
 use Rattle.std.proofs.lemmas.List.{length-map}
-use Rattle.std.proofs.lemmas.Option.{slice_get-map}
+use Rattle.std.proofs.lemmas.Option.{slice_get-map, slice_get_past}
 use Rattle.gq_value.specs.Val.{Val}
 use Rattle.gq_value.specs.Views.{val}
 use Rattle.gq_value.specs.Accums.{Base}
@@ -22,7 +22,7 @@ use Rattle.gq_json.specs.declared.out.Out as json
 use Rattle.gq_json.specs.declared.out.Out.TheVariants as out
 use Rattle.gq_rules_typing.specs.Statements.{Bytes}
 use Rattle.gq_rules_typing.specs.Sorts.{Fields, VertexSort, attribute_fields, id_base, vertex_sort}
-use Rattle.gq_rules_meaning.specs.Answers.{Answer, Gives, ◌>>=◌, found}
+use Rattle.gq_rules_meaning.specs.Answers.{Answer, Gives, Stuck, ◌>>=◌, found}
 use Rattle.gq_rules_meaning.specs.Built.{built_print}
 use Rattle.gq_rules_meaning.specs.Calendars.{Calendar}
 use Rattle.gq_rules_meaning.specs.Expressions.{World}
@@ -32,6 +32,8 @@ use Rattle.gq_rules_meaning.specs.Outs.{Out, OutText, out_named}
 use Rattle.gq_rules_meaning.specs.Printing.{out_vertex, out_attached}
 use Rattle.gq_rules_meaning.specs.States as states
 use Rattle.gq_plan_ir.specs.Reference.{Reference}
+use Rattle.gq_eval_operand.specs.declared.halt.Halt.{Halt}
+use Rattle.gq_eval_operand.specs.Meant.{itself, Tells}
 use Rattle.gq_eval_context.specs.Viewed.{Over}
 use Rattle.gq_eval_context.specs.Looks.{world_over}
 use Rattle.gq_output.specs.Printed.{shown, value_shown, named_shown}
@@ -54,22 +56,36 @@ vertex_printed world v attributes = by (sort_of_vertex world.graph v)
 
 -- ---- the type of a vertex
 
-pub type_told : (s : Over) (v k : ℕ) (o : Option (Bor VertexType)) → HaveAttributes s.schema s.vertices → v < length s.vertices → k ≡ (vertex_at s.vertices v).kind → slice_get s.schema.vertex_types k ≡ option_copied o
-    → IfSome o (λ of. HasType s v of.now)
-type_told s v k None has there kind e = tt
-type_told s v k (Some of) has there kind e =
-    let found = ap (slice_get s.schema.vertex_types) (sym kind) ∙ e in
-    record { there = there; found = found; values = has.each v of.now there found }
-
 abbrev sort_at : List VertexSort → Option ℕ → Option VertexSort
 sort_at sorts None = None
 sort_at sorts (Some t) = slice_get sorts t
 
+sort_is : (clock : Calendar) (s : Over) (v : ℕ) → sort_of_vertex (world_over clock s).graph v ≡ sort_at (map vertex_sort s.schema.vertex_types) (slice_get (map (λ (r : VertexRow). r.kind) s.vertices) v)
+sort_is clock s v = refl
+
+-- a vertex that isn't there has no type
+pub no_vertex_there : (clock : Calendar) (s : Over) (v : ℕ) → length s.vertices ≤ v → sort_of_vertex (world_over clock s).graph v ≡ None
+no_vertex_there clock s v h =
+    sort_is clock s v ∙ ap (sort_at (map vertex_sort s.schema.vertex_types)) (slice_get-map (λ (r : VertexRow). r.kind) s.vertices v ∙ ap (option_map (λ (r : VertexRow). r.kind)) (slice_get_past s.vertices v h))
+
+kind_there : (clock : Calendar) (s : Over) (v k : ℕ) → v < length s.vertices → k ≡ (vertex_at s.vertices v).kind
+    → sort_of_vertex (world_over clock s).graph v ≡ option_map vertex_sort (slice_get s.schema.vertex_types k)
+kind_there clock s v k there kind =
+    sort_is clock s v ∙ ap (sort_at (map vertex_sort s.schema.vertex_types)) (slice_get-map (λ (r : VertexRow). r.kind) s.vertices v ∙ ap (option_map (λ (r : VertexRow). r.kind)) (row_there s.vertices v there))
+    ∙ slice_get-map vertex_sort s.schema.vertex_types (vertex_at s.vertices v).kind ∙ ap (λ n. option_map vertex_sort (slice_get s.schema.vertex_types n)) (sym kind)
+
+abbrev pub Types : Calendar → Over → ℕ → Option (Bor VertexType) → Type 0
+Types clock s v o = MatchOption o (sort_of_vertex (world_over clock s).graph v ≡ None) (λ of. HasType s v of.now)
+
+pub type_told : (clock : Calendar) (s : Over) (v k : ℕ) (o : Option (Bor VertexType)) → HaveAttributes s.schema s.vertices → v < length s.vertices → k ≡ (vertex_at s.vertices v).kind → slice_get s.schema.vertex_types k ≡ option_copied o → Types clock s v o
+type_told clock s v k None has there kind e = kind_there clock s v k there kind ∙ ap (option_map vertex_sort) e
+type_told clock s v k (Some of) has there kind e =
+    let found = ap (slice_get s.schema.vertex_types) (sym kind) ∙ e in
+    record { there = there; found = found; values = has.each v of.now there found }
+
 module _ (clock : Calendar) (s : Over) (v : ℕ) (t : VertexType) (has : HasType s v t) where
   pub sort_there : sort_of_vertex (world_over clock s).graph v ≡ Some (vertex_sort t)
-  sort_there =
-      ap (sort_at (map vertex_sort s.schema.vertex_types)) (slice_get-map (λ (r : VertexRow). r.kind) s.vertices v ∙ ap (option_map (λ (r : VertexRow). r.kind)) (row_there s.vertices v has.there))
-      ∙ slice_get-map vertex_sort s.schema.vertex_types (vertex_at s.vertices v).kind ∙ ap (option_map vertex_sort) has.found
+  sort_there = kind_there clock s v (vertex_at s.vertices v).kind has.there refl ∙ ap (option_map vertex_sort) has.found
 
   values_there : slice_get (world_over clock s).graph.vertex_values v ≡ Some (with_shown (vertex_at s.vertices v) (Some t) (map val (vertex_at s.vertices v).attributes))
   values_there =
@@ -82,14 +98,13 @@ module _ (clock : Calendar) (s : Over) (v : ℕ) (t : VertexType) (has : HasType
       ap (λ p. found p >>= λ (sort : VertexSort). Gives (described (plain.id_of (world_over clock s).graph v) sort.name attributes)) sort_there
       ∙ ap (λ n. Gives (described n t.name attributes)) (sym e) ∙ ap (λ k. Gives (described name k attributes)) (sym f) ∙ ap Gives (sym is)
 
-  pub vertex_whole : (slots : List (states.Slot Reference)) (first all : List (Bytes × json.Out)) (o : json.Out) → first ≡ vertex_named (world_over clock s) t (vertex_at s.vertices v)
-      → all ≡ first ++ attached_shown (world_over clock s) v slots → vertex_shown (world_over clock s) v all ≡ Gives o → whole_shown (world_over clock s) slots v ≡ Gives o
-  vertex_whole slots first all o e f h =
+  vertex_whole : (slots : List (states.Slot Reference)) (first all : List (Bytes × json.Out)) → first ≡ vertex_named (world_over clock s) t (vertex_at s.vertices v)
+      → all ≡ first ++ attached_shown (world_over clock s) v slots → whole_shown (world_over clock s) slots v ≡ vertex_shown (world_over clock s) v all
+  vertex_whole slots first all e f =
       ap (λ p. shown (found p >>= λ (sort : VertexSort). found (slice_get (world_over clock s).graph.vertex_values v) >>= λ vs. out_vertex (world_over clock s) v (out_named (world_over clock s) sort.fields vs ++ out_attached (world_over clock s) v slots))) sort_there
       ∙ ap (λ p. shown (found p >>= λ vs. out_vertex (world_over clock s) v (out_named (world_over clock s) (vertex_sort t).fields vs ++ out_attached (world_over clock s) v slots))) values_there
       ∙ vertex_printed (world_over clock s) v (named ++ attached)
       ∙ ap (vertex_shown (world_over clock s) v) (print_joined named attached ∙ ap (λ ms. ms ++ built_print attached) (sym e) ∙ sym f)
-      ∙ h
     where
       named : List (Bytes × Out)
       named = out_named (world_over clock s) (vertex_sort t).fields (with_shown (vertex_at s.vertices v) (Some t) (map val (vertex_at s.vertices v).attributes))
@@ -97,19 +112,28 @@ module _ (clock : Calendar) (s : Over) (v : ℕ) (t : VertexType) (has : HasType
       attached : List (Bytes × Out)
       attached = out_attached (world_over clock s) v slots
 
-  pub whole_told : {E : Type 0} (slots : List (states.Slot Reference)) (first all : List (Bytes × json.Out)) (row : VertexRow) (r : Result json.Out E) → row ≡ vertex_at s.vertices v → first ≡ vertex_named (world_over clock s) t row
-      → all ≡ first ++ attached_shown (world_over clock s) v slots → IfOk r (λ o. vertex_shown (world_over clock s) v all ≡ Gives o) → IfOk r (λ o. whole_shown (world_over clock s) slots v ≡ Gives o)
-  whole_told slots first all row (Ok o) same e f h = vertex_whole slots first all o (e ∙ ap (vertex_named (world_over clock s) t) same) f h
-  whole_told slots first all row (Err m) same e f h = tt
+  pub whole_told : (slots : List (states.Slot Reference)) (first all : List (Bytes × json.Out)) (row : VertexRow) (r : Result json.Out Halt) → row ≡ vertex_at s.vertices v → first ≡ vertex_named (world_over clock s) t row
+      → all ≡ first ++ attached_shown (world_over clock s) v slots → Tells itself (vertex_shown (world_over clock s) v all) r → Tells itself (whole_shown (world_over clock s) slots v) r
+  whole_told slots first all row r same e f told =
+      subst (λ o. Tells (itself {A = json.Out}) o r) (sym (vertex_whole slots first all (e ∙ ap (vertex_named (world_over clock s) t) same) f)) told
+
+-- a vertex without a type isn't printed
+module _ (world : World Reference) (v : ℕ) (none : sort_of_vertex world.graph v ≡ None) where
+  pub vertex_stuck : (attributes : List (Bytes × json.Out)) → vertex_shown world v attributes ≡ Stuck
+  vertex_stuck attributes = ap (λ p. found p >>= λ (sort : VertexSort). Gives (described (plain.id_of world.graph v) sort.name attributes)) none
+
+  pub whole_stuck : (slots : List (states.Slot Reference)) → whole_shown world slots v ≡ Stuck
+  whole_stuck slots =
+      ap (λ p. shown (found p >>= λ (sort : VertexSort). found (slice_get world.graph.vertex_values v) >>= λ vs. out_vertex world v (out_named world sort.fields vs ++ out_attached world v slots))) none
 
 pub three_put : (a b c d : List (Bytes × json.Out)) (name kind : Bytes) (attributes : List (Bytes × json.Out)) → a ≡ [] → b ≡ a ++ (codes "v_id", out.Text name) ∷ [] → c ≡ b ++ (codes "v_type", out.Text kind) ∷ [] → d ≡ c ++ (codes "attributes", out.Object attributes) ∷ []
     → out.Object d ≡ described name kind attributes
 three_put a b c d name kind attributes e f g h =
     ap out.Object (h ∙ ap (λ ms. ms ++ (codes "attributes", out.Object attributes) ∷ []) (g ∙ ap (λ ms. ms ++ (codes "v_type", out.Text kind) ∷ []) (f ∙ ap (λ ms. ms ++ (codes "v_id", out.Text name) ∷ []) e)))
 
-pub ruleset vertex_laws = (vertex_described)
+pub ruleset vertex_laws = (vertex_described, vertex_stuck)
 
-pub ruleset whole_laws = (whole_told)
+pub ruleset whole_laws = (whole_told, whole_stuck)
 
 -- ---- attributes
 

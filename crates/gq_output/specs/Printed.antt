@@ -1,13 +1,14 @@
 -- Printed: the output of values, contents and expressions, as values of gq_json.
-use Rattle.std.specs.Prelude.{ℤ, List, [], ◌++◌, map}
+use Rattle.std.specs.Prelude.{◌≡◌, ℤ, true, List, [], ◌++◌, map}
 use Rattle.gq_value.specs.declared.value.Wrong.{Wrong}
 use Rattle.gq_value.specs.declared.kind.BaseType.{BaseType}
 use Rattle.gq_value.specs.declared.kind.Kind.{Kind}
 use Rattle.gq_value.specs.Val.{Val, Int, UInt, Truth, Fraction}
 use Rattle.gq_value.specs.AccumViews.{base_of, accum_of, parts_of}
-use Rattle.gq_value.specs.Accums.{Base, INT, Accum, MapAccum, GroupByAccum, Parts}
+use Rattle.gq_value.specs.Accums.{Base, INT, DATETIME, Accum, MapAccum, GroupByAccum, Parts}
 use Rattle.gq_accum_laws.specs.Holds.{Holds, entries}
 use Rattle.gq_accum_laws.specs.After.{fresh}
+use Rattle.gq_accum_laws.specs.Fits.{fits, fit}
 use Rattle.gq_accum_laws.specs.Reads.{value_in}
 use Rattle.gq_nest.specs.declared.content.Content.{Content, out-Content}
 use Rattle.gq_nest.specs.Forms.{view, view_each}
@@ -48,11 +49,17 @@ named_shown world fields vs = built_print (out_named world fields vs)
 abbrev pub time_shown : Calendar → ℤ → json.Out
 time_shown clock x = out.Text (clock.write x)
 
+-- a signed number of a type
+abbrev pub int_shown : Calendar → Base → ℤ → json.Out
+int_shown clock DATETIME x = time_shown clock x
+int_shown clock b x = out.Int x
+
 -- ---- contents
 
--- a content of a kind, whatever it holds
-abbrev pub IsShown : Accum → Content → Type 0
-IsShown k c = Shows k c (view k (out-Content c))
+-- a content of a kind, whatever it holds, with sums in range
+pub record IsShown (k : Accum) (c : Content) : Type 0 where
+  pub shows : Shows k c (view k (out-Content c))
+  pub within : fits k (view k (out-Content c)) ≡ true
 
 -- the same for a map, whatever the type of its keys, and for a group
 abbrev pub IsMap : Accum → Content → Type 0
@@ -61,8 +68,10 @@ IsMap k c = (b : Base) × IsShown (MapAccum b k) c
 abbrev pub IsGroup : List (Bytes × Base) → Parts → Content → Type 0
 IsGroup keys ps c = IsShown (GroupByAccum keys ps) c
 
-abbrev pub AreShown : Parts → List Content → Type 0
-AreShown ps cs = ShowEach ps cs (view_each ps cs)
+-- a content for each part
+pub record AreShown (ps : Parts) (cs : List Content) : Type 0 where
+  pub shows : ShowEach ps cs (view_each ps cs)
+  pub within : fit ps (view_each ps cs) ≡ true
 
 abbrev pub content_shown : World Reference → Accum → Content → json.Out
 content_shown world k c = built (out_content world k (view k (out-Content c)))

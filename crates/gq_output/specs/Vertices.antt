@@ -1,9 +1,8 @@
 -- Vertices: the output of a vertex, as values of gq_json.
-use Rattle.std.specs.Prelude.{◌≡◌, ℕ, ◌<◌, ◌≤◌, true, List, [], ◌∷◌, map, length, codes, Option, Some, None, slice_get}
+use Rattle.std.specs.Prelude.{◌≡◌, ℕ, ◌*◌, ◌<◌, ◌≤◌, List, [], ◌∷◌, map, length, codes, Option, Some, None, slice_get}
 use Rattle.gq_graph.specs.declared.types.IdKind.{IdKind}
 use Rattle.gq_graph.specs.declared.types.IdKind.TheVariants as id
 use Rattle.gq_graph.specs.declared.types.VertexType.{VertexType}
-use Rattle.gq_value.specs.declared.kind.Slot as code
 use Rattle.gq_graph.specs.declared.rows.VertexRow.{VertexRow}
 use Rattle.gq_value.specs.declared.value.Wrong.{Wrong}
 use Rattle.gq_graph.specs.Vertices.{vertex_at}
@@ -17,9 +16,11 @@ use Rattle.gq_rules_meaning.specs.Built.{built_print}
 use Rattle.gq_rules_meaning.specs.Expressions.{World}
 use Rattle.gq_rules_meaning.specs.Graphs.{integer_in, number_in, sort_of_vertex, with_shown}
 use Rattle.gq_rules_meaning.specs.Outs as plain
-use Rattle.gq_rules_meaning.specs.Printing.{of_content, out_attached, out_whole_vertex, out_meant}
+use Rattle.gq_rules_meaning.specs.Printing.{of_content, out_attached, out_whole_vertex}
 use Rattle.gq_rules_meaning.specs.States as states
-use Rattle.gq_plan_ir.specs.Reference.{Reference, Slot}
+use Rattle.gq_plan_ir.specs.Reference.{Reference}
+use Rattle.gq_frame.specs.declared.slots.Slots.{Slots}
+use Rattle.gq_frame.specs.Targets.{number_of}
 use Rattle.gq_eval_context.specs.Viewed.{Over}
 use Rattle.gq_output.specs.Printed.{shown, named_shown}
 
@@ -51,9 +52,10 @@ vertex_shown world v attributes = found (sort_of_vertex world.graph v) >>= λ so
 abbrev pub whole_shown : World Reference → List (states.Slot Reference) → ℕ → Answer Wrong json.Out
 whole_shown world slots v = shown (out_whole_vertex world slots v)
 
--- the accumulator with a number is an attached one
-abbrev pub IsAttached : Over → ℕ → Type 0
-IsAttached s n = (d : code.Slot) × (slice_get s.frame.accums.slots.declared n ≡ Some d) × (d.attached ≡ true)
+-- the number of the first target of a slot, which leaves room for more slots
+pub record IsFirst (slots : Slots) (n first : ℕ) : Type 0 where
+  pub is : first ≡ number_of slots n 0
+  pub room : first ≤ n * 4294967296
 
 -- the member of a vertex for an accumulator
 abbrev pub slot_shown : World Reference → ℕ → Option (states.Slot Reference) → List (Bytes × json.Out)
@@ -63,7 +65,3 @@ slot_shown world v (Some s) = built_print (of_content world (world.words.said s.
 -- and for all of them
 abbrev pub attached_shown : World Reference → ℕ → List (states.Slot Reference) → List (Bytes × json.Out)
 attached_shown world v slots = built_print (out_attached world v slots)
-
--- the value of the accumulator with a number at a vertex
-abbrev pub read_shown : World Reference → List (states.Slot Reference) → ℕ → ℕ → Answer Wrong json.Out
-read_shown world slots n v = shown (states.read_slot world slots (Slot n) v >>= out_meant world [])

@@ -1,26 +1,27 @@
 // The members of a vertex: its attributes, and then its accumulators.
-ghost use Rattle.std.specs.Prelude.{◌≡◌, ◌<◌, ◌≤◌, ◌++◌, [], IfOk, IfSome, OnOk, Some, length, map, slice_get};
+ghost use Rattle.std.specs.Prelude.{◌≡◌, ◌<◌, ◌≤◌, ◌++◌, [], IfOk, OnOk, Some, length, map, slice_get};
 ghost use Rattle.std.specs.List.{flat_map};
-ghost use Rattle.std.specs.Option.{option_copied};
+ghost use Rattle.std.specs.Option.{option_copied, unwrap_or};
 ghost use Rattle.gq_value.specs.Views.{val};
 ghost use Rattle.gq_graph.specs.Vertices.{vertex_at};
 ghost use Rattle.gq_rules_typing.specs.Sorts.{attribute_fields};
 ghost use Rattle.gq_eval_context.specs.Looks.{world_over};
 ghost use Rattle.gq_frame.specs.Slots.{slots_are};
-ghost use Rattle.gq_rules_meaning.specs.Answers.{Gives};
 ghost use Rattle.gq_rules_calendar.specs.Gregorian.{gregorian};
 ghost use Rattle.gq_plan_ir.specs.PlanView.{accum_names, names_in};
 ghost use Rattle.gq_output.specs.Printed.{named_shown};
-ghost use Rattle.gq_output.specs.Vertices.{IsAttached, attached_shown, read_shown, slot_shown, vertex_named};
+ghost use Rattle.gq_output.specs.Vertices.{IsFirst, attached_shown, slot_shown, vertex_named};
 
+use crate::contents::out_content;
 use crate::ids::shown_id;
-use crate::seen::out_read;
+use crate::items::accums_of;
 use crate::values::{put, put_value};
 use gq_base::{List, OutOfMemory};
 use gq_eval_context::BlockContext;
-use gq_frame::read_target;
+use gq_frame::Accums;
 use gq_graph::{Attribute, VertexType};
-use gq_json::{Members, Out};
+use gq_json::Members;
+use gq_nest::Content;
 use gq_plan_ir::Definition;
 use gq_value::{Slot, Txt};
 use gq_vertex::Vertices;
@@ -98,102 +99,74 @@ pub(crate) fn put_attached(
 ) -> Result<(), OutOfMemory>
     ensures { OnOk result (members.new ≡ members.old ++ attached_shown (world_over gregorian over.now) vertex (slots_are over.now.frame.accums)) }
 {
-    let count = slot_count(over)?;
-    for slot in 0..count {
-        put_slot(alloc, over, slot, vertex, members)?;
+    let slots = &over.frame.accums.slots;
+    // The number of the first target of the slot.
+    let mut first = 0u128;
+    for (number, slot) in slots.declared.as_slice().iter().enumerate() {
+        put_slot(alloc, over, number, slot, first, vertex, members)?;
+        first += u128::from(slots.targets(slot));
     }
     Ok(())
 }
 
-/// Returns the number of accumulators.
-fn slot_count(over: &BlockContext<'_>) -> Result<u32, OutOfMemory>
-    ensures { IfOk result (λ count. count ≡ length over.now.frame.accums.slots.declared) }
-{
-    match u32::try_from(over.frame.accums.slots.declared.len()) {
-        Ok(count) => Ok(count),
-        Err(_) => Err(OutOfMemory),
-    }
-}
-
-/// Appends the value of the accumulator in a slot at a vertex, if it is attached, to other members.
+/// Appends the content of the accumulator in a slot at a vertex, if it is attached and has one there, to other members.
 #[tactic(auto, using(crate::proofs::SlotLemmas::slot_laws))]
 fn put_slot(
     alloc: Global,
     over: &BlockContext<'_>,
-    slot: u32,
+    number: usize,
+    slot: &Slot,
+    first: u128,
     vertex: u32,
     members: &mut Members,
 ) -> Result<(), OutOfMemory>
-    ensures { OnOk result (members.new ≡ members.old ++ slot_shown (world_over gregorian over.now) vertex (slice_get (slots_are over.now.frame.accums) slot)) }
+    requires declared { slice_get over.now.frame.accums.slots.declared number ≡ Some slot.now }
+    requires first { IsFirst over.now.frame.accums.slots number first }
+    ensures { OnOk result (members.new ≡ members.old ++ slot_shown (world_over gregorian over.now) vertex (slice_get (slots_are over.now.frame.accums) number)) }
 {
-    match declared(over, slot) {
-        None => Err(OutOfMemory),
-        Some(slot_is) => {
-            if slot_is.attached {
-                put_attached_slot(alloc, over, slot, vertex, members)
-            } else {
-                Ok(())
-            }
+    let accums = accums_of(over);
+    if !slot.attached {
+        return Ok(());
+    }
+    if vertex >= accums.slots.vertices {
+        return Ok(());
+    }
+    match content_at(accums, first + u128::from(vertex)) {
+        None => Ok(()),
+        Some(content) => {
+            let value = out_content(alloc, over, &slot.kind, content)?;
+            put(alloc, name_of(over, number), value, members)
         }
     }
 }
 
-/// Returns the declaration of a slot.
-fn declared<'a>(over: &BlockContext<'a>, slot: u32) -> Option<&'a Slot>
-    ensures { slice_get over.now.frame.accums.slots.declared slot ≡ option_copied result }
+/// Returns the content at a target, if there is one.
+fn content_at(accums: &Accums, target: u128) -> Option<&Content>
+    ensures { slice_get accums.now.contents target ≡ option_copied result }
 {
-    over.frame.accums.slots.declared.get(slot as usize)
-}
-
-/// Appends the value of the attached accumulator in a slot at a vertex to other members.
-#[tactic(auto, using(crate::proofs::SlotLemmas::slot_laws))]
-fn put_attached_slot(
-    alloc: Global,
-    over: &BlockContext<'_>,
-    slot: u32,
-    vertex: u32,
-    members: &mut Members,
-) -> Result<(), OutOfMemory>
-    requires { IsAttached over.now slot }
-    ensures { OnOk result (members.new ≡ members.old ++ slot_shown (world_over gregorian over.now) vertex (slice_get (slots_are over.now.frame.accums) slot)) }
-{
-    match name_of(over, slot) {
-        None => Err(OutOfMemory),
-        Some(name) => {
-            let value = read_slot(alloc, over, slot, vertex)?;
-            put(alloc, name.as_str(), value, members)
-        }
+    if target < accums.contents.len() as u128 {
+        Some(accums.contents.at(target as usize))
+    } else {
+        None
     }
 }
 
-/// Returns the value that the accumulator in a slot reads as at a vertex.
-fn read_slot(
-    alloc: Global,
-    over: &BlockContext<'_>,
-    slot: u32,
-    vertex: u32,
-) -> Result<Out, OutOfMemory>
-    ensures { IfOk result (λ out. read_shown (world_over gregorian over.now) (slots_are over.now.frame.accums) slot vertex ≡ Gives out) }
+/// Returns the name of an accumulator by its number, which is empty if the plan has none.
+fn name_of<'a>(over: &BlockContext<'a>, number: usize) -> &'a str
+    ensures { result.now ≡ unwrap_or (slice_get (accum_names over.now.plan) number) [] }
 {
-    match read_target(&over.frame.accums, slot, vertex) {
-        Ok(seen) => out_read(alloc, over, seen),
-        Err(_) => Err(OutOfMemory),
+    match accum_name(over.plan.definitions.as_slice(), number) {
+        Some(name) => name.as_str(),
+        None => "",
     }
 }
 
-/// Returns the name of the accumulator in a slot, if it has one.
-fn name_of<'a>(over: &BlockContext<'a>, slot: u32) -> Option<&'a Txt>
-    ensures { IfSome result (λ name. slice_get (accum_names over.now.plan) slot ≡ Some name.now) }
-{
-    accum_name(over.plan.definitions.as_slice(), slot)
-}
-
-/// Returns the name of an accumulator by its index among those of all definitions.
+/// Returns the name of an accumulator by its index among those of all definitions, if there is one.
 #[tactic(auto, using(crate::proofs::SlotLemmas::name_laws))]
-fn accum_name(definitions: &[Definition], slot: u32) -> Option<&Txt>
-    ensures { IfSome result (λ name. slice_get (flat_map names_in definitions.now) slot ≡ Some name.now) }
+fn accum_name(definitions: &[Definition], number: usize) -> Option<&Txt>
+    ensures { slice_get (flat_map names_in definitions.now) number ≡ option_copied result }
 {
-    let mut left = slot as usize;
+    let mut left = number;
     for definition in definitions {
         match name_in(definition, left) {
             Some(name) => return Some(name),

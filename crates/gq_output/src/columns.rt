@@ -1,6 +1,7 @@
 // Sets with columns.
-ghost use Rattle.std.specs.Prelude.{◌≡◌, IfSome, Some, map};
+ghost use Rattle.std.specs.Prelude.{◌≡◌, MatchOption, Some, false, map};
 ghost use Rattle.gq_rules_meaning.specs.Answers.{each};
+ghost use Rattle.gq_rules_meaning.specs.Statements.{is_set};
 ghost use Rattle.gq_rules_meaning.specs.States.{SetOf};
 ghost use Rattle.gq_rules_calendar.specs.Gregorian.{gregorian};
 ghost use Rattle.gq_eval_operand.specs.Meant.{itself, Tells};
@@ -32,7 +33,7 @@ pub(crate) fn columns(
     ensures { Tells itself (columns_shown gregorian over.now columns.now place (thing_in over.now.plan.places over.now.frame.things place)) result }
 {
     match set_of(over, place) {
-        None => Err(Halt::OutOfMemory),
+        None => Err(Halt::Stuck),
         Some((types, set)) => match vertices(columns, alloc, over, place, types, set) {
             Ok(outs) => Ok(Out::List(outs)),
             Err(halt) => Err(halt),
@@ -42,7 +43,7 @@ pub(crate) fn columns(
 
 /// Returns the types and the vertices of the set at a place, if there is one.
 fn set_of<'a>(over: &BlockContext<'a>, place: u32) -> Option<(&'a [u32], &'a [u32])>
-    ensures { IfSome result (λ set. thing_in over.now.plan.places over.now.frame.things place ≡ Some (SetOf set.0.now set.1.now)) }
+    ensures { MatchOption result (is_set (thing_in over.now.plan.places over.now.frame.things place) ≡ false) (λ set. thing_in over.now.plan.places over.now.frame.things place ≡ Some (SetOf set.0.now set.1.now)) }
 {
     match set_at(
         over.plan.places.as_slice(),
@@ -74,10 +75,7 @@ fn vertices(
         };
         match member_under(columns, alloc, over, &[alias], *vertex) {
             Err(halt) => return Err(halt),
-            Ok(out) => match outs.push(out) {
-                Ok(()) => {}
-                Err(_) => return Err(Halt::OutOfMemory),
-            },
+            Ok(out) => outs.push(out)?,
         }
     }
     Ok(outs)
@@ -110,9 +108,6 @@ fn member_seen<V: Sees>(
 {
     match members(columns, alloc, over, sight) {
         Err(halt) => Err(halt),
-        Ok(members) => match out_vertex(alloc, over, vertex, members) {
-            Ok(out) => Ok(out),
-            Err(_) => Err(Halt::OutOfMemory),
-        },
+        Ok(members) => out_vertex(alloc, over, vertex, members),
     }
 }

@@ -1,6 +1,5 @@
 // Contents.
-ghost use Rattle.std.specs.Prelude.{◌≡◌, ◌++◌, IfOk, IfSome, OnOk, Some, map, slice_get, true};
-ghost use Rattle.std.specs.Option.{option_copied};
+ghost use Rattle.std.specs.Prelude.{◌≡◌, ◌++◌, IfOk, OnOk, Some, map, slice_get, true};
 ghost use Rattle.gq_json.specs.declared.out.Out.TheVariants as json;
 ghost use Rattle.gq_value.specs.AccumViews.{accum_of};
 ghost use Rattle.gq_value.specs.Typed.{is_scalar};
@@ -39,8 +38,8 @@ pub fn out_content(
     ensures { IfOk result (λ out. out ≡ content_shown (world_over gregorian over.now) (accum_of kind.now) content.now) }
 {
     match kind {
-        Kind::Sum(_) | Kind::Min(_) | Kind::Max(_) | Kind::Avg => scalar(kind, content),
-        Kind::Or | Kind::And | Kind::BitOr | Kind::BitAnd => scalar(kind, content),
+        Kind::Sum(_) | Kind::Min(_) | Kind::Max(_) | Kind::Avg => Ok(scalar(alloc, kind, content)),
+        Kind::Or | Kind::And | Kind::BitOr | Kind::BitAnd => Ok(scalar(alloc, kind, content)),
         Kind::Set(base) => collection(alloc, over, Sort::of(base), content),
         Kind::Bag(base) => collection(alloc, over, Sort::of(base), content),
         Kind::List(base) => collection(alloc, over, Sort::of(base), content),
@@ -55,27 +54,25 @@ pub fn out_content(
 
 /// Prints a number, a truth value or an average.
 #[tactic(auto, using(crate::proofs::ContentLemmas::scalar_laws))]
-fn scalar(kind: &Kind, content: &Content) -> Result<Out, OutOfMemory>
+fn scalar(alloc: Global, kind: &Kind, content: &Content) -> Out
     requires shown { IsShown (accum_of kind.now) content.now }
     requires scalar { is_scalar (accum_of kind.now) ≡ true }
-    ensures { IfOk result (λ out. out ≡ scalar_shown (accum_of kind.now) content.now) }
+    ensures { result ≡ scalar_shown (accum_of kind.now) content.now }
 {
-    if !content.fits() {
-        return Err(OutOfMemory);
-    }
-    plain(content.value())
+    plain(alloc, content.value())
 }
 
+/// Prints a value that a scalar has. Texts, vertices and tuples, which none has, print as an empty list.
 #[tactic(auto, using(gq_value::specs::ViewLaws::view_laws))]
-fn plain(value: Value) -> Result<Out, OutOfMemory>
-    ensures { IfOk result (λ out. out ≡ plain_shown (val value)) }
+fn plain(alloc: Global, value: Value) -> Out
+    ensures { result ≡ plain_shown (val value) }
 {
     match value {
-        Value::Int(x) => Ok(Out::Int(x)),
-        Value::UInt(n) => Ok(Out::UInt(n)),
-        Value::Bool(truth) => Ok(Out::Bool(truth)),
-        Value::Fraction(average) => Ok(Out::Fraction(average)),
-        Value::Text(_) | Value::Vertex(_) | Value::Tuple(_) => Err(OutOfMemory),
+        Value::Int(x) => Out::Int(x),
+        Value::UInt(n) => Out::UInt(n),
+        Value::Bool(truth) => Out::Bool(truth),
+        Value::Fraction(average) => Out::Fraction(average),
+        Value::Text(_) | Value::Vertex(_) | Value::Tuple(_) => Out::List(List::new(alloc)),
     }
 }
 
@@ -93,7 +90,7 @@ fn collection(
     Ok(Out::List(outs))
 }
 
-/// Prints the elements of a set, bag, list or heap.
+/// Prints the elements of a set, bag, list or heap. Other contents have none.
 fn elements(
     alloc: Global,
     over: &BlockContext<'_>,
@@ -105,9 +102,7 @@ fn elements(
     match content {
         Content::Set(keys) => keys_of(alloc, over, sort, keys),
         Content::List(items) => values(alloc, over, sort, items.as_slice()),
-        Content::Bag(_) | Content::Heap(_) => in_order(alloc, over, sort, content),
-        Content::Scalar(_) | Content::Map(_, _) | Content::Group(_, _) => Err(OutOfMemory),
-        Content::Spoiled => Err(OutOfMemory),
+        _ => in_order(alloc, over, sort, content),
     }
 }
 
@@ -160,7 +155,7 @@ fn entries(
             }
             Ok(members)
         }
-        _ => Err(OutOfMemory),
+        _ => unreachable!(),
     }
 }
 
@@ -184,7 +179,7 @@ fn groups(
             }
             Ok(outs)
         }
-        _ => Err(OutOfMemory),
+        _ => unreachable!(),
     }
 }
 
@@ -215,7 +210,7 @@ fn group(
     Ok(Out::Object(members))
 }
 
-/// Appends the keys of a row by name to other members.
+/// Appends the keys of a row by name to other members, up to the last one that has a value.
 #[tactic(auto, using(crate::proofs::NamedLemmas::key_laws))]
 fn put_keys(
     alloc: Global,
@@ -228,7 +223,7 @@ fn put_keys(
 {
     for (place, key) in keys.iter().enumerate() {
         match row.get(place) {
-            None => return Err(OutOfMemory),
+            None => return Ok(()),
             Some(value) => put_value(alloc, over, &key.0, &key.1, value, members)?,
         }
     }
@@ -249,29 +244,24 @@ fn put_parts(
     ensures { OnOk result (members.new ≡ members.old ++ parts_shown (world_over gregorian over.now) (part_kinds kinds.now) parts.now) }
 {
     for (place, part) in parts.iter().enumerate() {
-        match kind_at(kinds, parts, place, part) {
-            None => return Err(OutOfMemory),
-            Some(kind) => {
-                let value = out_content(alloc, over, &kind.1, part)?;
-                put(alloc, kind.0.as_str(), value, members)?;
-            }
-        }
+        let kind = kind_at(kinds, parts, place, part);
+        let value = out_content(alloc, over, &kind.1, part)?;
+        put(alloc, kind.0.as_str(), value, members)?;
     }
     Ok(())
 }
 
 /// Returns the name and the kind of the part at a place.
-#[tactic(auto, using(crate::proofs::ContentLemmas::kind_shown))]
 fn kind_at<'a>(
     kinds: &'a [(Txt, Kind)],
     parts: &[Content],
     place: usize,
     part: &Content,
-) -> Option<&'a (Txt, Kind)>
+) -> &'a (Txt, Kind)
     requires shown { AreShown (part_kinds kinds.now) parts.now }
     requires there { slice_get parts.now place ≡ Some part.now }
-    ensures kind { slice_get kinds.entry.now place ≡ option_copied result }
-    ensures shown { IfSome result (λ kind. IsShown (accum_of kind.now.1) part.now) }
+    ensures kind { slice_get kinds.entry.now place ≡ Some result.now }
+    ensures shown { IsShown (accum_of result.now.1) part.now }
 {
-    kinds.get(place)
+    &kinds[place]
 }

@@ -30,10 +30,7 @@ pub(crate) fn item<V: Sees>(
 {
     match run(expr, alloc, sight) {
         Err(halt) => Err(halt),
-        Ok(seen) => match out_seen(alloc, over, seen) {
-            Ok(out) => Ok(out),
-            Err(_) => Err(Halt::OutOfMemory),
-        },
+        Ok(seen) => out_seen(alloc, over, seen),
     }
 }
 
@@ -51,10 +48,7 @@ pub(crate) fn members<V: Sees>(
     for keyed in items {
         match item(&keyed.0, alloc, over, sight) {
             Err(halt) => return Err(halt),
-            Ok(value) => match put(alloc, &keyed.1, value, &mut members) {
-                Ok(()) => {}
-                Err(_) => return Err(Halt::OutOfMemory),
-            },
+            Ok(value) => put(alloc, &keyed.1, value, &mut members)?,
         }
     }
     Ok(members)

@@ -1,5 +1,6 @@
 // Ids and texts of keys.
-ghost use Rattle.std.specs.Prelude.{◌≡◌, IfOk, Some, map, slice_get};
+ghost use Rattle.std.specs.Prelude.{◌≡◌, [], IfOk, map, slice_get};
+ghost use Rattle.std.specs.Option.{unwrap_or};
 ghost use Rattle.gq_value.specs.Views.{val};
 ghost use Rattle.gq_graph.specs.declared.rows.VertexRow.{VertexRow};
 ghost use Rattle.gq_rules_meaning.specs.Outs as plain;
@@ -13,7 +14,7 @@ use gq_value::{Txt, Value};
 use gq_vertex::Vertices;
 use std::alloc::Global;
 
-/// Returns the id of a vertex.
+/// Returns the id of a vertex, or an empty text if there is no such vertex.
 #[tactic(auto, using(crate::proofs::KeyLemmas::id_laws))]
 pub(crate) fn id_of(alloc: Global, over: &BlockContext<'_>, vertex: u32) -> Result<Txt, OutOfMemory>
     ensures { IfOk result (λ id. id ≡ plain.id_of (world_over gregorian over.now).graph vertex) }
@@ -23,15 +24,16 @@ pub(crate) fn id_of(alloc: Global, over: &BlockContext<'_>, vertex: u32) -> Resu
 
 #[tactic(auto, using(crate::proofs::KeyLemmas::among_laws))]
 fn id_among(alloc: Global, vertices: &Vertices, vertex: u32) -> Result<Txt, OutOfMemory>
-    ensures { IfOk result (λ id. slice_get (map (λ (r : VertexRow). r.id) vertices.now) vertex ≡ Some id) }
+    ensures { IfOk result (λ id. id ≡ unwrap_or (slice_get (map (λ (r : VertexRow). r.id) vertices.now) vertex) []) }
 {
     if vertex >= vertices.len() {
-        return Err(OutOfMemory);
+        return Txt::of(alloc, "");
     }
     Txt::of(alloc, vertices.id(vertex))
 }
 
-/// Returns the text of a key: a number in decimal digits, a vertex as its id.
+/// Returns the text of a key: a number in decimal digits, a vertex as its id. Values of other types are no keys, and
+/// have an empty text.
 #[tactic(auto, using(gq_value::specs::ViewLaws::view_laws, crate::proofs::KeyLemmas::key_laws))]
 pub(crate) fn key_text(
     alloc: Global,
@@ -47,6 +49,7 @@ pub(crate) fn key_text(
         Value::Bool(false) => Txt::of(alloc, "false"),
         Value::Text(text) => Txt::of(alloc, text.as_str()),
         Value::Vertex(vertex) => id_of(alloc, over, *vertex),
-        Value::Tuple(_) | Value::Fraction(_) => Err(OutOfMemory),
+        Value::Tuple(_) => Txt::of(alloc, ""),
+        Value::Fraction(_) => Txt::of(alloc, ""),
     }
 }

@@ -16,6 +16,7 @@ mod ids;
 mod items;
 mod keys;
 mod seen;
+mod times;
 mod values;
 mod vertices;
 mod whole;

@@ -1,12 +1,12 @@
 // The printed form of expressions.
-ghost use Rattle.std.specs.Prelude.{◌≡◌, [], IfOk};
+ghost use Rattle.std.specs.Prelude.{◌≡◌, IfOk};
 ghost use Rattle.gq_value.specs.AccumViews.{accum_of};
 ghost use Rattle.gq_value.specs.Views.{val};
 ghost use Rattle.gq_accum_laws.specs.After.{fresh};
-ghost use Rattle.gq_rules_meaning.specs.Answers.{Gives, each};
+ghost use Rattle.gq_rules_meaning.specs.Answers.{each};
 ghost use Rattle.gq_rules_calendar.specs.Gregorian.{gregorian};
 ghost use Rattle.gq_frame.specs.Slots.{slots_are};
-ghost use Rattle.gq_eval_operand.specs.Meant.{meant, sort_is, valued};
+ghost use Rattle.gq_eval_operand.specs.Meant.{itself, meant, sort_is, valued, Tells};
 ghost use Rattle.gq_eval_operand.specs.Sound.{Sound};
 ghost use Rattle.gq_eval_context.specs.Looks.{world_over};
 ghost use Rattle.gq_output.specs.Printed.{fresh_shown, meant_shown, value_shown};
@@ -17,46 +17,30 @@ use crate::values::out_value;
 use crate::vertices::out_whole_vertex;
 use gq_base::{List, OutOfMemory};
 use gq_eval_context::BlockContext;
-use gq_eval_operand::{Operand, Seen, Sort};
+use gq_eval_operand::{Halt, Operand, Seen, Sort};
 use gq_json::{Out, Outs};
 use gq_nest::Content;
 use gq_value::{Kind, Txt, Value};
 use std::alloc::Global;
 
-/// Prints the result of an expression: a value, an average, a collection or a set.
+/// Prints the result of an expression: a value, an average, a collection or a set. A row of a group, an edge or a vertex
+/// of `S[..]` by itself isn't printed.
 #[tactic(auto, using(crate::proofs::SeenLemmas::seen_laws))]
-pub fn out_seen(alloc: Global, over: &BlockContext<'_>, seen: Seen<'_>) -> Result<Out, OutOfMemory>
+pub fn out_seen(alloc: Global, over: &BlockContext<'_>, seen: Seen<'_>) -> Result<Out, Halt>
     requires { Sound seen }
-    ensures { IfOk result (λ out. meant_shown (world_over gregorian over.now) (slots_are over.now.frame.accums) (meant seen.entry) ≡ Gives out) }
+    ensures { Tells itself (meant_shown (world_over gregorian over.now) (slots_are over.now.frame.accums) (meant seen.entry)) result }
 {
     match seen {
-        Seen::Value(sort, operand) => out_operand(alloc, over, sort, operand),
+        Seen::Value(sort, operand) => Ok(out_operand(alloc, over, sort, operand)?),
         Seen::Average(average) => Ok(Out::Fraction(average)),
-        Seen::Whole(kind, content) => out_content(alloc, over, kind, content),
-        Seen::Opening(kind) => out_opening(alloc, over, kind),
-        Seen::Set(vertices) => Ok(Out::List(out_set(alloc, over, vertices)?)),
-        Seen::Row(_, _, _) | Seen::OpeningRow(_) => Err(OutOfMemory),
-        Seen::Edge(_, _) | Seen::Member(_, _, _) => Err(OutOfMemory),
-    }
-}
-
-/// Prints the value that an accumulator reads as: a value, an average or a collection.
-#[tactic(auto, using(crate::proofs::SeenLemmas::seen_laws))]
-pub(crate) fn out_read(
-    alloc: Global,
-    over: &BlockContext<'_>,
-    seen: Seen<'_>,
-) -> Result<Out, OutOfMemory>
-    requires { Sound seen }
-    ensures { IfOk result (λ out. meant_shown (world_over gregorian over.now) [] (meant seen.entry) ≡ Gives out) }
-{
-    match seen {
-        Seen::Value(sort, operand) => out_operand(alloc, over, sort, operand),
-        Seen::Average(average) => Ok(Out::Fraction(average)),
-        Seen::Whole(kind, content) => out_content(alloc, over, kind, content),
-        Seen::Opening(_) | Seen::Set(_) => Err(OutOfMemory),
-        Seen::Row(_, _, _) | Seen::OpeningRow(_) => Err(OutOfMemory),
-        Seen::Edge(_, _) | Seen::Member(_, _, _) => Err(OutOfMemory),
+        Seen::Whole(kind, content) => Ok(out_content(alloc, over, kind, content)?),
+        Seen::Opening(kind) => Ok(out_opening(alloc, over, kind)?),
+        Seen::Set(vertices) => match out_set(alloc, over, vertices) {
+            Ok(outs) => Ok(Out::List(outs)),
+            Err(halt) => Err(halt),
+        },
+        Seen::Row(_, _, _) | Seen::OpeningRow(_) => Err(Halt::Stuck),
+        Seen::Edge(_, _) | Seen::Member(_, _, _) => Err(Halt::Stuck),
     }
 }
 
@@ -104,16 +88,15 @@ fn out_opening(alloc: Global, over: &BlockContext<'_>, kind: &Kind) -> Result<Ou
 
 /// Prints whole vertices, in order.
 #[tactic(auto, using(crate::proofs::SeenLemmas::set_laws))]
-pub fn out_set(
-    alloc: Global,
-    over: &BlockContext<'_>,
-    vertices: &[u32],
-) -> Result<Outs, OutOfMemory>
-    ensures { IfOk result (λ outs. each (whole_shown (world_over gregorian over.now) (slots_are over.now.frame.accums)) vertices.now ≡ Gives outs) }
+pub fn out_set(alloc: Global, over: &BlockContext<'_>, vertices: &[u32]) -> Result<Outs, Halt>
+    ensures { Tells itself (each (whole_shown (world_over gregorian over.now) (slots_are over.now.frame.accums)) vertices.now) result }
 {
     let mut outs = List::new(alloc);
     for vertex in vertices {
-        outs.push(out_whole_vertex(alloc, over, *vertex)?)?;
+        match out_whole_vertex(alloc, over, *vertex) {
+            Err(halt) => return Err(halt),
+            Ok(out) => outs.push(out)?,
+        }
     }
     Ok(outs)
 }

@@ -1,23 +1,23 @@
 // Values.
-ghost use Rattle.std.specs.Prelude.{◌≡◌, ◌++◌, ◌∷◌, [], IfOk, IfSome, OnOk, Some, map, slice_get};
+ghost use Rattle.std.specs.Prelude.{◌≡◌, ◌++◌, ◌∷◌, [], IfOk, MatchOption, None, OnOk, Some, map, slice_get};
 ghost use Rattle.std.specs.Option.{option_copied};
 ghost use Rattle.gq_json.specs.declared.out.Out.TheVariants as json;
 ghost use Rattle.gq_value.specs.Views.{val, vals};
-ghost use Rattle.gq_value.specs.Val.{Int, Tuple};
+ghost use Rattle.gq_value.specs.Val.{Tuple};
 ghost use Rattle.gq_value.specs.AccumViews.{base_of};
 ghost use Rattle.gq_rules_calendar.specs.Gregorian.{gregorian};
 ghost use Rattle.gq_eval_attributes.specs.Tuples.{fields_in};
 ghost use Rattle.gq_eval_operand.specs.Meant.{sort_is};
 ghost use Rattle.gq_eval_context.specs.Looks.{world_over};
-ghost use Rattle.gq_output.specs.Printed.{named_shown, time_shown, value_shown};
+ghost use Rattle.gq_output.specs.Printed.{int_shown, named_shown, value_shown};
 
 use crate::keys::id_of;
+use crate::times::shown_time;
 use gq_base::{List, OutOfMemory};
 use gq_eval_attributes::TupleType;
 use gq_eval_context::BlockContext;
 use gq_eval_operand::Sort;
 use gq_json::{Members, Out, Outs};
-use gq_time::{in_range, write_time};
 use gq_value::{BaseType, Txt, Value};
 use std::alloc::Global;
 
@@ -33,7 +33,7 @@ pub fn out_value(
     ensures { IfOk result (λ out. out ≡ value_shown (world_over gregorian over.now) (sort_is sort.entry) (val value.now)) }
 {
     match value {
-        Value::Int(x) => whole(alloc, over, sort, *x),
+        Value::Int(x) => whole(alloc, sort, *x),
         Value::UInt(n) => Ok(Out::UInt(*n)),
         Value::Bool(truth) => Ok(Out::Bool(*truth)),
         Value::Text(text) => Ok(Out::Text(Txt::of(alloc, text.as_str())?)),
@@ -44,30 +44,17 @@ pub fn out_value(
 }
 
 /// Prints a signed whole number, or the DATETIME with this number of seconds.
-#[tactic(auto, using(crate::proofs::ValueLemmas::whole_laws))]
-fn whole(alloc: Global, over: &BlockContext<'_>, sort: Sort<'_>, x: i64) -> Result<Out, OutOfMemory>
-    ensures { IfOk result (λ out. out ≡ value_shown (world_over gregorian over.now) (sort_is sort.entry) (Int x)) }
+fn whole(alloc: Global, sort: Sort<'_>, x: i64) -> Result<Out, OutOfMemory>
+    ensures { IfOk result (λ out. out ≡ int_shown gregorian (sort_is sort.entry) x) }
 {
     match sort {
-        Sort::Time => time(alloc, over, x),
+        Sort::Time => shown_time(alloc, x),
         Sort::Int | Sort::UInt | Sort::Bool | Sort::Text => Ok(Out::Int(x)),
         Sort::AnyVertex | Sort::VertexOf(_) | Sort::Tuple(_, _) => Ok(Out::Int(x)),
     }
 }
 
-/// Returns the text of a DATETIME.
-#[tactic(auto, using(crate::proofs::ValueLemmas::time_laws))]
-fn time(alloc: Global, _over: &BlockContext<'_>, seconds: i64) -> Result<Out, OutOfMemory>
-    ensures { IfOk result (λ out. out ≡ time_shown gregorian seconds) }
-{
-    if !in_range(seconds) {
-        return Err(OutOfMemory);
-    }
-    let text = write_time(alloc, seconds)?;
-    Ok(Out::Text(text))
-}
-
-/// Prints the fields of a tuple, as members.
+/// Prints the fields of a tuple, as members. A tuple type that isn't declared has none.
 #[cycle(values)]
 #[tactic(auto, using(crate::proofs::ValueLemmas::tuple_laws))]
 fn tuple(
@@ -81,7 +68,7 @@ fn tuple(
     match sort {
         Sort::Tuple(number, _) => match tuple_type(over, number) {
             Some(of) => fields(alloc, over, of, row),
-            None => Err(OutOfMemory),
+            None => Ok(List::new(alloc)),
         },
         Sort::Int | Sort::UInt | Sort::Bool | Sort::Text | Sort::Time => Ok(List::new(alloc)),
         Sort::AnyVertex | Sort::VertexOf(_) => Ok(List::new(alloc)),
@@ -95,7 +82,7 @@ fn tuple_type<'a>(over: &'a BlockContext<'_>, number: u32) -> Option<&'a TupleTy
     over.tuples.get(number as usize)
 }
 
-/// Prints the fields of a tuple of a type, as members.
+/// Prints the fields of a tuple of a type, as members, up to the last one that has a value.
 #[cycle(values)]
 #[tactic(auto, using(crate::proofs::NamedLemmas::field_laws))]
 fn fields(
@@ -109,17 +96,17 @@ fn fields(
     let mut members = List::new(alloc);
     for (place, value) in row.iter().enumerate() {
         match field_at(of, place) {
-            None => return Err(OutOfMemory),
+            None => return Ok(members),
             Some(field) => put_value(alloc, over, field.0, field.1, value, &mut members)?,
         }
     }
     Ok(members)
 }
 
-/// Returns the name and the type of the field at a place.
-#[tactic(auto, using(crate::proofs::NamedLemmas::field_at))]
+/// Returns the name and the type of the field at a place, if there is one.
+#[tactic(auto, using(crate::proofs::NamedLemmas::place_laws))]
 fn field_at(of: &TupleType, place: usize) -> Option<(&Txt, &BaseType)>
-    ensures { IfSome result (λ field. slice_get (fields_in of.now) place ≡ Some (field.0.now, base_of field.1.now)) }
+    ensures { MatchOption result (slice_get (fields_in of.now) place ≡ None) (λ field. slice_get (fields_in of.now) place ≡ Some (field.0.now, base_of field.1.now)) }
 {
     match of.names.get(place) {
         None => None,

@@ -1,10 +1,11 @@
 // Vertices.
-ghost use Rattle.std.specs.Prelude.{◌≡◌, ◌<◌, ◌≤◌, ◌++◌, ◌∷◌, [], codes, IfOk, IfSome, Some, length, slice_get};
+ghost use Rattle.std.specs.Prelude.{◌≡◌, ◌<◌, ◌≤◌, ◌++◌, ◌∷◌, [], codes, IfOk, MatchOption, None, Some, length, slice_get};
 ghost use Rattle.std.specs.Option.{option_copied};
 ghost use Rattle.gq_json.specs.declared.out.Out.TheVariants as json;
 ghost use Rattle.gq_graph.specs.Vertices.{vertex_at};
-ghost use Rattle.gq_rules_meaning.specs.Answers.{Gives};
+ghost use Rattle.gq_rules_meaning.specs.Graphs.{sort_of_vertex};
 ghost use Rattle.gq_rules_calendar.specs.Gregorian.{gregorian};
+ghost use Rattle.gq_eval_operand.specs.Meant.{itself, Tells};
 ghost use Rattle.gq_frame.specs.Slots.{slots_are};
 ghost use Rattle.gq_eval_context.specs.Looks.{world_over};
 ghost use Rattle.gq_output.specs.Vertices.{HasType, described, vertex_shown, whole_shown};
@@ -14,6 +15,7 @@ use crate::keys::id_of;
 use crate::values::put;
 use gq_base::{List, OutOfMemory};
 use gq_eval_context::BlockContext;
+use gq_eval_operand::Halt;
 use gq_graph::VertexType;
 use gq_json::{Members, Out};
 use gq_value::Txt;
@@ -22,15 +24,11 @@ use std::alloc::Global;
 
 /// Prints a vertex with all its attributes, and then its attached accumulators in order of declaration.
 #[tactic(auto, using(crate::proofs::VertexLemmas::whole_laws))]
-pub fn out_whole_vertex(
-    alloc: Global,
-    over: &BlockContext<'_>,
-    vertex: u32,
-) -> Result<Out, OutOfMemory>
-    ensures { IfOk result (λ out. whole_shown (world_over gregorian over.now) (slots_are over.now.frame.accums) vertex ≡ Gives out) }
+pub fn out_whole_vertex(alloc: Global, over: &BlockContext<'_>, vertex: u32) -> Result<Out, Halt>
+    ensures { Tells itself (whole_shown (world_over gregorian over.now) (slots_are over.now.frame.accums) vertex) result }
 {
     match type_of(over, vertex) {
-        None => Err(OutOfMemory),
+        None => Err(Halt::Stuck),
         Some(of) => {
             let mut members = attributes(alloc, over, of, vertices_of(over), vertex)?;
             put_attached(alloc, over, vertex, &mut members)?;
@@ -46,15 +44,15 @@ pub fn out_vertex(
     over: &BlockContext<'_>,
     vertex: u32,
     attributes: Members,
-) -> Result<Out, OutOfMemory>
-    ensures { IfOk result (λ out. vertex_shown (world_over gregorian over.now) vertex attributes ≡ Gives out) }
+) -> Result<Out, Halt>
+    ensures { Tells itself (vertex_shown (world_over gregorian over.now) vertex attributes) result }
 {
     match type_of(over, vertex) {
-        None => Err(OutOfMemory),
+        None => Err(Halt::Stuck),
         Some(of) => {
             let id = id_of(alloc, over, vertex)?;
             let kind = Txt::of(alloc, of.name.as_str())?;
-            described(alloc, id, kind, attributes)
+            Ok(described(alloc, id, kind, attributes)?)
         }
     }
 }
@@ -79,7 +77,7 @@ fn vertices_of<'a>(over: &BlockContext<'a>) -> &'a Vertices
 
 /// Returns the type of a vertex, if there is one.
 fn type_of<'a>(over: &BlockContext<'a>, vertex: u32) -> Option<&'a VertexType>
-    ensures { IfSome result (λ of. HasType over.now vertex of.now) }
+    ensures { MatchOption result (sort_of_vertex (world_over gregorian over.now).graph vertex ≡ None) (λ of. HasType over.now vertex of.now) }
 {
     let vertices = &over.graph.store.vertices;
     if vertex >= vertices.len() {

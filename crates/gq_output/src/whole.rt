@@ -29,8 +29,8 @@ use std::alloc::Global;
 
 /// Returns the output of one PRINT: an object with a member for each item, in order.
 ///
-/// Items are evaluated from left to right, and the first fault counts. An item that isn't well typed, about which
-/// nothing is promised, ends with `OutOfMemory` or as stuck.
+/// Items are evaluated from left to right, and the first fault counts. What the definitions don't print, such as an edge,
+/// ends as stuck.
 pub fn print(alloc: Global, items: &[PrintItem], over: &BlockContext<'_>) -> Result<Printed, Halt>
     ensures { (s : State Reference) → Shows over.now.plan.places over.now.frame s → Prints (each (printed (world_over gregorian over.now) s) (map view_item items.now)) result }
 {
@@ -49,10 +49,7 @@ fn members_of(items: &[PrintItem], alloc: Global, over: &BlockContext<'_>) -> Re
     for item in items {
         match value_of(item, alloc, over) {
             Err(halt) => return Err(halt),
-            Ok(value) => match put(alloc, key_of(item), value, &mut members) {
-                Ok(()) => {}
-                Err(_) => return Err(Halt::OutOfMemory),
-            },
+            Ok(value) => put(alloc, key_of(item), value, &mut members)?,
         }
     }
     Ok(members)

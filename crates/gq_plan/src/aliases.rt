@@ -3,8 +3,9 @@ ghost use Rattle.std.specs.Prelude.{◌≡◌, OnOk, IfOk};
 ghost use Rattle.gq_check_from.specs.Faults.{Grows};
 
 use crate::notes::note;
-use gq_base::{List, OutOfMemory};
-use gq_check_from::{end_types, source_types, target_alias, text_of, walk, with_alias};
+use gq_base::List;
+use gq_check_from::{CheckFault, end_types, source_types, target_alias, text_of, walk, with_alias};
+use gq_plan_expr::PlanFault;
 use gq_plan_ir::PlaceType;
 use gq_scope::Scope;
 use gq_tree::{PatternTree, SelectTree, StepTree};
@@ -16,7 +17,7 @@ pub(crate) fn aliases(
     scope: &mut Scope<'_>,
     query: &SelectTree,
     held: &mut List<PlaceType>,
-) -> Result<(), OutOfMemory>
+) -> Result<(), PlanFault>
     ensures { OnOk result (scope.new ≡ scope.old) }
 {
     let before = scope.len();
@@ -29,17 +30,19 @@ pub(crate) fn aliases(
 }
 
 /// Brings the aliases of a SELECT into view.
-fn come_into_view(
-    alloc: Global,
-    scope: &mut Scope<'_>,
-    query: &SelectTree,
-) -> Result<(), OutOfMemory>
+fn come_into_view(alloc: Global, scope: &mut Scope<'_>, query: &SelectTree) -> Result<(), PlanFault>
     ensures { OnOk result (Grows scope.old scope.new) }
 {
     let ends = end_types(alloc, scope, &query.walk)?;
-    let sources = passed!(source_types(alloc, scope, query.source.as_str()));
-    passed!(with_alias(alloc, scope, &query.alias, sources.as_slice()));
-    passed!(walk(alloc, scope, ends.as_slice(), &query.walk));
+    let sources = passed!(
+        CheckFault,
+        source_types(alloc, scope, query.source.as_str())
+    );
+    passed!(
+        CheckFault,
+        with_alias(alloc, scope, &query.alias, sources.as_slice())
+    );
+    passed!(CheckFault, walk(alloc, scope, ends.as_slice(), &query.walk));
     Ok(())
 }
 
@@ -49,7 +52,7 @@ fn note_if(
     scope: &Scope<'_>,
     name: Option<&str>,
     held: &mut List<PlaceType>,
-) -> Result<(), OutOfMemory> {
+) -> Result<(), PlanFault> {
     match name {
         None => Ok(()),
         Some(name) => note(alloc, scope, name, held),

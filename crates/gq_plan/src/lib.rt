@@ -10,12 +10,14 @@
 //! `CatalogNames` of `gq_plan_expr`, and `src/notes.rt` notes types.
 #![tactic(auto)]
 
-/// The result of a rule of the checker. The query is already checked; a failure here is internal, and is `OutOfMemory`.
+/// The result of a rule of the checker, whose faults are of this type. A rule refuses only a query that isn't well
+/// typed; this returns `Unknown` then.
 macro_rules! passed {
-    ($answer:expr) => {
+    ($fault:ident, $answer:expr) => {
         match $answer {
             Ok(it) => it,
-            Err(_) => return Err(OutOfMemory),
+            Err($fault::OutOfMemory) => return Err(PlanFault::OutOfMemory),
+            Err(_) => return Err(PlanFault::Unknown),
         }
     };
 }

@@ -1,6 +1,6 @@
 // The variable of a FOREACH.
-use gq_base::OutOfMemory;
-use gq_scope::{Base, Scope, Typed, element_type};
+use gq_plan_expr::PlanFault;
+use gq_scope::{Base, Scope, TypeFault, Typed, element_type};
 use gq_tree::OverTree;
 use gq_type::{number, number_of_both, type_of};
 use gq_value::BaseType;
@@ -11,19 +11,19 @@ pub(crate) fn variable_type(
     alloc: Global,
     scope: &Scope<'_>,
     over: &OverTree,
-) -> Result<BaseType, OutOfMemory> {
+) -> Result<BaseType, PlanFault> {
     match over {
         OverTree::Elements(node) => {
-            let typed = passed!(type_of(alloc, scope, node));
+            let typed = passed!(TypeFault, type_of(alloc, scope, node));
             match element_of(typed) {
-                Some(base) => base.keep(alloc),
-                None => Err(OutOfMemory),
+                Some(base) => Ok(base.keep(alloc)?),
+                None => Err(PlanFault::Unknown),
             }
         }
         OverTree::Range(from, to) => {
-            let low = passed!(number(alloc, scope, from));
-            let high = passed!(number(alloc, scope, to));
-            number_of_both(low, high).keep(alloc)
+            let low = passed!(TypeFault, number(alloc, scope, from));
+            let high = passed!(TypeFault, number(alloc, scope, to));
+            Ok(number_of_both(low, high).keep(alloc)?)
         }
     }
 }

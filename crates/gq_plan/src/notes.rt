@@ -6,6 +6,7 @@ ghost use Rattle.gq_plan.specs.Noted.{IsHeld, Notes};
 
 use gq_base::{List, OutOfMemory};
 use gq_graph::Numbers;
+use gq_plan_expr::PlanFault;
 use gq_plan_ir::PlaceType;
 use gq_scope::{Entry, Scope};
 use std::alloc::Global;
@@ -16,17 +17,20 @@ pub(crate) fn note(
     scope: &Scope<'_>,
     name: &str,
     held: &mut List<PlaceType>,
-) -> Result<(), OutOfMemory>
+) -> Result<(), PlanFault>
     ensures { OnOk result (Notes (typing.entry (scope_in scope.now) name.now) held.old held.new) }
 {
     match scope.find(name) {
-        None => Err(OutOfMemory),
-        Some(entry) => held.push(held_of(alloc, entry)?),
+        None => Err(PlanFault::Unknown),
+        Some(entry) => {
+            held.push(held_of(alloc, entry)?)?;
+            Ok(())
+        }
     }
 }
 
 /// Returns the content of a name's place. An accumulator and a tuple type have no place.
-fn held_of(alloc: Global, entry: &Entry) -> Result<PlaceType, OutOfMemory>
+fn held_of(alloc: Global, entry: &Entry) -> Result<PlaceType, PlanFault>
     ensures { IfOk result (IsHeld (entry_of entry.now)) }
 {
     match entry {
@@ -34,7 +38,7 @@ fn held_of(alloc: Global, entry: &Entry) -> Result<PlaceType, OutOfMemory>
         Entry::SetVariable(types) => Ok(PlaceType::Set(copy(alloc, types)?)),
         Entry::Alias(types) => Ok(PlaceType::Alias(copy(alloc, types)?)),
         Entry::EdgeAlias(types) => Ok(PlaceType::EdgeAlias(copy(alloc, types)?)),
-        Entry::Accumulator(_, _) | Entry::TupleType(_) => Err(OutOfMemory),
+        Entry::Accumulator(_, _) | Entry::TupleType(_) => Err(PlanFault::Unknown),
     }
 }
 

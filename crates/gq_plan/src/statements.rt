@@ -6,10 +6,11 @@ ghost use Rattle.gq_check_from.specs.Faults.{Grows};
 use crate::aliases::aliases;
 use crate::looping::variable_type;
 use crate::notes::note;
-use gq_base::{List, OutOfMemory};
+use gq_base::List;
 use gq_check_decls::base_written;
-use gq_check_from::{add, new_name};
+use gq_check_from::{CheckFault, add, new_name};
 use gq_check_select::assignment;
+use gq_plan_expr::PlanFault;
 use gq_plan_ir::PlaceType;
 use gq_scope::{Entry, Scope};
 use gq_tree::{BaseTree, Node, OverTree, RightTree, SetTypesTree, Stmt};
@@ -24,7 +25,7 @@ pub(crate) fn statements<'q>(
     alloc: Global,
     scope: &mut Scope<'q>,
     held: &mut List<PlaceType>,
-) -> Result<(), OutOfMemory>
+) -> Result<(), PlanFault>
     requires { scope.old.place ≡ typing.InStatement }
     ensures { OnOk result (Grows scope.old scope.new) }
 {
@@ -42,7 +43,7 @@ fn statement<'q>(
     alloc: Global,
     scope: &mut Scope<'q>,
     held: &mut List<PlaceType>,
-) -> Result<(), OutOfMemory>
+) -> Result<(), PlanFault>
     requires { scope.old.place ≡ typing.InStatement }
     ensures { OnOk result (Grows scope.old scope.new) }
 {
@@ -76,7 +77,7 @@ fn body<'q>(
     alloc: Global,
     scope: &mut Scope<'q>,
     held: &mut List<PlaceType>,
-) -> Result<(), OutOfMemory>
+) -> Result<(), PlanFault>
     requires { scope.old.place ≡ typing.InStatement }
     ensures { OnOk result (scope.new ≡ scope.old) }
 {
@@ -96,7 +97,7 @@ fn foreach<'q>(
     name: &str,
     over: &OverTree,
     held: &mut List<PlaceType>,
-) -> Result<(), OutOfMemory>
+) -> Result<(), PlanFault>
     requires { scope.old.place ≡ typing.InStatement }
     ensures { OnOk result (scope.new ≡ scope.old) }
 {
@@ -113,7 +114,7 @@ fn loop_variable(
     name: &str,
     over: &OverTree,
     held: &mut List<PlaceType>,
-) -> Result<(), OutOfMemory>
+) -> Result<(), PlanFault>
     ensures { OnOk result (Grows scope.old scope.new) }
 {
     let base = variable_type(alloc, scope, over)?;
@@ -128,10 +129,10 @@ fn locals(
     tree: &BaseTree,
     trees: &[(Txt, Option<Node>)],
     held: &mut List<PlaceType>,
-) -> Result<(), OutOfMemory>
+) -> Result<(), PlanFault>
     ensures { OnOk result (Grows scope.old scope.new) }
 {
-    let base = passed!(base_written(alloc, scope, tree));
+    let base = passed!(CheckFault, base_written(alloc, scope, tree));
     for local in trees {
         let base = base.duplicate(alloc)?;
         declare(alloc, scope, local.0.as_str(), base, held)?;
@@ -146,10 +147,10 @@ fn declare(
     name: &str,
     base: BaseType,
     held: &mut List<PlaceType>,
-) -> Result<(), OutOfMemory>
+) -> Result<(), PlanFault>
     ensures { OnOk result (Grows scope.old scope.new) }
 {
-    passed!(new_name(alloc, scope, name));
+    passed!(CheckFault, new_name(alloc, scope, name));
     add(scope, name, Entry::Variable(base))?;
     note(alloc, scope, name, held)
 }
@@ -163,7 +164,7 @@ fn assign<'q>(
     types: Option<&SetTypesTree>,
     right: &'q RightTree,
     held: &mut List<PlaceType>,
-) -> Result<(), OutOfMemory>
+) -> Result<(), PlanFault>
     requires { scope.old.place ≡ typing.InStatement }
     ensures { OnOk result (Grows scope.old scope.new) }
 {
@@ -172,7 +173,7 @@ fn assign<'q>(
         RightTree::Sets(_) | RightTree::Value(_) => {}
     }
     let before = scope.len();
-    passed!(assignment(alloc, scope, name, types, right));
+    passed!(CheckFault, assignment(alloc, scope, name, types, right));
     if scope.len() > before {
         return note(alloc, scope, name, held);
     }

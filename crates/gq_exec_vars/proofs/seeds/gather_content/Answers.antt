@@ -1,7 +1,8 @@
-use Rattle.gq_value.specs.AccumViews.{accum_of}
-use Rattle.gq_exec_vars.proofs.SeedLemmas.{content_gathered}
+use Rattle.gq_exec_vars.proofs.SeedLemmas.{content_seeded, content_halts}
 use Rattle.gq_exec_vars.proofs.seeds.gather_content.Goals as goal
 
-pub returns-in-Some : goal.returns-in-Some
-returns-in-Some c =
-    content_gathered c.args.at.now c.args.slot (accum_of c.in-Some.kind.now) c.in-Some.content.now c.args.bits.now c.put_content.new.bits c.put_content.result c.in-Some.ensures c.put_content.ensures
+pub returns-in-Ok-clause-seeded : goal.returns-in-Ok-clause-seeded
+returns-in-Ok-clause-seeded c = content_seeded c.args.at.now c.args.slot c.read_target.result c.in-Ok.seen c.args.bits.now c.put_seen.new.bits c.put_seen.result c.read_target.ensures.read c.in-Ok.is c.put_seen.ensures.put
+
+pub returns-in-Err-clause-seeded : goal.returns-in-Err-clause-seeded
+returns-in-Err-clause-seeded c = content_halts c.args.at.now c.args.slot c.read_target.result c.in-Err.halt c.args.bits.now c.args.bits.now c.read_target.ensures.read c.in-Err.is

@@ -1,4 +1,4 @@
-use Rattle.std.proofs.Common.{rules, ◌<◌, List, length, map, ap, sym, subst, ◌∙◌, arith}
+use Rattle.std.proofs.Common.{rules, ℕ, ◌<◌, ◌≤◌, List, length, map, ap, sym, subst, ◌∙◌, arith}
 use Rattle.std.specs.Map.Iter.{deref_pair}
 use Rattle.std.proofs.lemmas.Map.Iter.{rest_more}
 use Rattle.gq_value.specs.declared.kind.BaseType.{BaseType}
@@ -9,8 +9,8 @@ use Rattle.gq_value.proofs.AccumLemmas.{accum_of-Set, accum_of-Bag, accum_of-Lis
 use Rattle.gq_rules_calendar.specs.Gregorian.{gregorian}
 use Rattle.gq_eval_operand.specs.Meant.{keys_are, parts_are, sort_is}
 use Rattle.gq_eval_context.specs.Looks.{world_over}
-use Rattle.gq_output.specs.Printed.{IsMap}
-use Rattle.gq_output.proofs.ContentLemmas.{entries_first, groups_first, groups_more, group_put, group_asked, map_asked, map_told, set_told, bag_told, list_told, heap_told, parts_next}
+use Rattle.gq_output.specs.Printed.{AreShown, IsMap, part_kinds}
+use Rattle.gq_output.proofs.ContentLemmas.{entries_first, groups_first, groups_more, group_put, group_asked, map_asked, map_told, set_told, bag_told, list_told, heap_told, parts_all, parts_next}
 use Rattle.gq_output.proofs.contents.+contents.Goals as goal
 
 pub entries-loop-key-init : goal.entries-loop-key-init
@@ -67,5 +67,13 @@ out_content-returns-in_ok-entries-in-Map t c =
 pub put_parts-loop-place-preserved : goal.put_parts-loop-place-preserved
 put_parts-loop-place-preserved t c =
     let n : c.loop-place.place < length c.args.parts.now = omega arith in
-    parts_next (world_over gregorian c.args.over.now) c.args.kinds.now c.args.parts.now _ c.loop-place.members _ c.loop-place.place _ c.in-Some.kind.now c.as_str.result.now _ c.loop-place.invariant c.in-Some.ensures.kind n c.index-parts-place.is c.as_str.ensures
-    c.in_ok-value-in-Some.ensures c.in_ok-put-in-Some.ensures
+    parts_next (world_over gregorian c.args.over.now) c.args.kinds.now c.args.parts.now _ c.loop-place.members _ c.loop-place.place _ c.kind_at-kind.result.now c.as_str.result.now _ c.loop-place.invariant c.kind_at-kind.ensures.kind n c.index-parts-place.is c.as_str.ensures
+    c.in_ok-value.ensures c.in_ok-put.ensures
+
+pub put_parts-returns : goal.put_parts-returns
+put_parts-returns t c =
+    let n : length c.args.parts.now ≤ c.loop-place.place = omega arith in
+    parts_all (world_over gregorian c.args.over.now) c.args.kinds.now c.args.parts.now _ c.loop-place.members c.loop-place.place c.loop-place.invariant n
+
+pub group-put_parts-requires : goal.group-put_parts-requires
+group-put_parts-requires t c = ((search rules), subst (λ (qs : List (List ℕ × Kind)). AreShown (part_kinds qs) c.args.parts.now) (sym c.as_slice-2.ensures) c.requires)
