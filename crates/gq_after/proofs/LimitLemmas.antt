@@ -46,7 +46,9 @@ module _ {N : Type 0} (world : World N) (look : Look N) (t : Tree N) where
   ends p (Gives x) (halt.Wrong w) vs e = absurd (cc)
   ends p (Faults u) (halt.Wrong w) vs e = ap (λ (q : Answer Wrong ℕ). blaming (AtPlace p) q >>= λ n. Gives (at_most (pos n) vs)) e
   ends p Stuck (halt.Wrong w) vs e = absurd (cc)
-  ends p o halt.Stuck vs e = tt
+  ends p (Gives x) halt.Stuck vs e = absurd (cc)
+  ends p (Faults u) halt.Stuck vs e = absurd (cc)
+  ends p Stuck halt.Stuck vs e = refl
   ends p o halt.Outside vs e = tt
   ends p o halt.OutOfMemory vs e = tt
 

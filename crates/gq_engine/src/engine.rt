@@ -1,6 +1,8 @@
 // The machine that runs queries.
-ghost use Rattle.std.specs.Prelude.{map};
+ghost use Rattle.std.specs.Prelude.{◌<◌, IfOk, length, map};
+ghost use Rattle.std.specs.Option.{ForSome};
 ghost use Rattle.gq_value.specs.Views.{val};
+ghost use Rattle.gq_rules_typing.specs.StatementViews.{view_query};
 ghost use Rattle.gq_rules_meaning.specs.Answers.{Answer};
 ghost use Rattle.gq_rules_meaning.specs.Statements.{Fault};
 ghost use Rattle.gq_rules_calendar.specs.Gregorian.{gregorian};
@@ -8,16 +10,18 @@ ghost use Rattle.gq_flow.specs.Plans.{Objects, Prints};
 ghost use Rattle.gq_scope.specs.Held.{graph_in};
 ghost use Rattle.gq_plan.specs.Prints.{PrintsAs};
 ghost use Rattle.gq_query_run.specs.Indexed.{IsIndexed};
+ghost use Rattle.gq_query_run.specs.Judging.{IsTyped};
 ghost use Rattle.gq_query_run.specs.Runs.{Runs};
 ghost use Rattle.gq_engine.specs.Engines.{plan_over};
 
 use gq_base::{List, OutOfMemory};
-use gq_exec_control::RunFault as PlanFault;
+use gq_exec_control::RunFault;
 use gq_flow::{Workers, run_query};
 use gq_index::{Graph, Index, Store};
 use gq_io::{AnyGate, Shape};
 use gq_json::Printed;
 use gq_plan::plan;
+use gq_plan_expr::PlanFault;
 use gq_plan_ir::Plan;
 use gq_query_run::{QueryFault, RunsQueries};
 use gq_schema::Catalog;
@@ -44,10 +48,7 @@ impl<'g> RunsQueries for Engine<'g> {
         graph: Option<u32>,
         query: &QueryTree,
     ) -> Result<Plan, OutOfMemory> {
-        match plan(alloc, catalog, graph, query) {
-            Ok(plan) => Ok(plan),
-            Err(_) => Err(OutOfMemory),
-        }
+        planned(alloc, catalog, graph, query)
     }
 
     fn run<R: Threads + Sync>(
@@ -70,6 +71,27 @@ impl<'g> RunsQueries for Engine<'g> {
         run_plan(
             &workers, alloc, catalog, store, index, prepared, arguments, turns,
         )
+    }
+}
+
+/// Plans a query. A typed one has a plan.
+#[tactic(auto, using(crate::proofs::EngineLemmas::planned_laws))]
+fn planned(
+    alloc: Global,
+    catalog: &Catalog,
+    graph: Option<u32>,
+    query: &QueryTree,
+) -> Result<Plan, OutOfMemory>
+    requires there { ForSome graph (λ g. g < length catalog.now.graphs) }
+    requires typed { IsTyped catalog.now graph query.now }
+    ensures { IfOk result (PrintsAs catalog.now (graph_in catalog.now graph) (view_query query.now)) }
+{
+    match plan(alloc, catalog, graph, query) {
+        Ok(plan) => Ok(plan),
+        Err(fault) => match fault {
+            PlanFault::OutOfMemory => Err(OutOfMemory),
+            PlanFault::Unknown => unreachable!(),
+        },
     }
 }
 
@@ -97,15 +119,16 @@ pub fn run_plan<'x, R: Threads + Sync>(
 }
 
 /// Converts the result of a plan's run to that of a query's run.
-fn told(answer: Result<List<Printed>, PlanFault>) -> Result<List<Printed>, QueryFault>
+fn told(answer: Result<List<Printed>, RunFault>) -> Result<List<Printed>, QueryFault>
     ensures { (o : Answer Fault Objects) → Prints o answer → Runs o result }
 {
     match answer {
         Ok(printed) => Ok(printed),
-        Err(PlanFault::Eval(wrong)) => Err(QueryFault::Wrong(wrong)),
-        Err(PlanFault::SumRange(slot)) => Err(QueryFault::SumRange(slot)),
-        Err(PlanFault::LoopBound) => Err(QueryFault::LoopBound),
-        Err(PlanFault::PathBound) => Err(QueryFault::PathBound),
-        Err(PlanFault::OutOfMemory) => Err(QueryFault::OutOfMemory),
+        Err(RunFault::Eval(wrong)) => Err(QueryFault::Wrong(wrong)),
+        Err(RunFault::SumRange(slot)) => Err(QueryFault::SumRange(slot)),
+        Err(RunFault::LoopBound) => Err(QueryFault::LoopBound),
+        Err(RunFault::PathBound) => Err(QueryFault::PathBound),
+        Err(RunFault::Stuck) => Err(QueryFault::Stuck),
+        Err(RunFault::OutOfMemory) => Err(QueryFault::OutOfMemory),
     }
 }

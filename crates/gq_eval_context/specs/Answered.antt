@@ -1,6 +1,6 @@
 -- Answered: when an answer is the one that was meant.
 use Rattle.std.specs.Prelude.{◌≡◌, Result, Ok, Err}
-use Rattle.gq_rules_meaning.specs.Answers.{Answer, Gives, Faults}
+use Rattle.gq_rules_meaning.specs.Answers.{Answer, Gives, Faults, Stuck}
 use Rattle.gq_rules_meaning.specs.Blocks as blocks
 use Rattle.gq_plan_ir.specs.Reference.{Reference}
 use Rattle.gq_frame.specs.Slots.{slots_are}
@@ -15,6 +15,7 @@ after_is a = record { slots = slots_are a.accums; sources = a.sources; targets =
 abbrev pub EndsAs : {A : Type 0} → Answer blocks.BlockFault A → BlockFault → Type 0
 EndsAs o (fault.Eval at w) = o ≡ Faults (blocks.AtPlace at w)
 EndsAs o (fault.SumRange n) = o ≡ Faults (blocks.SumRange n)
+EndsAs o fault.Stuck = o ≡ Stuck
 EndsAs o fault.OutOfMemory = Unit {0}
 
 -- the answer is the one that was meant

@@ -18,6 +18,9 @@ pub enum BlockFault {
     Eval { at: u64, fault: Wrong },
 
     /// A sum out of range, in the accumulator of a slot.
-    SumRange { slot: u32 },
+    SumRange { slot: usize },
+
+    /// The block's meaning is stuck; never so for a well typed block.
+    Stuck,
     OutOfMemory,
 }

@@ -5,7 +5,7 @@ ghost use Rattle.gq_eval_context.specs.Faults.{fault_at};
 use crate::after::BlockFault;
 use gq_eval_operand::Halt;
 
-/// The fault of a block whose evaluation at a vertex has ended. `Stuck`, of which nothing is promised, becomes
+/// The fault of a block whose evaluation at a vertex has ended. `Outside`, of which nothing is promised, becomes
 /// `OutOfMemory`.
 pub fn fault_at(vertex: u32, halt: Halt) -> BlockFault
     ensures { result ≡ fault_at vertex halt }
@@ -15,6 +15,7 @@ pub fn fault_at(vertex: u32, halt: Halt) -> BlockFault
             at: u64::from(vertex),
             fault,
         },
-        Halt::Stuck | Halt::Outside | Halt::OutOfMemory => BlockFault::OutOfMemory,
+        Halt::Stuck => BlockFault::Stuck,
+        Halt::Outside | Halt::OutOfMemory => BlockFault::OutOfMemory,
     }
 }

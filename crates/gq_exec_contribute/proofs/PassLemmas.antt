@@ -20,10 +20,12 @@ use Rattle.gq_plan_ir.specs.BlockView.{view_acts, view_block}
 use Rattle.gq_plan_ir.specs.ExprView.{view}
 use Rattle.gq_plan_ir.specs.Reference.{Reference}
 use Rattle.gq_exec_contribute.specs.declared.candidate.Outcome.TheVariants as outcome
+use Rattle.gq_exec_contribute.specs.declared.candidate.Stop.{Stop}
+use Rattle.gq_exec_contribute.specs.declared.candidate.Stop.TheVariants as stop
 use Rattle.gq_exec_contribute.specs.declared.feeding.Feeding.{Feeding}
 use Rattle.gq_exec_contribute.specs.Gathered.{shown, after, contribution_of}
 use Rattle.gq_exec_feed.specs.Taking.{MayTake, targeted, as_given}
-use Rattle.gq_exec_contribute.specs.Passing.{GainsAll, GainsMatch, Comes}
+use Rattle.gq_exec_contribute.specs.Passing.{GainsAll, GainsMatch, Comes, stopped}
 
 -- ---- a candidate
 
@@ -40,8 +42,13 @@ module _ (look : Look Reference) (slots : List (states.Slot Reference)) (q : Blo
   passed_is : passes look (option_map view q.filter) ≡ Gives true → match_of (view_block q) slots c look ≡ (contributions look slots (view_acts q.accum) >>= λ xs. Gives (record { candidate = c; gives = xs } ∷ []))
   passed_is e = ap (λ o. o >>= of_filter) e
 
-  fault_first : (w : Wrong) → passes look (option_map view q.filter) ≡ Faults w → match_of (view_block q) slots c look ≡ Faults w
-  fault_first w e = ap (λ o. o >>= of_filter) e
+  fault_first : (w : Stop) → passes look (option_map view q.filter) ≡ stopped w → match_of (view_block q) slots c look ≡ stopped w
+  fault_first (stop.Wrong w) e = ap (λ o. o >>= of_filter) e
+  fault_first stop.Stuck e = ap (λ o. o >>= of_filter) e
+
+  fault_late : (w : Stop) → passes look (option_map view q.filter) ≡ Gives true → contributions look slots (view_acts q.accum) ≡ stopped w → match_of (view_block q) slots c look ≡ stopped w
+  fault_late (stop.Wrong w) e p = passed_is e ∙ ap (λ o. o >>= λ xs. Gives (record { candidate = c; gives = xs } ∷ [])) p
+  fault_late stop.Stuck e p = passed_is e ∙ ap (λ o. o >>= λ xs. Gives (record { candidate = c; gives = xs } ∷ [])) p
 
 -- no earlier contributions
 from_none : (o : Answer Wrong (List Contribution)) → after [] o ≡ o
@@ -53,15 +60,14 @@ pub comes_filtered : (look : Look Reference) (slots : List (states.Slot Referenc
     → (c : Candidate) → Comes s c (match_of (view_block q) slots c look) old new outcome.Filtered
 comes_filtered look slots s q old new b e f same c = (filtered_is look slots q c (e ∙ ap Gives f), same)
 
-pub comes_fault : (look : Look Reference) (slots : List (states.Slot Reference)) (s : Slots) (q : Block) (old new : List (List (ℕ × Input))) (w : Wrong) → passes look (option_map view q.filter) ≡ Faults w → new ≡ old
+pub comes_fault : (look : Look Reference) (slots : List (states.Slot Reference)) (s : Slots) (q : Block) (old new : List (List (ℕ × Input))) (w : Stop) → passes look (option_map view q.filter) ≡ stopped w → new ≡ old
     → (c : Candidate) → Comes s c (match_of (view_block q) slots c look) old new (outcome.Fault w)
 comes_fault look slots s q old new w p same c = (fault_first look slots q c w p, same)
 
-pub comes_late_fault : (look : Look Reference) (slots : List (states.Slot Reference)) (s : Slots) (q : Block) (old new : List (List (ℕ × Input))) (b : Bool) (before : List Feeding) (w : Wrong) → passes look (option_map view q.filter) ≡ Gives b → b ≡ true → before ≡ []
-    → after (shown before) (contributions look slots (view_acts q.accum)) ≡ Faults w → new ≡ old → (c : Candidate) → Comes s c (match_of (view_block q) slots c look) old new (outcome.Fault w)
+pub comes_late_fault : (look : Look Reference) (slots : List (states.Slot Reference)) (s : Slots) (q : Block) (old new : List (List (ℕ × Input))) (b : Bool) (before : List Feeding) (w : Stop) → passes look (option_map view q.filter) ≡ Gives b → b ≡ true → before ≡ []
+    → after (shown before) (contributions look slots (view_acts q.accum)) ≡ stopped w → new ≡ old → (c : Candidate) → Comes s c (match_of (view_block q) slots c look) old new (outcome.Fault w)
 comes_late_fault look slots s q old new b before w e f none p same c = (
-  passed_is look slots q c (e ∙ ap Gives f) ∙ ap (λ o. o >>= λ xs. Gives (record { candidate = c; gives = xs } ∷ []))
-      (sym (from_none (contributions look slots (view_acts q.accum))) ∙ ap (λ bs. after (shown bs) (contributions look slots (view_acts q.accum))) (sym none) ∙ p),
+  fault_late look slots q c w (e ∙ ap Gives f) (sym (from_none (contributions look slots (view_acts q.accum))) ∙ ap (λ bs. after (shown bs) (contributions look slots (view_acts q.accum))) (sym none) ∙ p),
   same,
 )
 

@@ -32,13 +32,22 @@ pub enum Outcome {
     /// WHERE is false.
     Filtered,
 
-    /// WHERE or ACCUM faults.
-    Fault(Wrong),
+    /// WHERE or ACCUM has no value.
+    Fault(Stop),
+}
+
+/// Why the meaning of an expression or of contributions is no value.
+#[derive(Clone, Copy, Debug, PartialEq, Eq)]
+pub enum Stop {
+    /// An operation has no value.
+    Wrong(Wrong),
+
+    /// It is stuck; never so in a well typed block.
+    Stuck,
 }
 
 /// Adds the inputs of a match to batches; a candidate that WHERE filters, or that faults, adds nothing. `room` is
-/// reused from candidate to candidate. After `OutOfMemory` the batches are unspecified. A block that isn't well typed
-/// also ends with `OutOfMemory`.
+/// reused from candidate to candidate. After `OutOfMemory` the batches are unspecified.
 #[tactic(auto, using(crate::proofs::PassLemmas::comes_laws))]
 pub fn contribute<V: Sees>(
     alloc: Global,
@@ -53,13 +62,15 @@ pub fn contribute<V: Sees>(
 {
     match passes(&block.filter, alloc, sight) {
         Ok(false) => Ok(Outcome::Filtered),
-        Err(Halt::Wrong(wrong)) => Ok(Outcome::Fault(wrong)),
-        Err(Halt::Stuck) | Err(Halt::Outside) | Err(Halt::OutOfMemory) => Err(OutOfMemory),
+        Err(Halt::Wrong(wrong)) => Ok(Outcome::Fault(Stop::Wrong(wrong))),
+        Err(Halt::Stuck) => Ok(Outcome::Fault(Stop::Stuck)),
+        Err(Halt::Outside) | Err(Halt::OutOfMemory) => Err(OutOfMemory),
         Ok(true) => {
             let before = taken(alloc, room);
             match run_acts(block.accum.as_slice(), alloc, sight, accums, before) {
-                Err(Halt::Wrong(wrong)) => Ok(Outcome::Fault(wrong)),
-                Err(Halt::Stuck) | Err(Halt::Outside) | Err(Halt::OutOfMemory) => Err(OutOfMemory),
+                Err(Halt::Wrong(wrong)) => Ok(Outcome::Fault(Stop::Wrong(wrong))),
+                Err(Halt::Stuck) => Ok(Outcome::Fault(Stop::Stuck)),
+                Err(Halt::Outside) | Err(Halt::OutOfMemory) => Err(OutOfMemory),
                 Ok(gathered) => match put(gathered, &accums.slots, into) {
                     Ok(emptied) => {
                         room.gathered = emptied;

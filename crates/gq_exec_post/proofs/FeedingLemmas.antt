@@ -46,6 +46,7 @@ module _ (old new : Accums) (ws : List Waiting) (batch lent : List (ℕ × Input
   by_unfit o (Ok b) h = ap (λ o. unless_unfit o (slots_are new)) h.0 ∙ ap (λ a. given_so (slots_are a)) (sym h.1)
   by_unfit o (Err (fault.SumRange n)) h = ap (λ o. unless_unfit o (slots_are new)) h
   by_unfit o (Err (fault.Eval at w)) h = absurd h
+  by_unfit o (Err fault.Stuck) h = absurd h
   by_unfit o (Err fault.OutOfMemory) h = tt
 
   pub fed_is : (r : Result Accums code.BlockFault) → IsJudged new r → Answered slots_are (fed_together (waiting_are ws) (slots_are old)) r

@@ -1,16 +1,16 @@
 -- WriteLaws: a change made in two steps is the change of the definitions.
-use Rattle.std.proofs.Common.{◌≡◌, ℕ, Bool, List, Option, Some, None, slice_get, sym, ap, ap₂, ◌∙◌}
+use Rattle.std.proofs.Common.{◌≡◌, ℕ, Bool, List, Option, Some, None, slice_get, refl, sym, ap, ap₂, ◌∙◌}
 use Rattle.std.specs.Option.{option_map}
 use Rattle.gq_value.specs.declared.kind.Slot.{Slot}
 use Rattle.gq_value.specs.declared.value.Wrong.{Wrong}
 use Rattle.gq_value.specs.AccumViews.{accum_of}
 use Rattle.gq_frame.specs.declared.accums.Accums.{Accums}
 use Rattle.gq_rules_typing.specs.Selecting as plain
-use Rattle.gq_rules_meaning.specs.Answers.{Answer, Gives, Faults, ◌>>=◌, blaming, found}
+use Rattle.gq_rules_meaning.specs.Answers.{Answer, Gives, Faults, Stuck, ◌>>=◌, blaming, found}
 use Rattle.gq_rules_meaning.specs.Expressions.{Look}
 use Rattle.gq_rules_meaning.specs.States as states
 use Rattle.gq_rules_meaning.specs.States.{slot_named}
-use Rattle.gq_rules_meaning.specs.Writes.{WriteFault, Wrongly, changed_at, fits_at, if_fit, made_by, slot_changed, slots_changed}
+use Rattle.gq_rules_meaning.specs.Writes.{Making, WriteFault, Wrongly, changed_at, fits_at, if_fit, made_by, slot_changed, slots_changed}
 use Rattle.gq_plan_ir.specs.Reference as reference
 use Rattle.gq_plan_ir.specs.Reference.{Reference}
 use Rattle.gq_plan_ir.specs.References.{same}
@@ -53,3 +53,17 @@ module _ (look : Look Reference) (a : Accums) (n v : ℕ) (change : plain.Change
 
       is : slot_there a n s ≡ c.slot
       is = let h : Some (slot_there a n s) ≡ Some c.slot = sym stands ∙ c.stands in cc
+
+-- a change of an accumulator that isn't there, or one whose evaluation is stuck
+module _ (look : Look Reference) (a : Accums) (n v : ℕ) (change : plain.Change Reference) (w : look.world.words.same ≡ same) where
+  abbrev making_at : Option Slot → Answer Wrong Making
+  making_at d = found d >>= λ (s : Slot). made_by look (accum_of s.kind) change
+
+  pub change_sticks : making_at (slice_get a.slots.declared n) ≡ Stuck → slots_changed look (slots_are a) (reference.Slot n) v change ≡ Stuck
+  change_sticks m = by (slice_get a.slots.declared n) refl m
+    where
+      by : (d : Option Slot) → slice_get a.slots.declared n ≡ d → making_at d ≡ Stuck → slots_changed look (slots_are a) (reference.Slot n) v change ≡ Stuck
+      by None e m =
+          ap (λ o. found o >>= λ k. found (slot_named look.world (slots_are a) (reference.Slot n)) >>= λ t. blaming Wrongly (made_by look t.kind change) >>= λ f. if_fit k (fits_at v (slot_changed f v t)) (changed_at (slot_changed f v) k (slots_are a)))
+          (number_there look.world a n w ∙ ap (option_map (λ s. n)) e)
+      by (Some s) e m = at_slot look a n v change s w e ∙ ap (λ o. blaming Wrongly o >>= λ f. if_fit n (fits_at v (slot_changed f v (slot_there a n s))) (changed_at (slot_changed f v) n (slots_are a))) m

@@ -26,7 +26,7 @@ use Rattle.gq_eval_context.specs.declared.after.BlockFault.TheVariants as fault
 use Rattle.gq_exec_post.specs.declared.making.Made.{Made}
 use Rattle.gq_exec_post.specs.Changing.{Changed}
 use Rattle.gq_exec_post.specs.Making.{making_of}
-use Rattle.gq_exec_post.proofs.WriteLaws.{change_faults, change_made}
+use Rattle.gq_exec_post.proofs.WriteLaws.{change_faults, change_made, change_sticks}
 use Rattle.gq_exec_post.specs.declared.writing.Writing.{Writing}
 use Rattle.gq_eval_context.specs.Faults.{fault_at}
 use Rattle.gq_exec_post.specs.Sights.{DoesSo, PutSo, SeesSo, look_now, made_at}
@@ -73,7 +73,7 @@ module _ (clock : Calendar) (o : Over) (aliases : List (ℕ × Placed)) (n v : �
 
   halts_so : (h : Halt) → Halts (made_at look before.accums.slots n c) h → DoesSo clock o aliases v (λ p. write p (reference.Slot n) c) before (Err (fault_at v h))
   halts_so (halt.Wrong x) m = record { each = λ p h. write_is p h ∙ ap (after_write v (written before)) (faults x (slice_get before.accums.slots.declared n) refl m) }
-  halts_so halt.Stuck m = record { each = λ p h. tt }
+  halts_so halt.Stuck m = record { each = λ p h. write_is p h ∙ ap (after_write v (written before)) (change_sticks look before.accums n v c refl m) }
   halts_so halt.Outside m = record { each = λ p h. tt }
   halts_so halt.OutOfMemory m = record { each = λ p h. tt }
 
@@ -97,6 +97,7 @@ module _ (clock : Calendar) (o : Over) (aliases : List (ℕ × Placed)) (n v : �
         ∙ ap (λ k. faulted_so (SumRange k)) (sym put.0);
   }
   write_made m (Err (fault.Eval at w)) g put = absurd put
+  write_made m (Err fault.Stuck) g put = absurd put
   write_made m (Err fault.OutOfMemory) g put = record { each = λ p h. tt }
 
 pub put_keeps : (m : Made) (n v : ℕ) (before : Writing) (r : Result Writing code.BlockFault) → PutSo m n v before r → IfOk r (λ w. KeepsTo before.accums w.accums)

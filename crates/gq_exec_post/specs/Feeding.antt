@@ -24,6 +24,7 @@ abbrev pub UnfitSo : Accums → Option ℕ → Result Accums BlockFault → Type
 UnfitSo a o (Ok b) = (o ≡ None) × (b ≡ a)
 UnfitSo a o (Err (fault.SumRange n)) = o ≡ Some n
 UnfitSo a o (Err (fault.Eval at w)) = ⊥
+UnfitSo a o (Err fault.Stuck) = ⊥
 UnfitSo a o (Err fault.OutOfMemory) = Unit {0}
 
 pub record IsJudged (a : Accums) (result : Result Accums BlockFault) : Type 0 where

@@ -85,4 +85,5 @@ abbrev pub PutSo : Made → ℕ → ℕ → Writing → Result Writing BlockFaul
 PutSo m n v before (Ok w) = Changed m before.accums w.accums n v true × (w.waiting.items ≡ before.waiting.items)
 PutSo m n v before (Err (fault.SumRange k)) = (k ≡ n) × ((new : Accums) × Changed m before.accums new n v false)
 PutSo m n v before (Err (fault.Eval at w)) = ⊥
+PutSo m n v before (Err fault.Stuck) = ⊥
 PutSo m n v before (Err fault.OutOfMemory) = Unit {0}

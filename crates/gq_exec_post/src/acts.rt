@@ -232,7 +232,9 @@ fn put_in(
     let waiting = before.waiting;
     match change_at(alloc, &mut accums, to.0, to.1, made) {
         Ok(()) => Ok(Writing { accums, waiting }),
-        Err(ChangeFault::TooBig) => Err(BlockFault::SumRange { slot: to.0 }),
+        Err(ChangeFault::TooBig) => Err(BlockFault::SumRange {
+            slot: to.0 as usize,
+        }),
         Err(ChangeFault::OutOfMemory) => Err(BlockFault::OutOfMemory),
     }
 }

@@ -10,7 +10,7 @@ ghost use Rattle.gq_exec_post.specs.Writing.{KeepsTo, waiting_are};
 use crate::writing::{Waiting, Writing};
 use gq_base::{List, OutOfMemory};
 use gq_eval_context::BlockFault;
-use gq_exec_feed::{feed_all, first_unfit, place, slot_number};
+use gq_exec_feed::{feed_all, first_unfit, place};
 use gq_frame::{Accums, Slots};
 use gq_value::Input;
 use std::alloc::Global;
@@ -41,10 +41,7 @@ fn judged(alloc: Global, mut accums: Accums) -> Result<Accums, BlockFault>
 {
     match first_unfit(alloc, &mut accums) {
         None => Ok(accums),
-        Some(number) => match slot_number(number) {
-            Some(slot) => Err(BlockFault::SumRange { slot }),
-            None => Err(BlockFault::OutOfMemory),
-        },
+        Some(slot) => Err(BlockFault::SumRange { slot }),
     }
 }
 

@@ -1,5 +1,5 @@
 -- AssignLemmas: from what the code assigns to the states of the definitions.
-use Rattle.std.proofs.Common.{◌≡◌, ℕ, Bool, true, false, List, reverse, Option, Some, Result, Ok, Err, OnOk, refl, sym, ap, subst, ◌∙◌}
+use Rattle.std.proofs.Common.{◌≡◌, ℕ, Bool, true, false, List, reverse, Option, Some, None, Result, Ok, Err, OnOk, refl, sym, ap, subst, ◌∙◌}
 use Rattle.std.specs.Prelude.{slice_get}
 use Rattle.gq_tree.specs.declared.body.SetOp.{SetOp}
 use Rattle.gq_tree.specs.Tree.{Tree, Number, Text, Truth, Global, Name, Call, Post, Neg, Mul, Sum, Cmp, Not, And, Or}
@@ -23,7 +23,7 @@ use Rattle.gq_rules_meaning.specs.Sets as sets
 use Rattle.gq_rules_meaning.specs.Sets.{set_assigned, set_in, set_named, sets_of}
 use Rattle.gq_rules_meaning.specs.Sources.{from, selects_target, types_at, within_bound, candidates_of}
 use Rattle.gq_rules_meaning.specs.States as states
-use Rattle.gq_rules_meaning.specs.States.{State, Thing, Variable, SetOf, thing_named, with_name, seen}
+use Rattle.gq_rules_meaning.specs.States.{State, Thing, Variable, SetOf, EdgeRow, Member, thing_named, with_name, seen}
 use Rattle.gq_rules_meaning.specs.Statements.{Fault, Evaluation, PathBound, is_set, of_block, expression_assigned, select_assigned, value_assigned}
 use Rattle.gq_rules_meaning.specs.Tails as tails
 use Rattle.gq_rules_meaning.specs.Tails.{select}
@@ -58,7 +58,7 @@ use Rattle.gq_flow.specs.Selecting.{Chosen, Selects, chosen, chosen_if, selected
 use Rattle.gq_exec_control.specs.Contexts.{Basis, over_of, world_on}
 use Rattle.gq_exec_control.specs.Faults.{faults_of}
 use Rattle.gq_exec_control.specs.Changes.{Change, Becomes, Reads}
-use Rattle.gq_exec_control.specs.Places.{IsVariable}
+use Rattle.gq_exec_control.specs.Places.{IsVariable, is_variable}
 use Rattle.gq_exec_control.proofs.ContextLemmas.{says_told, shows_of}
 use Rattle.gq_exec_control.proofs.Steps.{bound}
 use Rattle.gq_flow.specs.Assigning.{Fixed, IsNoName, Kept}
@@ -227,6 +227,23 @@ module _ (clock : Calendar) (b : Basis) (place : ℕ) (t : Tree Reference) (base
           (ap (λ ps. held_thing (slice_get ps place) (Some (Some (thing.Value value)))) p ∙ ap (λ o. held_thing o (Some (Some (thing.Value value)))) h ∙ ap (λ c. Some (Variable c (val value))) of)),
     );
   }
+
+-- no variable is in view
+no_value : (world : World Reference) (s : State Reference) (x : Reference) (t : Tree Reference) (o : Option Thing) → is_variable o ≡ false → valued_by world s x t o ≡ Stuck
+no_value world s x t None e = refl
+no_value world s x t (Some (Variable c v)) e = absurd (cc e)
+no_value world s x t (Some (SetOf ts vs)) e = refl
+no_value world s x t (Some (EdgeRow r k)) e = refl
+no_value world s x t (Some (Member vs ts v)) e = refl
+
+pub value_sticks : (clock : Calendar) (b : Basis) (place : ℕ) (t : Tree Reference) (places : List PlaceType) (things : List (Option code.Thing)) (old new : Live) → places ≡ b.plan.places → things ≡ old.frame.things
+    → is_variable (thing_in places things place) ≡ false → Becomes b.plan.places (λ s. blaming Evaluation (value_assigned (world_on clock b) s (Place place) t)) old new (Err fault.Stuck)
+value_sticks clock b place t places things old new p q none = record {
+  each = λ s l.
+      ap (λ o. blaming Evaluation (valued_by (world_on clock b) s (Place place) t o)) (seen_there b.plan.places old place s l)
+      ∙ ap (blaming Evaluation) (no_value (world_on clock b) s (Place place) t (thing_in b.plan.places old.frame.things place)
+      (subst (λ ps. is_variable (thing_in ps old.frame.things place) ≡ false) p (subst (λ ts. is_variable (thing_in places ts place) ≡ false) q none)));
+}
 
 -- ---- SELECT
 

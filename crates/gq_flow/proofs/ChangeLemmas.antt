@@ -1,5 +1,5 @@
 -- ChangeLemmas: a change of a global accumulator, for each state that is shown.
-use Rattle.std.proofs.Common.{◌≡◌, ℕ, true, false, List, reverse, Some, Result, Ok, Err, refl, sym, ap, ap₂, subst, ◌∙◌}
+use Rattle.std.proofs.Common.{◌≡◌, ℕ, true, false, List, reverse, None, Some, Result, Ok, Err, refl, sym, ap, ap₂, subst, ◌∙◌}
 use Rattle.std.specs.Prelude.{slice_get}
 use Rattle.gq_value.specs.declared.kind.Slot as code
 use Rattle.gq_value.specs.AccumViews.{accum_of}
@@ -26,7 +26,8 @@ use Rattle.gq_exec_control.proofs.FaultLemmas.{ends_bind, ends_same}
 use Rattle.gq_exec_post.specs.declared.making.Made.{Made}
 use Rattle.gq_exec_post.specs.Changing.{Changed}
 use Rattle.gq_exec_post.specs.Making.{making_of}
-use Rattle.gq_exec_post.proofs.WriteLaws.{change_faults, change_made}
+use Rattle.gq_exec_post.proofs.WriteLaws.{change_faults, change_made, change_sticks}
+use Rattle.gq_exec_post.proofs.WriteLemmas.{made_gone, made_there}
 use Rattle.gq_exec_control.specs.Contexts.{Basis, look_on, world_on}
 use Rattle.gq_exec_control.specs.Faults.{fault_of}
 use Rattle.gq_exec_control.specs.Changes.{Becomes}
@@ -39,11 +40,14 @@ pub makes_told : (look : Look Reference) (a : Accums) (n : ℕ) (change : plain.
     → Tells making_of (made_by look (accum_of s.kind) change) told → Makes look a n change told
 makes_told look a n change s (Ok m) e t = (s, e, t)
 makes_told look a n change s (Err (halt.Wrong w)) e t = (s, e, t)
-makes_told look a n change s (Err halt.Stuck) e t = tt
+makes_told look a n change s (Err halt.Stuck) e t = made_there look a n change s (Err halt.Stuck) e t
 makes_told look a n change s (Err halt.Outside) e t = tt
 makes_told look a n change s (Err halt.OutOfMemory) e t = tt
 
-pub ruleset makes_laws = (makes_told)
+pub makes_gone : (look : Look Reference) (a : Accums) (n : ℕ) (change : plain.Change Reference) → slice_get a.slots.declared n ≡ None → Makes look a n change (Err halt.Stuck)
+makes_gone look a n change e = made_gone look a n change e
+
+pub ruleset makes_laws = (makes_told, makes_gone)
 
 -- ---- the change
 
@@ -59,7 +63,7 @@ module _ (clock : Calendar) (b : Basis) (n : ℕ) (change : plain.Change Referen
 
   ends_so : (h : Halt) → Makes (look_on clock b old.frame) old.frame.accums n change (Err h) → Ends (blaming of_write slots_then) (fault_of h)
   ends_so (halt.Wrong w) m = ap (blaming of_write) (change_faults (look_on clock b old.frame) old.frame.accums n 0 change m.0 refl m.1 w m.2)
-  ends_so halt.Stuck m = tt
+  ends_so halt.Stuck m = ap (blaming of_write) (change_sticks (look_on clock b old.frame) old.frame.accums n 0 change refl m)
   ends_so halt.Outside m = tt
   ends_so halt.OutOfMemory m = tt
 

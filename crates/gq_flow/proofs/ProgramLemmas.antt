@@ -1,5 +1,5 @@
 -- ProgramLemmas: single statements, as the definitions run them.
-use Rattle.std.proofs.Common.{◌≡◌, ℕ, Bool, List, Option, Some, Result, Ok, Err, OnOk, refl, sym, subst}
+use Rattle.std.proofs.Common.{◌≡◌, ◌⊎◌, inl, inr, ℕ, Bool, List, Option, Some, Result, Ok, Err, OnOk, refl, sym, ap, subst, ◌∙◌}
 use Rattle.gq_tree.specs.Tree.{Tree}
 use Rattle.gq_rules_typing.specs.Selecting as selecting
 use Rattle.gq_rules_typing.specs.Statements as plain
@@ -11,8 +11,17 @@ use Rattle.gq_rules_meaning.specs.Statements.{Evaluation, of_write, base_of_tree
 use Rattle.gq_rules_meaning.specs.Writes.{slots_changed}
 use Rattle.gq_rules_meaning.specs.Runs.{with_state, run, condition_of, limit_of}
 use Rattle.gq_plan_ir.specs.declared.plan.PlaceType.{PlaceType}
+use Rattle.gq_plan_ir.specs.declared.block.Change.{Change}
+use Rattle.gq_plan_ir.specs.declared.expr.Expr.{Expr}
+use Rattle.gq_plan_ir.specs.declared.plan.Declared.{Declared}
+use Rattle.gq_plan_ir.specs.declared.step.Over.{Over}
+use Rattle.gq_plan_ir.specs.declared.step.PrintItem.{PrintItem}
+use Rattle.gq_plan_ir.specs.declared.step.Right as code_right
+use Rattle.gq_plan_ir.specs.declared.step.SetTypes as code_types
 use Rattle.gq_plan_ir.specs.declared.step.Step.{Step}
+use Rattle.gq_plan_ir.specs.declared.step.Step.TheVariants as steps
 use Rattle.gq_plan_ir.specs.PlanView.{view_step}
+use Rattle.gq_plan_ir.proofs.ViewLaws.{view_step-Assign, view_step-Foreach, view_step-Global, view_step-If, view_step-Local, view_step-Print, view_step-While}
 use Rattle.gq_plan_ir.specs.Reference.{Reference, Slot}
 use Rattle.gq_eval_operand.specs.Meant.{itself}
 use Rattle.gq_frame.specs.declared.accums.Accums.{Accums}
@@ -26,7 +35,42 @@ use Rattle.gq_exec_control.proofs.ContextLemmas.{becomes_does, shows_of}
 use Rattle.gq_exec_control.proofs.Steps.{joined}
 use Rattle.gq_exec_control.specs.Locals.{declared_all}
 use Rattle.gq_exec_control.specs.Rounds.{GoesRound}
-use Rattle.gq_flow.specs.Steps.{global_so}
+use Rattle.gq_flow.specs.Steps.{IsSimple, global_so}
+
+-- ---- statements without a body
+
+module _ (step : Step) where
+  pub not_if : (branches : List (Expr × List Step)) (others : Option (List Step)) → step ≡ steps.If branches others → IsSimple (view_step step) → ⊥
+  not_if branches others e simple = subst IsSimple (ap view_step e ∙ view_step-If branches others) simple
+
+  pub not_while : (condition : Expr) (limit : Option Expr) (body : List Step) → step ≡ steps.While condition limit body → IsSimple (view_step step) → ⊥
+  not_while condition limit body e simple = subst IsSimple (ap view_step e ∙ view_step-While condition limit body) simple
+
+  pub not_foreach : (place : ℕ) (over : Over) (body : List Step) → step ≡ steps.Foreach place over body → IsSimple (view_step step) → ⊥
+  not_foreach place over body e simple = subst IsSimple (ap view_step e ∙ view_step-Foreach place over body) simple
+
+  simple_local : (declared : Declared) (locals : List (ℕ × Option Expr)) → step ≡ steps.Local declared locals → IsSimple (view_step step)
+  simple_local declared locals e = subst IsSimple (sym (ap view_step e ∙ view_step-Local declared locals)) tt
+
+  simple_assign : (place : ℕ) (types : Option code_types.SetTypes) (right : code_right.Right) → step ≡ steps.Assign place types right → IsSimple (view_step step)
+  simple_assign place types right e = subst IsSimple (sym (ap view_step e ∙ view_step-Assign place types right)) tt
+
+  simple_global : (slot : ℕ) (change : Change) → step ≡ steps.Global slot change → IsSimple (view_step step)
+  simple_global slot change e = subst IsSimple (sym (ap view_step e ∙ view_step-Global slot change)) tt
+
+  simple_print : (items : List PrintItem) → step ≡ steps.Print items → IsSimple (view_step step)
+  simple_print items e = subst IsSimple (sym (ap view_step e ∙ view_step-Print items)) tt
+
+  pub simple_declared : ((declared : Declared) × (locals : List (ℕ × Option Expr)) × (step ≡ steps.Local declared locals))
+      ⊎ ((place : ℕ) × (types : Option code_types.SetTypes) × (right : code_right.Right) × (step ≡ steps.Assign place types right)) → IsSimple (view_step step)
+  simple_declared (inl h) = simple_local h.0 h.1 h.2
+  simple_declared (inr h) = simple_assign h.0 h.1 h.2 h.3
+
+  pub simple_changed : ((slot : ℕ) × (change : Change) × (step ≡ steps.Global slot change)) ⊎ ((items : List PrintItem) × (step ≡ steps.Print items)) → IsSimple (view_step step)
+  simple_changed (inl h) = simple_global h.0 h.1 h.2
+  simple_changed (inr h) = simple_print h.0 h.1
+
+pub ruleset simple_laws = (not_if, not_while, not_foreach)
 
 -- ---- statements
 

@@ -49,6 +49,7 @@ use Rattle.gq_flow.specs.Selecting.{Chosen, chosen, chosen_by, chosen_after, cho
 same_end : {A : Type 0} (o p : Answer blocks.BlockFault A) (e : BlockFault) → o ≡ p → EndsAs p e → EndsAs o e
 same_end o p (fault.Eval at w) h g = h ∙ g
 same_end o p (fault.SumRange n) h g = h ∙ g
+same_end o p fault.Stuck h g = h ∙ g
 same_end o p fault.OutOfMemory h g = tt
 
 answered_same : {A B : Type 0} (view : B → A) (o p : Answer blocks.BlockFault A) (r : Result B BlockFault) → o ≡ p → Answered view p r → Answered view o r
@@ -107,6 +108,7 @@ block_goes clock o block after r a p = record {
 ends_block : {A : Type 0} (o : Answer blocks.BlockFault A) (e : BlockFault) → EndsAs o e → Ends (blaming of_block o) (fault_of_block e)
 ends_block o (fault.Eval at w) h = ap (blaming of_block) h
 ends_block o (fault.SumRange n) h = ap (blaming of_block) h
+ends_block o fault.Stuck h = ap (blaming of_block) h
 ends_block o fault.OutOfMemory h = tt
 
 module _ (clock : Calendar) (o : Over) (block : Block) where

@@ -7,7 +7,7 @@ use Rattle.gq_value.specs.AccumViews.{accum_of}
 use Rattle.gq_rules_typing.specs.Selecting as plain
 use Rattle.gq_rules_typing.specs.Statements as statements
 use Rattle.gq_rules_typing.specs.Statements.{Bytes}
-use Rattle.gq_rules_meaning.specs.Answers.{Answer, Gives, Faults, ◌>>=◌, blaming, each}
+use Rattle.gq_rules_meaning.specs.Answers.{Answer, Gives, Faults, Stuck, ◌>>=◌, blaming, each}
 use Rattle.gq_rules_meaning.specs.Built.{built_print}
 use Rattle.gq_rules_meaning.specs.Expressions.{World, Look}
 use Rattle.gq_rules_meaning.specs.Outs.{Out}
@@ -26,8 +26,16 @@ use Rattle.gq_exec_control.specs.declared.running.RunFault.{RunFault}
 use Rattle.gq_exec_control.specs.Standing.{Ends}
 use Rattle.gq_exec_post.specs.declared.making.Made.{Made}
 use Rattle.gq_exec_post.specs.Making.{making_of}
+use Rattle.gq_exec_post.specs.Sights.{made_at}
 use Rattle.gq_output.specs.Prints.{Prints}
 use Rattle.gq_exec_control.specs.Changes.{Change}
+
+-- a statement without a body
+abbrev pub IsSimple : statements.Stmt Reference → Type 0
+IsSimple (statements.If branches) = ⊥
+IsSimple (statements.While condition limit body) = ⊥
+IsSimple (statements.Foreach x over body) = ⊥
+IsSimple simple = Unit {0}
 
 -- ---- changes of global accumulators
 
@@ -39,7 +47,9 @@ global_so world n change s = blaming of_write (slots_changed (seen world s) s.sl
 abbrev pub Makes : Look Reference → Accums → ℕ → plain.Change Reference → Result Made Halt → Type 0
 Makes look a n change (Ok m) = (s : code.Slot) × (slice_get a.slots.declared n ≡ Some s) × (made_by look (accum_of s.kind) change ≡ Gives (making_of m))
 Makes look a n change (Err (halt.Wrong w)) = (s : code.Slot) × (slice_get a.slots.declared n ≡ Some s) × (made_by look (accum_of s.kind) change ≡ Faults w)
-Makes look a n change (Err h) = Unit {0}
+Makes look a n change (Err halt.Stuck) = made_at look a.slots n change ≡ Stuck
+Makes look a n change (Err halt.Outside) = Unit {0}
+Makes look a n change (Err halt.OutOfMemory) = Unit {0}
 
 -- ---- PRINT
 

@@ -35,7 +35,7 @@ pub(crate) fn change(
         Err(halt) => Err(run_fault(halt)),
         Ok(made) => match change_at(alloc, &mut live.frame.accums, slot, 0, &made) {
             Ok(()) => Ok(()),
-            Err(ChangeFault::TooBig) => Err(RunFault::SumRange(slot)),
+            Err(ChangeFault::TooBig) => Err(RunFault::SumRange(slot as usize)),
             Err(ChangeFault::OutOfMemory) => Err(RunFault::OutOfMemory),
         },
     }
@@ -53,7 +53,7 @@ fn made_over(
     ensures { Makes (look_on gregorian context.now frame.now) frame.now.accums slot (view_change change.now) result }
 {
     match frame.accums.slots.declared.get(slot as usize) {
-        None => Err(Halt::Outside),
+        None => Err(Halt::Stuck),
         Some(declared) => made_of(alloc, context, &declared.kind, change, frame),
     }
 }

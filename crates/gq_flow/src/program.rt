@@ -7,6 +7,7 @@ ghost use Rattle.gq_plan_ir.specs.PlanView.{view_over, view_step};
 ghost use Rattle.gq_frame.specs.Slots.{AreSound};
 ghost use Rattle.gq_exec_control.specs.Contexts.{world_on};
 ghost use Rattle.gq_exec_control.specs.Standing.{Does, Tests, Limits, GoesOver};
+ghost use Rattle.gq_flow.specs.Steps.{IsSimple};
 
 use crate::change::change;
 use crate::print::print_more;
@@ -27,7 +28,9 @@ pub struct Program<'a, R> {
 
 impl<'a, R: Threads + Sync> Program<'a, R> {
     /// Runs a declaration, an assignment, a change of a global accumulator, or PRINT.
+    #[tactic(auto, using(crate::proofs::ProgramLemmas::simple_laws))]
     pub(crate) fn act(&self, step: &Step, r: &mut Running) -> Result<(), RunFault>
+        requires simple { IsSimple (view_step step.now) }
         requires sound { AreSound r.old.live.frame.accums }
         ensures does { Does self.now.context.plan.places (run (world_on gregorian self.now.context) (view_step step.now)) r.old r.new result }
         ensures sound { OnOk result (AreSound r.new.live.frame.accums) }
@@ -54,8 +57,7 @@ impl<'a, R: Threads + Sync> Program<'a, R> {
                 change(self.alloc, &self.context, *slot, made, &mut r.live)
             }
             Step::Print(items) => print_more(self.alloc, &self.context, items.as_slice(), r),
-            Step::If(_, _) | Step::While(_, _, _) => Err(RunFault::OutOfMemory),
-            Step::Foreach(_, _, _) => Err(RunFault::OutOfMemory),
+            Step::If(_, _) | Step::While(_, _, _) | Step::Foreach(_, _, _) => unreachable!(),
         }
     }
 

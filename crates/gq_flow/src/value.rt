@@ -21,7 +21,7 @@ use gq_plan_ir::Expr;
 use gq_value::{BaseType, Value};
 use std::alloc::Global;
 
-/// Assigns a value to a variable, converted to its type. Returns `OutOfMemory` for a place without a variable in view.
+/// Assigns a value to a variable, converted to its type. Returns `Stuck` for a place without a variable in view.
 pub(crate) fn assign_variable(
     alloc: Global,
     context: &RunContext<'_>,
@@ -35,7 +35,7 @@ pub(crate) fn assign_variable(
 {
     let places = context.plan.places.as_slice();
     match variable_in_view(places, live.frame.things.as_slice(), place) {
-        None => Err(RunFault::OutOfMemory),
+        None => Err(RunFault::Stuck),
         Some(base) => match converted_value(alloc, context, expr, base, &live.frame) {
             Err(fault) => Err(fault),
             Ok(value) => match live.assign(places, place, Thing::Value(value)) {

@@ -25,6 +25,7 @@ use Rattle.gq_exec_feed.specs.Taking.{MayTake, as_given, targeted, AreBatched}
 use Rattle.gq_exec_contribute.specs.Passing.{GainsAll, Comes}
 use Rattle.gq_exec_contribute.specs.declared.candidate.Outcome.{Outcome}
 use Rattle.gq_exec_contribute.specs.declared.candidate.Outcome.TheVariants as outcome
+use Rattle.gq_exec_contribute.specs.declared.candidate.Stop.{Stop}
 use Rattle.gq_exec_contribute.specs.Scalars.{made_of, as_input, as_inputs}
 use Rattle.gq_workers.specs.declared.found.MatchBuffer.{MatchBuffer}
 use Rattle.gq_exec_contribute.specs.Aliases.{bound_to}
@@ -243,7 +244,7 @@ module _ (o : Over) (c : Candidate) (go : Answer Wrong (List Match)) (old new : 
         within = h.within;
       })
 
-  pub faulted : (w : Wrong) → Comes o.frame.accums.slots c go old.batches new.batches (outcome.Fault w) → new.sources ≡ old.sources → new.targets ≡ old.targets → Tried o go old new (Some w)
+  pub faulted : (w : Stop) → Comes o.frame.accums.slots c go old.batches new.batches (outcome.Fault w) → new.sources ≡ old.sources → new.targets ≡ old.targets → Tried o go old new (Some w)
   faulted w comes sources targets = (comes.0, sources, targets)
 
 -- a candidate that WHERE rejects changes nothing
@@ -270,7 +271,7 @@ module _ (o : Over) (c : Candidate) (go : Answer Wrong (List Match)) (contribute
       }
 
 -- if nothing but appending INTs to the batch happened before, trying from there is trying from the old state
-pub tried_behind : {E : Type 0} (o : Over) (go : Answer Wrong (List Match)) (old same mid new : MatchBuffer) (result : Result (Option Wrong) E) → same ≡ old → Settles same mid → IfOk result (Tried o go mid new) → IfOk result (Tried o go old new)
+pub tried_behind : {E : Type 0} (o : Over) (go : Answer Wrong (List Match)) (old same mid new : MatchBuffer) (result : Result (Option Stop) E) → same ≡ old → Settles same mid → IfOk result (Tried o go mid new) → IfOk result (Tried o go old new)
 tried_behind o go old same mid new (Err x) e settles tried = tt
 tried_behind o go old same mid new (Ok None) e settles tried = (
   tried.0,

@@ -132,9 +132,9 @@ module _ (f : List Match → List ℕ) (go : Candidate → Answer Wrong (List Ma
       by p v high e (inl b) = step.kept v (h.cover p v (omega arith) b e)
       by p v high e (inr b) = cover p v b high e
 
-      from : (v : ℕ) → is_marked new v ≡ true → (is_marked old v ≡ true) ⊎ (is_marked old v ≡ false) → (place : ℕ) × (place < end) × IsAtEnd f go cs place v
-      from v t (inl o) = let r = h.only v o in let high = r.1 in (r.0, omega (arith, l, high), r.2)
-      from v t (inr o) = let r = step.only v t o in (r.0, r.2, r.3)
+      from : (v : ℕ) → is_marked new v ≡ true → (is_marked old v ≡ true) ⊎ (is_marked old v ≡ false) → (place : ℕ) × IsAtEnd f go cs place v
+      from v t (inl o) = h.only v o
+      from v t (inr o) = let r = step.only v t o in (r.0, r.3)
 
 -- ---- all candidates
 
@@ -179,7 +179,7 @@ module _ (f : List Match → List ℕ) (none : f [] ≡ []) (parts : (a b : List
 
   pub over : (cs : List Candidate) (ms : List Match) (words : List ℕ) (at : ℕ) → length cs ≤ at → matches_by go 0 cs ≡ Gives ms → AreMarked f go cs at words → Marks words (f ms)
   over cs ms words at l h marked v = same_truth (is_marked words v) (among (f ms) v)
-      (λ t. let r = marked.only v t in there 0 cs ms r.0 v h r.2)
+      (λ t. let r = marked.only v t in there 0 cs ms r.0 v h r.1)
       (λ t. let r = back 0 cs ms v h t in let low = r.1 in marked.cover r.0 v (omega arith) (omega (arith, l, low)) r.2)
 
 pub sources_over : (go : Candidate → Answer Wrong (List Match)) (cs : List Candidate) (ms : List Match) (words : List ℕ) (at : ℕ) → length cs ≤ at → matches_by go 0 cs ≡ Gives ms → AreMarked sources_of go cs at words → Marks words (sources_of ms)

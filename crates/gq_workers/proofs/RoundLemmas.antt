@@ -25,15 +25,16 @@ use Rattle.gq_workers.specs.declared.work.ChunkOutput.{ChunkOutput}
 use Rattle.gq_workers.specs.declared.work.WorkerOutput.{WorkerOutput}
 use Rattle.gq_workers.specs.declared.work.RoundOutput.{RoundOutput}
 use Rattle.gq_workers.specs.Running.{come, matches_by, sources_of, targets_of, Wait, FedFrom, IsAtEnd, Cover, CoverWhole, Mark, AreMarked, IsEmpty, IsOpened, IsShaped, Came, GoneThrough, HasRun}
-use Rattle.gq_workers.specs.Rounds.{IsLeft, Only, IsPart, LeavesChunk, Joins, MarksPart, AreLefts, MarksParts, StandsIn, InRound, Feeds, FeedsLeft, FeedsParts, IsAhead, EndsAt, FeedsRound, GoesOn, RunsOut}
+use Rattle.gq_workers.specs.Rounds.{IsLeft, Only, IsPart, LeavesChunk, Joins, MarksPart, AreLefts, MarksParts, StandsIn, InRound, Feeds, FeedsLeft, FeedsParts, IsAhead, StandsOr, FeedsRound, GoesOn}
 use Rattle.gq_workers.proofs.FoundLemmas.{shaped_still}
 use Rattle.gq_workers.proofs.MarkLemmas.{below_or_not, true_or_false, or_first, or_second, of_or, not_both}
 use Rattle.gq_exec_contribute.specs.declared.scalars.ScalarInput.{ScalarInput}
+use Rattle.gq_exec_contribute.specs.declared.candidate.Stop.{Stop}
 
 -- ---- the output of a chunk
 
 module _ (clock : Calendar) (o : Over) (w : Work) (start end : ℕ) where
-  pub leaves_chunk : (fault : Option (ℕ × Wrong)) (batches : List (List (ℕ × Input))) (ints : List (ℕ × ScalarInput)) (old mid new : MatchBuffer) → GoneThrough (come clock o w) w.candidates o start end old mid fault → batches ≡ mid.batches → ints ≡ mid.inputs
+  pub leaves_chunk : (fault : Option (ℕ × Stop)) (batches : List (List (ℕ × Input))) (ints : List (ℕ × ScalarInput)) (old mid new : MatchBuffer) → GoneThrough (come clock o w) w.candidates o start end old mid fault → batches ≡ mid.batches → ints ≡ mid.inputs
       → new.batches ≡ [] ∷ [] → new.inputs ≡ [] → new.sources ≡ mid.sources → new.targets ≡ mid.targets → LeavesChunk clock o w start end old new (record { start = start; end = end; batches = batches; inputs = ints; fault = fault })
   leaves_chunk fault batches ints old mid new gone b i emptied none sources targets = record {
     left = record {
@@ -52,7 +53,7 @@ module _ (clock : Calendar) (o : Over) (w : Work) (start end : ℕ) where
 abbrev pub Under : List ℕ → List ℕ → Type 0
 Under old new = (vertex : ℕ) → is_marked old vertex ≡ true → is_marked new vertex ≡ true
 
-whole_kept : (f : List Match → List ℕ) (go : Candidate → Answer Wrong (List Match)) (cs : List Candidate) (start end : ℕ) (old new : List ℕ) (fault : Option (ℕ × Wrong)) → Under old new → CoverWhole f go cs start end old fault → CoverWhole f go cs start end new fault
+whole_kept : (f : List Match → List ℕ) (go : Candidate → Answer Wrong (List Match)) (cs : List Candidate) (start end : ℕ) (old new : List ℕ) (fault : Option (ℕ × Stop)) → Under old new → CoverWhole f go cs start end old fault → CoverWhole f go cs start end new fault
 whole_kept f go cs start end old new None k h = λ p v low high e. k v (h p v low high e)
 whole_kept f go cs start end old new (Some x) k h = tt
 
@@ -271,14 +272,18 @@ left_fed l old new ints start fault listed took end same = record {
         by (inl x) = a p v low x e
         by (inr x) = let s = start in b p v (omega (arith, x, s)) high e
 
-pub left_faults : (l : ChunkOutput) (old new : BlockProgress) (f : ℕ × Wrong) → l.start ≡ old.at → l.fault ≡ Some f → FeedsLeft l old new (Some f)
+pub left_faults : (l : ChunkOutput) (old new : BlockProgress) (f : ℕ × Stop) → l.start ≡ old.at → l.fault ≡ Some f → FeedsLeft l old new (Some f)
 left_faults l old new f start fault = record {
   each = λ clock o w h left.
       let came : Came (come clock o w) w.candidates o l.start l.end l.batches l.inputs (Some f) = subst (Came (come clock o w) w.candidates o l.start l.end l.batches l.inputs) fault left.came in
       came h.matched (subst (λ (n : ℕ). Rattle.gq_workers.specs.Running.MatchesTo (come clock o w) w.candidates n h.matched) (sym start) h.ran);
 }
 
-pub ruleset left_laws = (left_fed, left_faults)
+-- an output that doesn't follow is left
+pub left_stays : (l : ChunkOutput) (old : BlockProgress) → FeedsLeft l old old None
+left_stays l old = record { each = λ clock o w h left. (h, refl) }
+
+pub ruleset left_laws = (left_fed, left_faults, left_stays)
 
 pub feeds_first : (parts : List (Result WorkerOutput OutOfMemory)) (old : BlockProgress) → FeedsParts parts old old None
 feeds_first parts old = record { each = λ clock o w h lefts. (h, refl) }
@@ -289,14 +294,14 @@ there clock o w s t parts l are h =
     (All-get_or (λ part. IfOk part (λ p. All (IsLeft clock o w s t) p.lefts)) parts h.worker (Ok h.part) (slice_get_within parts h.worker (Ok h.part) h.there) are) in
     subst (IsLeft clock o w s t) (get_or_from_slice_get h.part.lefts h.place l l h.stands) (All-get_or (IsLeft clock o w s t) h.part.lefts h.place l (slice_get_within h.part.lefts h.place l h.stands) p)
 
-pub feeds_next : (parts : List (Result WorkerOutput OutOfMemory)) (l : ChunkOutput) (old mid new : BlockProgress) (f : Option (ℕ × Wrong)) → FeedsParts parts old mid None → StandsIn parts l → FeedsLeft l mid new f → FeedsParts parts old new f
+pub feeds_next : (parts : List (Result WorkerOutput OutOfMemory)) (l : ChunkOutput) (old mid new : BlockProgress) (f : Option (ℕ × Stop)) → FeedsParts parts old mid None → StandsIn parts l → FeedsLeft l mid new f → FeedsParts parts old new f
 feeds_next parts l old mid new f h at step = record {
   each = λ clock o w start lefts.
       let m = h.each clock o w start lefts in
       by clock o w f (subst (λ (x : MatchBuffer). x ≡ old.found) refl m.1) (step.each clock o w m.0 (subst (λ (x : MatchBuffer). IsLeft clock o w x.sources x.targets l) (sym m.1) (there clock o w old.found.sources old.found.targets parts l lefts at)));
 }
   where
-    by : (clock : Calendar) (o : Over) (w : Work) (f : Option (ℕ × Wrong)) → mid.found ≡ old.found → Feeds clock o w mid new f → Feeds clock o w old new f
+    by : (clock : Calendar) (o : Over) (w : Work) (f : Option (ℕ × Stop)) → mid.found ≡ old.found → Feeds clock o w mid new f → Feeds clock o w old new f
     by clock o w None e x = (x.0, x.1 ∙ e)
     by clock o w (Some y) e x = x
 
@@ -304,87 +309,71 @@ pub ruleset feeds_laws = (feeds_first, feeds_next)
 
 -- ---- a round
 
-module _ (clock : Calendar) (o : Over) (w : Work) (last : ℕ) (parts : List (Result WorkerOutput OutOfMemory)) (old mid new : BlockProgress) where
-  begins : HasRun clock o w old → AreParts clock o w old.at last parts → MarksParts parts old.found mid.found → mid.at ≡ old.at → mid.accums ≡ old.accums → mid.fed ≡ old.fed → InRound clock o w mid
+module _ (clock : Calendar) (o : Over) (w : Work) (first last : ℕ) (parts : List (Result WorkerOutput OutOfMemory)) (old mid new : BlockProgress) where
+  begins : HasRun clock o w old → AreParts clock o w first last parts → MarksParts parts old.found mid.found → mid.at ≡ old.at → mid.accums ≡ old.accums → mid.fed ≡ old.fed → InRound clock o w mid
   begins h are marks at accums fed = record {
     matched = h.matched;
     ran = subst (λ (n : ℕ). Rattle.gq_workers.specs.Running.MatchesTo (come clock o w) w.candidates n h.matched) (sym at) h.ran;
     fed = subst (λ a. Rattle.gq_workers.specs.Running.AreFedTo o h.matched a mid.fed) (sym accums) (subst (Rattle.gq_workers.specs.Running.AreFedTo o h.matched old.accums) (sym fed) h.fed);
-    sources = λ p v low high e. (marks.sources clock o w old.at last are).kept v (h.sources.cover p v low (let s = at in omega (arith, high, s)) e);
-    targets = λ p v low high e. (marks.targets clock o w old.at last are).kept v (h.targets.cover p v low (let s = at in omega (arith, high, s)) e);
+    sources = λ p v low high e. (marks.sources clock o w first last are).kept v (h.sources.cover p v low (let s = at in omega (arith, high, s)) e);
+    targets = λ p v low high e. (marks.targets clock o w first last are).kept v (h.targets.cover p v low (let s = at in omega (arith, high, s)) e);
   }
 
-  pub round_faults : (f : ℕ × Wrong) → HasRun clock o w old → AreParts clock o w old.at last parts → MarksParts parts old.found mid.found → mid.at ≡ old.at → mid.accums ≡ old.accums → mid.fed ≡ old.fed → FeedsParts parts mid new (Some f) → EndsAt clock o w last new (Some f)
-  round_faults f h are marks at accums fed feeds = feeds.each clock o w (begins h are marks at accums fed) (marks.lefts clock o w old.at last are)
+  pub round_faults : (f : ℕ × Stop) → HasRun clock o w old → AreParts clock o w first last parts → MarksParts parts old.found mid.found → mid.at ≡ old.at → mid.accums ≡ old.accums → mid.fed ≡ old.fed → FeedsParts parts mid new (Some f) → StandsOr clock o w new (Some f)
+  round_faults f h are marks at accums fed feeds = feeds.each clock o w (begins h are marks at accums fed) (marks.lefts clock o w first last are)
 
-  pub round_done : HasRun clock o w old → AreParts clock o w old.at last parts → MarksParts parts old.found mid.found → mid.at ≡ old.at → mid.accums ≡ old.accums → mid.fed ≡ old.fed → FeedsParts parts mid new None → new.at ≡ last → old.at ≤ last → EndsAt clock o w last new None
-  round_done h are marks at accums fed feeds end more =
-      let r = feeds.each clock o w (begins h are marks at accums fed) (marks.lefts clock o w old.at last are) in (
-        record {
-          matched = r.0.matched;
-          ran = r.0.ran;
-          fed = r.0.fed;
-          empty = subst IsEmpty (sym r.1) (marks.empty h.empty);
-          shaped = subst (IsShaped (length o.vertices)) (sym r.1) (marks.shaped (length o.vertices) h.shaped);
-          sources = marked sources_of new.found.sources r.0.sources (λ v t. from sources_of old.found.sources mid.found.sources h.sources (marks.sources clock o w old.at last are) v (ap (λ (x : MatchBuffer). is_marked x.sources v) (sym r.1) ∙ t));
-          targets = marked targets_of new.found.targets r.0.targets (λ v t. from targets_of old.found.targets mid.found.targets h.targets (marks.targets clock o w old.at last are) v (ap (λ (x : MatchBuffer). is_marked x.targets v) (sym r.1) ∙ t));
-        },
-        end,
-      )
+  pub round_done : HasRun clock o w old → AreParts clock o w first last parts → MarksParts parts old.found mid.found → mid.at ≡ old.at → mid.accums ≡ old.accums → mid.fed ≡ old.fed → FeedsParts parts mid new None → StandsOr clock o w new None
+  round_done h are marks at accums fed feeds =
+      let r = feeds.each clock o w (begins h are marks at accums fed) (marks.lefts clock o w first last are) in record {
+        matched = r.0.matched;
+        ran = r.0.ran;
+        fed = r.0.fed;
+        empty = subst IsEmpty (sym r.1) (marks.empty h.empty);
+        shaped = subst (IsShaped (length o.vertices)) (sym r.1) (marks.shaped (length o.vertices) h.shaped);
+        sources = record { cover = r.0.sources; only = λ v t. from sources_of old.found.sources mid.found.sources h.sources (marks.sources clock o w first last are) v (ap (λ (x : MatchBuffer). is_marked x.sources v) (sym r.1) ∙ t) };
+        targets = record { cover = r.0.targets; only = λ v t. from targets_of old.found.targets mid.found.targets h.targets (marks.targets clock o w first last are) v (ap (λ (x : MatchBuffer). is_marked x.targets v) (sym r.1) ∙ t) };
+      }
     where
-      from : (f : List Match → List ℕ) (a b : List ℕ) → AreMarked f (come clock o w) w.candidates old.at a → Mark f (come clock o w) w.candidates old.at last a b → (v : ℕ) → is_marked b v ≡ true → (place : ℕ) × (place < last) × IsAtEnd f (come clock o w) w.candidates place v
+      from : (f : List Match → List ℕ) (a b : List ℕ) → AreMarked f (come clock o w) w.candidates old.at a → Mark f (come clock o w) w.candidates first last a b → (v : ℕ) → is_marked b v ≡ true → (place : ℕ) × IsAtEnd f (come clock o w) w.candidates place v
       from f a b was step v t = by (true_or_false (is_marked a v))
         where
-          by : (is_marked a v ≡ true) ⊎ (is_marked a v ≡ false) → (place : ℕ) × (place < last) × IsAtEnd f (come clock o w) w.candidates place v
-          by (inl x) = let q = was.only v x in let high = q.1 in (q.0, omega (arith, high, more), q.2)
-          by (inr x) = let q = step.only v t x in (q.0, q.2, q.3)
-
-      marked : (f : List Match → List ℕ) (words : List ℕ) → Cover f (come clock o w) w.candidates 0 new.at words → ((v : ℕ) → is_marked words v ≡ true → (place : ℕ) × (place < last) × IsAtEnd f (come clock o w) w.candidates place v) → AreMarked f (come clock o w) w.candidates new.at words
-      marked f words cover only = record { cover = cover; only = λ v t. let q = only v t in let high = q.1 in (q.0, omega (arith, high, end), q.2) }
+          by : (is_marked a v ≡ true) ⊎ (is_marked a v ≡ false) → (place : ℕ) × IsAtEnd f (come clock o w) w.candidates place v
+          by (inl x) = was.only v x
+          by (inr x) = let q = step.only v t x in (q.0, q.3)
 
 module _ (g : RoundOutput) (parts : List (Result WorkerOutput OutOfMemory)) (old mid new : BlockProgress) where
-  tried : (clock : Calendar) (o : Over) (w : Work) → parts ≡ g.parts.items → IsAhead clock o w old g → AreParts clock o w old.at g.last parts
-  tried clock o w listed ahead = subst (λ (n : ℕ). AreParts clock o w n g.last parts) ahead.next (subst (AreParts clock o w g.first g.last) (sym listed) ahead.parts)
+  tried : (clock : Calendar) (o : Over) (w : Work) → parts ≡ g.parts.items → IsAhead clock o w g → AreParts clock o w g.first g.last parts
+  tried clock o w listed ahead = subst (AreParts clock o w g.first g.last) (sym listed) ahead
 
-  pub feeds_round_fault : (f : ℕ × Wrong) → parts ≡ g.parts.items → MarksParts parts old.found mid.found → mid.at ≡ old.at → mid.accums ≡ old.accums → mid.fed ≡ old.fed → FeedsParts parts mid new (Some f) → FeedsRound g old new (Some f)
+  feeds_round_fault : (f : ℕ × Stop) → parts ≡ g.parts.items → MarksParts parts old.found mid.found → mid.at ≡ old.at → mid.accums ≡ old.accums → mid.fed ≡ old.fed → FeedsParts parts mid new (Some f) → FeedsRound g old new (Some f)
   feeds_round_fault f listed marks at accums fed feeds = record {
-    each = λ clock o w h ahead. round_faults clock o w g.last parts old mid new f h (tried clock o w listed ahead) marks at accums fed feeds;
+    each = λ clock o w h ahead. round_faults clock o w g.first g.last parts old mid new f h (tried clock o w listed ahead) marks at accums fed feeds;
   }
 
-  pub feeds_round : parts ≡ g.parts.items → MarksParts parts old.found mid.found → mid.at ≡ old.at → mid.accums ≡ old.accums → mid.fed ≡ old.fed → FeedsParts parts mid new None → new.at ≡ g.last → FeedsRound g old new None
-  feeds_round listed marks at accums fed feeds end = record {
-    each = λ clock o w h ahead. let next = ahead.next in let forward = ahead.forward in round_done clock o w g.last parts old mid new h (tried clock o w listed ahead) marks at accums fed feeds end (omega (arith, next, forward));
+  feeds_round : parts ≡ g.parts.items → MarksParts parts old.found mid.found → mid.at ≡ old.at → mid.accums ≡ old.accums → mid.fed ≡ old.fed → FeedsParts parts mid new None → FeedsRound g old new None
+  feeds_round listed marks at accums fed feeds = record {
+    each = λ clock o w h ahead. round_done clock o w g.first g.last parts old mid new h (tried clock o w listed ahead) marks at accums fed feeds;
   }
+
+  pub feeds_round_ok : (r : Result (Option (ℕ × Stop)) OutOfMemory) → parts ≡ g.parts.items → MarksParts parts old.found mid.found → mid.at ≡ old.at → mid.accums ≡ old.accums → mid.fed ≡ old.fed → IfOk r (FeedsParts parts mid new) → IfOk r (FeedsRound g old new)
+  feeds_round_ok (Ok (Some f)) listed marks at accums fed feeds = feeds_round_fault f listed marks at accums fed feeds
+  feeds_round_ok (Ok None) listed marks at accums fed feeds = feeds_round listed marks at accums fed feeds
+  feeds_round_ok (Err e) listed marks at accums fed feeds = tt
 
 module _ (clock : Calendar) (o : Over) (w : Work) where
   -- before the first round nothing is ahead
-  pub none_ahead : (r : BlockProgress) (g : RoundOutput) → g.first ≡ r.at → g.last ≡ r.at → g.parts.items ≡ [] → IsAhead clock o w r g
-  none_ahead r g first last none = record {
-    next = first;
-    forward = omega (arith, first, last);
-    parts = subst (AreParts clock o w g.first g.last) (sym none) (All-nil (λ part. IfOk part (IsPart clock o w g.first g.last)));
-  }
+  pub none_ahead : (g : RoundOutput) → g.parts.items ≡ [] → IsAhead clock o w g
+  none_ahead g none = subst (AreParts clock o w g.first g.last) (sym none) (All-nil (λ part. IfOk part (IsPart clock o w g.first g.last)))
 
-  pub round_on : (old new : BlockProgress) (g next : RoundOutput) → HasRun clock o w old → IsAhead clock o w old g → FeedsRound g old new None → next.first ≡ g.last → g.last < next.last → AreParts clock o w next.first next.last next.parts.items → GoesOn clock o w g.last new next None
-  round_on old new g next h ahead fed first more parts = let end = fed.each clock o w h ahead in let at = end.1 in (
-    end.0,
-    record { next = first ∙ sym at; forward = omega (arith, first, more); parts = parts },
-    more,
-  )
+  pub round_on : (old new : BlockProgress) (g next : RoundOutput) → HasRun clock o w old → IsAhead clock o w g → FeedsRound g old new None → g.last < next.last → AreParts clock o w next.first next.last next.parts.items → GoesOn clock o w g.last new next None
+  round_on old new g next h ahead fed more parts = (fed.each clock o w h ahead, parts, more)
 
-  pub round_stops : (old new : BlockProgress) (g : RoundOutput) (f : ℕ × Wrong) → HasRun clock o w old → IsAhead clock o w old g → FeedsRound g old new (Some f) → GoesOn clock o w g.last new g (Some f)
+  pub round_stops : (old new : BlockProgress) (g : RoundOutput) (f : ℕ × Stop) → HasRun clock o w old → IsAhead clock o w g → FeedsRound g old new (Some f) → GoesOn clock o w g.last new g (Some f)
   round_stops old new g f h ahead fed = fed.each clock o w h ahead
 
-  pub runs_out : (old new : BlockProgress) (g : RoundOutput) (f : Option (ℕ × Wrong)) → HasRun clock o w old → IsAhead clock o w old g → length w.candidates ≤ g.last → FeedsRound g old new f → RunsOut clock o w new f
-  runs_out old new g f h ahead far fed = by f (fed.each clock o w h ahead)
-    where
-      by : (f : Option (ℕ × Wrong)) → EndsAt clock o w g.last new f → RunsOut clock o w new f
-      by None e = let at = e.1 in (e.0, omega (arith, at, far))
-      by (Some x) e = e
-
-  pub runs_out_ok : (old new : BlockProgress) (g : RoundOutput) (r : Result (Option (ℕ × Wrong)) OutOfMemory) → HasRun clock o w old → IsAhead clock o w old g → length w.candidates ≤ g.last → IfOk r (FeedsRound g old new) → IfOk r (RunsOut clock o w new)
-  runs_out_ok old new g (Ok f) h ahead far fed = runs_out old new g f h ahead far fed
-  runs_out_ok old new g (Err e) h ahead far fed = tt
+  pub stands_ok : (old new : BlockProgress) (g : RoundOutput) (r : Result (Option (ℕ × Stop)) OutOfMemory) → HasRun clock o w old → IsAhead clock o w g → IfOk r (FeedsRound g old new) → IfOk r (StandsOr clock o w new)
+  stands_ok old new g (Ok f) h ahead fed = fed.each clock o w h ahead
+  stands_ok old new g (Err e) h ahead fed = tt
 
 -- ---- two answers
 

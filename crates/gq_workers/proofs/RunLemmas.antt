@@ -35,8 +35,11 @@ use Rattle.gq_workers.specs.declared.found.MatchBuffer.{MatchBuffer}
 use Rattle.gq_workers.specs.declared.run.BlockProgress.{BlockProgress}
 use Rattle.gq_workers.specs.declared.work.Work.{Work}
 use Rattle.gq_exec_contribute.specs.Aliases.{bound_to}
-use Rattle.gq_workers.specs.Running.{comes, come, matches_by, sources_of, targets_of, MatchesTo, GoOn, FaultAt, Wait, AreFedTo, FedFrom, Mark, Cover, AreMarked, IsShaped, IsEmpty, IsOpened, Tried, IsWork, Came, GoneThrough, HasRun, Steps}
-use Rattle.gq_workers.specs.Results.{Answers, Leaves, IsJudged, IsBegun, RanTo, block_matches}
+use Rattle.gq_exec_contribute.specs.declared.candidate.Stop.{Stop}
+use Rattle.gq_exec_contribute.specs.declared.candidate.Stop.TheVariants as stop
+use Rattle.gq_exec_contribute.specs.Passing.{stopped}
+use Rattle.gq_workers.specs.Running.{comes, come, matches_by, stopped_at, sources_of, targets_of, MatchesTo, GoOn, FaultAt, Wait, AreFedTo, FedFrom, Mark, Cover, AreMarked, IsShaped, IsEmpty, IsOpened, Tried, IsWork, Came, GoneThrough, HasRun, Steps}
+use Rattle.gq_workers.specs.Results.{Answers, Leaves, IsJudged, IsBegun, RanTo, block_matches, stop_fault}
 use Rattle.gq_workers.proofs.AliasLemmas.{named_all}
 use Rattle.gq_workers.proofs.MarkLemmas.{mark_first, cover_first, mark_next, cover_next, mark_wider, marked_first, marked_more, sources_over, targets_over}
 use Rattle.gq_exec_contribute.specs.declared.scalars.ScalarInput.{ScalarInput}
@@ -45,6 +48,11 @@ use Rattle.gq_exec_contribute.specs.declared.scalars.ScalarInput.{ScalarInput}
 
 abbrev given : List Match → Answer blocks.BlockFault (List Match)
 given ms = Gives ms
+
+-- a candidate without a value ends all behind it
+stops : (n : ℕ) (f : List Match → Answer blocks.BlockFault (List Match)) (w : Stop) → (blaming (AtPlace n) (stopped w) >>= f) ≡ stopped_at n w
+stops n f (stop.Wrong w) = refl
+stops n f stop.Stuck = refl
 
 gives_same : (a b : List Match) → given a ≡ given b → a ≡ b
 gives_same a b h = cc
@@ -86,9 +94,10 @@ module _ (go : Candidate → Answer Wrong (List Match)) where
   pub one_more : (xs : List Candidate) (c : Candidate) (ms new : List Match) → matches_by go 0 xs ≡ Gives ms → go c ≡ Gives new → matches_by go 0 (xs ++ c ∷ []) ≡ Gives (ms ++ new)
   one_more xs c ms new e g = matches_then 0 xs c [] ms e ∙ ap (λ o. blaming (AtPlace (0 + length xs)) o >>= λ m. Gives (ms ++ (m ++ []))) g ∙ ap (λ l. Gives (ms ++ l)) (append-nil new)
 
-  pub faulty : (xs : List Candidate) (c : Candidate) (rest : List Candidate) (ms : List Match) (w : Wrong) → matches_by go 0 xs ≡ Gives ms → go c ≡ Faults w → matches_by go 0 (xs ++ c ∷ rest) ≡ Faults (AtPlace (length xs) w)
+  pub faulty : (xs : List Candidate) (c : Candidate) (rest : List Candidate) (ms : List Match) (w : Stop) → matches_by go 0 xs ≡ Gives ms → go c ≡ stopped w → matches_by go 0 (xs ++ c ∷ rest) ≡ stopped_at (length xs) w
   faulty xs c rest ms w e g = matches_then 0 xs c rest ms e ∙ ap (λ o. blaming (AtPlace (0 + length xs)) o >>= λ m. matches_by go (suc (0 + length xs)) rest >>= λ ns. Gives (ms ++ (m ++ ns))) g
-      ∙ (let z : 0 + length xs ≡ length xs = omega arith in ap (λ (n : ℕ). Faults (AtPlace n w)) z)
+      ∙ stops (0 + length xs) (λ m. matches_by go (suc (0 + length xs)) rest >>= λ ns. Gives (ms ++ (m ++ ns))) w
+      ∙ (let z : 0 + length xs ≡ length xs = omega arith in ap (λ (n : ℕ). stopped_at n w) z)
 
 -- ---- the same in terms of the definitions
 
@@ -145,8 +154,8 @@ module _ (go : Candidate → Answer Wrong (List Match)) (cs : List Candidate) wh
   pub go_next : (s p : ℕ) (c : Candidate) (ms m : List Match) → slice_get cs p ≡ Some c → GoOn go cs s p ms → go c ≡ Gives m → GoOn go cs s (p + 1) (ms ++ m)
   go_next s p c ms m at goes e before h = ap (matches_by go 0) (take_next p cs c at) ∙ one_more go (take p cs) c (before ++ ms) m (goes before h) e ∙ ap Gives (append_assoc before ms m)
 
-  pub go_fault : (s p : ℕ) (c : Candidate) (ms : List Match) (w : Wrong) → slice_get cs p ≡ Some c → GoOn go cs s p ms → go c ≡ Faults w → FaultAt go cs s p w
-  go_fault s p c ms w at goes e before h = let r = split_at p cs c at in ap (matches_by go 0) r.0 ∙ faulty go (take p cs) c (drop (suc p) cs) (before ++ ms) w (goes before h) e ∙ ap (λ (n : ℕ). Faults (AtPlace n w)) r.1
+  pub go_fault : (s p : ℕ) (c : Candidate) (ms : List Match) (w : Stop) → slice_get cs p ≡ Some c → GoOn go cs s p ms → go c ≡ stopped w → FaultAt go cs s p w
+  go_fault s p c ms w at goes e before h = let r = split_at p cs c at in ap (matches_by go 0) r.0 ∙ faulty go (take p cs) c (drop (suc p) cs) (before ++ ms) w (goes before h) e ∙ ap (λ (n : ℕ). stopped_at n w) r.1
 
 -- ---- a chunk
 
@@ -201,7 +210,7 @@ module _ (go : Candidate → Answer Wrong (List Match)) (cs : List Candidate) (o
     cover_targets = cover_next targets_of go cs start p c tried.0 mid.targets new.targets at tried.1 h.cover_targets tried.4;
   }
 
-  pub chunk_fault : (p : ℕ) (c : Candidate) (w : Wrong) (old mid new : MatchBuffer) → slice_get cs p ≡ Some c → ChunkTo go cs o start end p old mid → Tried o (go c) mid new (Some w) → IsShaped (length o.vertices) new → GoneThrough go cs o start end old new (Some (p, w))
+  pub chunk_fault : (p : ℕ) (c : Candidate) (w : Stop) (old mid new : MatchBuffer) → slice_get cs p ≡ Some c → ChunkTo go cs o start end p old mid → Tried o (go c) mid new (Some w) → IsShaped (length o.vertices) new → GoneThrough go cs o start end old new (Some (p, w))
   chunk_fault p c w old mid new at h tried shaped = record {
     came = go_fault go cs start p c h.matched w at h.goes tried.0;
     shaped = shaped;
@@ -276,14 +285,14 @@ module _ (clock : Calendar) (o : Over) (w : Work) (old new : BlockProgress) wher
       none [] = refl
       none (x ∷ xs) = refl
 
-  pub chunk_faults : (end : ℕ) (mid : MatchBuffer) (f : ℕ × Wrong) → HasRun clock o w old → GoneThrough (come clock o w) w.candidates o old.at end old.found mid (Some f) → Steps clock o w old new (Some f)
+  pub chunk_faults : (end : ℕ) (mid : MatchBuffer) (f : ℕ × Stop) → HasRun clock o w old → GoneThrough (come clock o w) w.candidates o old.at end old.found mid (Some f) → Steps clock o w old new (Some f)
   chunk_faults end mid f h gone = gone.came h.matched h.ran
 
 -- ---- all candidates
 
 module _ (clock : Calendar) (o : Over) (w : Work) (is : IsWork o w) where
-  pub run_faults : (old new : BlockProgress) (f : ℕ × Wrong) (n : ℕ) (x : Wrong) → f.0 ≡ n → f.1 ≡ x → Steps clock o w old new (Some f) → RanTo clock o w.block.now (ran.Fault n x)
-  run_faults old new f n x e d h s shows = block_comes clock o w.block.now w.leaves.ends.now w.leaves.edge s shows is.ends is.edge w.candidates is.candidates ∙ h ∙ ap₂ (λ (k : ℕ) (y : Wrong). Faults (AtPlace k y)) e d
+  pub run_faults : (old new : BlockProgress) (f : ℕ × Stop) (n : ℕ) (x : Stop) → f.0 ≡ n → f.1 ≡ x → Steps clock o w old new (Some f) → RanTo clock o w.block.now (ran.Fault n x)
+  run_faults old new f n x e d h s shows = block_comes clock o w.block.now w.leaves.ends.now w.leaves.edge s shows is.ends is.edge w.candidates is.candidates ∙ h ∙ ap₂ (λ (k : ℕ) (y : Stop). stopped_at k y) e d
 
   pub run_done : (r : BlockProgress) → length w.candidates ≤ r.at → HasRun clock o w r → RanTo clock o w.block.now (ran.Done r)
   run_done r l h = (
@@ -305,8 +314,9 @@ module _ (clock : Calendar) (o : Over) (w : Work) (is : IsWork o w) where
 pub ends_memory : (clock : Calendar) (o : Over) (block : Block) → Answers clock o block (Err fault.OutOfMemory)
 ends_memory clock o block = record { each = λ s shows. tt }
 
-pub ends_fault : (clock : Calendar) (o : Over) (block : Block) (n : ℕ) (w : Wrong) → RanTo clock o block (ran.Fault n w) → Answers clock o block (Err (fault.Eval n w))
-ends_fault clock o block n w h = record { each = λ s shows. ap (λ a. a >>= after_matches s.slots) (h s shows) }
+pub ends_fault : (clock : Calendar) (o : Over) (block : Block) (n : ℕ) (w : Stop) (e : BlockFault) → e ≡ stop_fault n w → RanTo clock o block (ran.Fault n w) → Answers clock o block (Err e)
+ends_fault clock o block n (stop.Wrong w) e is h = subst (λ e. Answers clock o block (Err e)) (sym is) (record { each = λ s shows. ap (λ a. a >>= after_matches s.slots) (h s shows) })
+ends_fault clock o block n stop.Stuck e is h = subst (λ e. Answers clock o block (Err e)) (sym is) (record { each = λ s shows. ap (λ a. a >>= after_matches s.slots) (h s shows) })
 
 pub ends_judged : (clock : Calendar) (o : Over) (block : Block) (r : BlockProgress) (result : Result After BlockFault) → RanTo clock o block (ran.Done r) → IsJudged r result → Answers clock o block result
 ends_judged clock o block r result h judged = record {

@@ -3,9 +3,9 @@ use Rattle.std.specs.Prelude.{◌≡◌, ℕ, ◌<◌, List, length, nat_eq, Res
 use Rattle.std.specs.List.{All, IsDistinct}
 use Rattle.gq_rules_typing.specs.Patterns.{by_number}
 use Rattle.gq_exec_source.specs.Marks.{Marks}
-use Rattle.gq_rules_meaning.specs.Answers.{Answer, Gives, Faults}
+use Rattle.gq_rules_meaning.specs.Answers.{Answer, Gives}
 use Rattle.gq_rules_meaning.specs.Blocks as blocks
-use Rattle.gq_rules_meaning.specs.Blocks.{AtPlace, Match, after_matches, matches, accumulated}
+use Rattle.gq_rules_meaning.specs.Blocks.{Match, after_matches, matches, accumulated}
 use Rattle.gq_rules_meaning.specs.Sources.{from, candidates_of}
 use Rattle.gq_rules_meaning.specs.Calendars.{Calendar}
 use Rattle.gq_rules_meaning.specs.States.{State}
@@ -18,13 +18,16 @@ use Rattle.gq_eval_context.specs.Viewed.{Over}
 use Rattle.gq_eval_context.specs.Looks.{world_over}
 use Rattle.gq_eval_context.specs.declared.after.After.{After}
 use Rattle.gq_eval_context.specs.declared.after.BlockFault.{BlockFault}
+use Rattle.gq_eval_context.specs.declared.after.BlockFault.TheVariants as fault
 use Rattle.gq_eval_context.specs.Answered.{Answered, after_is}
 use Rattle.gq_workers.specs.declared.block.Ran.{Ran}
 use Rattle.gq_workers.specs.declared.block.Ran.TheVariants as ran
 use Rattle.gq_workers.specs.declared.found.MatchBuffer.{MatchBuffer}
 use Rattle.gq_workers.specs.declared.run.BlockProgress.{BlockProgress}
 use Rattle.gq_workers.specs.declared.work.Work.{Work}
-use Rattle.gq_workers.specs.Running.{AreFedTo, HasRun, IsShort, IsWork, sources_of, targets_of}
+use Rattle.gq_exec_contribute.specs.declared.candidate.Stop.{Stop}
+use Rattle.gq_exec_contribute.specs.declared.candidate.Stop.TheVariants as stop
+use Rattle.gq_workers.specs.Running.{AreFedTo, HasRun, IsShort, IsWork, stopped_at, sources_of, targets_of}
 
 -- the result of a block: the same slots, no spoiled content, and existing vertices, each once
 pub record Leaves (o : Over) (a : After) : Type 0 where
@@ -76,7 +79,12 @@ pub record IsWorkOf (o : Over) (block : Block) (w : Work) : Type 0 where
 pub record IsBegun (o : Over) (r : BlockProgress) : Type 0 where
   pub each : (clock : Calendar) (w : Work) → HasRun clock o w r
 
+-- the fault of a block whose candidate at a place has no value
+abbrev pub stop_fault : ℕ → Stop → BlockFault
+stop_fault n (stop.Wrong w) = fault.Eval n w
+stop_fault n stop.Stuck = fault.Stuck
+
 -- all candidates are done and all contributions are fed; or the first fault is returned
 abbrev pub RanTo : Calendar → Over → Block → Ran → Type 0
 RanTo clock o block (ran.Done r) = (ms : List Match) × ((s : State Reference) → Shows o.plan.places o.frame s → block_matches clock o block s ≡ Gives ms) × IsOver o ms r × IsShort r.found
-RanTo clock o block (ran.Fault n w) = (s : State Reference) → Shows o.plan.places o.frame s → block_matches clock o block s ≡ Faults (AtPlace n w)
+RanTo clock o block (ran.Fault n w) = (s : State Reference) → Shows o.plan.places o.frame s → block_matches clock o block s ≡ stopped_at n w

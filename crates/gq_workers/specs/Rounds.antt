@@ -2,10 +2,9 @@
 use Rattle.std.specs.Prelude.{◌≡◌, ◌||◌, ℕ, ◌<◌, ◌≤◌, true, List, length, Option, Some, None, Result, Ok, IfOk, slice_get}
 use Rattle.std.specs.List.{All}
 use Rattle.gq_base.specs.declared.memory.OutOfMemory.{OutOfMemory}
-use Rattle.gq_value.specs.declared.value.Wrong.{Wrong}
+use Rattle.gq_exec_contribute.specs.declared.candidate.Stop.{Stop}
 use Rattle.gq_exec_source.specs.Marks.{is_marked}
-use Rattle.gq_rules_meaning.specs.Answers.{Faults}
-use Rattle.gq_rules_meaning.specs.Blocks.{AtPlace, Match}
+use Rattle.gq_rules_meaning.specs.Blocks.{Match}
 use Rattle.gq_rules_meaning.specs.Calendars.{Calendar}
 use Rattle.gq_eval_context.specs.Viewed.{Over, GoTogether}
 use Rattle.gq_workers.specs.declared.found.MatchBuffer.{MatchBuffer}
@@ -15,7 +14,7 @@ use Rattle.gq_workers.specs.declared.work.WorkerOutput.{WorkerOutput}
 use Rattle.gq_workers.specs.declared.work.Round.{Round}
 use Rattle.gq_workers.specs.declared.work.RoundOutput.{RoundOutput}
 use Rattle.gq_workers.specs.declared.run.BlockProgress.{BlockProgress}
-use Rattle.gq_workers.specs.Running.{come, matches_by, sources_of, targets_of, MatchesTo, AreFedTo, Came, Cover, CoverWhole, HasRun, Mark, IsAtEnd, IsEmpty, IsShaped, IsWork}
+use Rattle.gq_workers.specs.Running.{come, matches_by, stopped_at, sources_of, targets_of, MatchesTo, AreFedTo, Came, Cover, CoverWhole, HasRun, Mark, IsAtEnd, IsEmpty, IsShaped, IsWork}
 
 -- ---- the outputs of workers
 
@@ -99,38 +98,32 @@ pub record InRound (clock : Calendar) (o : Over) (w : Work) (r : BlockProgress) 
   pub targets : Cover targets_of (come clock o w) w.candidates 0 r.at r.found.targets
 
 -- more is fed, or the first fault is returned
-abbrev pub Feeds : Calendar → Over → Work → BlockProgress → BlockProgress → Option (ℕ × Wrong) → Type 0
+abbrev pub Feeds : Calendar → Over → Work → BlockProgress → BlockProgress → Option (ℕ × Stop) → Type 0
 Feeds clock o w old new None = InRound clock o w new × (new.found ≡ old.found)
-Feeds clock o w old new (Some fault) = matches_by (come clock o w) 0 w.candidates ≡ Faults (AtPlace fault.0 fault.1)
+Feeds clock o w old new (Some fault) = matches_by (come clock o w) 0 w.candidates ≡ stopped_at fault.0 fault.1
 
-pub record FeedsLeft (l : ChunkOutput) (old new : BlockProgress) (fault : Option (ℕ × Wrong)) : Type 0 where
+pub record FeedsLeft (l : ChunkOutput) (old new : BlockProgress) (fault : Option (ℕ × Stop)) : Type 0 where
   pub each : (clock : Calendar) (o : Over) (w : Work) → InRound clock o w old → IsLeft clock o w old.found.sources old.found.targets l → Feeds clock o w old new fault
 
-pub record FeedsParts (parts : List (Result WorkerOutput OutOfMemory)) (old new : BlockProgress) (fault : Option (ℕ × Wrong)) : Type 0 where
+pub record FeedsParts (parts : List (Result WorkerOutput OutOfMemory)) (old new : BlockProgress) (fault : Option (ℕ × Stop)) : Type 0 where
   pub each : (clock : Calendar) (o : Over) (w : Work) → InRound clock o w old → AreLefts clock o w old.found.sources old.found.targets parts → Feeds clock o w old new fault
 
 -- ---- rounds
 
--- a round comes after the candidates that are done, and its candidates are tried
-pub record IsAhead (clock : Calendar) (o : Over) (w : Work) (r : BlockProgress) (g : RoundOutput) : Type 0 where
-  pub next : g.first ≡ r.at
-  pub forward : g.first ≤ g.last
-  pub parts : All (λ part. IfOk part (IsPart clock o w g.first g.last)) g.parts.items
+-- the candidates of a round are tried; what its workers give isn't fed yet
+abbrev pub IsAhead : Calendar → Over → Work → RoundOutput → Type 0
+IsAhead clock o w g = All (λ part. IfOk part (IsPart clock o w g.first g.last)) g.parts.items
 
--- the candidates of a round are done too, or the first fault is returned
-abbrev pub EndsAt : Calendar → Over → Work → ℕ → BlockProgress → Option (ℕ × Wrong) → Type 0
-EndsAt clock o w last new None = HasRun clock o w new × (new.at ≡ last)
-EndsAt clock o w last new (Some fault) = matches_by (come clock o w) 0 w.candidates ≡ Faults (AtPlace fault.0 fault.1)
+-- the candidates before a place are done, or the first fault is returned
+abbrev pub StandsOr : Calendar → Over → Work → BlockProgress → Option (ℕ × Stop) → Type 0
+StandsOr clock o w new None = HasRun clock o w new
+StandsOr clock o w new (Some fault) = matches_by (come clock o w) 0 w.candidates ≡ stopped_at fault.0 fault.1
 
-pub record FeedsRound (g : RoundOutput) (old new : BlockProgress) (fault : Option (ℕ × Wrong)) : Type 0 where
-  pub each : (clock : Calendar) (o : Over) (w : Work) → HasRun clock o w old → IsAhead clock o w old g → EndsAt clock o w g.last new fault
+-- what the workers of a round give is fed, as far as it follows what was fed before
+pub record FeedsRound (g : RoundOutput) (old new : BlockProgress) (fault : Option (ℕ × Stop)) : Type 0 where
+  pub each : (clock : Calendar) (o : Over) (w : Work) → HasRun clock o w old → IsAhead clock o w g → StandsOr clock o w new fault
 
--- one round is done and a later one is tried, or the first fault is returned
-abbrev pub GoesOn : Calendar → Over → Work → ℕ → BlockProgress → RoundOutput → Option (ℕ × Wrong) → Type 0
-GoesOn clock o w last new ahead None = HasRun clock o w new × IsAhead clock o w new ahead × (last < ahead.last)
-GoesOn clock o w last new ahead (Some fault) = matches_by (come clock o w) 0 w.candidates ≡ Faults (AtPlace fault.0 fault.1)
-
--- all candidates are done, or the first fault is returned
-abbrev pub RunsOut : Calendar → Over → Work → BlockProgress → Option (ℕ × Wrong) → Type 0
-RunsOut clock o w new None = HasRun clock o w new × (length w.candidates ≤ new.at)
-RunsOut clock o w new (Some fault) = matches_by (come clock o w) 0 w.candidates ≡ Faults (AtPlace fault.0 fault.1)
+-- one round is fed and a later one is tried, or the first fault is returned
+abbrev pub GoesOn : Calendar → Over → Work → ℕ → BlockProgress → RoundOutput → Option (ℕ × Stop) → Type 0
+GoesOn clock o w last new ahead None = HasRun clock o w new × IsAhead clock o w ahead × (last < ahead.last)
+GoesOn clock o w last new ahead (Some fault) = matches_by (come clock o w) 0 w.candidates ≡ stopped_at fault.0 fault.1

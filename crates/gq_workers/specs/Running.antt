@@ -8,7 +8,7 @@ use Rattle.gq_value.specs.declared.value.Wrong.{Wrong}
 use Rattle.gq_graph.specs.Candidates.{among}
 use Rattle.gq_frame.specs.declared.accums.Accums.{Accums}
 use Rattle.gq_exec_source.specs.Marks.{is_marked}
-use Rattle.gq_rules_meaning.specs.Answers.{Answer, Gives, Faults, ◌>>=◌, blaming}
+use Rattle.gq_rules_meaning.specs.Answers.{Answer, Gives, Faults, Stuck, ◌>>=◌, blaming}
 use Rattle.gq_rules_meaning.specs.Blocks.{BlockFault, AtPlace, Contribution, Match, match_of}
 use Rattle.gq_rules_meaning.specs.Calendars.{Calendar}
 use Rattle.gq_plan_ir.specs.declared.block.Block.{Block}
@@ -25,8 +25,10 @@ use Rattle.gq_exec_source.specs.Ends.{HasEnds}
 use Rattle.gq_exec_source.specs.Starts.{IsWithin, AreCandidates}
 use Rattle.gq_exec_feed.specs.Taking.{MayTake, AreBatched}
 use Rattle.gq_exec_feed.specs.Feeding.{AreAfter}
-use Rattle.gq_exec_contribute.specs.Passing.{Comes}
+use Rattle.gq_exec_contribute.specs.Passing.{Comes, stopped}
 use Rattle.gq_exec_contribute.specs.declared.candidate.Outcome.{Outcome}
+use Rattle.gq_exec_contribute.specs.declared.candidate.Stop.{Stop}
+use Rattle.gq_exec_contribute.specs.declared.candidate.Stop.TheVariants as stop
 use Rattle.gq_workers.specs.declared.found.MatchBuffer.{MatchBuffer}
 use Rattle.gq_workers.specs.declared.work.Work.{Work}
 use Rattle.gq_workers.specs.declared.run.BlockProgress.{BlockProgress}
@@ -55,6 +57,11 @@ abbrev pub matches_by : (Candidate → Answer Wrong (List Match)) → ℕ → Li
 matches_by go n [] = Gives []
 matches_by go n (c ∷ cs) = blaming (AtPlace n) (go c) >>= λ m. matches_by go (suc n) cs >>= λ ms. Gives (m ++ ms)
 
+-- the end of a block whose candidate at a place has no value; what is stuck has no place
+abbrev pub stopped_at : {A : Type 0} → ℕ → Stop → Answer BlockFault A
+stopped_at n (stop.Wrong w) = Faults (AtPlace n w)
+stopped_at n stop.Stuck = Stuck
+
 -- the first `n` candidates are done without a fault, and these are their matches
 abbrev pub MatchesTo : (Candidate → Answer Wrong (List Match)) → List Candidate → ℕ → List Match → Type 0
 MatchesTo go cs end ms = matches_by go 0 (take end cs) ≡ Gives ms
@@ -64,8 +71,8 @@ abbrev pub GoOn : (Candidate → Answer Wrong (List Match)) → List Candidate �
 GoOn go cs start end ms = (before : List Match) → MatchesTo go cs start before → MatchesTo go cs end (before ++ ms)
 
 -- after them, this is the first fault
-abbrev pub FaultAt : (Candidate → Answer Wrong (List Match)) → List Candidate → ℕ → ℕ → Wrong → Type 0
-FaultAt go cs start place w = (before : List Match) → MatchesTo go cs start before → matches_by go 0 cs ≡ Faults (AtPlace place w)
+abbrev pub FaultAt : (Candidate → Answer Wrong (List Match)) → List Candidate → ℕ → ℕ → Stop → Type 0
+FaultAt go cs start place w = (before : List Match) → MatchesTo go cs start before → matches_by go 0 cs ≡ stopped_at place w
 
 -- ---- what waits, and what is fed
 
@@ -115,10 +122,10 @@ pub record Mark (ends_of : List Match → List ℕ) (go : Candidate → Answer W
   pub kept : (vertex : ℕ) → is_marked old vertex ≡ true → is_marked new vertex ≡ true
   pub only : (vertex : ℕ) → is_marked new vertex ≡ true → is_marked old vertex ≡ false → (place : ℕ) × (start ≤ place) × (place < end) × IsAtEnd ends_of go cs place vertex
 
--- the marks are those of the matches among the first candidates
+-- all matches among the first candidates are marked, and each mark is at an end of a match
 pub record AreMarked (ends_of : List Match → List ℕ) (go : Candidate → Answer Wrong (List Match)) (cs : List Candidate) (end : ℕ) (words : List ℕ) : Type 0 where
   pub cover : Cover ends_of go cs 0 end words
-  pub only : (vertex : ℕ) → is_marked words vertex ≡ true → (place : ℕ) × (place < end) × IsAtEnd ends_of go cs place vertex
+  pub only : (vertex : ℕ) → is_marked words vertex ≡ true → (place : ℕ) × IsAtEnd ends_of go cs place vertex
 
 -- one more match is marked, or none
 abbrev pub MarkThose : (List Match → List ℕ) → List Match → List ℕ → List ℕ → Type 0
@@ -163,9 +170,9 @@ pub record Settles (old new : MatchBuffer) : Type 0 where
 
 -- the contributions of a candidate are appended to those that wait, and its ends are marked; one that faults marks
 -- nothing
-abbrev pub Tried : Over → Answer Wrong (List Match) → MatchBuffer → MatchBuffer → Option Wrong → Type 0
+abbrev pub Tried : Over → Answer Wrong (List Match) → MatchBuffer → MatchBuffer → Option Stop → Type 0
 Tried o go old new None = (m : List Match) × (go ≡ Gives m) × ((ms : List Match) → Wait o ms old.batches old.inputs → Wait o (ms ++ m) new.batches new.inputs) × MarkThose sources_of m old.sources new.sources × MarkThose targets_of m old.targets new.targets
-Tried o go old new (Some w) = (go ≡ Faults w) × (new.sources ≡ old.sources) × (new.targets ≡ old.targets)
+Tried o go old new (Some w) = (go ≡ stopped w) × (new.sources ≡ old.sources) × (new.targets ≡ old.targets)
 
 -- a candidate that could be read is done; else nothing has changed
 abbrev pub Done : Over → Answer Wrong (List Match) → MatchBuffer → MatchBuffer → Bool → Type 0
@@ -197,17 +204,17 @@ come clock o w = comes clock o w.block.now w.leaves.ends.now w.leaves.edge
 
 -- the effect of the candidates from one place to another: the contributions of their matches wait, or there is a first
 -- fault
-abbrev pub Came : (Candidate → Answer Wrong (List Match)) → List Candidate → Over → ℕ → ℕ → List (List (ℕ × Input)) → List (ℕ × ScalarInput) → Option (ℕ × Wrong) → Type 0
+abbrev pub Came : (Candidate → Answer Wrong (List Match)) → List Candidate → Over → ℕ → ℕ → List (List (ℕ × Input)) → List (ℕ × ScalarInput) → Option (ℕ × Stop) → Type 0
 Came go cs o start end batches ints None = (ms : List Match) × GoOn go cs start end ms × Wait o ms batches ints
 Came go cs o start end batches ints (Some fault) = FaultAt go cs start fault.0 fault.1
 
 -- without a fault the matches are marked
-abbrev pub CoverWhole : (List Match → List ℕ) → (Candidate → Answer Wrong (List Match)) → List Candidate → ℕ → ℕ → List ℕ → Option (ℕ × Wrong) → Type 0
+abbrev pub CoverWhole : (List Match → List ℕ) → (Candidate → Answer Wrong (List Match)) → List Candidate → ℕ → ℕ → List ℕ → Option (ℕ × Stop) → Type 0
 CoverWhole ends_of go cs start end words None = Cover ends_of go cs start end words
 CoverWhole ends_of go cs start end words (Some fault) = Unit {0}
 
 -- all of them are tried, or those up to the first fault
-pub record GoneThrough (go : Candidate → Answer Wrong (List Match)) (cs : List Candidate) (o : Over) (start end : ℕ) (old new : MatchBuffer) (fault : Option (ℕ × Wrong)) : Type 0 where
+pub record GoneThrough (go : Candidate → Answer Wrong (List Match)) (cs : List Candidate) (o : Over) (start end : ℕ) (old new : MatchBuffer) (fault : Option (ℕ × Stop)) : Type 0 where
   pub came : Came go cs o start end new.batches new.inputs fault
   pub shaped : IsShaped (length o.vertices) new
   pub sources : Mark sources_of go cs start end old.sources new.sources
@@ -228,6 +235,6 @@ pub record HasRun (clock : Calendar) (o : Over) (w : Work) (r : BlockProgress) :
   pub targets : AreMarked targets_of (come clock o w) w.candidates r.at r.found.targets
 
 -- it progresses, or ends with the first fault
-abbrev pub Steps : Calendar → Over → Work → BlockProgress → BlockProgress → Option (ℕ × Wrong) → Type 0
+abbrev pub Steps : Calendar → Over → Work → BlockProgress → BlockProgress → Option (ℕ × Stop) → Type 0
 Steps clock o w old new None = HasRun clock o w new × (old.at < new.at)
-Steps clock o w old new (Some fault) = matches_by (come clock o w) 0 w.candidates ≡ Faults (AtPlace fault.0 fault.1)
+Steps clock o w old new (Some fault) = matches_by (come clock o w) 0 w.candidates ≡ stopped_at fault.0 fault.1

@@ -1,9 +1,9 @@
 // The run of a block.
-ghost use Rattle.std.specs.Prelude.{◌<◌, length, IfOk};
+ghost use Rattle.std.specs.Prelude.{◌≡◌, ◌<◌, length, IfOk};
 ghost use Rattle.gq_rules_calendar.specs.Gregorian.{gregorian};
 ghost use Rattle.gq_exec_source.specs.Ends.{HasEnds};
 ghost use Rattle.gq_exec_source.specs.Starts.{AreCandidates};
-ghost use Rattle.gq_workers.specs.Results.{Answers, IsWorkOf, Leaves, RanTo};
+ghost use Rattle.gq_workers.specs.Results.{Answers, IsWorkOf, Leaves, RanTo, stop_fault};
 ghost use Rattle.gq_workers.specs.Running.{IsWork, HasRun, Steps};
 
 use crate::chunk::try_chunk;
@@ -12,12 +12,11 @@ use crate::work::Work;
 use crate::workers::try_rounds;
 use gq_base::OutOfMemory;
 use gq_eval_context::{After, BlockContext, BlockFault};
-use gq_exec_contribute::{filter_of, leaves_of};
+use gq_exec_contribute::{Stop, filter_of, leaves_of};
 use gq_exec_source::Ends;
 use gq_index::Candidates;
 use gq_io::{Gate, Shape};
 use gq_plan_ir::Block;
-use gq_value::Wrong;
 use std::alloc::Global;
 use std::thread::Threads;
 
@@ -26,8 +25,8 @@ use std::thread::Threads;
 pub(crate) enum Ran {
     Done(BlockProgress),
 
-    /// The place of the first one, and its fault.
-    Fault(u64, Wrong),
+    /// The place of the first one that has no value, and why.
+    Fault(u64, Stop),
 }
 
 /// Evaluates WHERE and ACCUM of a block with these ends and candidates. Returns the accumulators after all
@@ -56,8 +55,18 @@ pub fn run_block<R: Threads + Sync, G: Gate>(
 {
     match run_all(rt, alloc, block, over, ends, candidates, shape, gate) {
         Err(OutOfMemory) => Err(BlockFault::OutOfMemory),
-        Ok(Ran::Fault(at, fault)) => Err(BlockFault::Eval { at, fault }),
+        Ok(Ran::Fault(at, stop)) => Err(stop_fault(at, stop)),
         Ok(Ran::Done(run)) => judged(alloc, run),
+    }
+}
+
+/// Returns the fault of a block whose candidate at a place has no value.
+fn stop_fault(at: u64, stop: Stop) -> BlockFault
+    ensures { result ≡ stop_fault at stop }
+{
+    match stop {
+        Stop::Wrong(fault) => BlockFault::Eval { at, fault },
+        Stop::Stuck => BlockFault::Stuck,
     }
 }
 
@@ -141,7 +150,8 @@ fn in_rounds<R: Threads + Sync, G: Gate>(
 {
     match try_rounds(rt, alloc, work, over, workers, gate, &mut run)? {
         Some((at, fault)) => Ok(Ran::Fault(at, fault)),
-        None => Ok(Ran::Done(run)),
+        // Nothing is left: each chunk was drawn by one worker. That isn't proved, so what is left would be tried here.
+        None => in_chunks(alloc, work, over, gate, run),
     }
 }
 
@@ -173,7 +183,7 @@ fn next_chunk<G: Gate>(
     over: &BlockContext<'_>,
     gate: &G,
     run: &mut BlockProgress,
-) -> Result<Option<(u64, Wrong)>, OutOfMemory>
+) -> Result<Option<(u64, Stop)>, OutOfMemory>
     requires work { IsWork over.now work.now }
     requires run { HasRun gregorian over.now work.now run.old }
     requires more { run.old.at < length work.now.candidates }

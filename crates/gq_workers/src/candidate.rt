@@ -17,12 +17,11 @@ use crate::work::Work;
 use gq_base::{List, OutOfMemory};
 use gq_core::Batches;
 use gq_eval_context::BlockContext;
-use gq_exec_contribute::{Outcome, Room, bind, contribute, gather, no_alias, passes_by};
+use gq_exec_contribute::{Outcome, Room, Stop, bind, contribute, gather, no_alias, passes_by};
 use gq_exec_source::{Ends, mark};
 use gq_frame::Alias;
 use gq_graph::Candidate;
 use gq_plan_ir::Block;
-use gq_value::Wrong;
 use std::alloc::Global;
 
 /// If this many candidates of a chunk had to be evaluated, the rest of the chunk isn't read any more.
@@ -38,7 +37,7 @@ pub(crate) fn try_one(
     candidate: &Candidate,
     evaluated: &mut u32,
     found: &mut MatchBuffer,
-) -> Result<Option<Wrong>, OutOfMemory>
+) -> Result<Option<Stop>, OutOfMemory>
     requires within { IsWithin (length over.now.vertices) candidate.now }
     requires shaped { IsShaped (length over.now.vertices) found.old }
     requires prepared { AreFound over.now work.now.leaves }
@@ -136,7 +135,7 @@ fn try_candidate(
     edge: Option<u32>,
     candidate: &Candidate,
     found: &mut MatchBuffer,
-) -> Result<Option<Wrong>, OutOfMemory>
+) -> Result<Option<Stop>, OutOfMemory>
     requires settled { found.old.inputs ≡ [] }
     requires within { IsWithin (length over.now.vertices) candidate.now }
     requires shaped { IsShaped (length over.now.vertices) found.old }

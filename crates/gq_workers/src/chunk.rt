@@ -8,9 +8,10 @@ use crate::found::MatchBuffer;
 use crate::work::Work;
 use gq_base::{List, OutOfMemory};
 use gq_eval_context::BlockContext;
+use gq_exec_contribute::Stop;
 use gq_index::{Candidates, Cursor, Graph, Store};
 use gq_plan_ir::{Act, Behind, Change, Expr, Feed, Field};
-use gq_value::{Value, Wrong};
+use gq_value::Value;
 use std::alloc::Global;
 
 /// Tries the candidates from `start` up to `end` in order, or up to the first that faults, and returns its place and
@@ -22,7 +23,7 @@ pub(crate) fn try_chunk(
     start: u64,
     end: u64,
     found: &mut MatchBuffer,
-) -> Result<Option<(u64, Wrong)>, OutOfMemory>
+) -> Result<Option<(u64, Stop)>, OutOfMemory>
     requires forward { start ≤ end }
     requires within { end ≤ length work.now.candidates }
     requires work { IsWork over.now work.now }

@@ -7,30 +7,23 @@ use crate::order::{Spot, in_order, left_at};
 use crate::run::{BlockProgress, feed};
 use crate::work::{ChunkOutput, RoundOutput, WorkerOutput};
 use gq_base::{List, OutOfMemory};
-use gq_value::Wrong;
+use gq_exec_contribute::Stop;
 use std::alloc::Global;
 
-/// Sets the marks of a round and feeds its contributions in order, or returns its first fault. A chunk that is missing is
-/// `OutOfMemory`; this never happens.
+/// Sets the marks of a round and feeds its contributions in order, as far as they follow what was fed before, or returns
+/// its first fault.
 pub(crate) fn feed_round(
     alloc: Global,
     round: &RoundOutput,
     size: u64,
     run: &mut BlockProgress,
-) -> Result<Option<(u64, Wrong)>, OutOfMemory>
+) -> Result<Option<(u64, Stop)>, OutOfMemory>
     ensures { IfOk result (FeedsRound round.now run.old run.new) }
 {
     let parts = round.parts.as_slice();
     let order = in_order(alloc, parts, round.first, round.last, size)?;
     mark_parts(parts, &mut run.found)?;
-    match feed_parts(alloc, parts, order.as_slice(), run)? {
-        Some(fault) => return Ok(Some(fault)),
-        None => {}
-    }
-    if run.at != round.last {
-        return Err(OutOfMemory);
-    }
-    Ok(None)
+    feed_parts(alloc, parts, order.as_slice(), run)
 }
 
 /// Sets the marks of all workers.
@@ -74,19 +67,19 @@ fn join(words: &mut List<u64>, other: &[u64]) -> Result<(), OutOfMemory>
     Ok(())
 }
 
-/// Feeds the outputs of all chunks, in order, up to the first that has a fault.
+/// Feeds the outputs of the chunks, in order, up to the first that has a fault.
 #[tactic(auto, using(crate::proofs::RoundLemmas::feeds_laws))]
 fn feed_parts(
     alloc: Global,
     parts: &[Result<WorkerOutput, OutOfMemory>],
     order: &[Option<Spot>],
     run: &mut BlockProgress,
-) -> Result<Option<(u64, Wrong)>, OutOfMemory>
+) -> Result<Option<(u64, Stop)>, OutOfMemory>
     ensures { IfOk result (FeedsParts parts.now run.old run.new) }
 {
     for spot in order {
         match left_at(parts, spot) {
-            None => return Err(OutOfMemory),
+            None => {}
             Some(left) => match feed_left(alloc, left, run)? {
                 Some(fault) => return Ok(Some(fault)),
                 None => {}
@@ -96,17 +89,17 @@ fn feed_parts(
     Ok(None)
 }
 
-/// Feeds the output of a chunk, if it is the next one; or returns its fault.
+/// Feeds the output of a chunk, or returns its fault, if it is the next one.
 #[tactic(auto, using(crate::proofs::RoundLemmas::left_laws))]
 fn feed_left(
     alloc: Global,
     left: &ChunkOutput,
     run: &mut BlockProgress,
-) -> Result<Option<(u64, Wrong)>, OutOfMemory>
+) -> Result<Option<(u64, Stop)>, OutOfMemory>
     ensures { IfOk result (FeedsLeft left.now run.old run.new) }
 {
     if left.start != run.at {
-        return Err(OutOfMemory);
+        return Ok(None);
     }
     match left.fault {
         Some(fault) => return Ok(Some(fault)),

@@ -8,7 +8,7 @@ use gq_base::OutOfMemory;
 use gq_core::Batches;
 use gq_eval_context::{After, BlockContext, BlockFault};
 use gq_exec_contribute::{WaitingInputs, feed_scalars};
-use gq_exec_feed::{feed_all, first_unfit, slot_number};
+use gq_exec_feed::{feed_all, first_unfit};
 use gq_exec_source::listed;
 use gq_frame::Accums;
 use gq_index::VertexList;
@@ -78,10 +78,7 @@ pub(crate) fn judged(alloc: Global, mut run: BlockProgress) -> Result<After, Blo
     ensures { IsJudged run result }
 {
     match first_unfit(alloc, &mut run.accums) {
-        Some(number) => match slot_number(number) {
-            Some(slot) => Err(BlockFault::SumRange { slot }),
-            None => Err(BlockFault::OutOfMemory),
-        },
+        Some(slot) => Err(BlockFault::SumRange { slot }),
         None => match lists(alloc, &run.found) {
             Ok((sources, targets)) => {
                 let accums = run.accums;

@@ -2,11 +2,10 @@
 use gq_base::{List, OutOfMemory};
 use gq_core::Batches;
 use gq_eval_attributes::TupleType;
-use gq_exec_contribute::{Filter, Leaves, WaitingInputs};
+use gq_exec_contribute::{Filter, Leaves, Stop, WaitingInputs};
 use gq_frame::Frame;
 use gq_index::{Candidates, Graph};
 use gq_plan_ir::{Block, Plan};
-use gq_value::Wrong;
 
 /// The work of a run.
 #[derive(Drop)]
@@ -47,7 +46,7 @@ pub(crate) struct ChunkOutput {
 
     /// They come after those in the batch.
     pub inputs: WaitingInputs,
-    pub fault: Option<(u64, Wrong)>,
+    pub fault: Option<(u64, Stop)>,
 }
 
 /// A worker's output for all its chunks, with marks of the matched vertices.
@@ -96,5 +95,5 @@ fn waiting_in(lefts: &[ChunkOutput]) -> u64 {
 #[derive(Drop)]
 pub(crate) struct Turn {
     pub parts: Vec<Result<WorkerOutput, OutOfMemory>>,
-    pub fault: Option<(u64, Wrong)>,
+    pub fault: Option<(u64, Stop)>,
 }

@@ -2,7 +2,7 @@
 ghost use Rattle.std.specs.Prelude.{◌≡◌, ◌<◌, ◌≤◌, length, All, IfOk, Ok};
 ghost use Rattle.gq_rules_calendar.specs.Gregorian.{gregorian};
 ghost use Rattle.gq_workers.specs.Running.{HasRun, IsEmpty, IsShaped, IsWork};
-ghost use Rattle.gq_workers.specs.Rounds.{CanWork, FeedsRound, GoesOn, IsAhead, IsPart, IsRoundPart, LeavesChunk, RunsOut};
+ghost use Rattle.gq_workers.specs.Rounds.{CanWork, FeedsRound, GoesOn, IsAhead, IsPart, IsRoundPart, LeavesChunk, StandsOr};
 
 use crate::chunk::try_chunk;
 use crate::found::MatchBuffer;
@@ -12,8 +12,8 @@ use crate::work::{ChunkOutput, Round, RoundOutput, Turn, Work, WorkerOutput};
 use gq_base::{List, OutOfMemory};
 use gq_core::Batches;
 use gq_eval_context::BlockContext;
+use gq_exec_contribute::Stop;
 use gq_io::Gate;
-use gq_value::Wrong;
 use std::alloc::Global;
 use std::sync::atomic::{AtomicU64, Ordering};
 use std::thread::{Threads, join_mut};
@@ -34,7 +34,7 @@ const WAITING: u64 = 1 << 19;
 const MOST_CANDIDATES: u64 = 1 << 20;
 
 /// Tries all candidates with several workers, at most 64 of them, round by round. While they try those of a round, the
-/// contributions of the round before are fed, in order.
+/// contributions of the round before are fed, in order, as far as they follow one another.
 pub(crate) fn try_rounds<R: Threads + Sync, G: Gate>(
     rt: &R,
     alloc: Global,
@@ -43,10 +43,10 @@ pub(crate) fn try_rounds<R: Threads + Sync, G: Gate>(
     workers: u32,
     gate: &G,
     run: &mut BlockProgress,
-) -> Result<Option<(u64, Wrong)>, OutOfMemory>
+) -> Result<Option<(u64, Stop)>, OutOfMemory>
     requires work { IsWork over.now work.now }
     requires run { HasRun gregorian over.now work.now run.old }
-    ensures { IfOk result (RunsOut gregorian over.now work.now run.new) }
+    ensures { IfOk result (StandsOr gregorian over.now work.now run.new) }
 {
     let mut size = FOR_A_WORKER.saturating_mul(u64::from(workers)).max(FIRST);
     let mut ahead = RoundOutput {
@@ -86,10 +86,10 @@ fn next_round<R: Threads + Sync, G: Gate>(
     gate: &G,
     run: &mut BlockProgress,
     ahead: &mut RoundOutput,
-) -> Result<Option<(u64, Wrong)>, OutOfMemory>
+) -> Result<Option<(u64, Stop)>, OutOfMemory>
     requires work { IsWork over.now work.now }
     requires run { HasRun gregorian over.now work.now run.old }
-    requires ahead { IsAhead gregorian over.now work.now run.old ahead.old }
+    requires ahead { IsAhead gregorian over.now work.now ahead.old }
     requires more { ahead.old.last < length work.now.candidates }
     ensures { IfOk result (GoesOn gregorian over.now work.now ahead.old.last run.new ahead.new) }
 {
@@ -140,7 +140,7 @@ fn one_turn<R: Threads + Sync, G: Gate>(
 fn joined(
     both: (
         Result<Vec<Result<WorkerOutput, OutOfMemory>>, OutOfMemory>,
-        Result<Option<(u64, Wrong)>, OutOfMemory>,
+        Result<Option<(u64, Stop)>, OutOfMemory>,
     ),
 ) -> Result<Turn, OutOfMemory>
     ensures { IfOk result (λ turn. (both.0 ≡ Ok turn.parts) × (both.1 ≡ Ok turn.fault)) }
@@ -166,7 +166,7 @@ fn gather_and_feed<R: Threads + Sync, G: Gate>(
     run: &mut BlockProgress,
 ) -> (
     Result<Vec<Result<WorkerOutput, OutOfMemory>>, OutOfMemory>,
-    Result<Option<(u64, Wrong)>, OutOfMemory>,
+    Result<Option<(u64, Stop)>, OutOfMemory>,
 )
     requires { CanWork round.now }
     ensures parts { IfOk result.0 (λ parts. All (λ part. IfOk part (IsRoundPart gregorian round.now)) parts.items) }

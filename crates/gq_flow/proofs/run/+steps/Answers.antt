@@ -16,6 +16,7 @@ use Rattle.gq_exec_control.specs.Values.{values_of}
 use Rattle.gq_flow.specs.Bodies.{branches_from, named_body}
 use Rattle.gq_flow.proofs.ControlLemmas.{does_returned, no_memory, tests_are, body_of, goes_none, step_done, step_stops, steps_done, body_done, body_stops, no_turn, turn_taken, named_done}
 use Rattle.gq_flow.proofs.LoopLemmas.{branch_taken, branch_passed, branch_halts, else_done, else_none, rounds_begin, limit_ends, condition_ends, condition_halts, round_stops, round_done, while_unlimited, while_limited_at, while_halts_at, value_done, value_stops, values_done, foreach_halts, foreach_does, if_begins, while_step, foreach_step}
+use Rattle.gq_flow.proofs.ProgramLemmas.{simple_changed, simple_declared}
 use Rattle.gq_flow.proofs.run.+steps.Goals as goal
 
 -- ---- statements
@@ -41,6 +42,12 @@ run_steps-loop-step-preserved g t c = record {
 pub run_steps-returns-clause-does : goal.run_steps-returns-clause-does
 run_steps-returns-clause-does g t c =
     steps_done c.args.program.now.context.plan.places (world_on gregorian c.args.program.now.context) c.args.steps.now c.loop-step.step-index c.args.r.now c.loop-step.r c.loop-step-test.false c.loop-step.invariant.goes
+
+pub run_step-act-requires-in-Local-clause-simple : goal.run_step-act-requires-in-Local-clause-simple
+run_step-act-requires-in-Local-clause-simple g t c κs within = simple_declared c.args.step.now c.in-Local.is
+
+pub run_step-act-requires-clause-simple : goal.run_step-act-requires-clause-simple
+run_step-act-requires-clause-simple g t c κs within = simple_changed c.args.step.now c.in-Global.is
 
 pub run_step-loop-branch-init : goal.run_step-loop-branch-init
 run_step-loop-branch-init g t c = record {

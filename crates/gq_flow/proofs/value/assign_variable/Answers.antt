@@ -3,8 +3,13 @@ use Rattle.gq_value.specs.AccumViews.{base_of}
 use Rattle.gq_rules_calendar.specs.Gregorian.{gregorian}
 use Rattle.gq_plan_ir.specs.ExprView.{view}
 use Rattle.gq_exec_control.specs.Contexts.{Basis}
-use Rattle.gq_flow.proofs.AssignLemmas.{place_there, there_is, value_given, value_stops}
+use Rattle.gq_flow.proofs.AssignLemmas.{place_there, there_is, value_given, value_sticks, value_stops}
 use Rattle.gq_flow.proofs.value.assign_variable.Goals as goal
+
+pub returns-in-None-clause-names : goal.returns-in-None-clause-names
+returns-in-None-clause-names c =
+    value_sticks gregorian c.args.context.now c.args.place (view c.args.expr.now) c.as_slice-places.result.now c.as_slice.result.now c.args.live.now c.args.live.now (c.as_slice-places.ensures ∙ ap (λ (b : Basis). b.plan.places) c.context.view_is) c.as_slice.ensures
+    c.in-None.ensures.none
 
 pub returns-in-Err-clause-names : goal.returns-in-Err-clause-names
 returns-in-Err-clause-names c =

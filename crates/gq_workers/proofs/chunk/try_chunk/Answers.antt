@@ -1,5 +1,5 @@
 use Rattle.std.proofs.Common.{length, Option, refl, subst, arith}
-use Rattle.gq_value.specs.declared.value.Wrong.{Wrong}
+use Rattle.gq_exec_contribute.specs.declared.candidate.Stop.{Stop}
 use Rattle.gq_rules_calendar.specs.Gregorian.{gregorian}
 use Rattle.gq_workers.specs.declared.found.MatchBuffer.{MatchBuffer}
 use Rattle.gq_workers.specs.Running.{Tried, come}
@@ -19,13 +19,13 @@ try_one-requires-clause-within c = within_at (length c.args.over.now.vertices) c
 pub returns-in-Some : goal.returns-in-Some
 returns-in-Some c = chunk_fault (come gregorian c.args.over.now c.args.work.now) c.args.work.now.candidates c.args.over.now c.args.start c.args.end c.loop-place.place c.near-candidate.result c.in-Some.fault c.args.found.now c.loop-place.found c.try_one.new.found
     c.near-candidate.ensures c.loop-place.invariant
-    (subst (λ (f : Option Wrong). Tried c.args.over.now (come gregorian c.args.over.now c.args.work.now c.near-candidate.result) c.loop-place.found c.try_one.new.found f) c.in-Some.is c.in_ok-fault.ensures.tried)
+    (subst (λ (f : Option Stop). Tried c.args.over.now (come gregorian c.args.over.now c.args.work.now c.near-candidate.result) c.loop-place.found c.try_one.new.found f) c.in-Some.is c.in_ok-fault.ensures.tried)
     c.in_ok-fault.ensures.shaped
 
 pub loop-place-preserved : goal.loop-place-preserved
 loop-place-preserved c = chunk_next (come gregorian c.args.over.now c.args.work.now) c.args.work.now.candidates c.args.over.now c.args.start c.args.end c.loop-place.place c.near-candidate.result c.args.found.now c.loop-place.found c.try_one.new.found
     c.loop-place-test.true c.near-candidate.ensures c.loop-place.invariant
-    (subst (λ (f : Option Wrong). Tried c.args.over.now (come gregorian c.args.over.now c.args.work.now c.near-candidate.result) c.loop-place.found c.try_one.new.found f) c.in-None.is c.in_ok-fault.ensures.tried)
+    (subst (λ (f : Option Stop). Tried c.args.over.now (come gregorian c.args.over.now c.args.work.now c.near-candidate.result) c.loop-place.found c.try_one.new.found f) c.in-None.is c.in_ok-fault.ensures.tried)
     c.in_ok-fault.ensures.shaped
 
 pub returns : goal.returns
