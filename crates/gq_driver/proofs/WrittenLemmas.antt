@@ -1,5 +1,5 @@
 -- WrittenLemmas: in the statements of a script INTERPRET QUERY has no parameters.
-use Rattle.std.proofs.Common.{◌≡◌, ℕ, inl, inr, List, [], ◌∷◌, ap, sym, ◌∙◌, subst}
+use Rattle.std.proofs.Common.{◌≡◌, ℕ, zero, suc, ◌<◌, length, get_or, All, inl, inr, List, [], ◌∷◌, ap, sym, ◌∙◌, subst, arith}
 use Rattle.gq_token.specs.declared.token.Token.{Token}
 use Rattle.gq_tree.specs.declared.query.QueryTree.{QueryTree}
 use Rattle.gq_tree.specs.declared.statement.Placed.{Placed}
@@ -82,3 +82,12 @@ module _ (bytes : List ℕ) (tokens : List Token) where
 
   pub script_written : (statements : List Placed) → IsScript bytes tokens statements → AreWritten statements
   script_written statements is = cuts_written 0 statements is.end is.cuts
+
+  -- by place
+  pub each_written : (statements : List Placed) → IsScript bytes tokens statements → All (λ p. IsWritten p.statement) statements
+  each_written statements is = by statements (script_written statements is)
+    where
+      by : (ps : List Placed) → AreWritten ps → (k : ℕ) (d : Placed) → k < length ps → IsWritten (get_or ps k d).statement
+      by [] written k d low = absurd (omega arith)
+      by (p ∷ others) written zero d low = written.0
+      by (p ∷ others) written (suc k) d low = by others written.1 k d (omega arith)

@@ -6,6 +6,7 @@ ghost use Rattle.gq_io.specs.Listing.{Listing};
 ghost use Rattle.gq_token.specs.Cut.{IsSpelledIn};
 ghost use Rattle.gq_diagnostics.specs.Outcome.{Outcome, Ends, IsFinal, KeepsTo, OnlyRuns};
 ghost use Rattle.gq_io.specs.Known.{Told, known_of};
+ghost use Rattle.gq_session.specs.Safe.{IsWritten};
 ghost use Rattle.gq_driver.specs.Scripts.{ArgumentsMean, ScriptMeans, StatementsMean, TokensMean};
 
 use crate::refusals::{refuse_at, refuse_cut, refuse_syntax};
@@ -87,7 +88,8 @@ fn run_read<R: Threads + Sync, M: RunsQueries, F: Files, K: Sink>(
     files: &mut F,
     out: &mut K,
 ) -> Status
-    requires { All (λ p. p.from ≤ length bytes.now) statements.now }
+    requires within { All (λ p. p.from ≤ length bytes.now) statements.now }
+    requires written { All (λ p. IsWritten p.statement) statements.now }
     ensures keeps { (pairs : Listing) → F.held files.old ≡ Some pairs → (outcome : Outcome) → ArgumentsMean bytes.now (Told pairs) runner.now.turns (option_copied arguments.entry) statements.now outcome
         → KeepsTo outcome result (K.written out.old) (K.written out.new) (Rose (F.faults files.old) (F.faults files.new)) (Rose (K.faults out.old) (K.faults out.new)) }
     ensures is_meant { IsFinal result → (before : ℕ) → before ≤ F.absences files.old → (outcome : Outcome)
@@ -115,7 +117,8 @@ fn run_with_file<R: Threads + Sync, M: RunsQueries, F: Files, K: Sink>(
     files: &mut F,
     out: &mut K,
 ) -> Status
-    requires { All (λ p. p.from ≤ length bytes.now) statements.now }
+    requires within { All (λ p. p.from ≤ length bytes.now) statements.now }
+    requires written { All (λ p. IsWritten p.statement) statements.now }
     ensures keeps { (pairs : Listing) → F.held files.old ≡ Some pairs → (outcome : Outcome) → ArgumentsMean bytes.now (Told pairs) runner.now.turns (Some file.now) statements.now outcome
         → KeepsTo outcome result (K.written out.old) (K.written out.new) (Rose (F.faults files.old) (F.faults files.new)) (Rose (K.faults out.old) (K.faults out.new)) }
     ensures is_meant { IsFinal result → (before : ℕ) → before ≤ F.absences files.old → (outcome : Outcome)
@@ -143,7 +146,8 @@ fn run_opened<R: Threads + Sync, M: RunsQueries, F: Files, K: Sink>(
     files: &mut F,
     out: &mut K,
 ) -> Status
-    requires { All (λ p. p.from ≤ length bytes.now) statements.now }
+    requires within { All (λ p. p.from ≤ length bytes.now) statements.now }
+    requires written { All (λ p. IsWritten p.statement) statements.now }
     ensures keeps { (pairs : Listing) → F.held files.old ≡ Some pairs → (outcome : Outcome) → StatementsMean bytes.now (Told pairs) runner.now.turns file.entry statements.now outcome
         → KeepsTo outcome result (K.written out.old) (K.written out.new) (Rose (F.faults files.old) (F.faults files.new)) (Rose (K.faults out.old) (K.faults out.new)) }
     ensures is_meant { IsFinal result → (before : ℕ) → before ≤ F.absences files.old → (outcome : Outcome)

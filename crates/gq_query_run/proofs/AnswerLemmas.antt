@@ -1,5 +1,5 @@
 -- Lines and refusals, by what the definitions say.
-use Rattle.std.proofs.Common.{ℕ, ◌≡◌, List, [], ◌∷◌, map, Option, Some, ap, sym, ◌∙◌}
+use Rattle.std.proofs.Common.{ℕ, ◌≡◌, ◌≢◌, List, [], ◌∷◌, map, Option, Some, ap, sym, subst, ◌∙◌}
 use Rattle.std.specs.Prelude.{Result, Ok, Err, Vec}
 use Rattle.std.specs.declared.alloc.Global.{Global}
 use Rattle.gq_value.specs.Val.{Val}
@@ -10,17 +10,23 @@ use Rattle.gq_diagnostics.specs.declared.refusal.StatementFault.{StatementFault}
 use Rattle.gq_diagnostics.specs.declared.refusal.StatementFault.TheVariants.{Refused, ReadFault, OutOfMemory}
 use Rattle.gq_diagnostics.specs.Messages.{message_of}
 use Rattle.gq_rules_typing.specs.Statements.{Bytes, Query}
+use Rattle.gq_rules_meaning.specs.Answers.{Answer, Stuck}
 use Rattle.gq_rules_meaning.specs.Built.{built_print}
 use Rattle.gq_rules_meaning.specs.Calendars.{Calendar}
 use Rattle.gq_rules_meaning.specs.Graphs.{Graph}
 use Rattle.gq_rules_meaning.specs.Lines.{query_line}
+use Rattle.gq_rules_meaning.specs.Messages.{answer_of_run, slot_names}
+use Rattle.gq_rules_meaning.specs.Queries.{run_query}
+use Rattle.gq_rules_meaning.specs.Statements.{Fault}
 use Rattle.gq_rules_meaning.specs.Sessions as sessions
 use Rattle.gq_rules_meaning.specs.Sessions.{Session, Effect, of_answer}
 use Rattle.gq_rules_meaning.proofs.LineLaws.{line_law}
 use Rattle.gq_arguments.specs.Rows as rows
 use Rattle.gq_query_run.specs.Judging.{Judges}
 use Rattle.gq_query_run.specs.Answers.{Objects, Tells, Says}
-use Rattle.gq_query_run.specs.Runs.{answer_given}
+use Rattle.gq_query_run.specs.Runs.{Runs, answer_given}
+use Rattle.gq_query_run.specs.declared.runner.QueryFault.{QueryFault}
+use Rattle.gq_query_run.specs.declared.runner.QueryFault.TheVariants as query_fault
 
 -- the line of gq_json is that of the output
 pub line_is : (line : List ℕ) (printed : List Printed) (objects : Objects) → line ≡ line_text (map (λ (p : Printed). p.members) printed)
@@ -38,6 +44,15 @@ pub denied : (g : Graph) (clock : Calendar) (turns : ℕ) (q : Query Bytes) (mea
 denied g clock turns q meant (Refused found) is = ap (answer_given g clock turns q) is
 denied g clock turns q meant ReadFault is = is
 denied g clock turns q meant OutOfMemory is = tt
+
+-- over values that aren't refused, a query whose answer isn't that of a stuck one isn't stuck
+pub given_runs : (g : Graph) (clock : Calendar) (turns : ℕ) (q : Query Bytes) (meant : Result (List Val) Refusal) (vs : List Val) → meant ≡ Ok vs
+    → answer_given g clock turns q meant ≢ Err [] → run_query g clock q vs turns ≢ Stuck
+given_runs g clock turns q meant vs is runs stuck = runs (ap (answer_given g clock turns q) is ∙ ap (answer_of_run (slot_names q.definitions) turns) stuck)
+
+-- a runner that says that the query is stuck is right
+pub stuck_runs : (answer : Answer Fault Objects) (f : QueryFault) → f ≡ query_fault.Stuck → Runs answer (Err f) → answer ≡ Stuck
+stuck_runs answer f is runs = let P : QueryFault → Type 0 = λ e. Runs answer (Err e) in subst P is runs
 
 -- the answer of the definitions, as an effect on a session
 pub says : (s : Session) (effect : Effect) (meant : Result Objects Bytes) (answer : Result (Vec ℕ Global) StatementFault) → effect ≡ of_answer s meant → Tells meant answer → Says s effect answer

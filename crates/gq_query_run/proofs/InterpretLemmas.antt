@@ -1,5 +1,5 @@
 -- INTERPRET QUERY: modes, graph and rules.
-use Rattle.std.proofs.Common.{ℕ, ◌≡◌, Bool, true, false, not, cond, List, [], ◌++◌, Option, Some, None, refl, ap, ◌∙◌}
+use Rattle.std.proofs.Common.{ℕ, ◌≡◌, ◌≢◌, Bool, true, false, not, cond, List, [], ◌++◌, Option, Some, None, refl, ap, ◌∙◌}
 use Rattle.std.specs.Prelude.{Result, Ok, Err, codes, slice_get}
 use Rattle.gq_graph.specs.Catalog.{Schema, graph_of}
 use Rattle.gq_graph.specs.declared.types.GraphType.{GraphType}
@@ -15,14 +15,16 @@ use Rattle.gq_rules_typing.specs.Sorts.{sorts_of}
 use Rattle.gq_rules_typing.specs.Scopes.{Scope}
 use Rattle.gq_rules_typing.specs.QueryTypes.{typing_query}
 use Rattle.gq_rules_typing.specs.Judging.{TypingFault, Mismatch, NotAllowedHere, TwoAliases, TooMany, UnknownName, NoAttribute, OrderDependent, WiderSet, BadKind, NameTwice, Judged}
+use Rattle.gq_rules_meaning.specs.Answers.{Stuck}
 use Rattle.gq_rules_meaning.specs.Calendars.{Calendar}
-use Rattle.gq_rules_meaning.specs.Messages.{typing_message, answer_of_query}
+use Rattle.gq_rules_meaning.specs.Messages.{typing_message, answer_of_query, answer_of_run, slot_names}
+use Rattle.gq_rules_meaning.specs.Queries.{run_query}
 use Rattle.gq_rules_meaning.specs.Sessions as meaning
 use Rattle.gq_rules_meaning.specs.Sessions.{Session, Effect, Refused, of_answer, good_modes, interpreted}
 use Rattle.gq_query_run.specs.Kept.{Kept}
 use Rattle.gq_query_run.specs.Judging.{refusal_of, refusal_in, rules_refusal, on_graph, or_unknown, graph_for, graph_refusal, interpret_refusal}
 use Rattle.gq_query_run.specs.Queries.{graph_found, graph_fixed}
-use Rattle.gq_query_run.specs.Answers.{Objects}
+use Rattle.gq_query_run.specs.Answers.{Objects, NotStuck}
 use Rattle.gq_query_run.specs.Runs.{answer_over}
 use Rattle.gq_query_run.specs.Sessions.{graph_read, session_of}
 
@@ -108,3 +110,8 @@ module _ (schema : Schema) (in_use : Option ℕ) (queries : List Kept) (store : 
   -- one that runs
   pub interpreted_runs : interpret_refusal schema in_use tree ≡ None → interpreted here clock turns tree.graph tree.modes (view_query tree) ≡ of_answer here (answer (graph_fixed schema in_use tree))
   interpreted_runs is = interpreted_is ∙ ap (λ o. unless here o (answer (graph_fixed schema in_use tree))) is
+
+  -- the run of one that isn't stuck
+  pub interpreted_on : interpret_refusal schema in_use tree ≡ None → NotStuck (interpreted here clock turns tree.graph tree.modes (view_query tree))
+      → run_query (graph_read schema (graph_fixed schema in_use tree) store) clock (view_query tree) [] turns ≢ Stuck
+  interpreted_on is runs stuck = runs (interpreted_runs is ∙ ap (λ a. of_answer here (answer_of_run (slot_names (view_query tree).definitions) turns a)) stuck)

@@ -1,7 +1,8 @@
 -- RUN QUERY: the query with a name, and its values.
-use Rattle.std.proofs.Common.{ℕ, ◌≡◌, Bool, true, false, cond, List, [], ◌∷◌, ◌++◌, map, Option, Some, None, bytes_eq, refl, ap, sym, subst, ◌∙◌}
-use Rattle.std.specs.Prelude.{Vec, Result, Err, codes, find, option_map, if◌then◌else◌}
+use Rattle.std.proofs.Common.{ℕ, ◌≡◌, ◌≢◌, All, Bool, true, false, cond, List, [], ◌∷◌, ◌++◌, map, Option, Some, None, bytes_eq, refl, ap, sym, subst, ◌∙◌}
+use Rattle.std.specs.Prelude.{Vec, Result, Err, codes, find, slice_get, option_map, if◌then◌else◌}
 use Rattle.std.specs.Bool.{one_answer, Decides}
+use Rattle.std.proofs.lemmas.Option.{get_or_from_slice_get, slice_get_within}
 use Rattle.std.proofs.lemmas.Slice.Eq.{bytes_eq-Decides}
 use Rattle.serde_json.specs.Data.{Data}
 use Rattle.gq_graph.specs.Catalog.{Schema}
@@ -28,10 +29,10 @@ use Rattle.gq_arguments.specs.Members.{members_for}
 use Rattle.gq_arguments.specs.Rows as rows
 use Rattle.gq_arguments.specs.declared.row.Arguments.{Arguments}
 use Rattle.gq_query_run.specs.Kept.{Kept}
-use Rattle.gq_query_run.specs.Queries.{is_named}
+use Rattle.gq_query_run.specs.Queries.{QueryFits, is_named}
 use Rattle.std.specs.declared.alloc.Global.{Global}
 use Rattle.gq_diagnostics.specs.declared.refusal.StatementFault.{StatementFault}
-use Rattle.gq_query_run.specs.Answers.{Objects, Tells}
+use Rattle.gq_query_run.specs.Answers.{Objects, NotStuck, Tells}
 use Rattle.gq_query_run.specs.Runs.{answer_given, answer_installed, answer_found, values_run, of_values}
 use Rattle.gq_query_run.specs.Sessions.{graph_read, session_of, stored_of}
 
@@ -106,6 +107,16 @@ module _ (schema : Schema) (in_use : Option ℕ) (queries : List Kept) (store : 
       → ran here clock turns tree.name (option_map (map view_argument) tree.arguments) (members_for file tree.name) ≡ Refused (message_of (refusal.UnknownName tree.name))
   ran_unknown tree file is = ap (of_found here clock turns tree.name (option_map (map view_argument) tree.arguments) (members_for file tree.name)) (named_is tree.name None is)
 
+  -- the answer of one that isn't stuck
+  pub found_on : (tree : RunTree) (file : Option Data) (q : Kept) → find (is_named tree.name) queries ≡ Some q
+      → NotStuck (ran here clock turns tree.name (option_map (map view_argument) tree.arguments) (members_for file tree.name))
+      → answer_found schema store clock turns q tree file ≢ Err []
+  found_on tree file q is runs stuck = runs (ran_found tree file q is ∙ ap (of_answer here) stuck)
+
+-- the query at a place fits the catalog
+pub fits_at : (schema : Schema) (queries : List Kept) (place : ℕ) (q : Kept) → All (QueryFits schema) queries → slice_get queries place ≡ Some q → QueryFits schema q
+fits_at schema queries place q fit at = subst (QueryFits schema) (get_or_from_slice_get queries place q q at) (fit place q (slice_get_within queries place q at))
+
 -- ---- a query of the session
 
 module _ (schema : Schema) (store : Store) (clock : Calendar) (turns : ℕ) (q : Kept) (tree : RunTree) (file : Option Data) where
@@ -124,6 +135,16 @@ module _ (schema : Schema) (store : Store) (clock : Calendar) (turns : ℕ) (q :
       subst If (sym installed)
       (subst Over (values_are (sorts_of schema (graph_in schema q.graph)) store.vertices (map view_parameter q.tree.parameters))
       (subst ForTree query_is (subst ForGraph graph_is tells)))
+
+  -- an answer over its arguments that isn't that of a stuck one
+  pub installed_on : (arguments : Arguments) → q.installed ≡ true
+      → ((sorts : Sorts) (vertices : List VertexRow) (ps : List (Parameter Bytes)) → rows.values_given sorts vertices ps arguments ≡ values_run sorts vertices ps (option_map (map view_argument) tree.arguments) (members_for file tree.name))
+      → answer_found schema store clock turns q tree file ≢ Err []
+      → answer_given (graph_read schema q.graph store) clock turns (view_query q.tree) (rows.values_given (sorts_of schema (graph_in schema q.graph)) store.vertices (map view_parameter q.tree.parameters) arguments) ≢ Err []
+  installed_on arguments installed values_are runs stuck =
+      runs (ap (λ b. cond b (answer_installed schema store clock turns q tree file) (Err (message_of (refusal.NotInstalled tree.name)))) installed
+      ∙ ap (answer_given (graph_read schema q.graph store) clock turns (view_query q.tree)) (sym (values_are (sorts_of schema (graph_in schema q.graph)) store.vertices (map view_parameter q.tree.parameters)))
+      ∙ stuck)
 
   pub not_installed : q.installed ≡ false → answer_found schema store clock turns q tree file ≡ Err (message_of (refusal.NotInstalled tree.name))
   not_installed is = ap (λ b. cond b (answer_installed schema store clock turns q tree file) (Err (message_of (refusal.NotInstalled tree.name)))) is

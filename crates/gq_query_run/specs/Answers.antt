@@ -1,5 +1,5 @@
--- Answers: when the line of a statement, or its refusal, is that of the definitions.
-use Rattle.std.specs.Prelude.{◌≡◌, ℕ, List, [], ◌∷◌, Result, Ok, Err, Vec}
+-- Answers: when the line of a statement, or its refusal, is that of the definitions; and when its query isn't stuck.
+use Rattle.std.specs.Prelude.{◌≡◌, ◌≢◌, ℕ, List, [], ◌∷◌, Result, Ok, Err, Vec}
 use Rattle.std.specs.declared.alloc.Global.{Global}
 use Rattle.gq_diagnostics.specs.declared.refusal.StatementFault.{StatementFault}
 use Rattle.gq_diagnostics.specs.declared.refusal.StatementFault.TheVariants.{Refused, ReadFault, OutOfMemory}
@@ -27,3 +27,7 @@ Says s effect (Ok line) = effect ≡ sessions.Becomes s (line.items ∷ [])
 Says s effect (Err (Refused refusal)) = effect ≡ sessions.Refused (message_of refusal)
 Says s effect (Err ReadFault) = ⊥
 Says s effect (Err OutOfMemory) = Unit {0}
+
+-- the query of the statement isn't stuck: only for one that is do the definitions have a refusal without a message
+abbrev pub NotStuck : Effect → Type 0
+NotStuck effect = effect ≢ sessions.Refused []

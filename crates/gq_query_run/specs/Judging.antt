@@ -7,7 +7,9 @@ use Rattle.gq_diagnostics.specs.declared.refusal.Refusal.TheVariants as refusal
 use Rattle.gq_diagnostics.specs.declared.refusal.StatementFault.{StatementFault}
 use Rattle.gq_diagnostics.specs.declared.refusal.StatementFault.TheVariants.{Refused, ReadFault, OutOfMemory}
 use Rattle.gq_rules_typing.specs.Judging as typing
+use Rattle.gq_rules_typing.specs.Scopes.{Scope}
 use Rattle.gq_rules_typing.specs.Sorts.{sorts_of}
+use Rattle.gq_rules_typing.specs.Statements.{Bytes}
 use Rattle.gq_rules_typing.specs.StatementViews.{view_query}
 use Rattle.gq_rules_typing.specs.QueryTypes.{typing_query}
 use Rattle.gq_scope.specs.Held.{graph_in}
@@ -35,6 +37,10 @@ refusal_in (Err fault) = Some (refusal_of fault)
 -- the first rule that a query violates that sees the types of this graph, or None
 abbrev pub rules_refusal : Schema → Option ℕ → QueryTree → Option Refusal
 rules_refusal schema graph tree = refusal_in (typing_query (sorts_of schema (graph_in schema graph)) (view_query tree))
+
+-- a query that sees the types of this graph is typed
+abbrev pub IsTyped : Schema → Option ℕ → QueryTree → Type 0
+IsTyped schema graph tree = (scope : Scope Bytes) × (typing_query (sorts_of schema (graph_in schema graph)) (view_query tree) ≡ Ok scope)
 
 -- ---- graphs and modes
 

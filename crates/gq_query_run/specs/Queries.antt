@@ -1,6 +1,7 @@
 -- Queries: the queries of a session by name, the effects of CREATE QUERY and INSTALL QUERY, and why they are refused.
-use Rattle.std.specs.Prelude.{ℕ, Bool, true, false, not, ◌&&◌, ◌||◌, if◌then◌else◌, List, [], ◌∷◌, ◌++◌, map, find, position, slice_set, Option, Some, None, Result, Ok, Err, bytes_eq}
+use Rattle.std.specs.Prelude.{ℕ, Bool, true, false, not, ◌&&◌, ◌||◌, if◌then◌else◌, List, [], ◌∷◌, ◌++◌, ◌<◌, length, map, find, position, slice_set, Option, Some, None, Result, Ok, Err, bytes_eq}
 use Rattle.std.specs.List.{list_any}
+use Rattle.std.specs.Option.{ForSome}
 use Rattle.gq_graph.specs.Catalog.{Schema}
 use Rattle.gq_tree.specs.declared.query.QueryTree.{QueryTree}
 use Rattle.gq_tree.specs.declared.query.Installed.{Installed}
@@ -9,7 +10,7 @@ use Rattle.gq_diagnostics.specs.declared.refusal.Refusal.{Refusal}
 use Rattle.gq_diagnostics.specs.declared.refusal.Refusal.TheVariants as refusal
 use Rattle.gq_rules_meaning.specs.Sessions.{good_modes}
 use Rattle.gq_query_run.specs.Kept.{Kept}
-use Rattle.gq_query_run.specs.Judging.{graph_for, graph_refusal}
+use Rattle.gq_query_run.specs.Judging.{IsTyped, graph_for, graph_refusal}
 
 -- ---- names
 
@@ -19,6 +20,11 @@ is_named name query = bytes_eq query.name name
 -- whether there is a query with the name
 abbrev pub has_query : List Kept → List ℕ → Bool
 has_query queries name = list_any (is_named name) queries
+
+-- it is typed for its graph, which exists if it has one
+pub record QueryFits (schema : Schema) (query : Kept) : Type 0 where
+  pub there : ForSome query.graph (λ graph. graph < length schema.graphs)
+  pub typed : IsTyped schema query.graph query.tree
 
 -- ---- CREATE QUERY
 

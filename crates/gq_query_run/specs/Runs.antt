@@ -6,6 +6,7 @@ use Rattle.gq_diagnostics.specs.declared.refusal.Refusal.{Refusal}
 use Rattle.gq_diagnostics.specs.Messages.{message_of}
 use Rattle.gq_rules_typing.specs.Statements.{Bytes, Parameter, Query}
 use Rattle.gq_rules_meaning.specs.Answers.{Answer, Gives, Faults}
+use Rattle.gq_rules_meaning.specs.Answers as answers
 use Rattle.gq_rules_meaning.specs.Built.{built_print}
 use Rattle.gq_rules_meaning.specs.Calendars.{Calendar}
 use Rattle.gq_rules_meaning.specs.Graphs.{Graph}
@@ -27,7 +28,7 @@ use Rattle.gq_arguments.specs.Members.{members_for}
 use Rattle.gq_query_run.specs.Kept.{Kept}
 use Rattle.gq_query_run.specs.Sessions.{graph_read}
 use Rattle.gq_query_run.specs.declared.runner.QueryFault.{QueryFault}
-use Rattle.gq_query_run.specs.declared.runner.QueryFault.TheVariants.{Wrong, SumRange, LoopBound, PathBound, OutOfMemory}
+use Rattle.gq_query_run.specs.declared.runner.QueryFault.TheVariants.{Wrong, SumRange, LoopBound, PathBound, Stuck, OutOfMemory}
 use Rattle.gq_query_run.specs.Answers.{Objects}
 
 -- the output is that of the query, or the fault is the query's; OutOfMemory may occur at any time
@@ -37,6 +38,7 @@ Runs answer (Err (Wrong w)) = answer ≡ Faults (meaning.Evaluation w)
 Runs answer (Err (SumRange slot)) = answer ≡ Faults (meaning.SumOutOfRange slot)
 Runs answer (Err LoopBound) = answer ≡ Faults meaning.LoopBound
 Runs answer (Err PathBound) = answer ≡ Faults meaning.PathBound
+Runs answer (Err Stuck) = answer ≡ answers.Stuck
 Runs answer (Err OutOfMemory) = Unit {0}
 
 -- a query over a graph and these values of its parameters

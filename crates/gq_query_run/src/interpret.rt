@@ -5,7 +5,7 @@ ghost use Rattle.gq_rules_typing.specs.StatementViews.{view_query};
 ghost use Rattle.gq_rules_meaning.specs.Sessions.{interpreted};
 ghost use Rattle.gq_rules_calendar.specs.Gregorian.{gregorian};
 ghost use Rattle.gq_query_run.specs.Kept.{Kept};
-ghost use Rattle.gq_query_run.specs.Answers.{Says};
+ghost use Rattle.gq_query_run.specs.Answers.{NotStuck, Says};
 ghost use Rattle.gq_query_run.specs.Indexed.{IsIndexed};
 ghost use Rattle.gq_query_run.specs.Sessions.{session_of};
 
@@ -37,6 +37,9 @@ pub fn interpret_query<R: Threads + Sync, M: RunsQueries>(
 ) -> Result<Vec<u8>, StatementFault>
     requires there { ForSome in_use (λ g. g < length catalog.now.graphs) }
     requires indexed { IsIndexed catalog.now store.now index.now }
+    // The query isn't stuck, beside some other queries; which ones doesn't matter.
+    requires runs { (queries : List Kept) × NotStuck
+        (interpreted (session_of catalog.now in_use queries store.now) gregorian runner.now.turns tree.now.graph tree.now.modes (view_query tree.now)) }
     ensures { (queries : List Kept) → Says (session_of catalog.now in_use queries store.now)
         (interpreted (session_of catalog.now in_use queries store.now) gregorian runner.now.turns tree.now.graph tree.now.modes (view_query tree.now)) result }
 {

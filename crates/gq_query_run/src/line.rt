@@ -1,10 +1,11 @@
 // The line of a query, or the refusal.
-ghost use Rattle.std.specs.Prelude.{◌≡◌, map, Ok, Err};
+ghost use Rattle.std.specs.Prelude.{◌≡◌, ◌≢◌, map, Ok, Err};
 ghost use Rattle.gq_value.specs.Views.{val};
 ghost use Rattle.gq_rules_typing.specs.StatementViews.{view_query};
-ghost use Rattle.gq_rules_meaning.specs.Answers.{Answer};
+ghost use Rattle.gq_rules_meaning.specs.Answers.{Answer, Stuck};
 ghost use Rattle.gq_rules_meaning.specs.Messages.{answer_of_run, name_at, slot_names, wrong_message};
 ghost use Rattle.gq_rules_meaning.specs.Built.{built_print};
+ghost use Rattle.gq_rules_meaning.specs.Queries.{run_query};
 ghost use Rattle.gq_rules_calendar.specs.Gregorian.{gregorian};
 ghost use Rattle.gq_json.specs.declared.out.Printed.{Printed as JsonPrinted};
 ghost use Rattle.gq_arguments.specs.Rows.{Tells as Due};
@@ -43,6 +44,7 @@ pub(crate) fn line_over<R: Threads + Sync, M: RunsQueries>(
 ) -> Result<Vec<u8>, StatementFault>
     requires indexed { IsIndexed catalog.now store.now index.now }
     requires prepared { M.is_of prepared.now catalog.now graph (view_query query.now) }
+    requires runs { run_query (graph_read catalog.now graph store.now) gregorian (view_query query.now) (map val arguments.now) runner.now.turns ≢ Stuck }
     ensures { Tells (answer_over (graph_read catalog.now graph store.now) gregorian runner.now.turns (view_query query.now) (map val arguments.now)) result }
 {
     let turns = runner.turns;
@@ -74,6 +76,7 @@ fn line_of(alloc: Global, printed: &[Printed]) -> Result<Vec<u8>, StatementFault
 
 // Returns the refusal for a fault.
 fn refused(alloc: Global, query: &QueryTree, turns: u64, fault: QueryFault) -> StatementFault
+    requires { fault ≢ QueryFault.Stuck }
     ensures { (answer : Answer Fault Objects) → Runs answer (Err fault) → Tells (answer_of_run (slot_names (view_query query.now).definitions) turns answer) (Err result) }
 {
     match fault {
@@ -81,6 +84,7 @@ fn refused(alloc: Global, query: &QueryTree, turns: u64, fault: QueryFault) -> S
         QueryFault::SumRange(slot) => sum_range(alloc, query, slot),
         QueryFault::LoopBound => StatementFault::Refused(Refusal::LoopBound(turns)),
         QueryFault::PathBound => StatementFault::Refused(Refusal::PathBound),
+        QueryFault::Stuck => unreachable!(),
         QueryFault::OutOfMemory => StatementFault::OutOfMemory,
     }
 }
@@ -94,10 +98,10 @@ fn wrong_refusal(wrong: Wrong) -> Refusal
     }
 }
 
-fn sum_range(alloc: Global, query: &QueryTree, slot: u32) -> StatementFault
+fn sum_range(alloc: Global, query: &QueryTree, slot: usize) -> StatementFault
     ensures { Due (Refusal.SumOutOfRange (name_at (slot_names (view_query query.now).definitions) slot)) result }
 {
-    let name = slot_name(query.body.definitions.as_slice(), slot as usize);
+    let name = slot_name(query.body.definitions.as_slice(), slot);
     match Txt::of(alloc, name) {
         Ok(name) => StatementFault::Refused(Refusal::SumOutOfRange(name)),
         Err(OutOfMemory) => StatementFault::OutOfMemory,

@@ -1,6 +1,5 @@
 // RUN QUERY.
-ghost use Rattle.std.specs.Prelude.{◌≡◌, ◌<◌, ℕ, List, Option, OnOk, is_some, true, length, map, option_map};
-ghost use Rattle.std.specs.Option.{ForSome};
+ghost use Rattle.std.specs.Prelude.{◌≡◌, ◌≢◌, ℕ, List, [], All, Option, OnOk, Err, is_some, true, map, option_map};
 ghost use Rattle.gq_graph.specs.declared.rows.VertexRow.{VertexRow};
 ghost use Rattle.gq_rules_typing.specs.Statements.{Bytes, Parameter};
 ghost use Rattle.gq_rules_typing.specs.Sorts.{Sorts, sorts_of};
@@ -13,8 +12,9 @@ ghost use Rattle.gq_arguments.specs.Given.{view_argument};
 ghost use Rattle.gq_arguments.specs.Members.{members_for};
 ghost use Rattle.gq_arguments.specs.Rows.{values_given, Tells as Due};
 ghost use Rattle.gq_query_run.specs.Kept.{Kept};
-ghost use Rattle.gq_query_run.specs.Answers.{Says, Tells};
+ghost use Rattle.gq_query_run.specs.Answers.{NotStuck, Says, Tells};
 ghost use Rattle.gq_query_run.specs.Indexed.{IsIndexed};
+ghost use Rattle.gq_query_run.specs.Queries.{QueryFits};
 ghost use Rattle.gq_query_run.specs.Ready.{AreReady, IsReadyFor, OthersStay, ready_at};
 ghost use Rattle.gq_query_run.specs.Runs.{answer_found, answer_given, values_run};
 ghost use Rattle.gq_query_run.specs.Sessions.{graph_read, session_of};
@@ -53,6 +53,10 @@ pub fn run_query<R: Threads + Sync, M: RunsQueries>(
 ) -> Result<Vec<u8>, StatementFault>
     requires indexed { IsIndexed catalog.now store.now index.now }
     requires ready { AreReady M.is_of catalog.now queries.now ready.old.plans }
+    requires fits { All (QueryFits catalog.now) queries.now }
+    // The query isn't stuck, with some graph in use; which one doesn't matter.
+    requires runs { (in_use : Option ℕ) × NotStuck
+        (ran (session_of catalog.now in_use queries.now store.now) gregorian runner.now.turns tree.now.name (option_map (map view_argument) tree.now.arguments) (members_for (held file.now) tree.now.name)) }
     ensures says { (in_use : Option ℕ) → Says (session_of catalog.now in_use queries.now store.now)
         (ran (session_of catalog.now in_use queries.now store.now) gregorian runner.now.turns tree.now.name (option_map (map view_argument) tree.now.arguments) (members_for (held file.now) tree.now.name)) result }
     ensures ready { AreReady M.is_of catalog.now queries.now ready.new.plans }
@@ -85,6 +89,8 @@ fn run_found<R: Threads + Sync, M: RunsQueries>(
 ) -> Result<Vec<u8>, StatementFault>
     requires indexed { IsIndexed catalog.now store.now index.now }
     requires ready { IsReadyFor M.is_of catalog.now ready.old.plans place query.now }
+    requires fits { QueryFits catalog.now query.now }
+    requires runs { answer_found catalog.now store.now gregorian runner.now.turns query.now tree.now (held file.now) ≢ Err [] }
     ensures tells { Tells (answer_found catalog.now store.now gregorian runner.now.turns query.now tree.now (held file.now)) result }
     ensures ready { IsReadyFor M.is_of catalog.now ready.new.plans place query.now }
     ensures others { OthersStay ready.old.plans ready.new.plans place }
@@ -129,6 +135,9 @@ fn run_at<R: Threads + Sync, M: RunsQueries>(
 ) -> Result<Vec<u8>, StatementFault>
     requires indexed { IsIndexed catalog.now store.now index.now }
     requires ready { IsReadyFor M.is_of catalog.now ready.old.plans place query.now }
+    requires fits { QueryFits catalog.now query.now }
+    requires runs { answer_given (graph_read catalog.now query.now.graph store.now) gregorian runner.now.turns (view_query query.now.tree)
+        (values_given (sorts_of catalog.now (graph_in catalog.now query.now.graph)) store.now.vertices (map view_parameter query.now.tree.parameters) arguments) ≢ Err [] }
     ensures tells { Tells (answer_given (graph_read catalog.now query.now.graph store.now) gregorian runner.now.turns (view_query query.now.tree)
         (values_given (sorts_of catalog.now (graph_in catalog.now query.now.graph)) store.now.vertices (map view_parameter query.now.tree.parameters) arguments.entry)) result }
     ensures ready { IsReadyFor M.is_of catalog.now ready.new.plans place query.now }
@@ -160,15 +169,15 @@ fn run_with<R: Threads + Sync, M: RunsQueries>(
 ) -> Result<Vec<u8>, StatementFault>
     requires indexed { IsIndexed catalog.now store.now index.now }
     requires ready { IsReadyFor M.is_of catalog.now ready.old.plans place query.now }
+    requires fits { QueryFits catalog.now query.now }
+    requires runs { answer_given (graph_read catalog.now query.now.graph store.now) gregorian runner.now.turns (view_query query.now.tree)
+        (values_given (sorts_of catalog.now (graph_in catalog.now query.now.graph)) store.now.vertices (map view_parameter query.now.tree.parameters) arguments) ≢ Err [] }
     ensures tells { Tells (answer_given (graph_read catalog.now query.now.graph store.now) gregorian runner.now.turns (view_query query.now.tree)
         (values_given (sorts_of catalog.now (graph_in catalog.now query.now.graph)) store.now.vertices (map view_parameter query.now.tree.parameters) arguments.entry)) result }
     ensures ready { IsReadyFor M.is_of catalog.now ready.new.plans place query.now }
     ensures others { OthersStay ready.old.plans ready.new.plans place }
 {
     let (graph, tree) = (query.graph(), query.tree());
-    if !is_there(catalog, graph) {
-        return Err(StatementFault::OutOfMemory);
-    }
     let (vertices, parameters) = (&store.vertices, tree.parameters.as_slice());
     let row = match argument_row(alloc, catalog, graph, vertices, parameters, arguments) {
         Ok(row) => row,
@@ -194,7 +203,8 @@ fn prepare_at<M: RunsQueries>(
     place: usize,
     ready: &mut Ready<M::Prepared>,
 ) -> Result<(), OutOfMemory>
-    requires { IsReadyFor M.is_of catalog.now ready.old.plans place query.now }
+    requires ready { IsReadyFor M.is_of catalog.now ready.old.plans place query.now }
+    requires fits { QueryFits catalog.now query.now }
     ensures there { OnOk result (is_some (ready_at ready.new.plans place) ≡ true) }
     ensures ready { IsReadyFor M.is_of catalog.now ready.new.plans place query.now }
     ensures others { OthersStay ready.old.plans ready.new.plans place }
@@ -204,16 +214,6 @@ fn prepare_at<M: RunsQueries>(
     }
     let prepared = machine.prepare(alloc, catalog, query.graph(), query.tree())?;
     ready.put(place, prepared)
-}
-
-// Whether there is a graph with this number. That of a stored query exists.
-fn is_there(catalog: &Catalog, graph: Option<u32>) -> bool
-    ensures { result ≡ true → ForSome graph (λ g. g < length catalog.now.graphs) }
-{
-    match graph {
-        Some(graph) => (graph as usize) < catalog.graph_count(),
-        None => true,
-    }
 }
 
 fn unknown(alloc: Global, name: &str) -> StatementFault

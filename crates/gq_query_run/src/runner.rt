@@ -1,5 +1,6 @@
 // The runner of queries.
-ghost use Rattle.std.specs.Prelude.{IfOk, map, ℕ, Option};
+ghost use Rattle.std.specs.Prelude.{◌<◌, IfOk, length, map, ℕ, Option};
+ghost use Rattle.std.specs.Option.{ForSome};
 ghost use Rattle.std.specs.Thread.{IsSync};
 ghost use Rattle.gq_value.specs.Views.{val};
 ghost use Rattle.gq_graph.specs.Catalog.{Schema};
@@ -8,6 +9,7 @@ ghost use Rattle.gq_rules_typing.specs.StatementViews.{view_query};
 ghost use Rattle.gq_rules_meaning.specs.Queries as meaning;
 ghost use Rattle.gq_rules_calendar.specs.Gregorian.{gregorian};
 ghost use Rattle.gq_query_run.specs.Indexed.{IsIndexed};
+ghost use Rattle.gq_query_run.specs.Judging.{IsTyped};
 ghost use Rattle.gq_query_run.specs.Runs.{Runs};
 ghost use Rattle.gq_query_run.specs.Sessions.{graph_read};
 
@@ -30,13 +32,17 @@ pub enum QueryFault {
 
     /// The sum of the accumulator with this number, in order of declaration, doesn't fit its type.
     #[error("sum out of range")]
-    SumRange(u32),
+    SumRange(usize),
 
     /// No turn is left for another iteration of a loop's body.
     #[error("loop bound reached")]
     LoopBound,
     #[error("too many paths")]
     PathBound,
+
+    /// The query's meaning is stuck. That of a typed query over arguments of its parameters' types never is.
+    #[error("stuck")]
+    Stuck,
     #[error("out of memory")]
     OutOfMemory,
 }
@@ -61,7 +67,7 @@ pub trait RunsQueries {
     /// Whether it was prepared of a query, for the graph with this number in this catalog.
     ghost is_of: { Self.Prepared → Schema → Option ℕ → Query Bytes → Type 0 };
 
-    /// Prepares a query for its runs, for the graph with this number.
+    /// Prepares a query for its runs, for the graph with this number, if it is typed for it.
     fn prepare(
         &self,
         alloc: Global,
@@ -69,6 +75,8 @@ pub trait RunsQueries {
         graph: Option<u32>,
         query: &QueryTree,
     ) -> Result<Self::Prepared, OutOfMemory>
+        requires there { ForSome graph (λ g. g < length catalog.now.graphs) }
+        requires typed { IsTyped catalog.now graph query.now }
         ensures { IfOk result (λ prepared. is_of prepared catalog.now graph (view_query query.now)) };
 
     /// Runs a prepared query over a store of the catalog that it was prepared for, with its index and a value for each

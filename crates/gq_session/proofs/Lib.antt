@@ -1,7 +1,8 @@
 pub mod WordLemmas
 pub mod RunLemmas
 pub mod GrowthLemmas
-pub mod SessionLemmas
-pub mod QueryLemmas
 pub mod StuckLemmas
 pub mod SafeLemmas
+pub mod LeftLemmas
+pub mod SessionLemmas
+pub mod QueryLemmas

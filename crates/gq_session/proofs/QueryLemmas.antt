@@ -16,12 +16,14 @@ use Rattle.gq_rules_calendar.specs.Gregorian.{gregorian}
 use Rattle.gq_arguments.specs.Given.{view_argument}
 use Rattle.gq_arguments.specs.Members.{members_for}
 use Rattle.gq_query_run.specs.Kept.{Kept}
-use Rattle.gq_query_run.specs.Answers.{Says}
+use Rattle.gq_query_run.specs.Answers.{NotStuck, Says}
 use Rattle.gq_query_run.specs.Sessions.{session_of}
 use Rattle.gq_diagnostics.specs.Effects.{Effect, Becomes, Refused, lines_of}
 use Rattle.gq_session.specs.Arguments.{object_of}
 use Rattle.gq_session.specs.Statements.{State, Prints, HasWords, session_in, effect_in, query_ran, query_interpreted}
 use Rattle.gq_session.proofs.SessionLemmas.{IsLine}
+use Rattle.gq_session.specs.Safe.{IsSafe}
+use Rattle.gq_session.proofs.SafeLemmas.{run_law, interpret_law}
 use Rattle.gq_session.proofs.WordLemmas.{words, says}
 
 -- ---- answers
@@ -56,6 +58,28 @@ pub prints_no_read_fault : {A : Type 0} (s : State) (effect : Effect State) (r :
 prints_no_read_fault s effect r is prints =
     let P : Result (Option (Vec ℕ Global)) StatementFault → Type 0 = λ a. Prints s effect a in
     absurd (subst P is prints)
+
+-- ---- a safe session
+
+same_words : (message other : List ℕ) → ◌≡◌ {A = sessions.Effect} (sessions.Refused message) (sessions.Refused other) → message ≡ other
+same_words message other is = cc
+
+-- a query whose effect has words isn't stuck
+not_stuck : (s : State) (e : sessions.Effect) → HasWords (effect_in s e) → NotStuck e
+not_stuck s (sessions.Becomes t lines) words stuck = absurd (cc stuck)
+not_stuck s (sessions.Refused message) words stuck = words (same_words message [] stuck)
+
+module _ (s : State) (safe : IsSafe s) where
+  -- RUN QUERY isn't stuck, and neither is INTERPRET QUERY without parameters
+  pub run_on : (tree : RunTree) (file : Option Data) → file ≡ object_of s.file
+      → (in_use : Option ℕ) × NotStuck (ran (session_of s.schema in_use s.queries s.store) gregorian s.turns tree.name (option_map (map view_argument) tree.arguments) (members_for file tree.name))
+  run_on tree file read =
+      let Over : Option Data → Type 0 = λ d. NotStuck (ran (session_in s) gregorian s.turns tree.name (option_map (map view_argument) tree.arguments) (members_for d tree.name)) in
+      (s.in_use, subst Over (sym read) (not_stuck s (ran (session_in s) gregorian s.turns tree.name (option_map (map view_argument) tree.arguments) (members_for (object_of s.file) tree.name)) (run_law s tree safe)))
+
+  pub interpret_on : (tree : QueryTree) → tree.parameters ≡ []
+      → (queries : List Kept) × NotStuck (interpreted (session_of s.schema s.in_use queries s.store) gregorian s.turns tree.graph tree.modes (view_query tree))
+  interpret_on tree bare = (s.queries, not_stuck s (interpreted (session_in s) gregorian s.turns tree.graph tree.modes (view_query tree)) (interpret_law s tree safe bare))
 
 -- ---- RUN QUERY
 

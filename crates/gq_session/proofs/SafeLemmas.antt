@@ -3,11 +3,10 @@ use Rattle.std.proofs.Common.{◌≡◌, ◌≢◌, ℕ, zero, suc, ◌+◌, ◌
 use Rattle.std.specs.Prelude.{Result, Ok, Err, ◌&&◌, ◌||◌, ◌==◌, bytes_eq, find, position, slice_get, option_and_then}
 use Rattle.std.specs.List.{list_any}
 use Rattle.std.specs.Option.{ForSome, option_or, option_map}
-use Rattle.std.proofs.lemmas.List.{length-take, length-map}
+use Rattle.std.proofs.lemmas.List.{length-take}
 use Rattle.std.proofs.lemmas.List.Elements.{All-set, All-push, All-map}
-use Rattle.std.proofs.lemmas.List.Quantifiers.{position-Some}
 use Rattle.std.proofs.lemmas.Option.{slice_get_within, get_or_from_slice_get}
-use Rattle.gq_graph.specs.Catalog.{Schema, graph_names, graph_of}
+use Rattle.gq_graph.specs.Catalog.{Schema, graph_of}
 use Rattle.gq_graph.specs.declared.types.GraphType.{GraphType}
 use Rattle.gq_tree.specs.declared.job.Destination.{Destination}
 use Rattle.gq_tree.specs.declared.job.FileTree.{FileTree}
@@ -80,14 +79,15 @@ use Rattle.gq_scope.specs.Held.{graph_in}
 use Rattle.gq_arguments.specs.Given.{view_argument}
 use Rattle.gq_arguments.specs.Members.{members_for}
 use Rattle.gq_query_run.specs.Kept.{Kept}
-use Rattle.gq_query_run.specs.Judging.{or_unknown, graph_for, graph_refusal}
-use Rattle.gq_query_run.specs.Queries.{is_named, has_query, graph_found, graph_fixed, created, put_at, with_query, create_refusal, installed_if, with_installed, or_installed, all_installed}
+use Rattle.gq_query_run.specs.Judging.{graph_refusal}
+use Rattle.gq_query_run.proofs.TypedLemmas.{graph_is_there, graph_low, graph_typed}
+use Rattle.gq_query_run.specs.Queries.{QueryFits, is_named, has_query, graph_fixed, created, put_at, with_query, create_refusal, installed_if, with_installed, or_installed, all_installed}
 use Rattle.gq_query_run.specs.Queries as queries
 use Rattle.gq_session.specs.Arguments.{object_of}
 use Rattle.gq_session.specs.Statements.{State, session_in, opening, with_schema, with_graph, in_use_or, with_jobs, with_rows, with_queries, vertex_made, edge_made, graph_made, graph_used, job_made, row_made, store_done, query_made, install_made, effect_of, effect_in, RunsJob}
-use Rattle.gq_session.specs.Safe.{QueryFits, IsSafe, OpeningLaw, NextLaw, RunLaw, InterpretLaw}
+use Rattle.gq_session.specs.Safe.{IsSafe, OpeningLaw, NextLaw, RunLaw, InterpretLaw}
 use Rattle.gq_session.proofs.GrowthLemmas.{Grown, vertex_grown, edge_grown, graph_grown, graph_there}
-use Rattle.gq_session.proofs.StuckLemmas.{sees, graph_typed, ran_has_words, interpreted_has_words}
+use Rattle.gq_session.proofs.StuckLemmas.{sees, ran_has_words, interpreted_has_words}
 
 -- ---- answers and effects
 
@@ -131,13 +131,14 @@ query_stays before after grown whole q fits =
     let own = graph_in before q.graph in
     record {
       there = there_still q.graph (length before.graphs) (length after.graphs) (long before.graphs after.graphs grown.graphs) fits.there;
-      scope = over (sorts_of after own) fits.scope;
-      typed =
-          ap (λ g. typing_query (sorts_of after g) (view_query q.tree)) (graph_stays before after grown q.graph fits.there)
-          ∙ growth_law before after own grown (sees before whole q.graph).0 (view_query q.tree) fits.scope fits.typed;
+      typed = (
+        over (sorts_of after own) fits.typed.0,
+        ap (λ g. typing_query (sorts_of after g) (view_query q.tree)) (graph_stays before after grown q.graph fits.there)
+            ∙ growth_law before after own grown (sees before whole q.graph).0 (view_query q.tree) fits.typed.0 fits.typed.1,
+      );
     }
 
-grown_safe : (s : State) (after : Schema) → Grown s.schema after → IsSafe s → IsSafe (record s { schema = after })
+pub grown_safe : (s : State) (after : Schema) → Grown s.schema after → IsSafe s → IsSafe (record s { schema = after })
 grown_safe s after more safe = record {
   there = there_still s.in_use (length s.schema.graphs) (length after.graphs) (long s.schema.graphs after.graphs more.grown.graphs) safe.there;
   sound = more.whole safe.sound;
@@ -148,7 +149,7 @@ grown_safe s after more safe = record {
 }
 
 -- another graph is in use
-used_safe : (s : State) (graph : ℕ) → graph < length s.schema.graphs → IsSafe s → IsSafe (record s { in_use = Some graph })
+pub used_safe : (s : State) (graph : ℕ) → graph < length s.schema.graphs → IsSafe s → IsSafe (record s { in_use = Some graph })
 used_safe s graph low safe = record {
   there = λ other is. subst (λ n. n < length s.schema.graphs) (same_some graph other is) low;
   sound = safe.sound;
@@ -167,10 +168,6 @@ by_graph s t tree (Ok new) made safe is =
     subst IsSafe (same_ok _ t is)
     (used_safe (record s { schema = new }) (length s.schema.graphs) (graph_there s.schema new tree (length s.schema.graphs) made refl) (grown_safe s new (graph_grown s.schema new tree made) safe))
 by_graph s t tree (Err r) made safe is = no_ok r t is
-
-graph_low : (schema : Schema) (name : List ℕ) (n : ℕ) → graph_of schema name ≡ Some n → n < length schema.graphs
-graph_low schema name n found =
-    subst (λ k. n < k) (length-map schema.graphs (λ (g : GraphType). g.name)) (position-Some (bytes_eq name) (graph_names schema.graphs) n [] found).0
 
 by_use : (s t : State) (name : List ℕ) (o : Option ℕ) → graph_of s.schema name ≡ o → IsSafe s → in_use_or s name o ≡ Ok t → IsSafe t
 by_use s t name (Some n) found safe is = subst IsSafe (same_ok _ t is) (used_safe s n (graph_low s.schema name n found) safe)
@@ -242,7 +239,7 @@ jobs_fit schema jobs new tree fit is = by (has_job jobs tree.name) is
     by true none = no_ok _ new none
     by false some = job_fits schema jobs new tree (graph_of schema tree.graph) fit some
 
-jobs_safe : (s : State) (jobs : List NamedJob) → JobsFit s.schema jobs → IsSafe s → IsSafe (record s { jobs = jobs })
+pub jobs_safe : (s : State) (jobs : List NamedJob) → JobsFit s.schema jobs → IsSafe s → IsSafe (record s { jobs = jobs })
 jobs_safe s jobs fit safe = record { there = safe.there; sound = safe.sound; whole = safe.whole; jobs = fit; rows = safe.rows; queries = safe.queries }
 
 by_jobs : (s t : State) (tree : JobTree) (r : Result (List NamedJob) Refusal) → job_created s.schema s.jobs tree ≡ r → IsSafe s → with_jobs s r ≡ Ok t → IsSafe t
@@ -251,10 +248,10 @@ by_jobs s t tree (Err r) made safe is = no_ok r t is
 
 -- ---- rows
 
-rows_safe : (s : State) (store : Store) → StoreRowsFit s.schema store → IsSafe s → IsSafe (record s { store = store })
+pub rows_safe : (s : State) (store : Store) → StoreRowsFit s.schema store → IsSafe s → IsSafe (record s { store = store })
 rows_safe s store fit safe = record { there = safe.there; sound = safe.sound; whole = safe.whole; jobs = safe.jobs; rows = fit; queries = safe.queries }
 
-row_stored : (schema : Schema) (sound : IsSound schema) (store later : Store) (tree : InsertTree) → StoreRowsFit schema store → row_inserted schema store tree ≡ Ok later → StoreRowsFit schema later
+pub row_stored : (schema : Schema) (sound : IsSound schema) (store later : Store) (tree : InsertTree) → StoreRowsFit schema store → row_inserted schema store tree ≡ Ok later → StoreRowsFit schema later
 row_stored schema sound store later tree fit is = refused (option_and_then inserting.refusal_of (insert_refusal reading schema tree)) is
   where
     put : (row : Insert) → insert_named reading schema tree ≡ Some row → (o : Option Store) → put_all store (steps_of_insert row) ≡ o → inserting.stored_or o ≡ Ok later → StoreRowsFit schema later
@@ -330,7 +327,7 @@ module _ (schema : Schema) (sound : IsSound schema) where
       let fits : LineFits schema line = subst (LineFits schema) (get_or_from_slice_get lines number line line found) (fit number line (slice_get_within lines number line found)) in
       line_kept line fits (records_in line bytes) store later counts rows is
 
-  loaded_kept : (job : Job) → All (LineFits schema) job.lines → (store later : Store) (number : ℕ) (bytes : List ℕ) (counts : Report) → StoreRowsFit schema store
+  pub loaded_kept : (job : Job) → All (LineFits schema) job.lines → (store later : Store) (number : ℕ) (bytes : List ℕ) (counts : Report) → StoreRowsFit schema store
       → loaded_by schema job store number bytes ≡ Loads later counts → StoreRowsFit schema later
   unfolding loaded_by
   loaded_kept job fit store later number bytes counts rows is = one_kept job.lines fit number (slice_get job.lines number) refl bytes store later counts rows is
@@ -347,7 +344,7 @@ module _ (schema : Schema) (sound : IsSound schema) where
     found_kept None found is = no_state _ later lines (sym is)
     found_kept (Some entry) found means = using_kept entry.job (found_fits schema jobs tree.name entry fit found) (undefined_name entry.job.files tree.paths) means
 
-    job_kept : JobDoes known schema jobs store tree (Becomes later lines) → StoreRowsFit schema later
+    pub job_kept : JobDoes known schema jobs store tree (Becomes later lines) → StoreRowsFit schema later
     job_kept does = found_kept (entry_of jobs tree.name) refl does
 
 by_job : (known : Known) (s t : State) (tree : RunJobTree) (lines : List (List ℕ)) → IsSafe s → RunsJob known s tree (Becomes t lines) → IsSafe t
@@ -361,18 +358,8 @@ by_job known s t tree lines safe (e, does, is) = by e does is
 
 -- ---- queries
 
-queries_safe : (s : State) (qs : List Kept) → All (QueryFits s.schema) qs → IsSafe s → IsSafe (record s { queries = qs })
+pub queries_safe : (s : State) (qs : List Kept) → All (QueryFits s.schema) qs → IsSafe s → IsSafe (record s { queries = qs })
 queries_safe s qs fit safe = record { there = safe.there; sound = safe.sound; whole = safe.whole; jobs = safe.jobs; rows = safe.rows; queries = fit }
-
--- a graph that isn't refused exists
-graph_is_there : (schema : Schema) (in_use : Option ℕ) → ForSome in_use (λ graph. graph < length schema.graphs) → (name : Option (List ℕ))
-    → ForSome (graph_found (graph_for schema in_use name)) (λ graph. graph < length schema.graphs)
-graph_is_there schema in_use there None = there
-graph_is_there schema in_use there (Some name) = by (graph_of schema name) refl
-  where
-    by : (o : Option ℕ) → graph_of schema name ≡ o → ForSome (graph_found (or_unknown name o)) (λ graph. graph < length schema.graphs)
-    by None found = λ graph is. absurd (cc is)
-    by (Some n) found = λ graph is. subst (λ k. k < length schema.graphs) (same_some n graph is) (graph_low schema name n found)
 
 create_none : (schema : Schema) (in_use : Option ℕ) (qs : List Kept) (replace : Bool) (name : List ℕ) (tree : QueryTree) → create_refusal schema in_use qs replace name tree ≡ None
     → graph_refusal schema in_use tree ≡ None
@@ -387,16 +374,17 @@ with_fits : (schema : Schema) (qs : List Kept) (q : Kept) (o : Option ℕ) → Q
 with_fits schema qs q (Some n) fits are = All-set (QueryFits schema) qs n q fits are
 with_fits schema qs q None fits are = All-push (QueryFits schema) qs q are fits
 
-by_query : (s t : State) (replace : Bool) (name : List ℕ) (tree : QueryTree) → IsSafe s → query_made s replace name tree ≡ Ok t → IsSafe t
+pub by_query : (s t : State) (replace : Bool) (name : List ℕ) (tree : QueryTree) → IsSafe s → query_made s replace name tree ≡ Ok t → IsSafe t
 by_query s t replace name tree safe is = by (create_refusal s.schema s.in_use s.queries replace name tree) refl is
   where
     new : Kept
     new = created name tree (graph_fixed s.schema s.in_use tree)
 
     fits : create_refusal s.schema s.in_use s.queries replace name tree ≡ None → QueryFits s.schema new
-    fits none =
-        let typed = graph_typed s.schema s.in_use tree (create_none s.schema s.in_use s.queries replace name tree none) in
-        record { there = graph_is_there s.schema s.in_use safe.there tree.graph; scope = typed.0; typed = typed.1 }
+    fits none = record {
+      there = graph_is_there s.schema s.in_use safe.there tree.graph;
+      typed = graph_typed s.schema s.in_use tree (create_none s.schema s.in_use s.queries replace name tree none);
+    }
 
     by : (o : Option Refusal) → create_refusal s.schema s.in_use s.queries replace name tree ≡ o → with_queries s (queries.unless_refused o (with_query s.queries new)) ≡ Ok t → IsSafe t
     by None none is =
@@ -405,9 +393,9 @@ by_query s t replace name tree safe is = by (create_refusal s.schema s.in_use s.
     by (Some due) some is = no_ok due t is
 
 install_fits : (schema : Schema) (q : Kept) (b : Bool) → QueryFits schema q → QueryFits schema (record q { installed = b })
-install_fits schema q b fits = record { there = fits.there; scope = fits.scope; typed = fits.typed }
+install_fits schema q b fits = record { there = fits.there; typed = fits.typed }
 
-by_install : (s t : State) (which : Installed) → IsSafe s → install_made s which ≡ Ok t → IsSafe t
+pub by_install : (s t : State) (which : Installed) → IsSafe s → install_made s which ≡ Ok t → IsSafe t
 by_install s t which.All safe is =
     subst IsSafe (same_ok _ t is)
     (queries_safe s (all_installed s.queries)

@@ -1,8 +1,7 @@
--- The invariant of a session holds while its catalog grows; and what its answers say about a statement.
-use Rattle.std.proofs.Common.{◌≡◌, ℕ, List, [], ◌∷◌, Option, Some, None, Result, Ok, Err, IfOk, IfSome, ◌++◌, refl, sym, ap, subst, ◌∙◌, ◌<◌, ◌≤◌, length, take, drop, arith}
+-- SessionLemmas: the invariant of a session holds after each change; and what its answers say about a statement.
+use Rattle.std.proofs.Common.{◌≡◌, ℕ, List, [], ◌∷◌, All, Option, Some, None, Result, Ok, Err, IfOk, IfSome, ◌++◌, refl, sym, ap, subst, ◌∙◌, ◌<◌, length, drop}
 use Rattle.std.proofs.lemmas.List.{take-append-drop}
 use Rattle.std.specs.Prelude.{IfErr, IsSome, Vec}
-use Rattle.std.specs.Option.{ForSome}
 use Rattle.std.specs.declared.alloc.Global.{Global}
 use Rattle.gq_graph.specs.Catalog.{Schema}
 use Rattle.gq_graph.specs.declared.types.EdgeType.{EdgeType}
@@ -18,23 +17,26 @@ use Rattle.gq_diagnostics.specs.declared.refusal.StatementFault.{StatementFault}
 use Rattle.gq_diagnostics.specs.declared.refusal.StatementFault.TheVariants as fault
 use Rattle.gq_diagnostics.specs.Answers.{Answers, Denies}
 use Rattle.gq_insert.specs.Fits.{IsSound}
-use Rattle.gq_insert.specs.SoundLaws.{empty_is_sound}
 use Rattle.gq_load.specs.Records.{AllHaveEnds}
 use Rattle.gq_load_check.specs.Fits.{HasGrown}
 use Rattle.gq_load_check.specs.Targets.{no_edge_type}
 use Rattle.gq_load.specs.Keeping.{StoreFits, no_rows}
 use Rattle.gq_query_run.specs.Indexed.{IsIndexed}
+use Rattle.gq_query_run.specs.Kept.{Kept}
+use Rattle.gq_query_run.specs.Queries.{QueryFits}
+use Rattle.gq_rules_store.specs.Upserts.{StoreRowsFit}
 use Rattle.gq_ddl.specs.declared.named.NamedJob.{NamedJob}
 use Rattle.gq_ddl.specs.Fitting.{JobsFit}
-use Rattle.gq_ddl.specs.FittingLaws.{jobs_stay}
 use Rattle.gq_load.specs.KeepingLaws.{empty_fits, growth_fits, attributes_there, rows_join}
 use Rattle.gq_tree.specs.declared.job.RunJobTree.{RunJobTree}
 use Rattle.gq_io.specs.Known.{Known}
 use Rattle.gq_diagnostics.specs.Effects.{Becomes, Refused, lines_of}
 use Rattle.gq_load_run.specs.JobRuns.{JobDoes, JobLeaves}
-use Rattle.gq_session.specs.Statements.{State, RunsJob, JobLeft}
+use Rattle.gq_session.specs.Statements.{State, RunsJob, JobLeft, opening}
+use Rattle.gq_session.specs.Safe.{IsSafe}
 use Rattle.gq_session.specs.Keeping.{SessionFits}
 use Rattle.gq_session.proofs.GrowthLemmas.{Grown, not_grown}
+use Rattle.gq_session.proofs.SafeLemmas.{opening_law, grown_safe, used_safe, jobs_safe, queries_safe, rows_safe}
 
 -- the ends of edge types exist
 pub ends_there : (schema : Schema) → IsSound schema → AllHaveEnds schema
@@ -42,26 +44,34 @@ ends_there schema sound kind low =
     let t = sound.edge_types kind no_edge_type low in
     record { from = t.from; to = t.to; key = t.key }
 
--- a list is at least as long as its prefix
-longer : {A : Type 0} (xs ys : List A) → take (length xs) ys ≡ xs → length xs ≤ length ys
-longer [] ys is = omega arith
-longer (x ∷ xs) [] is = absurd (cc)
-longer (x ∷ xs) (y ∷ ys) is = let rest : take (length xs) ys ≡ xs = cc in let more = longer xs ys rest in omega arith
+-- ---- what a call leaves
 
--- the graph in use still exists
-stays_there : (in_use : Option ℕ) (m n : ℕ) → m ≤ n → ForSome in_use (λ graph. graph < m) → ForSome in_use (λ graph. graph < n)
-stays_there in_use m n more low = λ graph is. let before = low graph is in omega arith
+-- what holds of what was there, and of what the call makes of it, holds of what it leaves
+pub answers_keep : {A R : Type 0} (P : A → Type 0) (meant : Result A Refusal) (old new : A) (r : Result R StatementFault) → P old → ((made : A) → meant ≡ Ok made → P made)
+    → Answers meant old new r → P new
+answers_keep P meant old new (Ok x) before after is = after new is
+answers_keep P meant old new (Err (fault.Refused refusal)) before after denies = subst P (sym denies.1) before
+answers_keep P meant old new (Err fault.ReadFault) before after never = absurd never
+answers_keep P meant old new (Err fault.OutOfMemory) before after same = subst P (sym same) before
+
+-- a declaration extends the catalog, or leaves it unchanged
+pub answers_grow : {R : Type 0} (meant : Result Schema Refusal) (before after : Schema) (r : Result R StatementFault) → ((new : Schema) → meant ≡ Ok new → Grown before new)
+    → Answers meant before after r → Grown before after
+answers_grow meant before after r grows answers = answers_keep (Grown before) meant before after r (not_grown before) grows answers
+
+-- ---- the invariant
 
 -- an empty session
-pub session_opens : (schema : Schema) (jobs : List NamedJob) (store : Store) (index : KeptIndex) → schema ≡ record { vertex_types = []; edge_types = []; graphs = [] } → jobs ≡ [] → store ≡ no_rows
-    → IsKept index schema store → SessionFits schema None jobs store index
-session_opens schema jobs store index types no_jobs rows kept = record {
-  there = λ graph is. absurd (cc);
-  sound = subst IsSound (sym types) empty_is_sound;
-  each = subst (JobsFit schema) (sym no_jobs) (λ k d low. absurd (omega arith));
-  kept = subst (StoreFits schema) (sym rows) (empty_fits schema);
-  indexed = kept;
-}
+pub session_opens : (schema : Schema) (jobs : List NamedJob) (queries : List Kept) (store : Store) (file : Option (List ℕ)) (turns : ℕ) (index : KeptIndex)
+    → schema ≡ record { vertex_types = []; edge_types = []; graphs = [] } → jobs ≡ [] → queries ≡ [] → store ≡ no_rows
+    → IsKept index schema store → SessionFits (record { schema = schema; in_use = None; jobs = jobs; queries = queries; store = store; file = file; turns = turns }) index
+session_opens schema jobs queries store file turns index types no_jobs no_queries rows kept =
+    let With : Schema → List NamedJob → List Kept → Store → State =
+    λ s js qs rs. record { schema = s; in_use = None; jobs = js; queries = qs; store = rs; file = file; turns = turns } in
+    let same : With schema jobs queries store ≡ opening file turns =
+    ap (λ s. With s jobs queries store) types ∙ ap (λ js. With (opening file turns).schema js queries store) no_jobs
+    ∙ ap (λ qs. With (opening file turns).schema [] qs store) no_queries ∙ ap (λ rs. With (opening file turns).schema [] [] rs) rows in
+    record { safe = subst IsSafe (sym same) (opening_law file turns); kept = subst (StoreFits schema) (sym rows) (empty_fits schema); indexed = kept }
 
 -- the catalog is extended, in the sense of the index
 types_grow : (before after : Schema) → HasGrown before after → CatalogGrown before after
@@ -72,52 +82,42 @@ types_grow before after grown =
       types = sym (take-append-drop (length before.edge_types) after.edge_types) ∙ ap (λ (l : List EdgeType). l ++ more) grown.edge_types;
     }
 
-pub session_grows : (before after : Schema) (in_use : Option ℕ) (jobs : List NamedJob) (store : Store) (index : KeptIndex) → Grown before after
-    → SessionFits before in_use jobs store index → SessionFits after in_use jobs store index
-session_grows before after in_use jobs store index more fits = record {
-  there = stays_there in_use (length before.graphs) (length after.graphs) (longer before.graphs after.graphs more.grown.graphs) fits.there;
-  sound = more.whole fits.sound;
-  each = jobs_stay before after jobs more.grown fits.each;
-  kept = growth_fits before after store more.grown fits.kept;
-  indexed = kept_grows index before after store store (types_grow before after more.grown) (store_same store) fits.indexed;
-}
+module _ (s : State) (index : KeptIndex) (fits : SessionFits s index) where
+  pub session_grows : (after : Schema) → Grown s.schema after → SessionFits (record s { schema = after }) index
+  session_grows after more = record {
+    safe = grown_safe s after more fits.safe;
+    kept = growth_fits s.schema after s.store more.grown fits.kept;
+    indexed = kept_grows index s.schema after s.store s.store (types_grow s.schema after more.grown) (store_same s.store) fits.indexed;
+  }
 
--- a new graph is in use
-pub session_uses : (before after : Schema) (in_use : Option ℕ) (graph : ℕ) (jobs : List NamedJob) (store : Store) (index : KeptIndex) → Grown before after → graph < length after.graphs
-    → SessionFits before in_use jobs store index → SessionFits after (Some graph) jobs store index
-session_uses before after in_use graph jobs store index more low fits =
-    let grown = session_grows before after in_use jobs store index more fits in
-    record { there = λ other is. let same : graph ≡ other = cc in omega arith; sound = grown.sound; each = grown.each; kept = grown.kept; indexed = grown.indexed }
+  -- another graph is in use
+  pub session_uses : (graph : ℕ) → graph < length s.schema.graphs → SessionFits (record s { in_use = Some graph }) index
+  session_uses graph low = record { safe = used_safe s graph low fits.safe; kept = fits.kept; indexed = fits.indexed }
 
--- the store has grown
-pub session_gains : (schema : Schema) (in_use : Option ℕ) (jobs : List NamedJob) (before after : Store) (index : KeptIndex) → StoreFits schema after → StoreGrown before after
-    → SessionFits schema in_use jobs before index → SessionFits schema in_use jobs after index
-session_gains schema in_use jobs before after index fit more fits = record {
-  there = fits.there;
-  sound = fits.sound;
-  each = fits.each;
-  kept = fit;
-  indexed = kept_grows index schema schema before after (catalog_same schema) more fits.indexed;
-}
+  -- there are other jobs
+  pub session_works : (jobs : List NamedJob) → JobsFit s.schema jobs → SessionFits (record s { jobs = jobs }) index
+  session_works jobs fit = record { safe = jobs_safe s jobs fit fits.safe; kept = fits.kept; indexed = fits.indexed }
 
--- the index was updated
-pub session_indexes : (schema : Schema) (in_use : Option ℕ) (jobs : List NamedJob) (store : Store) (before after : KeptIndex) → IsKept after schema store
-    → SessionFits schema in_use jobs store before → SessionFits schema in_use jobs store after
-session_indexes schema in_use jobs store before after kept fits = record { there = fits.there; sound = fits.sound; each = fits.each; kept = fits.kept; indexed = kept }
+  -- there are other queries
+  pub session_asks : (queries : List Kept) → All (QueryFits s.schema) queries → SessionFits (record s { queries = queries }) index
+  session_asks queries fit = record { safe = queries_safe s queries fit fits.safe; kept = fits.kept; indexed = fits.indexed }
 
--- with its index, as it was last updated, queries can run over its store
-pub session_indexed : (schema : Schema) (in_use : Option ℕ) (jobs : List NamedJob) (store : Store) (before after : KeptIndex) (index : List (List Traversal))
-    → SessionFits schema in_use jobs store before → after.index ≡ adjacency (sight_of schema store.vertices store.edges) → index ≡ after.index → IsIndexed schema store index
-session_indexed schema in_use jobs store before after index fits built lent =
-    record { attributes = attributes_there schema store fits.kept; ends = rows_join schema store fits.kept; adjacent = lent ∙ built }
+  -- the store has grown
+  pub session_gains : (after : Store) → StoreFits s.schema after → StoreRowsFit s.schema after → StoreGrown s.store after → SessionFits (record s { store = after }) index
+  session_gains after fit rows more = record {
+    safe = rows_safe s after rows fits.safe;
+    kept = fit;
+    indexed = kept_grows index s.schema s.schema s.store after (catalog_same s.schema) more fits.indexed;
+  }
 
--- a declaration extends the catalog, or leaves it unchanged
-pub answers_grow : {R : Type 0} (meant : Result Schema Refusal) (before after : Schema) (r : Result R StatementFault) → ((new : Schema) → meant ≡ Ok new → Grown before new)
-    → Answers meant before after r → Grown before after
-answers_grow meant before after (Ok x) grows is = grows after is
-answers_grow meant before after (Err (fault.Refused refusal)) grows denies = subst (Grown before) (sym denies.1) (not_grown before)
-answers_grow meant before after (Err fault.ReadFault) grows denies = absurd denies
-answers_grow meant before after (Err fault.OutOfMemory) grows same = subst (Grown before) (sym same) (not_grown before)
+  -- the index was updated
+  pub session_indexes : (after : KeptIndex) → IsKept after s.schema s.store → SessionFits s after
+  session_indexes after kept = record { safe = fits.safe; kept = fits.kept; indexed = kept }
+
+  -- with its index, as it was last updated, queries can run over its store
+  pub session_indexed : (after : KeptIndex) (built : List (List Traversal)) → after.index ≡ adjacency (sight_of s.schema s.store.vertices s.store.edges) → built ≡ after.index
+      → IsIndexed s.schema s.store built
+  session_indexed after built is lent = record { attributes = attributes_there s.schema s.store fits.kept; ends = rows_join s.schema s.store fits.kept; adjacent = lent ∙ is }
 
 -- ---- the session afterwards
 

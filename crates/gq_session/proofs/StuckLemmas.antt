@@ -15,9 +15,6 @@ use Rattle.gq_ddl.specs.FittingLaws.{all_found}
 use Rattle.gq_rules_typing.specs.Statements.{Bytes, Parameter}
 use Rattle.gq_rules_typing.specs.StatementViews.{view_parameter, view_query}
 use Rattle.gq_rules_typing.specs.Sorts.{sorts_of}
-use Rattle.gq_rules_typing.specs.Scopes.{Scope}
-use Rattle.gq_rules_typing.specs.Judging.{Judged}
-use Rattle.gq_rules_typing.specs.QueryTypes.{typing_query}
 use Rattle.gq_rules_meaning.specs.Answers.{Answer, Gives, Faults, Stuck}
 use Rattle.gq_rules_meaning.specs.Arguments.{Argument, Member, Values, AllValues, BadArgument, in_order, by_members, values_of, wrong_number}
 use Rattle.gq_rules_meaning.specs.Fitting.{Safe}
@@ -42,16 +39,16 @@ use Rattle.gq_arguments.specs.Given.{view_argument}
 use Rattle.gq_arguments.specs.Members.{members_for}
 use Rattle.gq_query_run.specs.Kept.{Kept}
 use Rattle.gq_query_run.specs.Answers.{Objects}
-use Rattle.gq_query_run.specs.Judging.{refusal_in, rules_refusal, on_graph, graph_for, graph_refusal, interpret_refusal}
-use Rattle.gq_query_run.specs.Queries.{is_named, graph_found, graph_fixed}
+use Rattle.gq_query_run.specs.Judging.{IsTyped, interpret_refusal}
+use Rattle.gq_query_run.specs.Queries.{QueryFits, is_named, graph_fixed}
 use Rattle.gq_query_run.specs.Runs.{answer_over, answer_given, answer_installed, answer_found, of_values, values_run}
 use Rattle.gq_query_run.specs.Sessions.{graph_read, session_of}
 use Rattle.gq_query_run.proofs.RunLemmas.{ran_found, ran_unknown}
+use Rattle.gq_query_run.proofs.TypedLemmas.{interpreted_typed}
 use Rattle.gq_query_run.proofs.InterpretLemmas.{interpreted_due, interpreted_runs}
-use Rattle.gq_rules_meaning.specs.Sessions.{good_modes}
 use Rattle.gq_session.specs.Arguments.{object_of}
 use Rattle.gq_session.specs.Statements.{State, HasWords, effect_in, query_ran, query_interpreted}
-use Rattle.gq_session.specs.Safe.{QueryFits, IsSafe}
+use Rattle.gq_session.specs.Safe.{IsSafe}
 use Rattle.gq_session.proofs.WordLemmas.{words, says, fault_says}
 
 -- ---- answers
@@ -80,25 +77,6 @@ pub sees : (schema : Schema) → IsWhole schema → (g : Option ℕ) → SeesTyp
 sees schema whole None = (record { vertices = refl; edges = refl }, λ own is. absurd (cc is))
 sees schema whole (Some n) = sees_law schema n (slice_get schema.graphs n) whole refl
 
--- ---- a query that isn't refused is typed
-
-abbrev pub IsTyped : Schema → Option ℕ → QueryTree → Type 0
-IsTyped schema graph tree = (scope : Scope Bytes) × (typing_query (sorts_of schema (graph_in schema graph)) (view_query tree) ≡ Ok scope)
-
-rules_typed : (schema : Schema) (graph : Option ℕ) (tree : QueryTree) → rules_refusal schema graph tree ≡ None → IsTyped schema graph tree
-rules_typed schema graph tree none = by (typing_query (sorts_of schema (graph_in schema graph)) (view_query tree)) refl none
-  where
-    by : (r : Judged (Scope Bytes)) → typing_query (sorts_of schema (graph_in schema graph)) (view_query tree) ≡ r → refusal_in r ≡ None → IsTyped schema graph tree
-    by (Ok scope) is none = (scope, is)
-    by (Err fault) is some = absurd (cc some)
-
-pub graph_typed : (schema : Schema) (in_use : Option ℕ) (tree : QueryTree) → graph_refusal schema in_use tree ≡ None → IsTyped schema (graph_fixed schema in_use tree) tree
-graph_typed schema in_use tree none = by (graph_for schema in_use tree.graph) none
-  where
-    by : (r : Result (Option ℕ) Refusal) → on_graph schema tree r ≡ None → IsTyped schema (graph_found r) tree
-    by (Ok graph) none = rules_typed schema graph tree none
-    by (Err due) some = absurd (cc some)
-
 module _ (s : State) (safe : IsSafe s) where
   -- ---- runs
 
@@ -123,7 +101,7 @@ module _ (s : State) (safe : IsSafe s) where
     parameters = map view_parameter q.tree.parameters
 
     by_values : (w : Values) → ((vs : List Val) → w ≡ AllValues vs → ArgumentsFit (world_of (graph_read s.schema q.graph s.store) gregorian) parameters vs) → Speaks (given (of_values w))
-    by_values (AllValues vs) fit = over_speaks q.graph q.tree (fits.scope, fits.typed) vs (fit vs refl)
+    by_values (AllValues vs) fit = over_speaks q.graph q.tree fits.typed vs (fit vs refl)
     by_values (BadArgument x) fit = refusal_speaks (refusal.BadArgument x)
 
     by_count : (b : Bool) (values : Result (List Val) Refusal) → Speaks (given values) → Speaks (given (cond b (Err refusal.WrongArguments) values))
@@ -169,13 +147,6 @@ module _ (s : State) (safe : IsSafe s) where
   none_fit : (g : Option ℕ) (ps : List ParameterTree) → ps ≡ [] → ArgumentsFit (world_of (graph_read s.schema g s.store) gregorian) (map view_parameter ps) []
   none_fit g ps none = subst (λ l. ArgumentsFit (world_of (graph_read s.schema g s.store) gregorian) (map view_parameter l) []) (sym none) tt
 
-  interpret_typed : (tree : QueryTree) → interpret_refusal s.schema s.in_use tree ≡ None → graph_refusal s.schema s.in_use tree ≡ None
-  interpret_typed tree none = by (good_modes tree.modes) none
-    where
-      by : (b : Bool) → cond b (graph_refusal s.schema s.in_use tree) (Some refusal.BadOption) ≡ None → graph_refusal s.schema s.in_use tree ≡ None
-      by true is = is
-      by false some = absurd (cc some)
-
   pub interpreted_has_words : (tree : QueryTree) → tree.parameters ≡ [] → HasWords (query_interpreted s tree)
   interpreted_has_words tree bare = by (interpret_refusal s.schema s.in_use tree) refl
     where
@@ -186,4 +157,4 @@ module _ (s : State) (safe : IsSafe s) where
           let graph = graph_fixed s.schema s.in_use tree in
           subst (λ e. HasWords (effect_in s e)) (sym (interpreted_runs s.schema s.in_use s.queries s.store gregorian s.turns tree is))
           (has_words s here (answer_over (graph_read s.schema graph s.store) gregorian s.turns (view_query tree) [])
-          (over_speaks graph tree (graph_typed s.schema s.in_use tree (interpret_typed tree is)) [] (none_fit graph tree.parameters bare)))
+          (over_speaks graph tree (interpreted_typed s.schema s.in_use tree is) [] (none_fit graph tree.parameters bare)))

@@ -2,5 +2,5 @@ pub mod Runs
 pub mod Arguments
 pub mod Statements
 pub mod StatementLaws
-pub mod Keeping
 pub mod Safe
+pub mod Keeping

@@ -1,7 +1,6 @@
 -- Safe: the states in which no query is stuck. A session begins in one, and each statement leaves one.
-use Rattle.std.specs.Prelude.{◌≡◌, ℕ, ◌<◌, List, [], length, All, Option, Ok}
+use Rattle.std.specs.Prelude.{◌≡◌, ℕ, ◌<◌, List, [], length, All, Option}
 use Rattle.std.specs.Option.{ForSome}
-use Rattle.gq_graph.specs.Catalog.{Schema}
 use Rattle.gq_tree.specs.declared.query.QueryTree.{QueryTree}
 use Rattle.gq_tree.specs.declared.query.RunTree.{RunTree}
 use Rattle.gq_tree.specs.declared.statement.Statement.{Statement}
@@ -10,22 +9,10 @@ use Rattle.gq_diagnostics.specs.Effects.{Becomes}
 use Rattle.gq_io.specs.Known.{Known}
 use Rattle.gq_ddl.specs.Fitting.{JobsFit}
 use Rattle.gq_insert.specs.Fits.{IsSound}
-use Rattle.gq_rules_typing.specs.Statements.{Bytes}
-use Rattle.gq_rules_typing.specs.StatementViews.{view_query}
-use Rattle.gq_rules_typing.specs.Sorts.{sorts_of}
-use Rattle.gq_rules_typing.specs.Scopes.{Scope}
-use Rattle.gq_rules_typing.specs.QueryTypes.{typing_query}
 use Rattle.gq_rules_store.specs.Stores.{IsWhole}
 use Rattle.gq_rules_store.specs.Upserts.{StoreRowsFit}
-use Rattle.gq_scope.specs.Held.{graph_in}
-use Rattle.gq_query_run.specs.Kept.{Kept}
+use Rattle.gq_query_run.specs.Queries.{QueryFits}
 use Rattle.gq_session.specs.Statements.{State, HasWords, opening, query_ran, query_interpreted, Does}
-
--- a kept query is typed for its graph, which exists if it has one
-pub record QueryFits (schema : Schema) (q : Kept) : Type 0 where
-  pub there : ForSome q.graph (λ graph. graph < length schema.graphs)
-  pub scope : Scope Bytes
-  pub typed : typing_query (sorts_of schema (graph_in schema q.graph)) (view_query q.tree) ≡ Ok scope
 
 -- the graph in use exists, the catalog is as declarations leave it, jobs and queries fit it, and all rows are of its types
 pub record IsSafe (s : State) : Type 0 where

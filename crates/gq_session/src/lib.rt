@@ -5,8 +5,9 @@
 //! the next one begins.
 //!
 //! Read `specs/Statements.antt` first, what each statement does to a session, then `specs/Runs.antt`, what a
-//! script prints, and `specs/Keeping.antt`, the invariant of a session. `src/session.rt` has the session and
-//! `src/run.rt` the loop over statements. Queries run through the trait `RunsQueries` of `gq_query_run`.
+//! script prints, `specs/Safe.antt`, why no query is stuck, and `specs/Keeping.antt`, the invariant of a session.
+//! `src/session.rt` has the session and `src/run.rt` the loop over statements. Queries run through the trait
+//! `RunsQueries` of `gq_query_run`.
 #![tactic(auto)]
 
 mod file;

@@ -9,6 +9,7 @@ ghost use Rattle.gq_diagnostics.specs.Outcome.{Outcome, KeepsTo, OnlyRuns, IsFin
 ghost use Rattle.gq_io.specs.Known.{Told, known_of};
 ghost use Rattle.gq_diagnostics.specs.Effects.{Becomes, lines_of};
 ghost use Rattle.gq_session.specs.Runs.{Runs};
+ghost use Rattle.gq_session.specs.Safe.{IsWritten};
 ghost use Rattle.gq_session.specs.Statements.{Does};
 
 use crate::session::Session;
@@ -31,7 +32,8 @@ pub fn run_statements<'s, R: Threads + Sync, M: RunsQueries, F: Files, K: Sink>(
     files: &mut F,
     out: &mut K,
 ) -> Status
-    requires { All (λ p. p.from ≤ length bytes.now) statements.now }
+    requires within { All (λ p. p.from ≤ length bytes.now) statements.now }
+    requires written { All (λ p. IsWritten p.statement) statements.now }
 
     // If the listing of the files is given: the lines and the status are the script's, or a counted fault or
     // `OutOfMemory` ended it sooner.
@@ -64,7 +66,8 @@ fn run_one<'s, R: Threads + Sync, M: RunsQueries, F: Files, K: Sink>(
     files: &mut F,
     out: &mut K,
 ) -> Option<Status>
-    requires { placed.now.from ≤ length bytes.now }
+    requires within { placed.now.from ≤ length bytes.now }
+    requires written { IsWritten placed.now.statement }
     ensures keeps { IfSome result (λ status. (pairs : Listing) → F.held files.old ≡ Some pairs → (others : List Placed) (outcome : Outcome)
         → Runs bytes.now (Told pairs) session.old (placed.now ∷ others) outcome
         → KeepsTo outcome status (K.written out.old) (K.written out.new) (Rose (F.faults files.old) (F.faults files.new)) (Rose (K.faults out.old) (K.faults out.new))) }

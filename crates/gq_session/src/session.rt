@@ -1,5 +1,5 @@
 // The session, and the effect of each statement on it.
-ghost use Rattle.std.specs.Prelude.{◌≡◌, ◌≤◌, ℕ, IfOk, IfErr, IfSome, IsSome, IsErrOf, Err, Result};
+ghost use Rattle.std.specs.Prelude.{◌≡◌, ◌≤◌, ℕ, [], IfOk, IfErr, IfSome, IsSome, IsErrOf, Err, Result};
 ghost use Rattle.gq_io.specs.Counts.{Rose};
 ghost use Rattle.gq_diagnostics.specs.declared.refusal.Refusal.{Refusal};
 ghost use Rattle.gq_diagnostics.specs.Answers.{Answers};
@@ -7,6 +7,7 @@ ghost use Rattle.gq_diagnostics.specs.Messages.{message_of};
 ghost use Rattle.gq_diagnostics.specs.Effects.{Becomes, Refused, lines_of};
 ghost use Rattle.gq_io.specs.Known.{known_of};
 ghost use Rattle.gq_load.specs.Keeping.{no_rows as rows_of_none};
+ghost use Rattle.gq_session.specs.Safe.{IsWritten};
 ghost use Rattle.gq_session.specs.Statements.{Does, JobLeft, Leaves, Prints, RunsJob, State, edge_made, effect_of, graph_made, graph_used, install_made, job_made, opening, query_interpreted, query_made, query_ran, row_made, vertex_made};
 
 use crate::file::ArgsFile;
@@ -67,7 +68,7 @@ impl<'s, M: RunsQueries> Model for Session<'s, M> {
     ghost view = { λ s. record { schema = s.catalog; in_use = s.in_use; jobs = s.jobs; queries = s.queries; store = s.store; file = s.file; turns = s.runner.now.turns } };
 
     ghost invariant = { λ s. record {
-      fits : SessionFits s.catalog s.in_use s.jobs s.store s.index;
+      fits : SessionFits (record { schema = s.catalog; in_use = s.in_use; jobs = s.jobs; queries = s.queries; store = s.store; file = s.file; turns = s.runner.now.turns }) s.index;
       ready : AreReady M.is_of s.catalog s.queries s.ready.plans;
     } };
 }
@@ -101,6 +102,7 @@ impl<'s, M: RunsQueries> Session<'s, M> {
         files: &mut F,
         statement: &'s Statement,
     ) -> Result<Option<Vec<u8>>, StatementFault>
+        requires { IsWritten statement.now }
         // A statement that succeeds got bytes for each file that it asked for, so that no count is needed.
         ensures done { (before now met : ℕ) → IfOk result (λ line.
             Does (known_of (F.held files.old) before now met) self.old statement.now (Becomes self.new (lines_of line))) }
@@ -238,6 +240,7 @@ impl<'s, M: RunsQueries> Session<'s, M> {
         rt: &R,
         tree: &QueryTree,
     ) -> Result<Option<Vec<u8>>, StatementFault>
+        requires { tree.now.parameters ≡ [] }
         ensures prints { Prints self.old (query_interpreted self.old tree.now) result }
         ensures same { self.new ≡ self.old }
     {

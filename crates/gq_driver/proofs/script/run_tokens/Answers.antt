@@ -1,4 +1,4 @@
-use Rattle.std.proofs.Common.{refl, sym, ◌∙◌, inl, inr, rules, subst}
+use Rattle.std.proofs.Common.{refl, sym, ◌∙◌, inl, inr, subst}
 use Rattle.gq_grammar.specs.Cutting.{IsScript}
 use Rattle.gq_stmt_read.specs.declared.fault.ScriptFault.TheVariants.{Syntax, TooDeep}
 use Rattle.gq_diagnostics.specs.Outcome.{refused_with}
@@ -7,14 +7,18 @@ use Rattle.gq_driver.specs.Messages.{fault_message}
 use Rattle.gq_io.specs.Known.{Told}
 use Rattle.gq_driver.proofs.PlaceLemmas.{deep_within, fails_within, script_within}
 use Rattle.gq_driver.proofs.ScriptLemmas.{keeps_fault, keeps_statements}
+use Rattle.gq_driver.proofs.WrittenLemmas.{each_written}
 use Rattle.gq_driver.proofs.script.run_tokens.Goals as goal
 
-pub run_read-requires : goal.run_read-requires
-run_read-requires g c = (
-  search rules,
-  script_within c.args.bytes.now c.args.tokens.now c.requires.tokens c.deref.result.now
-      (subst (IsScript c.args.bytes.now c.args.tokens.now) (sym c.deref.ensures.value) c.in-Ok.ensures.script.1),
-)
+pub run_read-requires-clause-within : goal.run_read-requires-clause-within
+run_read-requires-clause-within g c κs within =
+    script_within c.args.bytes.now c.args.tokens.now c.requires.tokens c.deref.result.now
+    (subst (IsScript c.args.bytes.now c.args.tokens.now) (sym c.deref.ensures.value) c.in-Ok.ensures.script.1)
+
+pub run_read-requires-clause-written : goal.run_read-requires-clause-written
+run_read-requires-clause-written g c κs within =
+    each_written c.args.bytes.now c.args.tokens.now c.deref.result.now
+    (subst (IsScript c.args.bytes.now c.args.tokens.now) (sym c.deref.ensures.value) c.in-Ok.ensures.script.1)
 
 pub refuse_syntax-requires : goal.refuse_syntax-requires
 refuse_syntax-requires g c =

@@ -6,8 +6,13 @@ use Rattle.gq_rules_typing.specs.Statements.{Bytes}
 use Rattle.gq_arguments.specs.Rows as rows
 use Rattle.gq_query_run.specs.Runs.{answer_found}
 use Rattle.gq_query_run.proofs.AnswerLemmas.{told}
-use Rattle.gq_query_run.proofs.RunLemmas.{installed_tells, not_installed}
+use Rattle.gq_query_run.proofs.RunLemmas.{installed_on, installed_tells, not_installed}
 use Rattle.gq_query_run.proofs.run.run_found.Goals as goal
+
+pub run_at-requires-clause-runs : goal.run_at-requires-clause-runs
+run_at-requires-clause-runs g c κs within =
+    installed_on c.args.catalog.now c.args.store.now gregorian c.args.runner.now.turns c.args.query.now c.args.tree.now (held c.args.file.now)
+    c.arguments_of-arguments.result (sym c.is_installed.ensures ∙ c.if-is_installed.true) c.arguments_of-arguments.ensures c.requires.runs
 
 pub returns-then-is_installed-clause-tells : goal.returns-then-is_installed-clause-tells
 returns-then-is_installed-clause-tells g c =

@@ -14,11 +14,21 @@ use Rattle.gq_query_run.specs.Sessions.{session_of}
 use Rattle.gq_query_run.proofs.AnswerLemmas.{says, says_due}
 use Rattle.gq_query_run.proofs.PlaceLemmas.{found_at, found_nowhere, low_there}
 use Rattle.gq_query_run.proofs.ReadyLemmas.{all_ready}
-use Rattle.gq_query_run.proofs.RunLemmas.{ran_found, ran_unknown}
+use Rattle.gq_query_run.proofs.RunLemmas.{fits_at, found_on, ran_found, ran_unknown}
 use Rattle.gq_query_run.proofs.run.run_query.Goals as goal
 
 pub at-query-requires : goal.at-query-requires
 at-query-requires g c = low_there (is_named c.as_str-name.result.now) c.args.queries.now c.in-Some.place (sym c.place_of.ensures ∙ c.in-Some.is)
+
+pub run_found-requires-clause-fits : goal.run_found-requires-clause-fits
+run_found-requires-clause-fits g c κs within = fits_at c.args.catalog.now c.args.queries.now c.in-Some.place c.at-query.result.now c.requires.fits c.at-query.ensures
+
+pub run_found-requires-clause-runs : goal.run_found-requires-clause-runs
+run_found-requires-clause-runs g c κs within =
+    found_on c.args.catalog.now c.requires.runs.0 c.args.queries.now c.args.store.now gregorian c.args.runner.now.turns c.args.tree.now (held c.args.file.now) c.at-query.result.now
+    (ap (λ n. find (is_named n) c.args.queries.now) (sym c.as_str-name.ensures)
+    ∙ sym (found_at (is_named c.as_str-name.result.now) c.args.queries.now c.in-Some.place (sym c.place_of.ensures ∙ c.in-Some.is)) ∙ c.at-query.ensures)
+    c.requires.runs.1
 
 pub returns-in-Some-clause-says : goal.returns-in-Some-clause-says
 returns-in-Some-clause-says g c in_use =

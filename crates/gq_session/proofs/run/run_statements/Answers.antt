@@ -4,7 +4,9 @@ use Rattle.gq_io.specs.Counts.{Rose}
 use Rattle.gq_diagnostics.specs.Outcome.{Outcome, Ends}
 use Rattle.gq_diagnostics.specs.Effects.{Becomes}
 use Rattle.gq_io.specs.Known.{known_of}
+use Rattle.gq_tree.specs.declared.statement.Placed.{Placed}
 use Rattle.gq_session.specs.Runs.{Runs}
+use Rattle.gq_session.specs.Safe.{IsWritten}
 use Rattle.gq_session.specs.Statements.{Does}
 use Rattle.gq_session.proofs.RunLemmas.{come_first, come_next, keeps_here, meant_here, meant_last}
 use Rattle.gq_session.proofs.run.run_statements.Goals as goal
@@ -17,6 +19,11 @@ loop-placed-init g c = (
   omega arith,
   omega arith,
 )
+
+pub run_one-requires-clause-written : goal.run_one-requires-clause-written
+run_one-requires-clause-written g c κs within =
+    let p = c.placed-item.result in
+    subst (λ (q : Placed). IsWritten q.statement) (sym c.placed-item.is) (c.requires.written c.loop-placed.placed-index p c.loop-placed-test.true)
 
 pub returns-in-Some-clause-keeps : goal.returns-in-Some-clause-keeps
 returns-in-Some-clause-keeps g c = λ pairs is outcome runs.

@@ -1,4 +1,5 @@
 use Rattle.gq_ddl.specs.Declarations.{edge_created}
+use Rattle.gq_session.specs.Statements.{State}
 use Rattle.gq_session.proofs.GrowthLemmas.{edge_grown}
 use Rattle.gq_session.proofs.SessionLemmas.{answers_grow, session_grows}
 use Rattle.gq_query_run.proofs.ReadyLemmas.{none_ready}
@@ -6,10 +7,11 @@ use Rattle.gq_session.proofs.session.Session.make_edge.Goals as goal
 
 pub invariant_of-self : goal.invariant_of-self
 invariant_of-self g c =
-    let i = c.self.inside in record {
-      fits = session_grows i.catalog c.create_edge.new.catalog i.in_use i.jobs i.store i.index
-          (answers_grow (edge_created i.catalog c.args.tree.now) i.catalog c.create_edge.new.catalog c.create_edge.result
-          (λ new made. edge_grown i.catalog new c.args.tree.now made) c.create_edge.ensures)
-          c.self.invariant.fits;
-      ready = none_ready g.M.RunsQueries.is_of c.create_edge.new.catalog i.queries c.clear.new.self.plans c.clear.ensures;
+    let i = c.self.inside in
+    let v : State = record { schema = i.catalog; in_use = i.in_use; jobs = i.jobs; queries = i.queries; store = i.store; file = i.file; turns = i.runner.now.turns } in
+    let new = c.create_edge.new.catalog in record {
+      fits = session_grows v i.index c.self.invariant.fits new
+          (answers_grow (edge_created i.catalog c.args.tree.now) i.catalog new c.create_edge.result
+          (λ schema made. edge_grown i.catalog schema c.args.tree.now made) c.create_edge.ensures);
+      ready = none_ready g.M.RunsQueries.is_of new i.queries c.clear.new.self.plans c.clear.ensures;
     }

@@ -1,9 +1,10 @@
-use Rattle.std.proofs.Common.{IfOk, sym, subst}
+use Rattle.std.proofs.Common.{IfOk, rules, sym, subst}
 use Rattle.std.specs.Prelude.{IfErr}
 use Rattle.gq_diagnostics.specs.Messages.{message_of}
 use Rattle.gq_diagnostics.specs.Effects.{Becomes, Refused, lines_of}
 use Rattle.gq_io.specs.Known.{known_of}
 use Rattle.gq_tree.specs.declared.statement.Statement.{Statement}
+use Rattle.gq_session.specs.Safe.{IsWritten}
 use Rattle.gq_session.specs.Statements.{Does, Leaves, query_interpreted, query_ran}
 use Rattle.gq_session.proofs.SessionLemmas.{left_same, silent_left}
 use Rattle.gq_session.proofs.QueryLemmas.{prints_done, prints_no_read_fault, prints_refused}
@@ -50,6 +51,9 @@ returns-in-RunJob-clause-done g c = λ before now met.
     let known = known_of (g.F.Files.held c.args.files.now) before now met in
     let P : Statement → Type 0 = λ statement. IfOk c.run_job.result (λ line. Does known c.args.self.now statement (Becomes c.run_job.new.self (lines_of line))) in
     subst P (sym c.in-RunJob.is) (c.run_job.ensures.done before now met)
+
+pub interpret-requires : goal.interpret-requires
+interpret-requires g c = (search rules, subst IsWritten c.in-Interpret.is c.requires)
 
 pub returns-in-Interpret-clause-done : goal.returns-in-Interpret-clause-done
 returns-in-Interpret-clause-done g c = λ before now met.

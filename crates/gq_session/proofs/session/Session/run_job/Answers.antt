@@ -1,7 +1,9 @@
+use Rattle.std.proofs.Common.{◌≤◌, arith}
 use Rattle.gq_diagnostics.specs.Messages.{message_of}
 use Rattle.gq_diagnostics.specs.declared.refusal.StatementFault.TheVariants as fault
 use Rattle.gq_io.specs.Known.{known_of}
 use Rattle.gq_session.specs.Statements.{State}
+use Rattle.gq_session.proofs.LeftLemmas.{rows_left}
 use Rattle.gq_session.proofs.SessionLemmas.{session_gains, is_line, job_printed, job_refused, job_left, refused_back}
 use Rattle.gq_session.proofs.session.Session.run_job.Goals as goal
 
@@ -33,7 +35,16 @@ returns-clause-left g c = λ before low.
 
 pub invariant_of-self : goal.invariant_of-self
 invariant_of-self g c =
-    let i = c.self.inside in record {
-      fits = session_gains i.catalog i.in_use i.jobs i.store c.run_job.new.store i.index c.run_job.ensures.fits c.run_job.ensures.grown c.self.invariant.fits;
+    let i = c.self.inside in
+    let fits = c.self.invariant.fits in
+    let v : State = record { schema = i.catalog; in_use = i.in_use; jobs = i.jobs; queries = i.queries; store = i.store; file = i.file; turns = i.runner.now.turns } in
+    let now = g.F.Files.absences c.args.files.now in
+    let low : now ≤ now = omega arith in
+    let known = known_of (g.F.Files.held c.args.files.now) now (g.F.Files.absences c.run_job.new.files) (g.F.Files.length_met c.run_job.new.files) in
+    let new = c.run_job.new.store in record {
+      fits = session_gains v i.index fits new c.run_job.ensures.fits
+          (rows_left i.catalog fits.safe.sound known i.jobs fits.safe.jobs i.store new c.args.tree.now fits.safe.rows c.run_job.result
+          (c.run_job.ensures.done now (g.F.Files.absences c.run_job.new.files) (g.F.Files.length_met c.run_job.new.files)) (c.run_job.ensures.left now low))
+          c.run_job.ensures.grown;
       ready = c.self.invariant.ready;
     }
