@@ -1,5 +1,5 @@
 // Lists, sets and bags of whole numbers.
-use gq_base::OutOfMemory;
+use gq_base::{List, OutOfMemory};
 use gq_nest::Content;
 use gq_value::{BaseType, Input, Kind, Value};
 use std::alloc::Global;
@@ -15,9 +15,10 @@ fn after(alloc: Global, kind: &Kind, inputs: &[i64]) -> Result<Content, OutOfMem
 }
 
 #[test]
+#[tactic(auto, using(gq_nest::proofs::LevelLemmas::opened))]
 fn a_list_keeps_its_values_as_they_come(rt: HostRuntime) -> Result<(), Fail> {
     let alloc = rt.alloc();
-    let mut list = Content::fresh(alloc, &Kind::List(BaseType::Int))?;
+    let mut list = Content::List(List::new(alloc));
     list.push(Value::Int(2))?;
     list.push(Value::Int(1))?;
     let copy = list.duplicate(alloc)?;

@@ -31,7 +31,6 @@ nothing_left f xs i done n h l = h ∙ ap (λ ys. and_more done (f ys)) (drop_al
 pub stops : {A B : Type 0} (o : Answer Wrong A) (f : A → Answer Wrong B) (h : Halt) → Halts o h → Halts (o >>= f) h
 stops o f (halt.Wrong w) e = ap (λ p. p >>= f) e
 stops o f halt.Stuck e = ap (λ p. p >>= f) e
-stops o f halt.Outside e = tt
 stops o f halt.OutOfMemory e = tt
 
 module _ {F A B : Type 0} (f : A → Answer F B) where

@@ -49,7 +49,6 @@ module _ {N : Type 0} (world : World N) (look : Look N) (t : Tree N) where
   ends p (Gives x) halt.Stuck vs e = absurd (cc)
   ends p (Faults u) halt.Stuck vs e = absurd (cc)
   ends p Stuck halt.Stuck vs e = refl
-  ends p o halt.Outside vs e = tt
   ends p o halt.OutOfMemory vs e = tt
 
   pub limit_stops : (h : Halt) (vs : List ℕ) → Halts (most_of (number_of look t)) h → EndsAs (cut world look (Some t) vs) (fault_at (vertex_count world.graph) h)

@@ -25,4 +25,4 @@ pub use hash::{mixed, text_hash, wide_hash};
 pub use key::Key;
 pub use key_index::KeyIndex;
 pub use list::List;
-pub use memory::OutOfMemory;
+pub use memory::{OutOfMemory, narrow, within};

@@ -1,18 +1,18 @@
 // The machine that runs queries.
-ghost use Rattle.std.specs.Prelude.{◌<◌, IfOk, length, map};
+ghost use Rattle.std.specs.Prelude.{◌<◌, ◌≤◌, IfOk, length, map};
 ghost use Rattle.std.specs.Option.{ForSome};
+ghost use Rattle.gq_graph.specs.Catalog.{most_types};
 ghost use Rattle.gq_value.specs.Views.{val};
 ghost use Rattle.gq_rules_typing.specs.StatementViews.{view_query};
 ghost use Rattle.gq_rules_meaning.specs.Answers.{Answer};
 ghost use Rattle.gq_rules_meaning.specs.Statements.{Fault};
 ghost use Rattle.gq_rules_calendar.specs.Gregorian.{gregorian};
 ghost use Rattle.gq_flow.specs.Plans.{Objects, Prints};
-ghost use Rattle.gq_scope.specs.Held.{graph_in};
-ghost use Rattle.gq_plan.specs.Prints.{PrintsAs};
+ghost use Rattle.gq_plan_ir.specs.Numbered.{AreNumbered};
 ghost use Rattle.gq_query_run.specs.Indexed.{IsIndexed};
 ghost use Rattle.gq_query_run.specs.Judging.{IsTyped};
 ghost use Rattle.gq_query_run.specs.Runs.{Runs};
-ghost use Rattle.gq_engine.specs.Engines.{plan_over};
+ghost use Rattle.gq_engine.specs.Engines.{IsPlanOf, plan_over};
 
 use gq_base::{List, OutOfMemory};
 use gq_exec_control::RunFault;
@@ -39,7 +39,7 @@ pub struct Engine<'g> {
 impl<'g> RunsQueries for Engine<'g> {
     type Prepared = Plan;
 
-    ghost is_of = { λ plan schema graph query. PrintsAs schema (graph_in schema graph) query plan };
+    ghost is_of = { λ plan schema graph query. IsPlanOf schema graph query plan };
 
     fn prepare(
         &self,
@@ -84,7 +84,7 @@ fn planned(
 ) -> Result<Plan, OutOfMemory>
     requires there { ForSome graph (λ g. g < length catalog.now.graphs) }
     requires typed { IsTyped catalog.now graph query.now }
-    ensures { IfOk result (PrintsAs catalog.now (graph_in catalog.now graph) (view_query query.now)) }
+    ensures { IfOk result (IsPlanOf catalog.now graph (view_query query.now)) }
 {
     match plan(alloc, catalog, graph, query) {
         Ok(plan) => Ok(plan),
@@ -96,7 +96,7 @@ fn planned(
 }
 
 /// Runs a plan over a store with its index, with so many turns of loops in all. It answers what the plan prints, or why the
-/// run ended.
+/// run ended. The plan's tuple types and slots are numbered in order, as those of each plan of a query are.
 pub fn run_plan<'x, R: Threads + Sync>(
     workers: &'x Workers<'x, R>,
     alloc: Global,
@@ -107,7 +107,9 @@ pub fn run_plan<'x, R: Threads + Sync>(
     arguments: &Row,
     turns: u64,
 ) -> Result<List<Printed>, QueryFault>
-    requires { IsIndexed catalog.now store.now index.now }
+    requires indexed { IsIndexed catalog.now store.now index.now }
+    requires few { length plan.now.edges ≤ most_types }
+    requires numbered { AreNumbered plan.now.definitions }
     ensures { Runs (plan_over catalog.now store.now gregorian plan.now (map val arguments.now) turns) result }
 {
     let graph = Graph {

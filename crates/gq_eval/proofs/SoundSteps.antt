@@ -14,7 +14,7 @@ use Rattle.gq_plan_ir.specs.Reference.{Reference}
 use Rattle.gq_rules_meaning.specs.Answers.{Answer, Gives, Faults, Stuck, ◌>>=◌, found, of_result}
 use Rattle.gq_rules_meaning.specs.Calendars.{IsCalendar}
 use Rattle.gq_rules_meaning.specs.Calls.{function_of}
-use Rattle.gq_rules_meaning.specs.Meanings.{Meant, Is, Outcome, numbered, as_number, as_bytes, at_time, converted_to}
+use Rattle.gq_rules_meaning.specs.Meanings.{Meant, Is, Outcome, numbered, as_int, as_number, as_time, as_bytes, at_time, converted_to}
 use Rattle.gq_rules_meaning.specs.Expressions.{Look, value_of, wanted, calculated, product, summed, minus}
 use Rattle.gq_eval_operand.specs.declared.seen.Seen.{Seen}
 use Rattle.gq_eval_operand.specs.declared.seen.Seen.TheVariants as seen
@@ -107,7 +107,7 @@ at_time_only None = tt
 at_time_only (Some x) = tt
 
 pub later_sound : (look : Look Reference) (v w u : Val) (r : Result Seen Halt) → IsCalendar look.world.calendar → ByClock (λ clock. function_of clock DatetimeAdd (v ∷ w ∷ u ∷ [])) r → IfOk r Sound
-later_sound look v w u r is p = sound_of (function_of look.world.calendar DatetimeAdd (v ∷ w ∷ u ∷ [])) r (then_values (as_number v) _ (λ x. then_values (as_number w) _ (λ n.
+later_sound look v w u r is p = sound_of (function_of look.world.calendar DatetimeAdd (v ∷ w ∷ u ∷ [])) r (then_values (as_time v) _ (λ x. then_values (as_int w) _ (λ n.
     then_values (as_bytes u) _ (λ s. then_values (found (unit_named s)) _ (λ unit. at_time_only (look.world.calendar.add unit n x)))))) (p.each look.world.calendar is)
 
 pub ruleset sound_laws = (product_sound, summed_sound, minus_sound)

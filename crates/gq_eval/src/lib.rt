@@ -2,7 +2,7 @@
 //!
 //! `run` mirrors the definition in `Expressions.antt` of `gq_rules_meaning`, with a function for each list of
 //! operands. It borrows values where it can; `eval` and `eval_whole` return owned ones. It accepts any
-//! expression: one that isn't well typed ends with `Stuck`, or with what `gq_eval_builtins` calls outside.
+//! expression: one that isn't well typed may end with `Stuck`.
 //!
 //! Read `Meant.antt` of `gq_eval_operand` first, then `specs/Typed.antt` (the results of well-typed expressions).
 //! The code begins in `src/expressions.rt`. `src/values.rt` and `src/collections.rt` have the owned results,

@@ -127,21 +127,21 @@ no_part_named s cs name e = named_part s cs name None e
 pub no_part_there : (s : GroupShape) (cs : HoldsEach (parts_are s)) (name : Bytes) (i : ℕ) → Some i ≡ place_of (map (λ (p : Bytes × Kind). p.0) s.parts) name → slice_get s.parts i ≡ None → part_named (parts_are s) cs name ≡ Stuck
 no_part_there s cs name i e past = named_part s cs name (Some i) e ∙ part_past (parts_are s) i cs (parts_kinds s.parts i ∙ ap (option_map (λ (p : Bytes × Kind). accum_of p.1)) past)
 
-pub held_sound : (s : GroupShape) (c held : Content) (row : List Val) (i j : ℕ) (p : Bytes × Kind) → IsSound (GroupByAccum (keys_are s) (parts_are s)) c → slice_get s.parts i ≡ Some p → HasPart c row j held → j ≡ i → IsSound (accum_of p.1) held
-held_sound s c part row i j p sound e h same =
-    let w = (subst (λ j. HasPart c row j part) same h).each (keys_are s) (parts_are s) (held s c row) sound.shows in
+pub held_sound : (s : GroupShape) (c held : Content) (row : List Val) (i : ℕ) (p : Bytes × Kind) → IsSound (GroupByAccum (keys_are s) (parts_are s)) c → slice_get s.parts i ≡ Some p → HasPart c row i held → IsSound (accum_of p.1) held
+held_sound s c part row i p sound e h =
+    let w = h.each (keys_are s) (parts_are s) (held s c row) sound.shows in
     part_sound (parts_are s) i ((held s c row).1 row) part (accum_of p.1) (kind_at s i p e) w.1 (sound.forms row) (at_rows (λ q. fit (parts_are s) ((held s c row).1 q)) row (held s c row).0 sound.fit w.0)
 
-pub held_read : (s : GroupShape) (c held : Content) (row : List Val) (name : Bytes) (i j : ℕ) (p : Bytes × Kind) (r : Result Seen Halt) → IsSound (GroupByAccum (keys_are s) (parts_are s)) c → Some i ≡ place_of (map (λ (p : Bytes × Kind). p.0) s.parts) name → slice_get s.parts i ≡ Some p
-    → HasPart c row j held → j ≡ i → Tells meant (Gives (read_of (accum_of p.1) held)) r → Tells meant (part_named (parts_are s) (parts_at s c row) name) r
-held_read s c part row name i j p r sound at e h same t =
-    let w = (subst (λ j. HasPart c row j part) same h).each (keys_are s) (parts_are s) (held s c row) sound.shows in
+pub held_read : (s : GroupShape) (c held : Content) (row : List Val) (name : Bytes) (i : ℕ) (p : Bytes × Kind) (r : Result Seen Halt) → IsSound (GroupByAccum (keys_are s) (parts_are s)) c → Some i ≡ place_of (map (λ (p : Bytes × Kind). p.0) s.parts) name → slice_get s.parts i ≡ Some p
+    → HasPart c row i held → Tells meant (Gives (read_of (accum_of p.1) held)) r → Tells meant (part_named (parts_are s) (parts_at s c row) name) r
+held_read s c part row name i p r sound at e h t =
+    let w = h.each (keys_are s) (parts_are s) (held s c row) sound.shows in
     subst (λ o. Tells meant o r) (sym (named_part s (parts_at s c row) name (Some i) at ∙ ap (λ cs. part_at (parts_are s) cs i) (at_held s c row w.0) ∙ part_read (parts_are s) i ((held s c row).1 row) part (accum_of p.1) (kind_at s i p e) w.1)) t
 
-pub none_opens : (s : GroupShape) (c : Content) (row : List Val) (name : Bytes) (i j : ℕ) (p : Bytes × Kind) (b : Seen) → IsSound (GroupByAccum (keys_are s) (parts_are s)) c → Some i ≡ place_of (map (λ (p : Bytes × Kind). p.0) s.parts) name → slice_get s.parts i ≡ Some p
-    → LacksPart c row j → j ≡ i → meant b ≡ opening_of (accum_of p.1) → part_named (parts_are s) (parts_at s c row) name ≡ Gives (meant b)
-none_opens s c row name i j p b sound at e h same m =
-    let w = (subst (λ j. LacksPart c row j) same h).each (keys_are s) (parts_are s) (held s c row) sound.shows (part_there (parts_are s) i (accum_of p.1) (kind_at s i p e)) in
+pub none_opens : (s : GroupShape) (c : Content) (row : List Val) (name : Bytes) (i : ℕ) (p : Bytes × Kind) (b : Seen) → IsSound (GroupByAccum (keys_are s) (parts_are s)) c → Some i ≡ place_of (map (λ (p : Bytes × Kind). p.0) s.parts) name → slice_get s.parts i ≡ Some p
+    → LacksPart c row i → meant b ≡ opening_of (accum_of p.1) → part_named (parts_are s) (parts_at s c row) name ≡ Gives (meant b)
+none_opens s c row name i p b sound at e h m =
+    let w = h.each (keys_are s) (parts_are s) (held s c row) sound.shows (part_there (parts_are s) i (accum_of p.1) (kind_at s i p e)) in
     named_part s (parts_at s c row) name (Some i) at ∙ ap (λ cs. part_at (parts_are s) cs i) (at_none s c row w) ∙ part_opening (parts_are s) i (accum_of p.1) (kind_at s i p e) ∙ ap Gives (sym m)
 
 pub fresh_opens : (s : GroupShape) (name : Bytes) (i : ℕ) (p : Bytes × Kind) (b : Seen) → Some i ≡ place_of (map (λ (p : Bytes × Kind). p.0) s.parts) name → slice_get s.parts i ≡ Some p

@@ -15,7 +15,7 @@ use Rattle.gq_graph.specs.declared.types.VertexType.{VertexType}
 use Rattle.gq_graph.specs.declared.rows.VertexRow.{VertexRow}
 use Rattle.gq_value.specs.declared.value.Value.{Value}
 use Rattle.gq_index.specs.declared.store.Graph as code
-use Rattle.gq_index.specs.Rows.{HaveAttributes}
+use Rattle.gq_index.specs.Rows.{HaveAttributes, IsId}
 use Rattle.gq_rules_typing.specs.Sorts.{Fields, VertexSort, bases_of, names_of, attribute_fields, vertex_sort, id_base}
 use Rattle.gq_rules_typing.specs.Words.{OfVertexType}
 use Rattle.gq_rules_meaning.specs.Answers.{Gives, Stuck, ◌>>=◌, found}
@@ -116,7 +116,10 @@ vertex_at_place g c v k i t r there kind e p h = told g (field.Named c) v r (sub
 pub has_values : (schema : Schema) (rows : List VertexRow) (v k : ℕ) (t : VertexType) → HaveAttributes schema rows → v < length rows → k ≡ (vertex_at rows v).kind → slice_get schema.vertex_types k ≡ Some t → length t.attributes ≤ length (vertex_at rows v).attributes
 has_values schema rows v k t h there kind e = h.each v t there (ap (slice_get schema.vertex_types) (sym kind) ∙ e)
 
-pub ruleset field_laws = (vertex_gone, vertex_untyped, vertex_type_said, vertex_no_place, vertex_at_place, has_values)
+pub has_id : (schema : Schema) (rows : List VertexRow) (v k : ℕ) (t : VertexType) → HaveAttributes schema rows → v < length rows → k ≡ (vertex_at rows v).kind → slice_get schema.vertex_types k ≡ Some t → IsId t.id.kind (vertex_at rows v).id
+has_id schema rows v k t h there kind e = h.ids v t there (ap (slice_get schema.vertex_types) (sym kind) ∙ e)
+
+pub ruleset field_laws = (vertex_gone, vertex_untyped, vertex_type_said, vertex_no_place, vertex_at_place, has_values, has_id)
 
 -- ---- a shown id comes first
 

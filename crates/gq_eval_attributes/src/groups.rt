@@ -31,12 +31,9 @@ pub fn row_part<'a>(
         None => Err(Halt::Stuck),
         Some(place) => match shape.parts.get(place) {
             None => Err(Halt::Stuck),
-            Some(part) => match u32::try_from(place) {
-                Err(_) => Err(Halt::Outside),
-                Ok(at) => match content.part(row, at) {
-                    Some(held) => read(&part.1, held),
-                    None => Ok(opening(&part.1)),
-                },
+            Some(part) => match content.part_at(row, place) {
+                Some(held) => read(&part.1, held),
+                None => Ok(opening(&part.1)),
             },
         },
     }

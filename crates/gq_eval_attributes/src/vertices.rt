@@ -1,7 +1,7 @@
 // Fields of vertices.
 ghost use Rattle.std.specs.Prelude.{◌≡◌, ◌<◌, ◌≤◌, IfOk, Some, length};
 ghost use Rattle.gq_graph.specs.Vertices.{vertex_at};
-ghost use Rattle.gq_index.specs.Rows.{HaveAttributes};
+ghost use Rattle.gq_index.specs.Rows.{HaveAttributes, IsId};
 ghost use Rattle.gq_rules_typing.specs.Sorts.{names_of, vertex_sort};
 ghost use Rattle.gq_rules_typing.specs.Words.{OfVertexType};
 ghost use Rattle.gq_rules_meaning.specs.States as states;
@@ -65,6 +65,7 @@ fn value_at<'a>(
 ) -> Result<Seen<'a>, Halt>
     requires there { vertex < length vertices.now }
     requires within { length of.now.attributes ≤ length (vertex_at vertices.now vertex).attributes }
+    requires id { IsId of.now.id.kind (vertex_at vertices.now vertex).id }
     ensures told { Tells meant (vertex_value of.entry.now (vertex_at vertices.entry.now vertex) (Some place)) result }
     ensures sound { IfOk result Sound }
 {
@@ -72,7 +73,7 @@ fn value_at<'a>(
         return attribute(vertices, of, vertex, place);
     }
     if place == 0 {
-        return id_value(&of.id, vertices.id(vertex));
+        return Ok(id_value(&of.id, vertices.id(vertex)));
     }
     attribute(vertices, of, vertex, place - 1)
 }
@@ -92,12 +93,9 @@ fn attribute<'a>(
 {
     match of.attributes.get(place) {
         None => Err(Halt::Stuck),
-        Some(attribute) => match u32::try_from(place) {
-            Ok(at) => Ok(Seen::Value(
-                Sort::of(&attribute.kind),
-                Operand::Lent(vertices.attr(vertex, at)),
-            )),
-            Err(_) => Err(Halt::Outside),
-        },
+        Some(attribute) => Ok(Seen::Value(
+            Sort::of(&attribute.kind),
+            Operand::Lent(vertices.attr(vertex, place)),
+        )),
     }
 }

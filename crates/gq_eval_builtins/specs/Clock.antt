@@ -6,8 +6,8 @@ use Rattle.gq_rules_meaning.specs.Calendars.{Calendar, IsCalendar}
 use Rattle.gq_value.specs.Val.{Val}
 use Rattle.gq_rules_typing.specs.Statements.{Bytes}
 use Rattle.gq_rules_meaning.specs.Answers.{◌>>=◌, found, of_result}
-use Rattle.gq_rules_meaning.specs.Meanings.{Outcome, as_number, at_time, numbered, said}
-use Rattle.gq_rules_meaning.specs.Calls.{if_in_calendar, text_of}
+use Rattle.gq_rules_meaning.specs.Meanings.{Outcome, as_number, at_time, if_in_calendar, numbered, said}
+use Rattle.gq_rules_meaning.specs.Calls.{text_of}
 use Rattle.gq_value.specs.Arithmetic.{absolute}
 use Rattle.gq_eval_operand.specs.declared.seen.Seen.{Seen}
 use Rattle.gq_eval_operand.specs.declared.halt.Halt.{Halt}

@@ -11,7 +11,7 @@ ghost use Rattle.gq_eval_operand.specs.Sound.{IsSound, Sound};
 ghost use Rattle.gq_eval_builtins.specs.Elements.{size_meant, contains_meant, contains_key_meant, get_meant, contained_in, keys_in, has_in};
 
 use crate::elements::has;
-use gq_base::OutOfMemory;
+use gq_base::{OutOfMemory, within};
 use gq_eval_operand::{Halt, Operand, Seen, Sort, truly};
 use gq_nest::Content;
 use gq_value::{BaseType, Kind, Txt, Value};
@@ -22,10 +22,8 @@ use std::alloc::Global;
 pub fn counted<'a>(count: u64) -> Result<Seen<'a>, Halt>
     ensures { Tells meant (counted count) result }
 {
-    match i64::try_from(count) {
-        Ok(count) => Ok(Seen::Value(Sort::Int, Operand::Made(Value::Int(count)))),
-        Err(_) => Err(Halt::Outside),
-    }
+    within(count as usize, i64::MAX as usize)?;
+    Ok(Seen::Value(Sort::Int, Operand::Made(Value::Int(count as i64))))
 }
 
 /// `size`: how many elements or keys there are. Takes no memory.

@@ -1,11 +1,12 @@
 // Times.
-ghost use Rattle.std.specs.Prelude.{◌≡◌, ◌∷◌, []};
+ghost use Rattle.std.specs.Prelude.{◌≡◌, ◌∷◌, [], IfOk, IfSome};
 ghost use Rattle.gq_value.specs.Views.{val};
 ghost use Rattle.gq_value.specs.Typed.{in_calendar};
+ghost use Rattle.gq_time.specs.Moments.{IsDatetime};
 ghost use Rattle.gq_rules_typing.specs.Words as words;
 ghost use Rattle.gq_rules_typing.specs.Builtins.{part_is};
-ghost use Rattle.gq_rules_meaning.specs.Meanings.{as_number, at_time};
-ghost use Rattle.gq_rules_meaning.specs.Calls.{if_in_calendar, function_of};
+ghost use Rattle.gq_rules_meaning.specs.Meanings.{as_int, as_time, at_time, if_in_calendar};
+ghost use Rattle.gq_rules_meaning.specs.Calls.{function_of};
 ghost use Rattle.gq_eval_operand.specs.Meant.{meant, valued, itself, Tells};
 ghost use Rattle.gq_eval_builtins.specs.Clock.{ByClock, part_among, time_of_epoch, later};
 
@@ -14,9 +15,10 @@ use gq_rules_typing::unit_named;
 use gq_time::{DateTimeParts, Unit, add, parts, read_time};
 use gq_value::{Value, Wrong};
 
-/// The whole number as one of 64 bits with a sign.
+/// The seconds of a DATETIME.
 pub(crate) fn seconds(operand: &Operand<'_>) -> Result<i64, Halt>
-    ensures { Tells itself (as_number (valued operand.now)) result }
+    ensures told { Tells itself (as_time (valued operand.now)) result }
+    ensures range { IfOk result IsDatetime }
 {
     match held(operand) {
         Some(value) => seconds_of(value),
@@ -26,15 +28,36 @@ pub(crate) fn seconds(operand: &Operand<'_>) -> Result<i64, Halt>
 
 #[tactic(auto, using(gq_value::specs::ViewLaws::view_laws))]
 fn seconds_of(value: &Value) -> Result<i64, Halt>
-    ensures { Tells itself (as_number (val value.now)) result }
+    ensures told { Tells itself (as_time (val value.now)) result }
+    ensures range { IfOk result IsDatetime }
+{
+    match value {
+        Value::Int(x) => match if_in_calendar(*x) {
+            Some(x) => Ok(x),
+            None => Err(Halt::Stuck),
+        },
+        Value::UInt(_) | Value::Bool(_) | Value::Text(_) | Value::Vertex(_) => Err(Halt::Stuck),
+        Value::Tuple(_) | Value::Fraction(_) => Err(Halt::Stuck),
+    }
+}
+
+/// An INT.
+fn int(operand: &Operand<'_>) -> Result<i64, Halt>
+    ensures { Tells itself (as_int (valued operand.now)) result }
+{
+    match held(operand) {
+        Some(value) => int_of(value),
+        None => Err(Halt::Stuck),
+    }
+}
+
+#[tactic(auto, using(gq_value::specs::ViewLaws::view_laws))]
+fn int_of(value: &Value) -> Result<i64, Halt>
+    ensures { Tells itself (as_int (val value.now)) result }
 {
     match value {
         Value::Int(x) => Ok(*x),
-        Value::UInt(x) => match i64::try_from(*x) {
-            Ok(x) => Ok(x),
-            Err(_) => Err(Halt::Outside),
-        },
-        Value::Bool(_) | Value::Text(_) | Value::Vertex(_) => Err(Halt::Stuck),
+        Value::UInt(_) | Value::Bool(_) | Value::Text(_) | Value::Vertex(_) => Err(Halt::Stuck),
         Value::Tuple(_) | Value::Fraction(_) => Err(Halt::Stuck),
     }
 }
@@ -58,8 +81,10 @@ fn in_calendar(seconds: i64) -> bool
 }
 
 /// The seconds, if they are a DATETIME.
+#[tactic(auto, using(crate::proofs::TimeLemmas::is_datetime))]
 fn if_in_calendar(seconds: i64) -> Option<i64>
-    ensures { result ≡ if_in_calendar seconds }
+    ensures same { result ≡ if_in_calendar seconds }
+    ensures range { IfSome result IsDatetime }
 {
     if in_calendar(seconds) {
         Some(seconds)
@@ -106,7 +131,7 @@ fn time_of<'a>(value: &Value) -> Result<Seen<'a>, Halt>
 }
 
 /// The seconds of a DATETIME.
-#[tactic(auto, using(gq_value::specs::ViewLaws::view_laws))]
+#[tactic(auto, using(crate::proofs::TimeLemmas::epoch_laws))]
 pub(crate) fn datetime_to_epoch<'a>(operand: &Operand<'_>) -> Result<Seen<'a>, Halt>
     ensures { ByClock (λ clock. function_of clock words.DatetimeToEpoch (valued operand.now ∷ [])) result }
 {
@@ -115,16 +140,13 @@ pub(crate) fn datetime_to_epoch<'a>(operand: &Operand<'_>) -> Result<Seen<'a>, H
 }
 
 /// The seconds from the second DATETIME to the first.
-#[tactic(auto, using(gq_value::specs::ViewLaws::view_laws))]
+#[tactic(auto, using(crate::proofs::TimeLemmas::diff_laws))]
 pub fn datetime_diff<'a>(left: &Operand<'_>, right: &Operand<'_>) -> Result<Seen<'a>, Halt>
     ensures { ByClock (λ clock. function_of clock words.DatetimeDiff (valued left.now ∷ valued right.now ∷ [])) result }
 {
     let x = seconds(left)?;
     let y = seconds(right)?;
-    match x.checked_sub(y) {
-        Some(z) => Ok(numbered(Operand::Made(Value::Int(z)))),
-        None => Err(Halt::Outside),
-    }
+    Ok(numbered(Operand::Made(Value::Int(x - y))))
 }
 
 /// The DATETIME that is a number of units later.
@@ -137,7 +159,7 @@ pub fn datetime_add<'a>(
     ensures { ByClock (λ clock. function_of clock words.DatetimeAdd (valued time.now ∷ valued count.now ∷ valued unit.now ∷ [])) result }
 {
     let x = seconds(time)?;
-    let n = seconds(count)?;
+    let n = int(count)?;
     let unit = match text(unit) {
         Some(unit) => unit,
         None => return Err(Halt::Stuck),
@@ -148,32 +170,23 @@ pub fn datetime_add<'a>(
 /// Adds `n` units to these seconds.
 #[tactic(auto, using(crate::proofs::TimeLemmas::add_laws))]
 fn later<'a>(x: i64, n: i64, unit: &str) -> Result<Seen<'a>, Halt>
+    requires { IsDatetime x }
     ensures { ByClock (λ clock. later clock unit.now n x) result }
 {
     match unit_named(unit) {
         None => Err(Halt::Stuck),
-        Some(unit) => {
-            if in_calendar(x) {
-                time(add(x, n, unit))
-            } else {
-                Err(Halt::Outside)
-            }
-        }
+        Some(unit) => time(add(x, n, unit)),
     }
 }
 
 /// A part of a DATETIME.
-#[tactic(auto, using(gq_value::specs::ViewLaws::view_laws, crate::proofs::TimeLemmas::part_laws))]
+#[tactic(auto, using(crate::proofs::TimeLemmas::part_laws))]
 pub(crate) fn part_of<'a>(part: Unit, operand: &Operand<'_>) -> Result<Seen<'a>, Halt>
     ensures { ByClock (λ clock. function_of clock (words.PartOf (part_is part)) (valued operand.now ∷ [])) result }
 {
     let x = seconds(operand)?;
-    if in_calendar(x) {
-        let x = part_in(part, parts(x));
-        Ok(numbered(Operand::Made(Value::Int(x))))
-    } else {
-        Err(Halt::Outside)
-    }
+    let x = part_in(part, parts(x));
+    Ok(numbered(Operand::Made(Value::Int(x))))
 }
 
 fn part_in(part: Unit, parts: DateTimeParts) -> i64

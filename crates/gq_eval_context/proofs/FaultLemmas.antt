@@ -15,7 +15,6 @@ use Rattle.gq_eval_context.specs.Faults.{fault_at}
 pub stops_at : {A B : Type 0} (o : Answer Wrong A) (f : A → Answer BlockFault B) (v : ℕ) (h : Halt) → Halts o h → EndsAs (blaming (AtPlace v) o >>= f) (fault_at v h)
 stops_at o f v (halt.Wrong w) e = ap (λ p. blaming (AtPlace v) p >>= f) e
 stops_at o f v halt.Stuck e = ap (λ p. blaming (AtPlace v) p >>= f) e
-stops_at o f v halt.Outside e = tt
 stops_at o f v halt.OutOfMemory e = tt
 
 -- a step that ends

@@ -1,6 +1,12 @@
 -- LimitLemmas: the number of a LIMIT, in the cases of the code.
-use Rattle.std.proofs.Common.{◌≡◌, ℕ, ℤ, pos, refl, ap, ◌∙◌}
+use Rattle.std.proofs.Common.{◌≡◌, ℕ, Bool, List, ℤ, pos, refl, ap, subst, ◌∙◌}
 use Rattle.gq_value.specs.Val.{Val, Int, UInt, Truth, Text, Vertex, Tuple, Fraction}
+use Rattle.gq_value.specs.Views.{val, vals}
+use Rattle.gq_value.specs.ViewLaws.{val-Bool, val-Text, val-Vertex, val-Tuple, val-Fraction}
+use Rattle.gq_value.specs.declared.value.Fraction as fraction
+use Rattle.gq_value.specs.declared.value.Value.{Value}
+use Rattle.gq_value.specs.declared.value.Value.TheVariants as value
+use Rattle.gq_value.specs.Arithmetic.{IsWhole}
 use Rattle.gq_rules_meaning.specs.Answers.{Gives, Stuck}
 use Rattle.gq_rules_meaning.specs.Meanings.{as_number}
 use Rattle.gq_rules_meaning.specs.Runs.{count_of}
@@ -12,13 +18,11 @@ use Rattle.gq_eval_context.specs.Limits.{most_of}
 never : {A B : Type 0} (a : A) (b : B) (h : Halt) → Halts (Gives a) h → Halts (Gives b) h
 never a b (halt.Wrong w) e = absurd (cc)
 never a b halt.Stuck e = absurd (cc)
-never a b halt.Outside e = tt
 never a b halt.OutOfMemory e = tt
 
 stuck_too : (A B : Type 0) (h : Halt) → Halts {A = A} Stuck h → Halts {A = B} Stuck h
 stuck_too A B (halt.Wrong w) e = absurd (cc)
 stuck_too A B halt.Stuck e = refl
-stuck_too A B halt.Outside e = tt
 stuck_too A B halt.OutOfMemory e = tt
 
 pub number_stops : (v : Val) (h : Halt) → Halts (number_in v) h → Halts (most_of (as_number v)) h
@@ -57,3 +61,24 @@ pub number_uint : (v : Val) (n : ℕ) → number_in v ≡ Gives (UInt n) → mos
 number_uint v n e = ap most_of (uint_is v n e)
 
 pub ruleset limit_laws = (number_stops, number_int, number_uint)
+
+-- ---- a whole number is nothing else
+
+module _ (v : Value) (w : IsWhole (val v)) where
+  other : (u : Val) → val v ≡ u → IsWhole u
+  other u is = subst IsWhole is w
+
+  pub no_truth : (b : Bool) → v ≡ value.Bool b → ⊥
+  no_truth b is = other (Truth b) (ap val is ∙ val-Bool b)
+
+  pub no_text : (bs : List ℕ) → v ≡ value.Text bs → ⊥
+  no_text bs is = other (Text bs) (ap val is ∙ val-Text bs)
+
+  pub no_vertex : (n : ℕ) → v ≡ value.Vertex n → ⊥
+  no_vertex n is = other (Vertex n) (ap val is ∙ val-Vertex n)
+
+  pub no_tuple : (row : List Value) → v ≡ value.Tuple row → ⊥
+  no_tuple row is = other (Tuple (vals row)) (ap val is ∙ val-Tuple row)
+
+  pub no_fraction : (f : fraction.Fraction) → v ≡ value.Fraction f → ⊥
+  no_fraction f is = other (Fraction f.sum f.count) (ap val is ∙ val-Fraction f)

@@ -8,5 +8,4 @@ use Rattle.gq_eval_context.specs.declared.after.BlockFault.TheVariants as fault
 abbrev pub fault_at : ℕ → Halt → BlockFault
 fault_at v (halt.Wrong w) = fault.Eval v w
 fault_at v halt.Stuck = fault.Stuck
-fault_at v halt.Outside = fault.OutOfMemory
 fault_at v halt.OutOfMemory = fault.OutOfMemory

@@ -40,9 +40,9 @@ elsewhere x h [] names = refl
 elsewhere x h (a ∷ aliases) names = ap (λ b. if b then Some (thing_of a.1) else under same x (aliases_named aliases ++ names)) (h a.0) ∙ elsewhere x h aliases names
 
 abbrev pub Alike : Viewed → List (Reference × Thing) → Type 0
-Alike v names = (x : Reference) → under same x names ≡ thing_for v.plan.places v.things x
+Alike v names = (x : Reference) → under same x names ≡ thing_for v.things x
 
-names_seen : (v : Viewed) (names : List (Reference × Thing)) → Alike v names → (x : Reference) → named_in (thing_at v.aliases v.plan.places v.things) x ≡ thing_meant (under same x (aliases_named v.aliases ++ names))
+names_seen : (v : Viewed) (names : List (Reference × Thing)) → Alike v names → (x : Reference) → named_in (thing_at v.aliases v.things) x ≡ thing_meant (under same x (aliases_named v.aliases ++ names))
 names_seen v names alike (Place n) = ap (λ o. thing_meant (option_or (option_map thing_of (under ◌==◌ n v.aliases)) o)) (sym (alike (Place n))) ∙ ap thing_meant (sym (at_place n v.aliases names))
 names_seen v names alike (Slot n) = ap thing_meant (sym (elsewhere (Slot n) (λ m. refl) v.aliases names ∙ alike (Slot n)))
 names_seen v names alike (VertexType n) = ap thing_meant (sym (elsewhere (VertexType n) (λ m. refl) v.aliases names ∙ alike (VertexType n)))
@@ -64,11 +64,11 @@ pub look_is_sight : (clock : Calendar) (v : Viewed) (names : List (Reference × 
 look_is_sight clock v names alike = ap (with_named clock v) (fun_ext (names_seen v names alike))
 
 -- the same in a block whose frame shows a state
-pub look_over : (clock : Calendar) (s : Over) (state : State Reference) (aliases : List (ℕ × Placed)) (accums before : Accums) → Shows s.plan.places s.frame state
+pub look_over : (clock : Calendar) (s : Over) (state : State Reference) (aliases : List (ℕ × Placed)) (accums before : Accums) → Shows s.frame state
     → look_of clock (viewed s aliases accums before) ≡ sight (world_over clock s) (aliases_named aliases ++ state.names) (slots_are accums) (slots_are before)
 look_over clock s state aliases accums before shows = look_is_sight clock (viewed s aliases accums before) state.names shows.names
 
 -- with no alias, and the accumulators of the frame, it shows what the state shows
-pub look_shows : (clock : Calendar) (s : Over) (state : State Reference) → Shows s.plan.places s.frame state
+pub look_shows : (clock : Calendar) (s : Over) (state : State Reference) → Shows s.frame state
     → look_of clock (viewed s [] s.frame.accums s.frame.accums) ≡ seen (world_over clock s) state
 look_shows clock s state shows = look_over clock s state [] s.frame.accums s.frame.accums shows ∙ ap (λ slots. sight (world_over clock s) state.names slots slots) (sym shows.slots)

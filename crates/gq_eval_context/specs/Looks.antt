@@ -29,7 +29,7 @@ world_in clock v = world_of (accum_names v.plan) (tuples_are v.tuples) (graph_fo
 
 abbrev pub look_of : Calendar → Viewed → Look Reference
 look_of clock v = record {
-  named = named_in (thing_at v.aliases v.plan.places v.things);
+  named = named_in (thing_at v.aliases v.things);
   global = λ a. read_slot (world_in clock v) (slots_are v.accums) a 0;
   attached = λ a x. read_slot (world_in clock v) (slots_are v.accums) a x;
   before = λ a x. read_slot (world_in clock v) (slots_are v.before) a x;

@@ -5,8 +5,7 @@ ghost use Rattle.gq_eval_context.specs.Faults.{fault_at};
 use crate::after::BlockFault;
 use gq_eval_operand::Halt;
 
-/// The fault of a block whose evaluation at a vertex has ended. `Outside`, of which nothing is promised, becomes
-/// `OutOfMemory`.
+/// The fault of a block whose evaluation at a vertex has ended.
 pub fn fault_at(vertex: u32, halt: Halt) -> BlockFault
     ensures { result ≡ fault_at vertex halt }
 {
@@ -16,6 +15,6 @@ pub fn fault_at(vertex: u32, halt: Halt) -> BlockFault
             fault,
         },
         Halt::Stuck => BlockFault::Stuck,
-        Halt::Outside | Halt::OutOfMemory => BlockFault::OutOfMemory,
+        Halt::OutOfMemory => BlockFault::OutOfMemory,
     }
 }

@@ -14,7 +14,10 @@ pub fn limit_count(value: &Operand<'_>) -> Result<u64, Halt>
     match number(value)? {
         Value::Int(x) => Ok(if x < 0 { 0 } else { x as u64 }),
         Value::UInt(n) => Ok(n),
-        Value::Bool(_) | Value::Text(_) | Value::Vertex(_) => Err(Halt::Outside),
-        Value::Tuple(_) | Value::Fraction(_) => Err(Halt::Outside),
+        Value::Bool(_) => unreachable!(),
+        Value::Text(_) => unreachable!(),
+        Value::Vertex(_) => unreachable!(),
+        Value::Tuple(_) => unreachable!(),
+        Value::Fraction(_) => unreachable!(),
     }
 }

@@ -19,12 +19,7 @@ impl<'a> Sees for EvalContext<'a> {
     ghost look = { look_of gregorian };
 
     fn named(&self, place: u32) -> Result<Seen<'_>, Halt> {
-        named(
-            self.aliases,
-            self.plan.places.as_slice(),
-            self.things,
-            place,
-        )
+        named(self.aliases, self.things, place)
     }
 
     fn global(&self, slot: u32) -> Result<Seen<'_>, Halt> {

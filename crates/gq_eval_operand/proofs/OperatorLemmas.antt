@@ -62,7 +62,6 @@ has_number _ a f g h same = absurd (cc)
 pub first_stops : {A : Type 0} (v : Val) (f : ℤ → Answer Wrong A) (h : Halt) → Halts (number_in v) h → Halts (as_number v >>= f) h
 first_stops v f (halt.Wrong w) p = absurd (never_faults v w p)
 first_stops v f halt.Stuck p = ap (λ o. o >>= f) (no_number v p)
-first_stops v f halt.Outside p = tt
 first_stops v f halt.OutOfMemory p = tt
 
 second_is : {A : Type 0} (v a w : Val) (f : ℤ → Answer Wrong A) → number_in v ≡ Gives a → (as_number v >>= λ x. as_number w >>= f) ≡ (as_number w >>= f)

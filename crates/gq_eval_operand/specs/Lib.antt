@@ -2,7 +2,6 @@ pub mod Meant
 pub mod Sound
 pub use Rattle.gq_plan_ir.specs.Reference
 pub use Rattle.gq_plan_ir.specs.References
-pub use Rattle.gq_plan_ir.specs.declared.plan.PlaceType
 pub use Rattle.gq_plan_ir.specs.Answers
 pub use Rattle.gq_plan_ir.specs.Expressions
 pub use Rattle.gq_plan_ir.specs.Meanings

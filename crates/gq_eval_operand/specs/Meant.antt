@@ -89,11 +89,10 @@ itself a = a
 
 -- ---- answers
 
--- an evaluation ends as the meaning does; OutOfMemory may occur at any time, and nothing is said of Outside
+-- an evaluation ends as the meaning does; OutOfMemory may occur at any time
 abbrev pub Halts : {A : Type 0} → Answer Wrong A → Halt → Type 0
 Halts o (halt.Wrong w) = o ≡ Faults w
 Halts o halt.Stuck = o ≡ Stuck
-Halts o halt.Outside = Unit {0}
 Halts o halt.OutOfMemory = Unit {0}
 
 -- the answer is the one that was meant

@@ -11,9 +11,6 @@ pub enum Halt {
     /// Something named is missing or has a wrong type; never so for a well typed expression.
     Stuck,
 
-    /// A number or a time is beyond what the types can hold, of which nothing is said; never so for a well typed
-    /// expression.
-    Outside,
     OutOfMemory,
 }
 

@@ -46,21 +46,17 @@ use Rattle.gq_exec_contribute.specs.Gathered.{contribution_of, shown, after}
 after_stops : (xs : List Contribution) (o : Answer Wrong (List Contribution)) (f : List Contribution → Answer Wrong (List Contribution)) (h : Halt) → Halts (after xs o) h → Halts (after xs (o >>= f)) h
 after_stops xs (Gives ys) f (halt.Wrong w) s = absurd (cc s)
 after_stops xs (Gives ys) f halt.Stuck s = absurd (cc s)
-after_stops xs (Gives ys) f halt.Outside s = tt
 after_stops xs (Gives ys) f halt.OutOfMemory s = tt
 after_stops xs (Faults v) f (halt.Wrong w) s = s
 after_stops xs (Faults v) f halt.Stuck s = absurd (cc s)
-after_stops xs (Faults v) f halt.Outside s = tt
 after_stops xs (Faults v) f halt.OutOfMemory s = tt
 after_stops xs Stuck f (halt.Wrong w) s = absurd (cc s)
 after_stops xs Stuck f halt.Stuck s = s
-after_stops xs Stuck f halt.Outside s = tt
 after_stops xs Stuck f halt.OutOfMemory s = tt
 
 within : {A : Type 0} (xs : List Contribution) (o : Answer Wrong A) (f : A → Answer Wrong (List Contribution)) (h : Halt) → Halts o h → Halts (after xs (o >>= f)) h
 within xs o f (halt.Wrong w) s = ap (λ o. after xs (o >>= f)) s
 within xs o f halt.Stuck s = ap (λ o. after xs (o >>= f)) s
-within xs o f halt.Outside s = tt
 within xs o f halt.OutOfMemory s = tt
 
 gives_inj : {A : Type 0} {a b : A} → ◌≡◌ {A = Answer Wrong A} (Gives a) (Gives b) → a ≡ b

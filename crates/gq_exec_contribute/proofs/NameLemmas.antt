@@ -23,7 +23,6 @@ use Rattle.gq_rules_meaning.specs.Expressions.{World}
 use Rattle.gq_rules_meaning.specs.States as states
 use Rattle.gq_plan_ir.specs.declared.expr.Field.{Field}
 use Rattle.gq_plan_ir.specs.declared.plan.Plan.{Plan}
-use Rattle.gq_plan_ir.specs.declared.plan.PlaceType.TheVariants as held
 use Rattle.gq_plan_ir.specs.ExprView.{view, views, view_parts, field_of}
 use Rattle.gq_plan_ir.specs.PlanView.{accum_names}
 use Rattle.gq_plan_ir.specs.Reference.{Reference, Place}
@@ -122,7 +121,7 @@ pub ruleset vertex_laws = (target_is, source_is)
 -- ---- contexts
 
 pub named : (clock : Calendar) (o : Over) (l : Leaves) (accums : Accums) (c : Candidate) (p : ℕ) (x : Placed) → under ◌==◌ p (bound_to l.ends.now l.edge c) ≡ Some x → (sees_in clock o l accums c).named (Place p) ≡ Gives (states.meant (thing_of x))
-named clock o l accums c p x e = ap (λ u. thing_meant (option_or (option_map thing_of u) (thing_in o.plan.places o.frame.things p))) e
+named clock o l accums c p x e = ap (λ u. thing_meant (option_or (option_map thing_of u) (thing_in o.frame.things p))) e
 
 module _ (clock : Calendar) (g : code.Graph) (plan : Plan) (tuples : List TupleType) (frame : Frame) (l : Leaves) (accums : Accums) (c : Candidate) (p : ℕ) where
   abbrev pub o : Over
@@ -155,11 +154,11 @@ pub ruleset field_laws = (field_seen, none_read)
 
 pub held_named : (clock : Calendar) (o : Over) (l : Leaves) (accums : Accums) (c : Candidate) (p : ℕ) (v : Value) → (h : IsHeld o l p v) → (sees_in clock o l accums c).named (Place p) ≡ Gives (Is (base_of h.base) (val v))
 held_named clock o l accums c p v h =
-    ap (λ u. thing_meant (option_or (option_map thing_of u) (thing_in o.plan.places o.frame.things p))) (none_there l.ends.now l.edge c p h.none.target h.none.edge h.none.source)
-    ∙ ap₂ (λ x y. thing_meant (held_thing x y)) h.declared h.there
+    ap (λ u. thing_meant (option_or (option_map thing_of u) (thing_in o.frame.things p))) (none_there l.ends.now l.edge c p h.none.target h.none.edge h.none.source)
+    ∙ ap (λ x. thing_meant (held_thing x)) h.there
 
-pub held_made : (o : Over) (l : Leaves) (p : ℕ) (b : BaseType) (v : Value) → NoAlias l p → slice_get o.plan.places p ≡ Some (held.Variable b) → slice_get o.frame.things p ≡ Some (Some (thing.Value v)) → IsHeld o l p v
-held_made o l p b v none place there = record { none = none; base = b; declared = place; there = there }
+pub held_made : (o : Over) (l : Leaves) (p : ℕ) (b : BaseType) (v : Value) → NoAlias l p → slice_get o.frame.things p ≡ Some (Some (thing.Value b v)) → IsHeld o l p v
+held_made o l p b v none there = record { none = none; base = b; there = there }
 
 pub int_variable : (o : Over) (l : Leaves) (p : ℕ) (v : Value) (r : Option ℤ) → IsHeld o l p v → IfSome r (λ x. val v ≡ Int x) → IfSome r (IsHeldInt o l p)
 int_variable o l p v None h e = tt

@@ -7,7 +7,6 @@ use Rattle.gq_value.specs.Val.{Val, Int, Truth, Tuple, vals_of}
 use Rattle.gq_value.specs.Views.{val}
 use Rattle.gq_value.specs.Accums.{Accum, GroupByAccum, HeapAccum, Bases, Givens, One, Keyed, INT, BOOL, TUPLE}
 use Rattle.gq_value.specs.declared.kind.BaseType.{BaseType}
-use Rattle.gq_plan_ir.specs.declared.plan.PlaceType.TheVariants as held
 use Rattle.gq_frame.specs.declared.frame.Thing.TheVariants as thing
 use Rattle.gq_value.specs.AccumViews.{accum_of, base_of, bases, given, givens, parts_of}
 use Rattle.gq_value.specs.Typed.{suits}
@@ -106,8 +105,7 @@ IsVertex l c p v = (types : List ℕ) × (under ◌==◌ p (bound_to l.ends.now 
 pub record IsHeld (o : Over) (l : Leaves) (p : ℕ) (v : Value) : Type 0 where
   pub none : NoAlias l p
   pub base : BaseType
-  pub declared : slice_get o.plan.places p ≡ Some (held.Variable base)
-  pub there : slice_get o.frame.things p ≡ Some (Some (thing.Value v))
+  pub there : slice_get o.frame.things p ≡ Some (Some (thing.Value base v))
 
 -- a name is a variable with this INT, or with this truth
 pub record IsHeldInt (o : Over) (l : Leaves) (p : ℕ) (x : ℤ) : Type 0 where

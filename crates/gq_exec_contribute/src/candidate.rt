@@ -64,13 +64,13 @@ pub fn contribute<V: Sees>(
         Ok(false) => Ok(Outcome::Filtered),
         Err(Halt::Wrong(wrong)) => Ok(Outcome::Fault(Stop::Wrong(wrong))),
         Err(Halt::Stuck) => Ok(Outcome::Fault(Stop::Stuck)),
-        Err(Halt::Outside) | Err(Halt::OutOfMemory) => Err(OutOfMemory),
+        Err(Halt::OutOfMemory) => Err(OutOfMemory),
         Ok(true) => {
             let before = taken(alloc, room);
             match run_acts(block.accum.as_slice(), alloc, sight, accums, before) {
                 Err(Halt::Wrong(wrong)) => Ok(Outcome::Fault(Stop::Wrong(wrong))),
                 Err(Halt::Stuck) => Ok(Outcome::Fault(Stop::Stuck)),
-                Err(Halt::Outside) | Err(Halt::OutOfMemory) => Err(OutOfMemory),
+                Err(Halt::OutOfMemory) => Err(OutOfMemory),
                 Ok(gathered) => match put(gathered, &accums.slots, into) {
                     Ok(emptied) => {
                         room.gathered = emptied;
@@ -115,10 +115,8 @@ fn put(
     let mut left = gathered;
     left.reverse();
     while let Some(feeding) = left.pop() {
-        match place(slots, feeding.slot, feeding.vertex, &feeding.input) {
-            None => return Err(OutOfMemory),
-            Some(target) => into.add(target, feeding.input)?,
-        }
+        let target = place(slots, feeding.slot, feeding.vertex, &feeding.input)?;
+        into.add(target, feeding.input)?;
     }
     Ok(left)
 }

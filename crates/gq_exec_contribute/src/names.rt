@@ -20,7 +20,7 @@ use gq_eval_context::BlockContext;
 use gq_frame::{Accums, Thing};
 use gq_graph::{Candidate, IdKind, IdShape};
 use gq_index::Graph;
-use gq_plan_ir::{Field, FieldPlaces, PlaceType};
+use gq_plan_ir::{Field, FieldPlaces};
 use gq_value::Value;
 
 /// Whether an alias has this place.
@@ -191,11 +191,8 @@ fn variable<'a>(over: &'a BlockContext<'_>, leaves: &Leaves<'_>, place: u32) -> 
     if !is_no_alias(leaves, place) {
         return None;
     }
-    match over.plan.places.get(place as usize) {
-        Some(PlaceType::Variable(_base)) => match over.frame.things.get(place as usize) {
-            Some(Some(Thing::Value(value))) => Some(value),
-            _ => None,
-        },
+    match over.frame.things.get(place as usize) {
+        Some(Some(Thing::Value(_base, value))) => Some(value),
         _ => None,
     }
 }

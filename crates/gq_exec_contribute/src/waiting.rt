@@ -4,7 +4,7 @@ ghost use Rattle.gq_exec_contribute.specs.Waiting.{IsPacked, own, rows_needed, u
 
 use crate::rows::Ints;
 use crate::scalars::ScalarInput;
-use gq_base::{List, OutOfMemory};
+use gq_base::{List, OutOfMemory, narrow};
 use std::alloc::Global;
 use std::marker::Model;
 
@@ -130,9 +130,6 @@ impl WaitingInputs {
     }
 }
 
-/// The most rows and keys: their numbers have 32 bits.
-const MOST: usize = 4_294_967_295;
-
 /// Packs an input: its row, if it has one, is appended to the rows. Unchanged after `OutOfMemory`.
 fn pack(input: &ScalarInput, rows: &mut List<Ints>) -> Result<PackedInput, OutOfMemory>
     ensures ok { IfOk result (IsPacked rows.old rows.new input.now) }
@@ -144,10 +141,8 @@ fn pack(input: &ScalarInput, rows: &mut List<Ints>) -> Result<PackedInput, OutOf
         ScalarInput::Element(x) => Ok(PackedInput::Element(*x)),
         ScalarInput::Tuple(fields) => Ok(PackedInput::Tuple(put(fields, rows)?)),
         ScalarInput::Keyed(count, ints) => {
-            if *count > MOST {
-                return Err(OutOfMemory);
-            }
-            Ok(PackedInput::Keyed(*count as u32, put(ints, rows)?))
+            let count = narrow(*count)?;
+            Ok(PackedInput::Keyed(count, put(ints, rows)?))
         }
     }
 }
@@ -159,12 +154,9 @@ fn put(row: &Ints, rows: &mut List<Ints>) -> Result<u32, OutOfMemory>
     ensures place { IfOk result (λ place. place ≡ length rows.old) }
     ensures err { OnErr result (rows.new ≡ rows.old) }
 {
-    let place = rows.len();
-    if place > MOST {
-        return Err(OutOfMemory);
-    }
+    let place = narrow(rows.len())?;
     rows.push(*row)?;
-    Ok(place as u32)
+    Ok(place)
 }
 
 /// The input that was packed, with its row.

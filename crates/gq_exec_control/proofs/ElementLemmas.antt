@@ -1,9 +1,11 @@
--- ElementLemmas: the elements of collections, and their types.
-use Rattle.std.proofs.Common.{◌≡◌, ℕ, Bool, List, [], ◌∷◌, map, Some, None, Result, refl, sym, ap, ap₂, subst, ◌∙◌}
-use Rattle.gq_value.specs.declared.kind.BaseType.{BaseType}
+-- ElementLemmas: the elements of collections, with their type.
+use Rattle.std.proofs.Common.{◌≡◌, List, [], map, Option, Result, refl, sym, ap, subst, ◌∙◌}
+use Rattle.std.specs.Borrow.{Bor}
+use Rattle.gq_value.specs.declared.kind.Kind.{Kind}
 use Rattle.gq_value.specs.declared.value.Value.{Value}
-use Rattle.gq_value.specs.Accums.{Base, TUPLE, Accum, SumAccum, MinAccum, MaxAccum, OrAccum, AndAccum, BitwiseOrAccum, BitwiseAndAccum, AvgAccum, SetAccum, BagAccum, ListAccum, MapAccum, GroupByAccum, HeapAccum}
-use Rattle.gq_value.specs.AccumViews.{base_of, bases}
+use Rattle.gq_value.specs.Accums.{Accum, SumAccum, MinAccum, MaxAccum, OrAccum, AndAccum, BitwiseOrAccum, BitwiseAndAccum, AvgAccum, SetAccum, BagAccum, ListAccum, MapAccum, GroupByAccum, HeapAccum}
+use Rattle.gq_value.specs.AccumViews.{accum_of}
+use Rattle.gq_value.specs.Val.{Val}
 use Rattle.gq_value.specs.Views.{val}
 use Rattle.gq_accum_laws.specs.Holds.{Holds}
 use Rattle.gq_accum_laws.specs.After.{fresh}
@@ -11,106 +13,82 @@ use Rattle.gq_nest.specs.declared.content.Content.{Content, out-Content}
 use Rattle.gq_nest.specs.Forms.{view}
 use Rattle.gq_nest.specs.Tells as nest
 use Rattle.gq_rules_typing.specs.Kinds.{element_type}
-use Rattle.gq_rules_meaning.specs.Answers.{Gives, Stuck, ◌>>=◌, found}
-use Rattle.gq_rules_meaning.specs.Collections.{elements}
+use Rattle.gq_rules_meaning.specs.Answers.{Gives, ◌>>=◌}
 use Rattle.gq_rules_meaning.specs.Meanings.{Meant, IsContent, Outcome}
-use Rattle.gq_rules_meaning.specs.Statements.{elements_of, with_base}
+use Rattle.gq_rules_meaning.specs.Statements.{elements_of}
 use Rattle.gq_eval_operand.specs.declared.halt.Halt.{Halt}
-use Rattle.gq_eval_operand.specs.declared.halt.Halt.TheVariants as halt
-use Rattle.gq_eval_operand.specs.Meant.{Halts, Tells}
-use Rattle.gq_eval_operand.specs.Sound.{IsSound}
+use Rattle.gq_eval_operand.specs.declared.seen.Seen.{Seen}
+use Rattle.gq_eval_operand.specs.declared.seen.Seen.TheVariants as seen_is
+use Rattle.gq_eval_operand.specs.Meant.{Halts, Tells, meant}
+use Rattle.gq_eval_operand.specs.Sound.{IsSound, Sound}
 use Rattle.gq_exec_control.specs.declared.running.Rounds.{Rounds}
-use Rattle.gq_exec_control.specs.declared.running.Rounds.TheVariants as rounds
-use Rattle.gq_exec_control.proofs.Steps.{halts_bind}
-use Rattle.gq_exec_control.specs.Rounds.{NotHeld, all_elements, rounds_in}
+use Rattle.gq_exec_control.proofs.Steps.{halts_bind, tells_same}
+use Rattle.gq_exec_control.specs.Rounds.{all_elements, typed_elements}
+use Rattle.gq_exec_control.specs.Values.{rounds_in}
 
 -- ---- the value of an expression
 
 pub elements_stop : (o : Outcome) (h : Halt) → Halts o h → Halts (all_elements o) h
 elements_stop o h e = halts_bind o elements_of h e
 
-pub elements_go : (o : Outcome) (m : Meant) (b : Base) (r : Result Rounds Halt) → o ≡ Gives m → Tells (rounds_in b) (elements_of m) r → Tells (rounds_in b) (all_elements o) r
-elements_go o m b r e t = subst (λ p. Tells (rounds_in b) p r) (sym (ap all_elements e)) t
+pub elements_go : (o : Outcome) (m : Meant) (r : Result Rounds Halt) → o ≡ Gives m → Tells rounds_in (elements_of m) r → Tells rounds_in (all_elements o) r
+elements_go o m r e t = subst (λ p. Tells rounds_in p r) (sym (ap all_elements e)) t
 
 pub ruleset element_laws = (elements_stop, elements_go)
 
 -- ---- the elements
 
-given : (k : Accum) (h : Holds k) (b : Base) → element_type k ≡ Some b → elements_of (IsContent k h) ≡ Gives (with_base b (nest.elements_of k h))
-given (SetAccum c) h b e = ap (λ x. Gives (with_base x h)) (let f : c ≡ b = cc in f)
-given (BagAccum c) h b e = ap (λ x. Gives (with_base x h)) (let f : c ≡ b = cc in f)
-given (ListAccum c) h b e = ap (λ x. Gives (with_base x h)) (let f : c ≡ b = cc in f)
-given (HeapAccum c n by) h b e = ap (λ x. Gives (with_base x h)) (let f : c ≡ b = cc in f)
-given (SumAccum n) h b e = absurd (cc)
-given (MinAccum n) h b e = absurd (cc)
-given (MaxAccum n) h b e = absurd (cc)
-given OrAccum h b e = absurd (cc)
-given AndAccum h b e = absurd (cc)
-given BitwiseOrAccum h b e = absurd (cc)
-given BitwiseAndAccum h b e = absurd (cc)
-given AvgAccum h b e = absurd (cc)
-given (MapAccum c k) h b e = absurd (cc)
-given (GroupByAccum keys ps) h b e = absurd (cc)
+are_typed : (k : Accum) (h : Holds k) → elements_of (IsContent k h) ≡ typed_elements (element_type k) (nest.elements_of k h)
+are_typed (SetAccum b) h = refl
+are_typed (BagAccum b) h = refl
+are_typed (ListAccum b) h = refl
+are_typed (HeapAccum b n by) h = refl
+are_typed (SumAccum n) h = refl
+are_typed (MinAccum n) h = refl
+are_typed (MaxAccum n) h = refl
+are_typed OrAccum h = refl
+are_typed AndAccum h = refl
+are_typed BitwiseOrAccum h = refl
+are_typed BitwiseAndAccum h = refl
+are_typed AvgAccum h = refl
+are_typed (MapAccum b k) h = refl
+are_typed (GroupByAccum keys ps) h = refl
 
-none_fresh : (k : Accum) (b : Base) → element_type k ≡ Some b → nest.elements_of k (fresh k) ≡ []
-none_fresh (SetAccum c) b e = refl
-none_fresh (BagAccum c) b e = refl
-none_fresh (ListAccum c) b e = refl
-none_fresh (HeapAccum c n by) b e = refl
-none_fresh (SumAccum n) b e = absurd (cc)
-none_fresh (MinAccum n) b e = absurd (cc)
-none_fresh (MaxAccum n) b e = absurd (cc)
-none_fresh OrAccum b e = absurd (cc)
-none_fresh AndAccum b e = absurd (cc)
-none_fresh BitwiseOrAccum b e = absurd (cc)
-none_fresh BitwiseAndAccum b e = absurd (cc)
-none_fresh AvgAccum b e = absurd (cc)
-none_fresh (MapAccum c k) b e = absurd (cc)
-none_fresh (GroupByAccum keys ps) b e = absurd (cc)
+none_yet : (k : Accum) → typed_elements (element_type k) (nest.elements_of k (fresh k)) ≡ typed_elements (element_type k) []
+none_yet (SetAccum b) = refl
+none_yet (BagAccum b) = refl
+none_yet (ListAccum b) = refl
+none_yet (HeapAccum b n by) = refl
+none_yet (SumAccum n) = refl
+none_yet (MinAccum n) = refl
+none_yet (MaxAccum n) = refl
+none_yet OrAccum = refl
+none_yet AndAccum = refl
+none_yet BitwiseOrAccum = refl
+none_yet BitwiseAndAccum = refl
+none_yet AvgAccum = refl
+none_yet (MapAccum b k) = refl
+none_yet (GroupByAccum keys ps) = refl
 
-pub whole_gives : (k : Accum) (c : Content) (b : Base) (row : List Value) → IsSound k c → element_type k ≡ Some b → nest.Tells c (map val row) nest.elements_of
-    → elements_of (IsContent k (view k (out-Content c))) ≡ Gives (rounds_in b (rounds.Elements row))
-whole_gives k c b row s e t = given k (view k (out-Content c)) b e ∙ ap (λ vs. Gives (with_base b vs)) (sym (t.each k (view k (out-Content c)) s.shows))
+whole_told : (k : Accum) (c : Content) (vs : List Val) (r : Result Rounds Halt) → IsSound k c → nest.Tells c vs nest.elements_of → Tells rounds_in (typed_elements (element_type k) vs) r → Tells rounds_in (elements_of (IsContent k (view k (out-Content c)))) r
+whole_told k c vs r s e t =
+    tells_same rounds_in (elements_of (IsContent k (view k (out-Content c)))) (typed_elements (element_type k) vs) r
+    (are_typed k (view k (out-Content c)) ∙ ap (typed_elements (element_type k)) (sym (e.each k (view k (out-Content c)) s.shows))) t
 
-pub opening_gives : (k : Accum) (b : Base) (row : List Value) → element_type k ≡ Some b → row ≡ [] → elements_of (IsContent k (fresh k)) ≡ Gives (rounds_in b (rounds.Elements row))
-opening_gives k b row e n = given k (fresh k) b e ∙ ap (λ vs. Gives (with_base b vs)) (none_fresh k b e ∙ ap (map val) (sym n))
+opening_told : (k : Accum) (vs : List Val) (r : Result Rounds Halt) → vs ≡ [] → Tells rounds_in (typed_elements (element_type k) vs) r → Tells rounds_in (elements_of (IsContent k (fresh k))) r
+opening_told k vs r e t =
+    tells_same rounds_in (elements_of (IsContent k (fresh k))) (typed_elements (element_type k) vs) r
+    (are_typed k (fresh k) ∙ none_yet k ∙ ap (typed_elements (element_type k)) (sym e)) t
 
-none_held : (k : Accum) (h : Holds k) → element_type k ≡ None → elements_of (IsContent k h) ≡ Stuck
-none_held k h e = ap (λ o. found o >>= λ b. found (elements k h) >>= λ vs. Gives (with_base b vs)) e
+-- by what was read
+module _ (seen : Seen) (row : List Value) (r : Result Rounds Halt) where
+  pub whole_tells : (kind : Bor Kind) (content : Bor Content) → seen ≡ seen_is.Whole kind content → Sound seen → nest.Tells content.now (map val row) nest.elements_of
+      → Tells rounds_in (typed_elements (element_type (accum_of kind.now)) (map val row)) r → Tells rounds_in (elements_of (meant seen)) r
+  whole_tells kind content e sound told t =
+      subst (λ x. Tells rounds_in (elements_of (meant x)) r) (sym e) (whole_told (accum_of kind.now) content.now (map val row) r (subst Sound e sound).0 told t)
 
-not_held : (k : Accum) (h : Holds k) (e : Halt) → NotHeld k e → Halts (elements_of (IsContent k h)) e
-not_held k h halt.Stuck none = none_held k h none
-not_held k h halt.OutOfMemory none = tt
-not_held k h halt.Outside none = absurd none
-not_held k h (halt.Wrong w) none = absurd none
+  pub opening_tells : (kind : Bor Kind) → seen ≡ seen_is.Opening kind → row ≡ [] → Tells rounds_in (typed_elements (element_type (accum_of kind.now)) (map val row)) r → Tells rounds_in (elements_of (meant seen)) r
+  opening_tells kind e none t =
+      subst (λ x. Tells rounds_in (elements_of (meant x)) r) (sym e) (opening_told (accum_of kind.now) (map val row) r (ap (map val) none) t)
 
-pub whole_halts : (k : Accum) (c : Content) (e : Halt) → NotHeld k e → Halts (elements_of (IsContent k (view k (out-Content c)))) e
-whole_halts k c e none = not_held k (view k (out-Content c)) e none
-
-pub opening_halts : (k : Accum) (e : Halt) → NotHeld k e → Halts (elements_of (IsContent k (fresh k))) e
-opening_halts k e none = not_held k (fresh k) e none
-
-pub ruleset whole_laws = (whole_gives, opening_gives, whole_halts, opening_halts)
-
--- ---- types
-
-pub heap_is : (b : Base) (n : ℕ) (fields : List BaseType) (capacity : ℕ) (by : List (ℕ × Bool)) → b ≡ TUPLE n (bases (map base_of fields)) → element_type (HeapAccum (TUPLE n (bases (map base_of fields))) capacity by) ≡ Some b
-heap_is b n fields capacity by e = ap Some (sym e)
-
-pub ruleset heap_laws = (heap_is)
-
-pub same_tuple : (a b : Base) (n : ℕ) (fields : List BaseType) → a ≡ TUPLE n (bases (map base_of fields)) → b ≡ TUPLE n (bases (map base_of fields)) → a ≡ b
-same_tuple a b n fields e f = e ∙ sym f
-
-pub tuple_is : (b : Base) (n m : ℕ) (fields others : List BaseType) → b ≡ TUPLE m (bases (map base_of others)) → n ≡ m → map base_of fields ≡ map base_of others → b ≡ TUPLE n (bases (map base_of fields))
-tuple_is b n m fields others e f g = e ∙ ap₂ (λ k bs. TUPLE k (bases bs)) (sym f) (sym g)
-
-pub ruleset tuple_laws = (tuple_is)
-
-pub none_alike : (a b : List BaseType) → a ≡ [] → b ≡ [] → map base_of a ≡ map base_of b
-none_alike a b e f = ap (map base_of) (e ∙ sym f)
-
-pub more_alike : (a b xs ys : List BaseType) (x y : BaseType) → a ≡ x ∷ xs → b ≡ y ∷ ys → base_of x ≡ base_of y → map base_of xs ≡ map base_of ys → map base_of a ≡ map base_of b
-more_alike a b xs ys x y e f h t = ap (map base_of) e ∙ ap₂ (λ z zs. z ∷ zs) h t ∙ sym (ap (map base_of) f)
-
-pub ruleset field_laws = (none_alike, more_alike)
+pub ruleset whole_laws = (whole_tells, opening_tells)

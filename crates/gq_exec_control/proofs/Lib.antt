@@ -5,6 +5,5 @@ pub mod ContextLemmas
 pub mod LimitLemmas
 pub mod ElementLemmas
 pub mod RangeLemmas
-pub mod OverLemmas
 pub mod ValueLemmas
 pub mod LocalLemmas

@@ -1,7 +1,7 @@
 -- LocalLemmas: declarations, one after the other.
-use Rattle.std.proofs.Common.{◌≡◌, ℕ, ◌+◌, ◌<◌, ◌≤◌, List, ◌∷◌, drop, length, get_or, true, Option, Some, Ok, Err, refl, sym, ap, ◌∙◌}
+use Rattle.std.proofs.Common.{◌≡◌, ℕ, ◌+◌, ◌<◌, ◌≤◌, List, ◌∷◌, drop, length, get_or, true, Option, Some, Ok, Err, refl, sym, ap, subst, ◌∙◌}
 use Rattle.std.specs.List.{list_any}
-use Rattle.std.specs.Prelude.{◌==◌, if◌then◌else◌, slice_get}
+use Rattle.std.specs.Prelude.{◌==◌, if◌then◌else◌}
 use Rattle.std.specs.Option.{option_map}
 use Rattle.std.proofs.lemmas.List.{drop_more, drop_all}
 use Rattle.gq_tree.specs.Tree.{Tree}
@@ -15,19 +15,14 @@ use Rattle.gq_value.specs.Views.{val}
 use Rattle.gq_rules_meaning.specs.Answers.{Gives, Stuck, ◌>>=◌, blaming, found, through}
 use Rattle.gq_rules_meaning.specs.Calendars.{Calendar}
 use Rattle.gq_rules_meaning.specs.Expressions.{World}
-use Rattle.gq_rules_meaning.specs.States as states
 use Rattle.gq_rules_meaning.specs.States.{State, Variable, with_new, seen}
 use Rattle.gq_rules_meaning.specs.Statements.{Evaluation, base_of_tree, local_value, with_local}
 use Rattle.gq_plan_ir.specs.declared.expr.Expr.{Expr}
 use Rattle.gq_plan_ir.specs.declared.plan.Declared.{Declared}
 use Rattle.gq_plan_ir.specs.declared.plan.Declared.TheVariants as declared
-use Rattle.gq_plan_ir.specs.declared.plan.PlaceType.{PlaceType}
-use Rattle.gq_plan_ir.specs.declared.plan.PlaceType.TheVariants as held
 use Rattle.gq_plan_ir.specs.ExprView.{view}
 use Rattle.gq_plan_ir.specs.PlanView.{view_declared, view_locals}
 use Rattle.gq_plan_ir.specs.Reference.{Reference, Place}
-use Rattle.gq_frame.specs.declared.frame.Thing.TheVariants as thing
-use Rattle.gq_frame.specs.Names.{held_thing}
 use Rattle.gq_frame.specs.declared.live.Live.{Live}
 use Rattle.gq_frame.specs.Lives.{Lives}
 use Rattle.gq_exec_control.specs.declared.running.RunFault.{RunFault}
@@ -60,15 +55,15 @@ base_unknown clock b declared.Text k = absurd k
 base_unknown clock b declared.AnyVertex k = absurd k
 base_unknown clock b (declared.VertexOf t) k = ap (λ c. found (if c then Some t else Option.None) >>= λ n. Gives (base_declared (declared.VertexOf n))) k
 
-pub type_stops : (places : List PlaceType) (clock : Calendar) (b : Basis) (d : Declared) (xs : List (Reference × Option (Tree Reference))) (old new : Live) → IsUnknown b.plan.vertices d
-    → Becomes places (declared_all (world_on clock b) (view_declared d) xs) old new (Err fault.Stuck)
-type_stops places clock b d xs old new k = record {
+pub type_stops : (clock : Calendar) (b : Basis) (d : Declared) (xs : List (Reference × Option (Tree Reference))) (old new : Live) → IsUnknown b.plan.vertices d
+    → Becomes (declared_all (world_on clock b) (view_declared d) xs) old new (Err fault.Stuck)
+type_stops clock b d xs old new k = record {
   each = λ s l. ap (λ o. blaming Evaluation o >>= λ c. blaming Evaluation (through (with_local (world_on clock b) c) s xs)) (base_unknown clock b d k);
 }
 
 -- ---- one variable
 
-module _ (places : List PlaceType) (world : World Reference) (place : ℕ) (base : Base) (local : Option (Tree Reference)) where
+module _ (world : World Reference) (place : ℕ) (base : Base) (local : Option (Tree Reference)) where
   -- the state after the variable is declared with a value
   abbrev with_value : State Reference → Val → State Reference
   with_value s v = with_new (Place place) (Variable base v) s
@@ -76,41 +71,41 @@ module _ (places : List PlaceType) (world : World Reference) (place : ℕ) (base
   one_is : (s : State Reference) → declared_one world base (Place place, local) s ≡ (blaming Evaluation (local_value (seen world s) base local) >>= λ v. Gives (with_value s v))
   one_is s = bound (local_value (seen world s) base local) (λ v. Gives (with_value s v))
 
-  pub one_stops : (old new : Live) (e : RunFault) → Reads places val (λ s. blaming Evaluation (local_value (seen world s) base local)) old.frame (Err e) → Becomes places (declared_one world base (Place place, local)) old new (Err e)
+  pub one_stops : (old new : Live) (e : RunFault) → Reads val (λ s. blaming Evaluation (local_value (seen world s) base local)) old.frame (Err e) → Becomes (declared_one world base (Place place, local)) old new (Err e)
   one_stops old new e r = record {
     each = λ s l.
         ends_same (declared_one world base (Place place, local) s) (blaming Evaluation (local_value (seen world s) base local) >>= λ v. Gives (with_value s v)) e (one_is s)
-        (ends_bind (blaming Evaluation (local_value (seen world s) base local)) (λ v. Gives (with_value s v)) e (r.each s (shows_of places old s l)));
+        (ends_bind (blaming Evaluation (local_value (seen world s) base local)) (λ v. Gives (with_value s v)) e (r.each s (shows_of old s l)));
   }
 
-  pub one_done : (old new : Live) (held_as : BaseType) (value : Value) → slice_get places place ≡ Some (held.Variable held_as) → base_of held_as ≡ base
-      → Reads places val (λ s. blaming Evaluation (local_value (seen world s) base local)) old.frame (Ok value)
-      → ((places : List PlaceType) (s : State Reference) (t : states.Thing) → Lives places old s → held_thing (slice_get places place) (Some (Some (thing.Value value))) ≡ Some t → Lives places new (with_new (Place place) t s))
-      → Becomes places (declared_one world base (Place place, local)) old new (Ok tt)
-  one_done old new held_as value h of r names = record {
+  pub one_done : (old new : Live) (held : BaseType) (value : Value) → base_of held ≡ base
+      → Reads val (λ s. blaming Evaluation (local_value (seen world s) base local)) old.frame (Ok value)
+      → ((s : State Reference) → Lives old s → Lives new (with_new (Place place) (Variable (base_of held) (val value)) s))
+      → Becomes (declared_one world base (Place place, local)) old new (Ok tt)
+  one_done old new held value is r lives = record {
     each = λ s l. (
       with_value s (val value),
-      one_is s ∙ ap (λ o. o >>= λ v. Gives (with_value s v)) (r.each s (shows_of places old s l)),
-      names places s (Variable base (val value)) l (ap (λ o. held_thing o (Some (Some (thing.Value value)))) h ∙ ap (λ b. Some (Variable b (val value))) of),
+      one_is s ∙ ap (λ o. o >>= λ v. Gives (with_value s v)) (r.each s (shows_of old s l)),
+      subst (λ (b : Base). Lives new (with_new (Place place) (Variable b (val value)) s)) is (lives s l),
     );
   }
 
 -- ---- one after the other
 
 -- a prefix of the variables is declared, and the rest remains to be declared
-pub record Declares (places : List PlaceType) (world : World Reference) (base : Base) (all rest : List (ℕ × Option Expr)) (old now : Live) : Type 0 where
-  pub each : (s : State Reference) → Lives places old s → (t : State Reference) × (through (with_local world base) s (view_locals all) ≡ through (with_local world base) t (view_locals rest)) × Lives places now t
+pub record Declares (world : World Reference) (base : Base) (all rest : List (ℕ × Option Expr)) (old now : Live) : Type 0 where
+  pub each : (s : State Reference) → Lives old s → (t : State Reference) × (through (with_local world base) s (view_locals all) ≡ through (with_local world base) t (view_locals rest)) × Lives now t
 
-module _ (places : List PlaceType) (world : World Reference) (base : Base) (all : List (ℕ × Option Expr)) (old : Live) where
-  pub none_declared : Declares places world base all all old old
+module _ (world : World Reference) (base : Base) (all : List (ℕ × Option Expr)) (old : Live) where
+  pub none_declared : Declares world base all all old old
   none_declared = record { each = λ s l. (s, refl, l) }
 
   next_is : (i : ℕ) (x : ℕ × Option Expr) (t : State Reference) → i < length all → x ≡ get_or all i x
       → through (with_local world base) t (view_locals (drop i all)) ≡ (with_local world base t (Place x.0, option_map view x.1) >>= λ u. through (with_local world base) u (view_locals (drop (i + 1) all)))
   next_is i x t l e = ap (λ xs. through (with_local world base) t (view_locals xs)) (drop_more all i x l ∙ ap (λ y. y ∷ drop (i + 1) all) (sym e))
 
-  pub more_declared : (i : ℕ) (x : ℕ × Option Expr) (mid new : Live) → i < length all → x ≡ get_or all i x → Declares places world base all (drop i all) old mid
-      → Becomes places (declared_one world base (Place x.0, option_map view x.1)) mid new (Ok tt) → Declares places world base all (drop (i + 1) all) old new
+  pub more_declared : (i : ℕ) (x : ℕ × Option Expr) (mid new : Live) → i < length all → x ≡ get_or all i x → Declares world base all (drop i all) old mid
+      → Becomes (declared_one world base (Place x.0, option_map view x.1)) mid new (Ok tt) → Declares world base all (drop (i + 1) all) old new
   more_declared i x mid new n e g d = record {
     each = λ s l.
         let h = g.each s l in
@@ -121,8 +116,8 @@ module _ (places : List PlaceType) (world : World Reference) (base : Base) (all 
   whole_is : (tree : BaseTree Reference) (s : State Reference) → base_of_tree world tree ≡ Gives base → declared_all world tree (view_locals all) s ≡ blaming Evaluation (through (with_local world base) s (view_locals all))
   whole_is tree s e = ap (λ o. blaming Evaluation o >>= λ b. blaming Evaluation (through (with_local world b) s (view_locals all))) e
 
-  pub next_stops : (tree : BaseTree Reference) (i : ℕ) (x : ℕ × Option Expr) (mid new other : Live) (e : RunFault) → base_of_tree world tree ≡ Gives base → i < length all → x ≡ get_or all i x → Declares places world base all (drop i all) old mid
-      → Becomes places (declared_one world base (Place x.0, option_map view x.1)) mid new (Err e) → Becomes places (declared_all world tree (view_locals all)) old other (Err e)
+  pub next_stops : (tree : BaseTree Reference) (i : ℕ) (x : ℕ × Option Expr) (mid new other : Live) (e : RunFault) → base_of_tree world tree ≡ Gives base → i < length all → x ≡ get_or all i x → Declares world base all (drop i all) old mid
+      → Becomes (declared_one world base (Place x.0, option_map view x.1)) mid new (Err e) → Becomes (declared_all world tree (view_locals all)) old other (Err e)
   next_stops tree i x mid new other e is n same g d = record {
     each = λ s l.
         let h = g.each s l in
@@ -131,7 +126,7 @@ module _ (places : List PlaceType) (world : World Reference) (base : Base) (all 
         (ends_bind (declared_one world base (Place x.0, option_map view x.1) h.0) (λ u. blaming Evaluation (through (with_local world base) u (view_locals (drop (i + 1) all)))) e (d.each h.0 h.2));
   }
 
-  pub all_declared : (tree : BaseTree Reference) (i : ℕ) (now : Live) → base_of_tree world tree ≡ Gives base → length all ≤ i → Declares places world base all (drop i all) old now → Becomes places (declared_all world tree (view_locals all)) old now (Ok tt)
+  pub all_declared : (tree : BaseTree Reference) (i : ℕ) (now : Live) → base_of_tree world tree ≡ Gives base → length all ≤ i → Declares world base all (drop i all) old now → Becomes (declared_all world tree (view_locals all)) old now (Ok tt)
   all_declared tree i now is n g = record {
     each = λ s l.
         let h = g.each s l in

@@ -5,7 +5,6 @@ use Rattle.gq_value.specs.declared.kind.Number.{Number}
 use Rattle.gq_value.specs.declared.kind.Number.TheVariants as number
 use Rattle.gq_value.specs.declared.value.Wrong.{Wrong}
 use Rattle.gq_value.specs.declared.value.Wrong.TheVariants as wrong
-use Rattle.gq_value.specs.Accums.{Base, INT, UINT}
 use Rattle.gq_value.specs.Arithmetic.{as_type, in_type, is_within, type_of_both}
 use Rattle.gq_value.specs.Typed.{number_type}
 use Rattle.gq_value.specs.Val.{Val, Vals, Int, UInt, Truth, Text, Vertex, Tuple, Fraction}
@@ -18,7 +17,8 @@ use Rattle.gq_eval_operand.specs.Meant.{Halts, Tells, is_unsigned, number_in, nu
 use Rattle.gq_exec_control.specs.declared.running.Rounds.{Rounds}
 use Rattle.gq_exec_control.specs.declared.running.Rounds.TheVariants as rounds
 use Rattle.gq_exec_control.proofs.Steps.{halts_bind, halts_same, joined, tells_same}
-use Rattle.gq_exec_control.specs.Rounds.{between_as, both_ends, rounds_in}
+use Rattle.gq_exec_control.specs.Rounds.{between_as, both_ends}
+use Rattle.gq_exec_control.specs.Values.{rounds_in}
 use Rattle.gq_eval_context.proofs.LimitLemmas.{int_is, uint_is}
 
 -- ---- both ends are evaluated
@@ -29,8 +29,8 @@ first_stops o p h e = halts_bind o (λ v. p >>= between v) h e
 pub last_stops : (o p : Answer Wrong Val) (v : Val) (h : Halt) → o ≡ Gives v → Halts p h → Halts (both_ends o p) h
 last_stops o p v h is e = halts_same (both_ends o p) (p >>= between v) h (ap (λ x. both_ends x p) is) (halts_bind p (between v) h e)
 
-pub ends_go : (o p : Answer Wrong Val) (v w : Val) (b : Base) (r : Result Rounds Halt) → o ≡ Gives v → p ≡ Gives w → Tells (rounds_in b) (between v w) r → Tells (rounds_in b) (both_ends o p) r
-ends_go o p v w b r e f t = tells_same (rounds_in b) (both_ends o p) (between v w) r (ap₂ both_ends e f) t
+pub ends_go : (o p : Answer Wrong Val) (v w : Val) (r : Result Rounds Halt) → o ≡ Gives v → p ≡ Gives w → Tells rounds_in (between v w) r → Tells rounds_in (both_ends o p) r
+ends_go o p v w r e f t = tells_same rounds_in (both_ends o p) (between v w) r (ap₂ both_ends e f) t
 
 pub ruleset range_laws = (first_stops, last_stops, ends_go)
 
@@ -54,14 +54,14 @@ type_there (Fraction s n) w = refl
 between_is : (v w : Val) (b : Bool) → (is_unsigned v && is_unsigned w) ≡ b → between v w ≡ between_as (cond b number.UInt number.Int) v w
 between_is v w b e = ap (λ n. between_as n v w) (type_there v w ∙ ap (λ c. cond c number.UInt number.Int) e)
 
-pub both_unsigned : (v w : Val) (c d : Bool) (b : Base) (r : Result Rounds Halt) → c ≡ is_unsigned v → d ≡ is_unsigned w → c ≡ true → d ≡ true → Tells (rounds_in b) (between_as number.UInt v w) r → Tells (rounds_in b) (between v w) r
-both_unsigned v w c d b r e f h k t = tells_same (rounds_in b) (between v w) (between_as number.UInt v w) r (between_is v w true (ap₂ ◌&&◌ (sym e ∙ h) (sym f ∙ k))) t
+pub both_unsigned : (v w : Val) (c d : Bool) (r : Result Rounds Halt) → c ≡ is_unsigned v → d ≡ is_unsigned w → c ≡ true → d ≡ true → Tells rounds_in (between_as number.UInt v w) r → Tells rounds_in (between v w) r
+both_unsigned v w c d r e f h k t = tells_same rounds_in (between v w) (between_as number.UInt v w) r (between_is v w true (ap₂ ◌&&◌ (sym e ∙ h) (sym f ∙ k))) t
 
-pub first_signed : (v w : Val) (c : Bool) (b : Base) (r : Result Rounds Halt) → c ≡ is_unsigned v → c ≡ false → Tells (rounds_in b) (between_as number.Int v w) r → Tells (rounds_in b) (between v w) r
-first_signed v w c b r e h t = tells_same (rounds_in b) (between v w) (between_as number.Int v w) r (between_is v w false (ap (λ x. x && is_unsigned w) (sym e ∙ h))) t
+pub first_signed : (v w : Val) (c : Bool) (r : Result Rounds Halt) → c ≡ is_unsigned v → c ≡ false → Tells rounds_in (between_as number.Int v w) r → Tells rounds_in (between v w) r
+first_signed v w c r e h t = tells_same rounds_in (between v w) (between_as number.Int v w) r (between_is v w false (ap (λ x. x && is_unsigned w) (sym e ∙ h))) t
 
-pub last_signed : (v w : Val) (c d : Bool) (b : Base) (r : Result Rounds Halt) → c ≡ is_unsigned v → d ≡ is_unsigned w → c ≡ true → d ≡ false → Tells (rounds_in b) (between_as number.Int v w) r → Tells (rounds_in b) (between v w) r
-last_signed v w c d b r e f h k t = tells_same (rounds_in b) (between v w) (between_as number.Int v w) r (between_is v w false (ap₂ ◌&&◌ (sym e ∙ h) (sym f ∙ k))) t
+pub last_signed : (v w : Val) (c d : Bool) (r : Result Rounds Halt) → c ≡ is_unsigned v → d ≡ is_unsigned w → c ≡ true → d ≡ false → Tells rounds_in (between_as number.Int v w) r → Tells rounds_in (between v w) r
+last_signed v w c d r e f h k t = tells_same rounds_in (between v w) (between_as number.Int v w) r (between_is v w false (ap₂ ◌&&◌ (sym e ∙ h) (sym f ∙ k))) t
 
 pub ruleset both_laws = (both_unsigned, first_signed, last_signed)
 
@@ -79,11 +79,11 @@ module _ (n : Number) (v w : Val) where
   numbers_are : (x y : ℤ) → end_of n v ≡ Gives x → end_of n w ≡ Gives y → between_as n v w ≡ Gives (with_base (number_type n) (numbers_between n x y))
   numbers_are x y e f = ap₂ (λ (o p : Answer Wrong ℤ). o >>= λ x. p >>= λ y. Gives (with_base (number_type n) (numbers_between n x y))) e f
 
-pub ints_go : (v w : Val) (x y : ℤ) (b : Base) → b ≡ INT → end_of number.Int v ≡ Gives x → end_of number.Int w ≡ Gives y → between_as number.Int v w ≡ Gives (rounds_in b (rounds.Ints x y))
-ints_go v w x y b e f g = numbers_are number.Int v w x y f g ∙ ap (λ c. Gives (with_base c (numbers_between number.Int x y))) (sym e)
+pub ints_go : (v w : Val) (x y : ℤ) → end_of number.Int v ≡ Gives x → end_of number.Int w ≡ Gives y → between_as number.Int v w ≡ Gives (rounds_in (rounds.Ints x y))
+ints_go v w x y f g = numbers_are number.Int v w x y f g
 
-pub uints_go : (v w : Val) (x y : ℕ) (b : Base) → b ≡ UINT → end_of number.UInt v ≡ Gives (pos x) → end_of number.UInt w ≡ Gives (pos y) → between_as number.UInt v w ≡ Gives (rounds_in b (rounds.UInts x y))
-uints_go v w x y b e f g = numbers_are number.UInt v w (pos x) (pos y) f g ∙ ap (λ c. Gives (with_base c (numbers_between number.UInt (pos x) (pos y)))) (sym e)
+pub uints_go : (v w : Val) (x y : ℕ) → end_of number.UInt v ≡ Gives (pos x) → end_of number.UInt w ≡ Gives (pos y) → between_as number.UInt v w ≡ Gives (rounds_in (rounds.UInts x y))
+uints_go v w x y f g = numbers_are number.UInt v w (pos x) (pos y) f g
 
 pub ruleset int_laws = (from_stops, to_stops, ints_go)
 
@@ -119,7 +119,6 @@ none_whole (Text s) halt.Stuck e = refl
 none_whole (Vertex n) halt.Stuck e = refl
 none_whole (Tuple vs) halt.Stuck e = refl
 none_whole (Fraction s n) halt.Stuck e = refl
-none_whole u halt.Outside e = tt
 none_whole u halt.OutOfMemory e = tt
 
 pub end_none : (n : Number) (v u : Val) (h : Halt) → number_to n v ≡ Gives u → Halts (number_in u) h → Halts (end_of n v) h

@@ -12,13 +12,11 @@ use Rattle.gq_eval_operand.specs.Meant.{Halts, Tells}
 pub halts_bind : {A B : Type 0} (o : Answer Wrong A) (f : A → Answer Wrong B) (h : Halt) → Halts o h → Halts (o >>= f) h
 halts_bind o f (halt.Wrong w) e = ap (λ p. p >>= f) e
 halts_bind o f halt.Stuck e = ap (λ p. p >>= f) e
-halts_bind o f halt.Outside e = tt
 halts_bind o f halt.OutOfMemory e = tt
 
 pub halts_same : {A : Type 0} (o p : Answer Wrong A) (h : Halt) → o ≡ p → Halts p h → Halts o h
 halts_same o p (halt.Wrong w) e g = e ∙ g
 halts_same o p halt.Stuck e g = e ∙ g
-halts_same o p halt.Outside e g = tt
 halts_same o p halt.OutOfMemory e g = tt
 
 pub tells_same : {A B : Type 0} (view : B → A) (o p : Answer Wrong A) (r : Result B Halt) → o ≡ p → Tells view p r → Tells view o r

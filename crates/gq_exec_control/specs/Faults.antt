@@ -10,7 +10,6 @@ use Rattle.gq_exec_control.specs.declared.running.RunFault.TheVariants as fault
 abbrev pub fault_of : Halt → RunFault
 fault_of (halt.Wrong w) = fault.Eval w
 fault_of halt.Stuck = fault.Stuck
-fault_of halt.Outside = fault.OutOfMemory
 fault_of halt.OutOfMemory = fault.OutOfMemory
 
 abbrev pub faults_of : {B : Type 0} → Result B Halt → Result B RunFault

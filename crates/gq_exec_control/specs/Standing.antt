@@ -1,21 +1,15 @@
 -- Standing: when a run of the code shows a run of the definitions, and acts as they say.
-use Rattle.std.specs.Prelude.{◌≡◌, ℕ, ◌+◌, Bool, List, map, Some, Result, Ok, Err, slice_get}
+use Rattle.std.specs.Prelude.{◌≡◌, ℕ, ◌+◌, Bool, map, Some, Result, Ok, Err}
 use Rattle.gq_json.specs.declared.out.Printed.{Printed}
 use Rattle.gq_tree.specs.Tree.{Tree}
-use Rattle.gq_value.specs.declared.kind.BaseType.{BaseType}
-use Rattle.gq_value.specs.Accums.{Base}
-use Rattle.gq_value.specs.AccumViews.{base_of}
-use Rattle.gq_value.specs.Val.{Val}
 use Rattle.gq_rules_typing.specs.Statements.{Over}
 use Rattle.gq_rules_meaning.specs.Answers.{Answer, Gives, Faults, Stuck, blaming}
 use Rattle.gq_rules_meaning.specs.Built.{built_print}
 use Rattle.gq_rules_meaning.specs.Expressions.{World}
 use Rattle.gq_rules_meaning.specs.States.{seen}
-use Rattle.gq_rules_meaning.specs.Statements.{Fault, Evaluation, SumOutOfRange, LoopBound, PathBound, with_base, gone_over}
+use Rattle.gq_rules_meaning.specs.Statements.{Fault, Evaluation, SumOutOfRange, LoopBound, PathBound, gone_over}
 use Rattle.gq_rules_meaning.specs.Runs as runs
 use Rattle.gq_rules_meaning.specs.Runs.{Body, limit_of}
-use Rattle.gq_plan_ir.specs.declared.plan.PlaceType.{PlaceType}
-use Rattle.gq_plan_ir.specs.declared.plan.PlaceType.TheVariants as held
 use Rattle.gq_plan_ir.specs.Reference.{Reference}
 use Rattle.gq_frame.specs.Slots.{AreSound}
 use Rattle.gq_frame.specs.Lives.{Lives}
@@ -23,13 +17,13 @@ use Rattle.gq_exec_control.specs.declared.running.Running.{Running}
 use Rattle.gq_exec_control.specs.declared.running.RunFault.{RunFault}
 use Rattle.gq_exec_control.specs.declared.running.RunFault.TheVariants as fault
 use Rattle.gq_exec_control.specs.declared.running.Rounds.{Rounds}
-use Rattle.gq_exec_control.specs.Values.{values_of}
+use Rattle.gq_exec_control.specs.Values.{rounds_in}
 
 -- ---- runs
 
 -- the live data shows the state, the iterations left and the output are the same, and no content is spoiled
-pub record Stands (places : List PlaceType) (r : Running) (q : runs.Running Reference) : Type 0 where
-  pub lives : Lives places r.live q.state
+pub record Stands (r : Running) (q : runs.Running Reference) : Type 0 where
+  pub lives : Lives r.live q.state
   pub turns : r.turns ≡ q.turns
   pub printed : map (λ (p : Printed). p.members) r.printed ≡ map built_print q.printed
   pub sound : AreSound r.live.frame.accums
@@ -49,12 +43,12 @@ Leads {A = A} P o (Ok u) = (a : A) × (o ≡ Gives a) × P a
 Leads P o (Err e) = Ends o e
 
 -- the code changes the run as the body does in the definitions
-pub record Does (places : List PlaceType) (body : Body Reference) (old new : Running) (result : Result (Unit {0}) RunFault) : Type 0 where
-  pub each : (q : runs.Running Reference) → Stands places old q → Leads (Stands places new) (body q) result
+pub record Does (body : Body Reference) (old new : Running) (result : Result (Unit {0}) RunFault) : Type 0 where
+  pub each : (q : runs.Running Reference) → Stands old q → Leads (Stands new) (body q) result
 
 -- the run has changed, and the rest of the body remains to be done
-pub record Goes (places : List PlaceType) (whole rest : Body Reference) (old now : Running) : Type 0 where
-  pub each : (q : runs.Running Reference) → Stands places old q → (p : runs.Running Reference) × (whole q ≡ rest p) × Stands places now p
+pub record Goes (whole rest : Body Reference) (old now : Running) : Type 0 where
+  pub each : (q : runs.Running Reference) → Stands old q → (p : runs.Running Reference) × (whole q ≡ rest p) × Stands now p
 
 -- one iteration is taken off those left, and nothing else changes; or none is left
 pub record TakesTurn (old new : Running) : Type 0 where
@@ -73,23 +67,14 @@ abbrev pub Says : {A B : Type 0} → (B → A) → Answer Fault A → Result B R
 Says view o (Ok b) = o ≡ Gives (view b)
 Says view o (Err e) = Ends o e
 
-pub record Tests (places : List PlaceType) (condition : runs.Running Reference → Answer Fault Bool) (r : Running) (result : Result Bool RunFault) : Type 0 where
-  pub each : (q : runs.Running Reference) → Stands places r q → Says (λ b. b) (condition q) result
+pub record Tests (condition : runs.Running Reference → Answer Fault Bool) (r : Running) (result : Result Bool RunFault) : Type 0 where
+  pub each : (q : runs.Running Reference) → Stands r q → Says (λ b. b) (condition q) result
 
-pub record Limits (places : List PlaceType) (world : World Reference) (t : Tree Reference) (r : Running) (result : Result ℕ RunFault) : Type 0 where
-  pub each : (q : runs.Running Reference) → Stands places r q → Says Some (blaming Evaluation (limit_of world q.state (Some t))) result
+pub record Limits (world : World Reference) (t : Tree Reference) (r : Running) (result : Result ℕ RunFault) : Type 0 where
+  pub each : (q : runs.Running Reference) → Stands r q → Says Some (blaming Evaluation (limit_of world q.state (Some t))) result
 
 -- ---- the iterations of FOREACH
 
--- the values have the type of the place
-pub record IsGoneOver (places : List PlaceType) (place : ℕ) (o : Answer Fault (List (Base × Val))) (r : Rounds) : Type 0 where
-  pub base : BaseType
-  pub held : slice_get places place ≡ Some (held.Variable base)
-  pub gives : o ≡ Gives (with_base (base_of base) (values_of r))
-
-abbrev pub GivesRounds : List PlaceType → ℕ → Answer Fault (List (Base × Val)) → Result Rounds RunFault → Type 0
-GivesRounds places place o (Ok r) = IsGoneOver places place o r
-GivesRounds places place o (Err e) = Ends o e
-
-pub record GoesOver (places : List PlaceType) (world : World Reference) (place : ℕ) (over : Over Reference) (r : Running) (result : Result Rounds RunFault) : Type 0 where
-  pub each : (q : runs.Running Reference) → Stands places r q → GivesRounds places place (blaming Evaluation (gone_over (seen world q.state) over)) result
+-- the values are those of the definitions, with their type
+pub record GoesOver (world : World Reference) (over : Over Reference) (r : Running) (result : Result Rounds RunFault) : Type 0 where
+  pub each : (q : runs.Running Reference) → Stands r q → Says rounds_in (blaming Evaluation (gone_over (seen world q.state) over)) result

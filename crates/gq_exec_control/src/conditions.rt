@@ -27,7 +27,7 @@ pub fn truth(
     frame: &Frame,
 ) -> Result<bool, RunFault>
     requires { AreSound frame.now.accums }
-    ensures { Reads context.now.plan.places itself (λ s. blaming Evaluation (truth_of (seen (world_on gregorian context.now) s) (view condition.now))) frame.now result }
+    ensures { Reads itself (λ s. blaming Evaluation (truth_of (seen (world_on gregorian context.now) s) (view condition.now))) frame.now result }
 {
     or_fault(truth_over(alloc, context, condition, frame))
 }

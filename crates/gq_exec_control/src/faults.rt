@@ -6,8 +6,7 @@ use crate::running::RunFault;
 use gq_eval_context::BlockFault;
 use gq_eval_operand::Halt;
 
-/// Converts the fault of an evaluation to that of a run. `Outside`, of which nothing is promised, becomes
-/// `OutOfMemory`.
+/// Converts the fault of an evaluation to that of a run.
 pub fn or_fault<T>(told: Result<T, Halt>) -> Result<T, RunFault>
     ensures { result ≡ faults_of told }
 {
@@ -24,7 +23,7 @@ pub fn run_fault(halt: Halt) -> RunFault
     match halt {
         Halt::Wrong(fault) => RunFault::Eval(fault),
         Halt::Stuck => RunFault::Stuck,
-        Halt::Outside | Halt::OutOfMemory => RunFault::OutOfMemory,
+        Halt::OutOfMemory => RunFault::OutOfMemory,
     }
 }
 

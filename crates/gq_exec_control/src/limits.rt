@@ -30,7 +30,7 @@ pub fn limit(
     frame: &Frame,
 ) -> Result<u64, RunFault>
     requires { AreSound frame.now.accums }
-    ensures { Reads context.now.plan.places Some (λ s. blaming Evaluation (limit_of (world_on gregorian context.now) s (Some (view limit.now)))) frame.now result }
+    ensures { Reads Some (λ s. blaming Evaluation (limit_of (world_on gregorian context.now) s (Some (view limit.now)))) frame.now result }
 {
     or_fault(limit_over(alloc, context, limit, frame))
 }

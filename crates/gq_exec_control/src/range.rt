@@ -1,80 +1,62 @@
 // Ranges of numbers.
 ghost use Rattle.std.specs.Prelude.{pos};
-ghost use Rattle.gq_value.specs.AccumViews.{base_of};
 ghost use Rattle.gq_value.specs.declared.kind.Number.TheVariants as number;
 ghost use Rattle.gq_rules_meaning.specs.Expressions.{value_of};
 ghost use Rattle.gq_rules_meaning.specs.Statements.{between, end_of};
 ghost use Rattle.gq_plan_ir.specs.ExprView.{view};
 ghost use Rattle.gq_eval_operand.specs.Meant.{Tells, itself, valued};
-ghost use Rattle.gq_exec_control.specs.Rounds.{between_as, both_ends, rounds_in};
+ghost use Rattle.gq_exec_control.specs.Rounds.{between_as, both_ends};
+ghost use Rattle.gq_exec_control.specs.Values.{rounds_in};
 
 use crate::running::Rounds;
 use gq_eval::run_value;
 use gq_eval_operand::{Halt, Operand, Sees, converted_to, is_unsigned, number};
 use gq_plan_ir::Expr;
-use gq_value::{BaseType, Number, Value};
+use gq_value::{Number, Value};
 use std::alloc::Global;
 
-/// Returns the numbers from one to another, including both. They are UINT if both ends are, else INT. A place of
-/// another type is `OutOfMemory`.
+/// Returns the numbers from one to another, including both. They are UINT if both ends are, else INT.
 #[tactic(auto, using(crate::proofs::RangeLemmas::range_laws))]
 pub(crate) fn range<V: Sees>(
     first: &Expr,
     last: &Expr,
-    base: &BaseType,
     alloc: Global,
     sight: &V,
 ) -> Result<Rounds, Halt>
-    ensures { Tells (rounds_in (base_of base.now)) (both_ends (value_of (V.look sight.now) (view first.now)) (value_of (V.look sight.now) (view last.now))) result }
+    ensures { Tells rounds_in (both_ends (value_of (V.look sight.now) (view first.now)) (value_of (V.look sight.now) (view last.now))) result }
 {
     let first = run_value(first, alloc, sight)?;
     let last = run_value(last, alloc, sight)?;
-    between(base, &first, &last)
+    between(&first, &last)
 }
 
 #[tactic(auto, using(crate::proofs::RangeLemmas::both_laws))]
-fn between(base: &BaseType, first: &Operand<'_>, last: &Operand<'_>) -> Result<Rounds, Halt>
-    ensures { Tells (rounds_in (base_of base.now)) (between (valued first.now) (valued last.now)) result }
+fn between(first: &Operand<'_>, last: &Operand<'_>) -> Result<Rounds, Halt>
+    ensures { Tells rounds_in (between (valued first.now) (valued last.now)) result }
 {
     if is_unsigned(first) && is_unsigned(last) {
-        uints(base, first, last)
+        uints(first, last)
     } else {
-        ints(base, first, last)
+        ints(first, last)
     }
 }
 
-#[tactic(auto, using(gq_eval_operand::proofs::ConvertLemmas::base_laws, crate::proofs::RangeLemmas::int_laws))]
-fn ints(base: &BaseType, first: &Operand<'_>, last: &Operand<'_>) -> Result<Rounds, Halt>
-    ensures { Tells (rounds_in (base_of base.now)) (between_as number.Int (valued first.now) (valued last.now)) result }
+#[tactic(auto, using(crate::proofs::RangeLemmas::int_laws))]
+fn ints(first: &Operand<'_>, last: &Operand<'_>) -> Result<Rounds, Halt>
+    ensures { Tells rounds_in (between_as number.Int (valued first.now) (valued last.now)) result }
 {
-    match base {
-        BaseType::Int => {
-            let first = int_end(first)?;
-            let last = int_end(last)?;
-            Ok(Rounds::Ints(first, last))
-        }
-        BaseType::UInt | BaseType::Bool | BaseType::Text | BaseType::Time => Err(Halt::OutOfMemory),
-        BaseType::AnyVertex | BaseType::VertexOf(_) | BaseType::Tuple(_, _) => Err(
-            Halt::OutOfMemory,
-        ),
-    }
+    let first = int_end(first)?;
+    let last = int_end(last)?;
+    Ok(Rounds::Ints(first, last))
 }
 
-#[tactic(auto, using(gq_eval_operand::proofs::ConvertLemmas::base_laws, crate::proofs::RangeLemmas::uint_laws))]
-fn uints(base: &BaseType, first: &Operand<'_>, last: &Operand<'_>) -> Result<Rounds, Halt>
-    ensures { Tells (rounds_in (base_of base.now)) (between_as number.UInt (valued first.now) (valued last.now)) result }
+#[tactic(auto, using(crate::proofs::RangeLemmas::uint_laws))]
+fn uints(first: &Operand<'_>, last: &Operand<'_>) -> Result<Rounds, Halt>
+    ensures { Tells rounds_in (between_as number.UInt (valued first.now) (valued last.now)) result }
 {
-    match base {
-        BaseType::UInt => {
-            let first = uint_end(first)?;
-            let last = uint_end(last)?;
-            Ok(Rounds::UInts(first, last))
-        }
-        BaseType::Int | BaseType::Bool | BaseType::Text | BaseType::Time => Err(Halt::OutOfMemory),
-        BaseType::AnyVertex | BaseType::VertexOf(_) | BaseType::Tuple(_, _) => Err(
-            Halt::OutOfMemory,
-        ),
-    }
+    let first = uint_end(first)?;
+    let last = uint_end(last)?;
+    Ok(Rounds::UInts(first, last))
 }
 
 /// Evaluates an end, converted to INT.

@@ -1,15 +1,16 @@
 // A run, and why it ends.
 ghost use Rattle.std.specs.Prelude.{◌≡◌, IfOk, pos, slice_get};
 ghost use Rattle.std.specs.Option.{option_map};
+ghost use Rattle.gq_value.specs.AccumViews.{base_of};
 ghost use Rattle.gq_value.specs.Views.{val};
 ghost use Rattle.gq_value.specs.declared.kind.Number.TheVariants as number;
 ghost use Rattle.gq_rules_meaning.specs.Statements.{numbers_between};
-ghost use Rattle.gq_exec_control.specs.Values.{values_of};
+ghost use Rattle.gq_exec_control.specs.Values.{base_in, values_of};
 
 use gq_base::{List, OutOfMemory};
 use gq_frame::Live;
 use gq_json::Printed;
-use gq_value::{Row, Value, Wrong};
+use gq_value::{BaseType, Row, Value, Wrong};
 use std::alloc::Global;
 
 /// The live data of a run, the iterations left, and what was printed, an object for each PRINT.
@@ -51,10 +52,10 @@ impl From<OutOfMemory> for RunFault {
     }
 }
 
-/// What FOREACH iterates over: values, or numbers including both ends.
+/// What FOREACH iterates over: values of a type, or numbers including both ends.
 #[derive(Drop)]
 pub enum Rounds {
-    Elements(Row),
+    Elements(BaseType, Row),
     Ints(i64, i64),
     UInts(u64, u64),
 }
@@ -65,12 +66,24 @@ impl Rounds {
         ensures { IfOk result (λ value. slice_get (values_of self.now) round ≡ option_map val value) }
     {
         match self {
-            Rounds::Elements(row) => match row.as_slice().get(round as usize) {
+            Rounds::Elements(_, row) => match row.as_slice().get(round as usize) {
                 Some(value) => Ok(Some(value.duplicate(alloc)?)),
                 None => Ok(None),
             },
             Rounds::Ints(first, last) => Ok(int_at(*first, *last, round)),
             Rounds::UInts(first, last) => Ok(uint_at(*first, *last, round)),
+        }
+    }
+
+    /// Returns the type of the values.
+    #[tactic(auto, using(gq_eval_operand::proofs::ConvertLemmas::base_laws))]
+    pub fn base(&self, alloc: Global) -> Result<BaseType, OutOfMemory>
+        ensures { IfOk result (λ base. base_of base ≡ base_in self.now) }
+    {
+        match self {
+            Rounds::Elements(base, _) => Ok(base.duplicate(alloc)?),
+            Rounds::Ints(_, _) => Ok(BaseType::Int),
+            Rounds::UInts(_, _) => Ok(BaseType::UInt),
         }
     }
 }

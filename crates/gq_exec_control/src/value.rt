@@ -47,7 +47,7 @@ pub(crate) fn first_value(
     frame: &Frame,
 ) -> Result<Value, RunFault>
     requires { AreSound frame.now.accums }
-    ensures { Reads context.now.plan.places val (λ s. blaming Evaluation (local_value (seen (world_on gregorian context.now) s) (base_of base.now) (option_map view local.now))) frame.now result }
+    ensures { Reads val (λ s. blaming Evaluation (local_value (seen (world_on gregorian context.now) s) (base_of base.now) (option_map view local.now))) frame.now result }
 {
     or_fault(value_over(local, base, alloc, context, frame))
 }

@@ -1,11 +1,18 @@
 -- PlaceLemmas: parts of a list, and lists with one item replaced.
-use Rattle.std.proofs.Common.{◌≡◌, ℕ, zero, suc, ◌+◌, ◌<◌, ◌≤◌, List, [], ◌∷◌, take, drop, length, set, get_or, slice_get, Some, None, refl, sym, ap, ◌∙◌, arith}
+use Rattle.std.proofs.Common.{◌≡◌, ℕ, zero, suc, ◌+◌, ◌<◌, ◌≤◌, List, [], ◌∷◌, take, drop, length, set, get_or, slice_get, Option, Some, None, Result, Ok, Err, IfOk, IfSome, refl, sym, ap, subst, ◌∙◌, arith}
 
 pub same_some : {A : Type 0} {a b : A} → Some a ≡ Some b → a ≡ b
 same_some h = cc
 
 pub none_apart : {A P : Type 0} (x : A) → None ≡ Some x → P
 none_apart x h = absurd (cc h)
+
+-- what holds of what was found holds of what is needed
+module _ {A E : Type 0} (P : A → Type 0) where
+  pub if_needed : (o : Option A) (r : Result A E) → IfSome o P → IfOk r (λ x. o ≡ Some x) → IfOk r P
+  if_needed (Some y) (Ok x) h e = subst P (same_some e) h
+  if_needed None (Ok x) h e = none_apart x e
+  if_needed o (Err e) h is = tt
 
 module _ {A : Type 0} where
   pub take_set_front : (xs : List A) (v t : ℕ) (d : A) → v < t → take t (set xs v d) ≡ set (take t xs) v d

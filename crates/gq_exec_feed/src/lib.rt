@@ -20,4 +20,4 @@ pub use feed::{feed_all, feed_one};
 pub use fits::{first_unfit, slot_number};
 pub use inputs::{suits, takes};
 pub use ints::feed_ints;
-pub use targets::place;
+pub use targets::{needed, place};

@@ -1,5 +1,6 @@
 -- ChangeLemmas: accumulators with another content at a target, as the definitions have them.
-use Rattle.std.proofs.Common.{◌≡◌, ℕ, zero, suc, ◌+◌, ◌<◌, ◌&&◌, Bool, true, List, [], ◌∷◌, take, drop, map, length, set, slice_get, slice_set, Some, refl, sym, ap, ap₂, ◌∙◌, subst, arith}
+use Rattle.std.proofs.Common.{◌≡◌, ℕ, zero, suc, ◌+◌, ◌<◌, ◌≤◌, ◌&&◌, Bool, true, List, [], ◌∷◌, take, drop, map, length, set, slice_get, slice_set, Some, refl, sym, ap, ap₂, ◌∙◌, subst, arith}
+use Rattle.std.proofs.lemmas.List.{length-map}
 use Rattle.gq_value.specs.declared.kind.Input.{Input}
 use Rattle.gq_value.specs.declared.kind.Slot.{Slot}
 use Rattle.gq_value.specs.declared.value.Value.{Value}
@@ -27,7 +28,7 @@ use Rattle.gq_eval_operand.specs.Sound.{HoldsForms, IsSound}
 use Rattle.gq_frame.specs.Slots.{AreSound, slot_seen, slots_from, slots_are}
 use Rattle.gq_exec_feed.proofs.CopyLemmas.{copied_sound}
 use Rattle.gq_exec_feed.proofs.FormLemmas.{forms_after}
-use Rattle.gq_exec_feed.proofs.PlaceLemmas.{same_some, none_apart, take_set_front, drop_set_front, take_set_behind, drop_set_behind, taken_get, get_dropped}
+use Rattle.gq_exec_feed.proofs.PlaceLemmas.{same_some, none_apart, length_taken, length_dropped, take_set_front, drop_set_front, take_set_behind, drop_set_behind, taken_get, get_dropped}
 use Rattle.gq_exec_feed.proofs.SlotLemmas.{Every, EachSlot, EachTarget, seen_in, with_contents, slots_of_targets, targets_of_slots}
 use Rattle.gq_exec_post.specs.declared.making.Made.{Made}
 use Rattle.gq_exec_post.specs.declared.making.Made.TheVariants as made
@@ -182,6 +183,43 @@ judged_whole : (k : Accum) (h : Holds k) (m : Made) → IsProper k h → fits k 
 judged_whole k h (made.Input x) proper fit = still_fits k h (given x) proper fit
 judged_whole k h (made.Value v) proper fit = refl
 
+-- ---- a content that isn't there
+
+changed_past : {A : Type 0} (f : A → A) (i : ℕ) (xs : List A) → length xs ≤ i → changed_at f i xs ≡ xs
+changed_past f i [] l = refl
+changed_past f zero (x ∷ xs) l = absurd (omega (arith, l))
+changed_past f (suc i) (x ∷ xs) l = ap (λ ys. x ∷ ys) (changed_past f i xs (omega (arith, l)))
+
+passes_past : {A : Type 0} (p : A → Bool) (i : ℕ) (xs : List A) → length xs ≤ i → passes_at p i xs ≡ true
+passes_past p i [] l = refl
+passes_past p zero (x ∷ xs) l = absurd (omega (arith, l))
+passes_past p (suc i) (x ∷ xs) l = passes_past p i xs (omega (arith, l))
+
+module _ (vertices v : ℕ) (f : Making) where
+  slot_stays : (n : ℕ) (r : Slot) (cs : List Content) → length cs ≤ v → slot_changed f v (slot_seen n r cs) ≡ slot_seen n r cs
+  slot_stays n r cs l = ap (with_contents n r) (changed_past (f (accum_of r.kind)) v (map (seen_in (accum_of r.kind)) cs) (let m = length-map cs (seen_in (accum_of r.kind)) in omega (arith, l, m)))
+
+  slot_passes : (n : ℕ) (r : Slot) (cs : List Content) → length cs ≤ v → fits_at v (slot_changed f v (slot_seen n r cs)) ≡ true
+  slot_passes n r cs l = ap (fits_at v) (slot_stays n r cs l) ∙ passes_past (fits (accum_of r.kind)) v (map (seen_in (accum_of r.kind)) cs) (let m = length-map cs (seen_in (accum_of r.kind)) in omega (arith, l, m))
+
+  slots_stay : (n j : ℕ) (ss : List Slot) (s : Slot) (cs : List Content) → slice_get ss j ≡ Some s → length cs ≤ target_number vertices (attached_in ss) j v
+      → (slot : states.Slot Reference) × (slice_get (slots_from vertices n ss cs) j ≡ Some slot) × (fits_at v (slot_changed f v slot) ≡ true) × (slots_from vertices n ss cs ≡ changed_at (slot_changed f v) j (slots_from vertices n ss cs))
+  slots_stay n j [] s cs a l = none_apart s a
+  slots_stay n zero (r ∷ ss) s cs a l =
+      let short : length (take (targets_of vertices r) cs) ≤ v = let m = length_taken cs (targets_of vertices r) in omega (arith, l, m) in
+      (slot_seen n r (take (targets_of vertices r) cs), refl, slot_passes n r (take (targets_of vertices r) cs) short, ap (λ x. x ∷ slots_from vertices (suc n) ss (drop (targets_of vertices r) cs)) (sym (slot_stays n r (take (targets_of vertices r) cs) short)))
+  slots_stay n (suc j) (r ∷ ss) s cs a l =
+      let rest = slots_stay (suc n) j ss s (drop (targets_of vertices r) cs) a (length_dropped cs (targets_of vertices r) (target_number vertices (attached_in ss) j v) (omega (arith, l, at))) in
+      (rest.0, rest.1, rest.2, ap (λ xs. slot_seen n r (take (targets_of vertices r) cs) ∷ xs) rest.3)
+    where
+      at : target_number vertices (attached_in (r ∷ ss)) (suc j) v ≡ targets_of vertices r + target_number vertices (attached_in ss) j v
+      at = omega arith
+
+pub change_stays : (old : Accums) (n v t : ℕ) (m : Made) → AreSound old → t ≡ number_of old.slots n v → MayChange old.slots n v m → length old.contents ≤ t → Changed m old old n v true
+change_stays old n v t m sound is may past =
+    let s = slots_stay old.slots.vertices v (making_of m) 0 n old.slots.declared may.slot old.contents may.declared (omega (arith, past, is)) in
+    record { slot = s.0; stands = s.1; slots = refl; changed = s.3; judged = s.2; sound = λ e. sound }
+
 -- ---- the accumulators
 
 pub can_take : (old : Accums) (n v t : ℕ) (m : Made) → AreSound old → t ≡ number_of old.slots n v → MayChange old.slots n v m → (c : Content) → slice_get old.contents t ≡ Some c → CanTake m c
@@ -322,6 +360,6 @@ value_put m v old cs t fit c e h g judged = one_made m old cs t fit c (value_mad
 pub allows_put : (m : Made) (v : Value) (t : ℕ) (cs : List Content) → m ≡ made.Value v → ((c : Content) → slice_get cs t ≡ Some c → CanTake m c) → AllowsAt (val v) t cs
 allows_put m v t cs e h = λ c g. subst (λ (n : Made). CanTake n c) e (h c g)
 
-pub ruleset change_laws = (can_take, changed_is)
+pub ruleset change_laws = (can_take, changed_is, change_stays)
 
 pub ruleset put_laws = (input_put, value_put, allows_put, within_new)

@@ -27,7 +27,6 @@ use Rattle.gq_exec_post.specs.Making.{PutsAs, making_of, put_to}
 stops : {A B : Type 0} (o : Answer Wrong A) (f : A → Answer Wrong B) (h : Halt) → Halts o h → Halts (o >>= f) h
 stops o f (halt.Wrong w) e = ap (λ p. p >>= f) e
 stops o f halt.Stuck e = ap (λ p. p >>= f) e
-stops o f halt.Outside e = tt
 stops o f halt.OutOfMemory e = tt
 
 module _ {N : Type 0} (look : Look N) (k : Accum) where

@@ -36,7 +36,7 @@ named_alias : (e : End) (v : ℕ) (names : List (Reference × Thing)) (a : Optio
 named_alias e v names None h = ap (λ (o : Option ℕ). aliases_named (one_alias (end_things (record e { alias = o }) v)) ++ names) h
 named_alias e v names (Some p) h = ap (λ (o : Option ℕ). aliases_named (one_alias (end_things (record e { alias = o }) v)) ++ names) h
 
-module _ (clock : Calendar) (o : Over) (block : Block) (e : Ends) (s : State Reference) (shows : Shows o.plan.places o.frame s) (has : HasEnds o.schema o.plan o.frame.things block e) where
+module _ (clock : Calendar) (o : Over) (block : Block) (e : Ends) (s : State Reference) (shows : Shows o.frame s) (has : HasEnds o.schema o.plan o.frame.things block e) where
   are : AreEnds e (from (world_over clock o) s.names (view_block block))
   are = has.each (accum_names o.plan) (tuples_are o.tuples) o.vertices o.edges.rows clock s.names shows.names
 
@@ -73,6 +73,6 @@ module _ (clock : Calendar) (o : Over) (block : Block) (e : Ends) (s : State Ref
 
 pub post_told : (clock : Calendar) (o : Over) (block : Block) (e : Ends) (after : After) (selects : Bool) (slice : List code_act.Act) (r : Result After code.BlockFault) → slice ≡ block.post → HasEnds o.schema o.plan o.frame.things block e
     → selects ≡ is_alias same (target_alias (view_block block).walk) (view_block block).selected → RunsPhases clock o e selects (view_acts slice) after r
-    → (s : State Reference) → Shows o.plan.places o.frame s → Answered after_is (posted (world_over clock o) s (view_block block) (after_is after)) r
+    → (s : State Reference) → Shows o.frame s → Answered after_is (posted (world_over clock o) s (view_block block) (after_is after)) r
 post_told clock o block e after selects slice r lent has is runs s shows =
     post_is clock o block e s shows has selects after r is (subst (λ acts. RunsPhases clock o e selects (view_acts acts) after r) lent runs)

@@ -56,7 +56,6 @@ module _ (look : Look Reference) (a : Accums) (n : ℕ) (x : plain.Input Referen
   halts_on : (o : Answer Wrong Given) (h : Halt) → Halts o h → Halts (o >>= one_more n) h
   halts_on o (halt.Wrong v) e = ap (λ o. o >>= one_more n) e
   halts_on o halt.Stuck e = ap (λ o. o >>= one_more n) e
-  halts_on o halt.Outside e = tt
   halts_on o halt.OutOfMemory e = tt
 
   pub input_there : (s : Slot) (r : Result Input Halt) → slice_get a.slots.declared n ≡ Some s → Tells given (input_of look (accum_of s.kind) x) r

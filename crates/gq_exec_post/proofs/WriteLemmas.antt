@@ -74,7 +74,6 @@ module _ (clock : Calendar) (o : Over) (aliases : List (ℕ × Placed)) (n v : �
   halts_so : (h : Halt) → Halts (made_at look before.accums.slots n c) h → DoesSo clock o aliases v (λ p. write p (reference.Slot n) c) before (Err (fault_at v h))
   halts_so (halt.Wrong x) m = record { each = λ p h. write_is p h ∙ ap (after_write v (written before)) (faults x (slice_get before.accums.slots.declared n) refl m) }
   halts_so halt.Stuck m = record { each = λ p h. write_is p h ∙ ap (after_write v (written before)) (change_sticks look before.accums n v c refl m) }
-  halts_so halt.Outside m = record { each = λ p h. tt }
   halts_so halt.OutOfMemory m = record { each = λ p h. tt }
 
   pub write_stops : (h : Halt) (e : code.BlockFault) → Halts (made_at look before.accums.slots n c) h → e ≡ fault_at v h → DoesSo clock o aliases v (λ p. write p (reference.Slot n) c) before (Err e)

@@ -1,5 +1,5 @@
 // Applies changes to accumulators.
-ghost use Rattle.std.specs.Prelude.{◌≡◌, IfOk, IfSome, OnOk, Some, slice_get, true, false};
+ghost use Rattle.std.specs.Prelude.{◌≡◌, ◌<◌, IfOk, IfSome, OnOk, Some, length, slice_get, true, false};
 ghost use Rattle.gq_value.specs.AccumViews.{accum_of};
 ghost use Rattle.gq_nest.specs.declared.content.Content as content;
 ghost use Rattle.gq_nest.specs.Tells.{is_settable};
@@ -10,7 +10,7 @@ ghost use Rattle.gq_exec_post.specs.Changing.{CanTake, Changed, ChangesOne, MayC
 use crate::judging::still_fits;
 use crate::making::Made;
 use gq_base::OutOfMemory;
-use gq_exec_feed::{suits, takes};
+use gq_exec_feed::{needed, suits, takes};
 use gq_frame::{Accums, Slots};
 use gq_value::Kind;
 use std::alloc::Global;
@@ -24,8 +24,7 @@ pub enum ChangeFault {
 }
 
 /// Changes the accumulator of a slot at a vertex, which is 0 for a global one, and checks the changed part of its
-/// content. After a fault that content is unspecified. Also returns `OutOfMemory` if the vertex has no such
-/// accumulator, or its kind doesn't take the change.
+/// content. After a fault that content is unspecified. The change has a target that takes it.
 #[tactic(auto, using(crate::proofs::ChangeLemmas::change_laws))]
 pub fn change_at(
     alloc: Global,
@@ -39,17 +38,30 @@ pub fn change_at(
     ensures too_big { result ≡ Err ChangeFault.TooBig → Changed made.now accums.old accums.new slot vertex false }
 {
     match place(&accums.slots, slot, vertex, made) {
-        None => Err(ChangeFault::OutOfMemory),
-        Some(target) => match put_in(alloc, accums, target, made) {
-            Err(_) => Err(ChangeFault::OutOfMemory),
-            Ok(true) => Ok(()),
-            Ok(false) => Err(ChangeFault::TooBig),
-        },
+        Err(_) => Err(ChangeFault::OutOfMemory),
+        Ok(target) => {
+            // A content that isn't there stays so.
+            if target >= accums.contents.len() as u64 {
+                return Ok(());
+            }
+            match put_in(alloc, accums, target, made) {
+                Err(_) => Err(ChangeFault::OutOfMemory),
+                Ok(true) => Ok(()),
+                Ok(false) => Err(ChangeFault::TooBig),
+            }
+        }
     }
 }
 
+/// The number of the target, whose kind takes the change.
+fn place(slots: &Slots, slot: u32, vertex: u32, made: &Made) -> Result<u64, OutOfMemory>
+    ensures { IfOk result (λ target. (target ≡ number_of slots.now slot vertex) × MayChange slots.now slot vertex made.now) }
+{
+    needed(found(slots, slot, vertex, made))
+}
+
 /// The number of the target, if it exists and its kind takes the change.
-fn place(slots: &Slots, slot: u32, vertex: u32, made: &Made) -> Option<u64>
+fn found(slots: &Slots, slot: u32, vertex: u32, made: &Made) -> Option<u64>
     ensures { IfSome result (λ target. (target ≡ number_of slots.now slot vertex) × MayChange slots.now slot vertex made.now) }
 {
     match slots.declared.get(slot as usize) {
@@ -91,12 +103,10 @@ fn is_settable(kind: &Kind) -> bool
 /// Applies the change to a target, and returns whether the changed part fits.
 #[tactic(auto, using(crate::proofs::ChangeLemmas::put_laws))]
 fn put_in(alloc: Global, accums: &mut Accums, target: u64, made: &Made) -> Result<bool, OutOfMemory>
-    requires { (c : content.Content) → slice_get accums.old.contents target ≡ Some c → CanTake made.now c }
+    requires there { target < length accums.old.contents }
+    requires takes { (c : content.Content) → slice_get accums.old.contents target ≡ Some c → CanTake made.now c }
     ensures { IfOk result (ChangesOne made.now accums.old accums.new target) }
 {
-    if target >= accums.contents.len() as u64 {
-        return Err(OutOfMemory);
-    }
     match made {
         Made::Input(input) => {
             accums.contents.feed(alloc, target as usize, input)?;

@@ -8,15 +8,15 @@ ghost use Rattle.gq_exec_post.specs.Feeding.{IsBatch, IsJudged};
 ghost use Rattle.gq_exec_post.specs.Writing.{KeepsTo, waiting_are};
 
 use crate::writing::{Waiting, Writing};
-use gq_base::{List, OutOfMemory};
+use gq_base::{List, OutOfMemory, within};
 use gq_eval_context::BlockFault;
 use gq_exec_feed::{feed_all, first_unfit, place};
 use gq_frame::{Accums, Slots};
 use gq_value::Input;
 use std::alloc::Global;
 
-/// The number of waiting inputs must be below this.
-const MOST_WAITING: usize = 1 << 60;
+/// The most inputs that may wait.
+const MOST_WAITING: usize = (1 << 60) - 1;
 
 /// Feeds all waiting inputs. Fails with the first accumulator whose sum is out of range.
 pub(crate) fn fed(alloc: Global, writing: Writing) -> Result<Accums, BlockFault>
@@ -45,8 +45,7 @@ fn judged(alloc: Global, mut accums: Accums) -> Result<Accums, BlockFault>
     }
 }
 
-/// The waiting inputs as a batch, each with the number of its target. Also returns `OutOfMemory` if a target doesn't
-/// exist, and from 2^60 inputs on.
+/// The waiting inputs as a batch, each with the number of its target.
 #[tactic(auto, using(crate::proofs::FeedingLemmas::batch_laws))]
 fn batch_of(
     alloc: Global,
@@ -55,17 +54,13 @@ fn batch_of(
 ) -> Result<List<(u64, Input)>, OutOfMemory>
     ensures { IfOk result (IsBatch slots.now waiting.items) }
 {
-    if waiting.len() >= MOST_WAITING {
-        return Err(OutOfMemory);
-    }
+    within(waiting.len(), MOST_WAITING)?;
     let mut batch = List::new(alloc);
     let mut left = waiting;
     left.reverse();
     while let Some(one) = left.pop() {
-        match place(slots, one.slot, 0, &one.input) {
-            None => return Err(OutOfMemory),
-            Some(target) => batch.push((target, one.input))?,
-        }
+        let target = place(slots, one.slot, 0, &one.input)?;
+        batch.push((target, one.input))?;
     }
     Ok(batch)
 }

@@ -38,7 +38,7 @@ pub fn post(
 ) -> Result<After, BlockFault>
     requires sound { AreSound after.accums }
     requires ends { HasEnds over.now.schema over.now.plan over.now.frame.things block.now ends.now }
-    ensures told { (s : State Reference) → Shows over.now.plan.places over.now.frame s → Answered after_is (posted (world_over gregorian over.now) s (view_block block.now) (after_is after)) result }
+    ensures told { (s : State Reference) → Shows over.now.frame s → Answered after_is (posted (world_over gregorian over.now) s (view_block block.now) (after_is after)) result }
     ensures keeps { IfOk result (KeepsAll after) }
 {
     let selects = selects_target(block);

@@ -52,8 +52,8 @@ module _ (schema : Schema) (p : Plan) (accums : List Bytes) (tuples : List (Refe
       go None e = rw e refl
       go (Some u) e = rw e refl
 
-  from_is : (things : List (Option Thing)) (names : List (Reference × states.Thing)) → ((x : Reference) → under same x names ≡ thing_for p.places things x) → (s : SelectSource) → types_from p things s ≡ (source_of world names (view_source s)).0
-  from_is things names alike (source.Set place) = set_is names place (thing_in p.places things place) (alike (Place place))
+  from_is : (things : List (Option Thing)) (names : List (Reference × states.Thing)) → ((x : Reference) → under same x names ≡ thing_for things x) → (s : SelectSource) → types_from p things s ≡ (source_of world names (view_source s)).0
+  from_is things names alike (source.Set place) = set_is names place (thing_in things place) (alike (Place place))
   from_is things names alike (source.Type t) = type_is names t (alike (VertexType t))
 
 pub ends_are : (schema : Schema) (p : Plan) (things : List (Option Thing)) (block : Block) (e : Ends) → e.source.alias ≡ block.alias → e.source.types ≡ types_from p things block.source

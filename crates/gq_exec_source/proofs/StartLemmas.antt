@@ -159,7 +159,7 @@ from_hop o block ends set hop cs has e is = record {
     pattern : Pattern
     pattern = record { edges = types_in o.plan.edges hop.edges; targets = ends.target.types }
 
-    same : (clock : Calendar) (s : State Reference) → Shows o.plan.places o.frame s → pattern ≡ hop_pattern (setting (world_over clock o)) (view_hop hop)
+    same : (clock : Calendar) (s : State Reference) → Shows o.frame s → pattern ≡ hop_pattern (setting (world_over clock o)) (view_hop hop)
     same clock s shows = ap₂ (λ es ts. record { edges = es; targets = ts }) (sym (types_are clock o hop.edges))
         ((has.each (accum_names o.plan) (tuples_are o.tuples) o.vertices o.edges.rows clock s.names shows.names).target_types ∙ ap (λ w. Rattle.gq_rules_typing.specs.Patterns.end_types (setting (world_over clock o)) (view_walk w)) e)
 
@@ -171,11 +171,11 @@ no_set_listed (Some thing) h = refl
 
 -- the vertices that a block starts from, whatever state the frame shows
 pub record Begins (o : Over) (block : Block) (set : List ℕ) : Type 0 where
-  pub each : (clock : Calendar) (s : State Reference) → Shows o.plan.places o.frame s → set ≡ (from (world_over clock o) s.names (view_block block)).start
+  pub each : (clock : Calendar) (s : State Reference) → Shows o.frame s → set ≡ (from (world_over clock o) s.names (view_block block)).start
 
-pub begins_set : (o : Over) (block : Block) (n : ℕ) (set : List ℕ) → block.source ≡ source.Set n → set ≡ listed_at (thing_in o.plan.places o.frame.things n) → Begins o block set
+pub begins_set : (o : Over) (block : Block) (n : ℕ) (set : List ℕ) → block.source ≡ source.Set n → set ≡ listed_at (thing_in o.frame.things n) → Begins o block set
 begins_set o block n set e is = record {
-  each = λ clock s shows. is ∙ sym (start_place clock o s.names n (thing_in o.plan.places o.frame.things n) (shows.names (Place n)))
+  each = λ clock s shows. is ∙ sym (start_place clock o s.names n (thing_in o.frame.things n) (shows.names (Place n)))
       ∙ ap (λ q. (source_of (world_over clock o) s.names (Rattle.gq_plan_ir.specs.BlockView.view_source q)).1) (sym e);
 }
 

@@ -40,5 +40,5 @@ pub record AreEnds (e : Ends) (f : From Reference) : Type 0 where
 -- for all rows of the graph, and all names that show the contents of the places
 pub record HasEnds (schema : Schema) (p : Plan) (things : List (Option Thing)) (block : Block) (e : Ends) : Type 0 where
   pub each : (accums : List Bytes) (tuples : List (Reference × Fields)) (vertices : List VertexRow) (edges : List EdgeRow) (clock : Calendar) (names : List (Reference × states.Thing))
-      → ((x : Reference) → under same x names ≡ thing_for p.places things x)
+      → ((x : Reference) → under same x names ≡ thing_for things x)
       → AreEnds e (from (world_of accums tuples (graph_of schema (Some (record { name = []; vertices = p.vertices; edges = p.edges })) vertices edges) clock) names (view_block block))

@@ -36,5 +36,5 @@ set_types o = []
 
 -- the types of the set at a place, or the type of the graph
 abbrev pub types_from : Plan → List (Option Thing) → SelectSource → List ℕ
-types_from p things (source.Set place) = set_types (thing_in p.places things place)
+types_from p things (source.Set place) = set_types (thing_in things place)
 types_from p things (source.Type t) = option_to_list (own_of p.vertices t)

@@ -46,22 +46,22 @@ pub record IsWithin (n : ℕ) (c : Candidate) : Type 0 where
 
 -- the candidates from a set, in every state that the frame shows; along a path at most as many as allowed
 pub record AreFrom (o : Over) (block : Block) (set : List ℕ) (cs : List Candidate) : Type 0 where
-  pub each : (clock : Calendar) (s : State Reference) → Shows o.plan.places o.frame s → cs ≡ candidates_of (world_over clock o) set (view_walk block.walk)
+  pub each : (clock : Calendar) (s : State Reference) → Shows o.frame s → cs ≡ candidates_of (world_over clock o) set (view_walk block.walk)
   pub within : All (IsWithin (length o.vertices)) cs
   pub bounded : within_bound (view_walk block.walk) cs ≡ true
 
 -- from a set there are more bindings than a path may have
 pub record FromTooMany (o : Over) (block : Block) (set : List ℕ) : Type 0 where
-  pub each : (clock : Calendar) (s : State Reference) → Shows o.plan.places o.frame s → within_bound (view_walk block.walk) (candidates_of (world_over clock o) set (view_walk block.walk)) ≡ false
+  pub each : (clock : Calendar) (s : State Reference) → Shows o.frame s → within_bound (view_walk block.walk) (candidates_of (world_over clock o) set (view_walk block.walk)) ≡ false
 
 -- the candidates of a block; along a path at most as many as allowed
 pub record AreCandidates (o : Over) (block : Block) (cs : List Candidate) : Type 0 where
-  pub each : (clock : Calendar) (s : State Reference) → Shows o.plan.places o.frame s
+  pub each : (clock : Calendar) (s : State Reference) → Shows o.frame s
       → cs ≡ candidates_of (world_over clock o) (from (world_over clock o) s.names (view_block block)).start (view_block block).walk
   pub within : All (IsWithin (length o.vertices)) cs
   pub bounded : within_bound (view_block block).walk cs ≡ true
 
 -- a block has more bindings than a path may have
 pub record AreTooMany (o : Over) (block : Block) : Type 0 where
-  pub each : (clock : Calendar) (s : State Reference) → Shows o.plan.places o.frame s
+  pub each : (clock : Calendar) (s : State Reference) → Shows o.frame s
       → within_bound (view_block block).walk (candidates_of (world_over clock o) (from (world_over clock o) s.names (view_block block)).start (view_block block).walk) ≡ false

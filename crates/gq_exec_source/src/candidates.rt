@@ -38,13 +38,10 @@ pub fn candidates_of<'g>(
     ensures many { result ≡ Err fault.TooMany → AreTooMany over.now block.now }
 {
     match block.source {
-        SelectSource::Set(place) => {
-            let places = over.plan.places.as_slice();
-            match set_at(places, over.frame.things.as_slice(), place) {
-                Some((_, set)) => candidates_from(alloc, block, over, ends, set),
-                None => candidates_from(alloc, block, over, ends, &VertexList::new(alloc)),
-            }
-        }
+        SelectSource::Set(place) => match set_at(over.frame.things.as_slice(), place) {
+            Some((_, set)) => candidates_from(alloc, block, over, ends, set),
+            None => candidates_from(alloc, block, over, ends, &VertexList::new(alloc)),
+        },
         SelectSource::Type(kind) => {
             let vertices = &over.graph.store.vertices;
             match vertices_of(alloc, vertices, over.plan.vertices.as_slice(), kind) {

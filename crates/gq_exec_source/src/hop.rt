@@ -9,7 +9,7 @@ ghost use Rattle.gq_exec_source.specs.Ways.{step_of, step_walks};
 
 use crate::path_types::PathStep;
 use crate::walks::walks_of;
-use gq_base::OutOfMemory;
+use gq_base::{OutOfMemory, within};
 use gq_edge::EdgeEnds;
 use gq_graph::EdgeType;
 use gq_index::{Traversal, in_order, part};
@@ -124,9 +124,7 @@ impl Hop {
         requires { All (λ w. w.source < vertices) walks.now }
         ensures { IfOk result (λ h. IsHop vertices h walks.now) }
     {
-        if walks.len() > u32::MAX as usize {
-            return Err(OutOfMemory);
-        }
+        within(walks.len(), u32::MAX as usize)?;
         let keys = sources_of(alloc, walks)?;
         let (starts, order) = in_order(alloc, &keys, vertices as usize)?;
         let walks = picked(alloc, walks, &order)?;

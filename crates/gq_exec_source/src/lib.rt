@@ -6,7 +6,7 @@
 //! Read `Sources.antt` of `gq_rules_meaning` first, then `specs/Starts.antt` (which vertices a source has,
 //! and which candidates), `specs/Ends.antt` (the types of the aliases) and `specs/Marks.antt` (bit sets).
 //! `src/candidates.rt` finds the candidates, `src/starts.rt` the starting vertices, `src/ends.rt` the types;
-//! `src/marks.rt` and `src/sets.rt` have bit sets and their operators.
+//! `src/marks.rt` has bit sets.
 //!
 //! Along a path the candidates are its bindings. Mostly the kept index has the walks of all steps: then they are looked
 //! up from vertex to vertex. A search that looks at many walks begins again once all vertices are marked from which
@@ -33,7 +33,6 @@ mod marks;
 mod path_types;
 mod paths;
 mod patterns;
-mod sets;
 mod sources;
 mod starts;
 mod types;
@@ -44,5 +43,4 @@ pub use ends::{End, Ends, ends_of, selects_target};
 pub use marks::{is_marked, listed, mark, unmarked};
 pub use path_types::{PathPattern, PathStep, PathsFault};
 pub use paths::{MOST_PATHS, Paths};
-pub use sets::{difference, intersection, union};
 pub use types::is_own;

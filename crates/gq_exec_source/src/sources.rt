@@ -8,7 +8,7 @@ use crate::types::is_own;
 use gq_base::{List, OutOfMemory};
 use gq_frame::Thing;
 use gq_graph::Numbers;
-use gq_plan_ir::{PlaceType, Plan, SelectSource};
+use gq_plan_ir::{Plan, SelectSource};
 use std::alloc::Global;
 
 /// The types of the set from which a SELECT begins, or its vertex type. A place without a set gives none.
@@ -22,12 +22,9 @@ pub(crate) fn types_from(
     ensures { IfOk result (λ l. l ≡ types_from plan.now things.now source) }
 {
     match source {
-        SelectSource::Set(place) => match plan.places.as_slice().get(place as usize) {
+        SelectSource::Set(place) => match things.get(place as usize) {
             None => Ok(List::new(alloc)),
-            Some(held) => match things.get(place as usize) {
-                None => Ok(List::new(alloc)),
-                Some(thing) => set_types(alloc, held, thing),
-            },
+            Some(thing) => set_types(alloc, thing),
         },
         SelectSource::Type(t) => one_type(alloc, plan.vertices.as_slice(), t),
     }
@@ -48,19 +45,14 @@ fn one_type(alloc: Global, own: &[u32], t: u32) -> Result<Numbers, OutOfMemory>
 }
 
 /// The types of the set at a place, if there is one.
-fn set_types(alloc: Global, held: &PlaceType, thing: &Option<Thing>) -> Result<Numbers, OutOfMemory>
-    ensures { IfOk result (λ l. l ≡ set_types (held_thing (Some held.now) (Some thing.now))) }
+fn set_types(alloc: Global, thing: &Option<Thing>) -> Result<Numbers, OutOfMemory>
+    ensures { IfOk result (λ l. l ≡ set_types (held_thing (Some thing.now))) }
 {
-    match held {
-        PlaceType::Variable(_) | PlaceType::Alias(_) | PlaceType::EdgeAlias(_) => Ok(List::new(
-            alloc,
-        )),
-        PlaceType::Set(types) => match thing {
-            None => Ok(List::new(alloc)),
-            Some(thing) => match thing {
-                Thing::Value(_) => Ok(List::new(alloc)),
-                Thing::Set(_) => List::from_slice(alloc, types.as_slice()),
-            },
+    match thing {
+        None => Ok(List::new(alloc)),
+        Some(thing) => match thing {
+            Thing::Value(_, _) => Ok(List::new(alloc)),
+            Thing::Set(types, _) => List::from_slice(alloc, types.as_slice()),
         },
     }
 }

@@ -127,7 +127,6 @@ pub so_far_stops : (whole rest next : Answer Wrong (List TypedSet)) (o : Answer 
     → SoFar whole rest start now → rest ≡ then_more o next → Halts o h → Halts (whole >>= λ sets. Gives (all_of sets)) h
 so_far_stops whole rest next o start now (halt.Wrong w) f r e = ap (λ x. x >>= λ sets. Gives (all_of sets)) (f.goes_on ∙ ap (λ x. x >>= λ more. Gives (f.sets ++ more)) (r ∙ ap (λ o. then_more o next) e))
 so_far_stops whole rest next o start now halt.Stuck f r e = ap (λ x. x >>= λ sets. Gives (all_of sets)) (f.goes_on ∙ ap (λ x. x >>= λ more. Gives (f.sets ++ more)) (r ∙ ap (λ o. then_more o next) e))
-so_far_stops whole rest next o start now halt.Outside f r e = tt
 so_far_stops whole rest next o start now halt.OutOfMemory f r e = tt
 
 pub so_far_all : (whole rest : Answer Wrong (List TypedSet)) (start now : SetBitmap) (types vertices : List ℕ)

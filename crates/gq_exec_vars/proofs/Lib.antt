@@ -3,6 +3,7 @@ pub mod SeedLemmas
 pub mod GatherLemmas
 pub mod SetLemmas
 pub mod SlotLemmas
+pub mod NumberLemmas
 pub mod ContentLemmas
 pub mod ValueLemmas
 pub mod NameLemmas

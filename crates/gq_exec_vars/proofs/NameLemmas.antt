@@ -21,23 +21,19 @@ use Rattle.gq_rules_meaning.specs.Statements.{base_of_tree}
 use Rattle.gq_rules_meaning.specs.States as states
 use Rattle.gq_rules_meaning.specs.States.{State, Variable, with_new}
 use Rattle.gq_rules_meaning.specs.Queries.{bound}
-use Rattle.gq_plan_ir.specs.declared.plan.PlaceType.{PlaceType}
-use Rattle.gq_plan_ir.specs.declared.plan.PlaceType.TheVariants as held
 use Rattle.gq_plan_ir.specs.declared.plan.Parameter.{Parameter}
 use Rattle.gq_plan_ir.specs.declared.plan.Plan.{Plan}
 use Rattle.gq_plan_ir.specs.PlanView.{view_parameter}
 use Rattle.gq_plan_ir.specs.Reference.{Reference, Place, Slot, VertexType, EdgeType, TupleType, TypeName, FieldAt, Calls, Does}
 use Rattle.gq_plan_ir.specs.References.{same}
 use Rattle.gq_eval_attributes.specs.declared.tuple_type.TupleType as fields
-use Rattle.gq_frame.specs.declared.frame.Thing.{Thing}
-use Rattle.gq_frame.specs.declared.frame.Thing.TheVariants as thing
-use Rattle.gq_frame.specs.Names.{held_thing, thing_in, thing_for}
+use Rattle.gq_frame.specs.Names.{thing_for}
 use Rattle.gq_frame.specs.Slots.{slots_are}
 use Rattle.gq_frame.specs.declared.live.Live.{Live}
 use Rattle.gq_frame.specs.Lives.{Alike, Lives, Unwinds}
 use Rattle.gq_eval_operand.specs.declared.halt.Halt.{Halt}
 use Rattle.gq_eval_operand.specs.declared.halt.Halt.TheVariants as halt
-use Rattle.gq_exec_vars.specs.Begun.{BindHalts, Binds, BoundHalts, HasNothing, IsBound, IsDeclared, KnowsTypes, no_accums, world_with}
+use Rattle.gq_exec_vars.specs.Begun.{BindHalts, Binds, BoundHalts, IsBound, IsDeclared, KnowsTypes, no_accums, world_with}
 
 -- ---- types
 
@@ -56,46 +52,22 @@ knows_own clock g plan tuples = record { each = λ t e. ap (λ b. if b then Some
 -- ---- one parameter
 
 pub binds : (plan : Plan) (parameter : Parameter) (argument copy : Value) (base : BaseType) (old new : Live)
-    → slice_get plan.places parameter.place ≡ Some (held.Variable base) → IsDeclared plan.vertices parameter.base base → copy ≡ argument
-    → ((places : List PlaceType) (s : State Reference) (t : states.Thing) → Lives places old s → held_thing (slice_get places parameter.place) (Some (Some (thing.Value copy))) ≡ Some t → Lives places new (with_new (Place parameter.place) t s))
+    → IsDeclared plan.vertices parameter.base base → copy ≡ argument
+    → ((s : State Reference) → Lives old s → Lives new (with_new (Place parameter.place) (Variable (base_of base) (val copy)) s))
     → Binds plan parameter argument old new
-binds plan parameter argument copy base old new at declared is lives = record {
+binds plan parameter argument copy base old new declared is lives = record {
   base = base;
   declared = declared;
-  lives = λ s l.
-      lives plan.places s (Variable (base_of base) (val argument)) l
-      (ap (λ o. held_thing o (Some (Some (thing.Value copy)))) at ∙ ap (λ v. Some (Variable (base_of base) (val v))) is);
+  lives = λ s l. subst (λ v. Lives new (with_new (Place parameter.place) (Variable (base_of base) (val v)) s)) is (lives s l);
 }
 
 -- ---- none yet
 
-nothing_there : (places : List PlaceType) (things : List (Option Thing)) → HasNothing things → (n : ℕ) → thing_in places things n ≡ None
-nothing_there places things h n = by_entry (slice_get things n) refl
+alike_none : Alike [] []
+alike_none = record { each = each }
   where
-    none_held : (o : Option PlaceType) → held_thing o None ≡ None
-    none_held None = refl
-    none_held (Some (held.Variable b)) = refl
-    none_held (Some (held.Set ts)) = refl
-    none_held (Some (held.Alias ts)) = refl
-    none_held (Some (held.EdgeAlias ts)) = refl
-
-    empty_held : (o : Option PlaceType) → held_thing o (Some None) ≡ None
-    empty_held None = refl
-    empty_held (Some (held.Variable b)) = refl
-    empty_held (Some (held.Set ts)) = refl
-    empty_held (Some (held.Alias ts)) = refl
-    empty_held (Some (held.EdgeAlias ts)) = refl
-
-    by_entry : (o : Option (Option Thing)) → slice_get things n ≡ o → held_thing (slice_get places n) o ≡ None
-    by_entry None e = none_held (slice_get places n)
-    by_entry (Some None) e = empty_held (slice_get places n)
-    by_entry (Some (Some t)) e = absurd (h.each n t e)
-
-alike_none : (places : List PlaceType) (things : List (Option Thing)) → HasNothing things → Alike places things []
-alike_none places things h = record { each = each }
-  where
-    each : (x : Reference) → under same x [] ≡ thing_for places things x
-    each (Place n) = sym (nothing_there places things h n)
+    each : (x : Reference) → under same x [] ≡ thing_for [] x
+    each (Place n) = refl
     each (Slot n) = refl
     each (VertexType n) = refl
     each (EdgeType n) = refl
@@ -105,37 +77,20 @@ alike_none places things h = record { each = each }
     each (Calls f) = refl
     each (Does m) = refl
 
-pub nothing_lives : (places : List PlaceType) (live : Live) (count : ℕ) → live.undo.items ≡ [] → HasNothing live.frame.things → live.frame.accums ≡ no_accums count → Lives places live (record { names = []; slots = [] })
-nothing_lives places live count undo things accums = record {
-  names = subst (λ us. Unwinds places live.frame.things (reverse us) []) (sym undo) (alike_none places live.frame.things things);
+pub nothing_lives : (live : Live) (count : ℕ) → live.undo.items ≡ [] → live.frame.things ≡ [] → live.frame.accums ≡ no_accums count → Lives live (record { names = []; slots = [] })
+nothing_lives live count undo things accums = record {
+  names = subst (λ us. Unwinds live.frame.things (reverse us) []) (sym undo) (subst (λ ts. Alike ts []) (sym things) alike_none);
   slots = sym (ap slots_are accums);
 }
-
--- ---- one place more that has nothing
-
-pub nothing_none : HasNothing []
-nothing_none = record { each = λ n t e. absurd (cc e) }
-
-pub nothing_more : (things new : List (Option Thing)) → HasNothing things → new ≡ things ++ None ∷ [] → HasNothing new
-nothing_more things new h e = record { each = λ n t g. at_end things h n t (ap (λ xs. slice_get xs n) (sym e) ∙ g) }
-  where
-    tail_nothing : (x : Option Thing) (xs : List (Option Thing)) → HasNothing (x ∷ xs) → HasNothing xs
-    tail_nothing x xs h = record { each = λ n t g. h.each (suc n) t g }
-
-    at_end : (xs : List (Option Thing)) → HasNothing xs → (n : ℕ) (t : Thing) → slice_get (xs ++ None ∷ []) n ≡ Some (Some t) → ⊥
-    at_end [] h zero t g = cc g
-    at_end [] h (suc n) t g = cc g
-    at_end (x ∷ xs) h zero t g = h.each 0 t g
-    at_end (x ∷ xs) h (suc n) t g = at_end xs (tail_nothing x xs h) n t g
 
 -- ---- all parameters
 
 -- those from a number on are bound
 pub record BoundFrom (plan : Plan) (arguments : List Value) (live : Live) (at : ℕ) : Type 0 where
   pub each : (world : World Reference) → KnowsTypes plan.vertices world
-      → (names : List (Reference × states.Thing)) × (bound world (map view_parameter (drop at plan.parameters)) (map val (drop at arguments)) ≡ Gives names) × Lives plan.places live (record { names = names; slots = [] })
+      → (names : List (Reference × states.Thing)) × (bound world (map view_parameter (drop at plan.parameters)) (map val (drop at arguments)) ≡ Gives names) × Lives live (record { names = names; slots = [] })
 
-pub bound_none : (plan : Plan) (arguments : List Value) (live : Live) (at : ℕ) → length plan.parameters ≤ at → length arguments ≤ at → Lives plan.places live (record { names = []; slots = [] }) → BoundFrom plan arguments live at
+pub bound_none : (plan : Plan) (arguments : List Value) (live : Live) (at : ℕ) → length plan.parameters ≤ at → length arguments ≤ at → Lives live (record { names = []; slots = [] }) → BoundFrom plan arguments live at
 bound_none plan arguments live at n m l = record {
   each = λ world known. ([], ap₂ (λ ps vs. bound world (map view_parameter ps) (map val vs)) (drop_all at plan.parameters n) (drop_all at arguments m), l);
 }
@@ -219,7 +174,6 @@ bound_stops plan arguments at parameter halt.Stuck e b = record {
   each = λ world known. one_stuck world (map view_parameter plan.parameters) (map val arguments) at (view_parameter parameter) (get_map view_parameter plan.parameters at parameter e) (b.runs world known);
 }
 bound_stops plan arguments at parameter halt.OutOfMemory e b = bound_short plan arguments
-bound_stops plan arguments at parameter halt.Outside e b = absurd b
 bound_stops plan arguments at parameter (halt.Wrong w) e b = absurd b
 
 pub ruleset bound_laws = (nothing_lives, bound_none, bound_more, bound_all, bound_short, bound_unlike, bound_stops)

@@ -26,7 +26,6 @@ use Rattle.gq_plan_ir.specs.declared.plan.Accum as code_accum
 use Rattle.gq_plan_ir.specs.declared.plan.Definition.{Definition}
 use Rattle.gq_plan_ir.specs.declared.plan.Definition.TheVariants as defs
 use Rattle.gq_plan_ir.specs.declared.plan.Declared.{Declared}
-use Rattle.gq_plan_ir.specs.declared.plan.PlaceType.{PlaceType}
 use Rattle.gq_plan_ir.specs.declared.plan.Plan.{Plan}
 use Rattle.gq_plan_ir.specs.ExprView.{view}
 use Rattle.gq_plan_ir.specs.PlanView.{view_accum, view_definition, view_parameter}
@@ -88,46 +87,46 @@ module _ {A X Y : Type 0} (f : A → Y → Answer Wrong A) (v : X → Y) where
 
 -- ---- accumulators
 
-module _ (held : List PlaceType) (world : World Reference) (k : Accum) (trees : List code_accum.Accum) where
+module _ (world : World Reference) (k : Accum) (trees : List code_accum.Accum) where
   abbrev pub accums_from : ℕ → State Reference → Answer Wrong (State Reference)
   accums_from i s = through (opened world k) s (map view_accum (drop i trees))
 
   abbrev pub GoesAccums : ℕ → Live → Live → Type 0
-  GoesAccums i old now = Goes {A = State Reference} {S = Live} (Lives held) (accums_from 0) (accums_from i) old now
+  GoesAccums i old now = Goes {A = State Reference} {S = Live} Lives (accums_from 0) (accums_from i) old now
 
   abbrev one : code_accum.Accum → State Reference → Answer Wrong (State Reference)
   one tree s = opened world k s (view_accum tree)
 
   pub accums_begin : (live : Live) → GoesAccums 0 live live
-  accums_begin live = goes_none (Lives held) (accums_from 0) live
+  accums_begin live = goes_none Lives (accums_from 0) live
 
-  pub accums_more : (i : ℕ) (tree : code_accum.Accum) (old mid new : Live) → i < length trees → tree ≡ get_or trees i tree → ((s : State Reference) → Lives held mid s → Leads (Lives held new) (opened world k s (view_accum tree)) (Ok tt))
+  pub accums_more : (i : ℕ) (tree : code_accum.Accum) (old mid new : Live) → i < length trees → tree ≡ get_or trees i tree → ((s : State Reference) → Lives mid s → Leads (Lives new) (opened world k s (view_accum tree)) (Ok tt))
       → GoesAccums i old mid → GoesAccums (i + 1) old new
-  accums_more i tree old mid new n is leads goes = goes_more (Lives held) (accums_from 0) (accums_from i) (one tree) (accums_from (i + 1)) old mid new (through_more (opened world k) view_accum trees i tree n is) leads goes
+  accums_more i tree old mid new n is leads goes = goes_more Lives (accums_from 0) (accums_from i) (one tree) (accums_from (i + 1)) old mid new (through_more (opened world k) view_accum trees i tree n is) leads goes
 
   pub accums_stop : (i : ℕ) (tree : code_accum.Accum) (old mid new : Live) (h : Halt) (r : Result (Unit {0}) Halt) → i < length trees → tree ≡ get_or trees i tree → IsErrAnd r (λ y. y ≡ h)
-      → ((s : State Reference) → Lives held mid s → Halts (opened world k s (view_accum tree)) h)
-      → GoesAccums i old mid → (s : State Reference) → Lives held old s → Leads (Lives held new) (accums_from 0 s) r
+      → ((s : State Reference) → Lives mid s → Halts (opened world k s (view_accum tree)) h)
+      → GoesAccums i old mid → (s : State Reference) → Lives old s → Leads (Lives new) (accums_from 0 s) r
   accums_stop i tree old mid new h r n is e halts goes s l =
-      leads_returned (Lives held new) (accums_from 0 s) h r e (goes_stops (Lives held) (accums_from 0) (accums_from i) (one tree) (accums_from (i + 1)) old mid mid h (through_more (opened world k) view_accum trees i tree n is) halts goes s l)
+      leads_returned (Lives new) (accums_from 0 s) h r e (goes_stops Lives (accums_from 0) (accums_from i) (one tree) (accums_from (i + 1)) old mid mid h (through_more (opened world k) view_accum trees i tree n is) halts goes s l)
 
-  pub accums_end : (i : ℕ) (old now : Live) → length trees ≤ i → GoesAccums i old now → (s : State Reference) → Lives held old s → Leads (Lives held now) (accums_from 0 s) (Ok tt)
-  accums_end i old now n goes = goes_all (Lives held) (accums_from 0) (accums_from i) old now (through_all (opened world k) view_accum trees i n) goes
+  pub accums_end : (i : ℕ) (old now : Live) → length trees ≤ i → GoesAccums i old now → (s : State Reference) → Lives old s → Leads (Lives now) (accums_from 0 s) (Ok tt)
+  accums_end i old now n goes = goes_all Lives (accums_from 0) (accums_from i) old now (through_all (opened world k) view_accum trees i n) goes
 
 -- ---- one accumulator
 
-pub accum_opens : (held : List PlaceType) (world : World Reference) (k : Accum) (tree : code_accum.Accum) (first : Option Value) (old new : Live) (s : State Reference)
+pub accum_opens : (world : World Reference) (k : Accum) (tree : code_accum.Accum) (first : Option Value) (old new : Live) (s : State Reference)
     → TellsFirst (seen world s) k (places world tree.attached) (option_map view tree.opening) (Ok first)
     → AddsSlot k tree.attached (opens_with k first) old.frame.accums new.frame.accums
     → length (places world tree.attached) ≡ (if tree.attached then old.frame.accums.slots.vertices else 1)
     → length old.frame.accums.slots.declared ≡ tree.slot
     → new.frame.things ≡ old.frame.things → new.undo.items ≡ old.undo.items
-    → Lives held old s → Leads (Lives held new) (opened world k s (view_accum tree)) (Ok tt)
-accum_opens held world k tree first old new s told adds many next things undo lives = (
+    → Lives old s → Leads (Lives new) (opened world k s (view_accum tree)) (Ok tt)
+accum_opens world k tree first old new s told adds many next things undo lives = (
   record s { slots = s.slots ++ slot ∷ [] },
   ap (λ o. o >>= λ cs. Gives (record s { slots = s.slots ++ record { name = reference.Slot tree.slot; attached = tree.attached; kind = k; contents = cs } ∷ [] })) told.tells,
   record {
-    names = subst (λ ts. Unwinds held ts (reverse new.undo.items) s.names) (sym things) (subst (λ us. Unwinds held old.frame.things (reverse us) s.names) (sym undo) lives.names);
+    names = subst (λ ts. Unwinds ts (reverse new.undo.items) s.names) (sym things) (subst (λ us. Unwinds old.frame.things (reverse us) s.names) (sym undo) lives.names);
     slots =
         ap (λ ss. ss ++ slot ∷ []) lives.slots
         ∙ ap (λ (n : ℕ). slots_are old.frame.accums ++ record { name = reference.Slot n; attached = tree.attached; kind = k; contents = map (λ (x : ℕ). opens_with k first) (places world tree.attached) } ∷ []) (sym next)
@@ -148,18 +147,18 @@ module _ (clock : Calendar) (g : code.Graph) (plan : Plan) (tuples : List TupleT
   world_at = world_with clock g plan tuples
 
   pub accum_done : (first : Option Value) (old new : Live)
-      → ((s : State Reference) → Lives plan.places old s → TellsFirst (seen world_at s) k (places world_at tree.attached) (option_map view tree.opening) (Ok first))
+      → ((s : State Reference) → Lives old s → TellsFirst (seen world_at s) k (places world_at tree.attached) (option_map view tree.opening) (Ok first))
       → ((count : ℕ) → AreReady count old.frame.accums → AddsSlot k tree.attached (opens_with k first) old.frame.accums new.frame.accums)
       → AreReady (length g.store.now.vertices) old.frame.accums → length old.frame.accums.slots.declared ≡ tree.slot → new.frame.things ≡ old.frame.things → new.undo.items ≡ old.undo.items
-      → (s : State Reference) → Lives plan.places old s → Leads (Lives plan.places new) (opened world_at k s (view_accum tree)) (Ok tt)
+      → (s : State Reference) → Lives old s → Leads (Lives new) (opened world_at k s (view_accum tree)) (Ok tt)
   accum_done first old new told adds ready next things undo s lives =
-      accum_opens plan.places world_at k tree first old new s (told s lives) (adds (length g.store.now.vertices) ready)
+      accum_opens world_at k tree first old new s (told s lives) (adds (length g.store.now.vertices) ready)
       (many_places clock g plan tuples tree.attached ∙ ap (λ (n : ℕ). if tree.attached then n else 1) (sym ready.vertices)) next things undo lives
 
   pub accum_ends : (old new : Live) (h : Halt) (r : Result (Unit {0}) Halt) → IsErrAnd r (λ y. y ≡ h)
-      → ((s : State Reference) → Lives plan.places old s → TellsFirst (seen world_at s) k (places world_at tree.attached) (option_map view tree.opening) (Err h))
-      → (s : State Reference) → Lives plan.places old s → Leads (Lives plan.places new) (opened world_at k s (view_accum tree)) r
-  accum_ends old new h r e told s lives = leads_returned (Lives plan.places new) (opened world_at k s (view_accum tree)) h r e (accum_halts world_at k tree s h (told s lives))
+      → ((s : State Reference) → Lives old s → TellsFirst (seen world_at s) k (places world_at tree.attached) (option_map view tree.opening) (Err h))
+      → (s : State Reference) → Lives old s → Leads (Lives new) (opened world_at k s (view_accum tree)) r
+  accum_ends old new h r e told s lives = leads_returned (Lives new) (opened world_at k s (view_accum tree)) h r e (accum_halts world_at k tree s h (told s lives))
 
 -- ---- one definition
 
@@ -187,55 +186,55 @@ module _ (clock : Calendar) (g : code.Graph) (plan : Plan) where
   definitions_from i d = through (defined base_world (λ w k. Gives k)) d (map view_definition (drop i plan.definitions))
 
   abbrev pub GoesDefinitions : ℕ → Opened → Opened → Type 0
-  GoesDefinitions i old now = Goes {A = Defining Reference} {S = Opened} (Stands plan.places) (definitions_from 0) (definitions_from i) old now
+  GoesDefinitions i old now = Goes {A = Defining Reference} {S = Opened} Stands (definitions_from 0) (definitions_from i) old now
 
   pub definitions_begin : (now : Opened) → GoesDefinitions 0 now now
-  definitions_begin now = goes_none (Stands plan.places) (definitions_from 0) now
+  definitions_begin now = goes_none Stands (definitions_from 0) now
 
   pub definitions_more : (i : ℕ) (definition : Definition) (old mid new : Opened) → i < length plan.definitions → definition ≡ get_or plan.definitions i definition
-      → ((d : Defining Reference) → Stands plan.places mid d → Leads (Stands plan.places new) (rule d definition) (Ok tt)) → GoesDefinitions i old mid → GoesDefinitions (i + 1) old new
+      → ((d : Defining Reference) → Stands mid d → Leads (Stands new) (rule d definition) (Ok tt)) → GoesDefinitions i old mid → GoesDefinitions (i + 1) old new
   definitions_more i definition old mid new n is leads goes =
-      goes_more (Stands plan.places) (definitions_from 0) (definitions_from i) (λ d. rule d definition) (definitions_from (i + 1)) old mid new (through_more (defined base_world (λ w k. Gives k)) view_definition plan.definitions i definition n is) leads goes
+      goes_more Stands (definitions_from 0) (definitions_from i) (λ d. rule d definition) (definitions_from (i + 1)) old mid new (through_more (defined base_world (λ w k. Gives k)) view_definition plan.definitions i definition n is) leads goes
 
   pub definitions_stop : (i : ℕ) (definition : Definition) (old mid new : Opened) (h : Halt) (r : Result (Unit {0}) Halt) → i < length plan.definitions → definition ≡ get_or plan.definitions i definition → IsErrAnd r (λ y. y ≡ h)
-      → ((d : Defining Reference) → Stands plan.places mid d → Halts (rule d definition) h) → GoesDefinitions i old mid
-      → (d : Defining Reference) → Stands plan.places old d → Leads (Stands plan.places new) (definitions_from 0 d) r
+      → ((d : Defining Reference) → Stands mid d → Halts (rule d definition) h) → GoesDefinitions i old mid
+      → (d : Defining Reference) → Stands old d → Leads (Stands new) (definitions_from 0 d) r
   definitions_stop i definition old mid new h r n is e halts goes d stands =
-      leads_returned (Stands plan.places new) (definitions_from 0 d) h r e
-      (goes_stops (Stands plan.places) (definitions_from 0) (definitions_from i) (λ d. rule d definition) (definitions_from (i + 1)) old mid mid h (through_more (defined base_world (λ w k. Gives k)) view_definition plan.definitions i definition n is) halts goes d stands)
+      leads_returned (Stands new) (definitions_from 0 d) h r e
+      (goes_stops Stands (definitions_from 0) (definitions_from i) (λ d. rule d definition) (definitions_from (i + 1)) old mid mid h (through_more (defined base_world (λ w k. Gives k)) view_definition plan.definitions i definition n is) halts goes d stands)
 
-  pub definitions_end : (i : ℕ) (old now : Opened) → length plan.definitions ≤ i → GoesDefinitions i old now → (d : Defining Reference) → Stands plan.places old d → Leads (Stands plan.places now) (definitions_from 0 d) (Ok tt)
-  definitions_end i old now n goes = goes_all (Stands plan.places) (definitions_from 0) (definitions_from i) old now (through_all (defined base_world (λ w k. Gives k)) view_definition plan.definitions i n) goes
+  pub definitions_end : (i : ℕ) (old now : Opened) → length plan.definitions ≤ i → GoesDefinitions i old now → (d : Defining Reference) → Stands old d → Leads (Stands now) (definitions_from 0 d) (Ok tt)
+  definitions_end i old now n goes = goes_all Stands (definitions_from 0) (definitions_from i) old now (through_all (defined base_world (λ w k. Gives k)) view_definition plan.definitions i n) goes
 
   pub tuple_defined : (definition : Definition) (fields : List (Declared × Bytes)) (number : ℕ) (old new : Opened) → definition ≡ defs.Tuple fields number → AddsTuple plan.vertices fields number old.tuples new.tuples → new.live ≡ old.live
-      → (d : Defining Reference) → Stands plan.places old d → Leads (Stands plan.places new) (rule d definition) (Ok tt)
-  tuple_defined definition fields number old new is adds live d stands = leads_same (Stands plan.places new) (rule d definition) (rule d (defs.Tuple fields number)) (Ok tt) (ap (rule d) is) (
+      → (d : Defining Reference) → Stands old d → Leads (Stands new) (rule d definition) (Ok tt)
+  tuple_defined definition fields number old new is adds live d stands = leads_same (Stands new) (rule d definition) (rule d (defs.Tuple fields number)) (Ok tt) (ap (rule d) is) (
     record d { tuples = d.tuples ++ (reference.TupleType number, fields_in adds.tuple) ∷ [] },
     ap (λ o. o >>= λ fields. Gives (record d { tuples = d.tuples ++ (reference.TupleType number, fields) ∷ [] })) (adds.fields_are.each (with_tuples d.tuples base_world) (known_in d.tuples)),
     record {
       tuples =
           ap (λ ts. ts ++ (reference.TupleType number, fields_in adds.tuple) ∷ []) stands.tuples
           ∙ sym (ap tuples_are adds.added ∙ tuples_more 0 number old.tuples adds.tuple (let n = adds.next in omega (arith, n)));
-      lives = subst (λ (l : Live). Lives plan.places l d.state) (sym live) stands.lives;
+      lives = subst (λ (l : Live). Lives l d.state) (sym live) stands.lives;
     },
   )
 
   pub tuple_halts : (definition : Definition) (fields : List (Declared × Bytes)) (number : ℕ) (new : Opened) (h : Halt) → definition ≡ defs.Tuple fields number → FieldsHalt plan.vertices fields h
-      → (d : Defining Reference) → Leads (Stands plan.places new) (rule d definition) (Err h)
+      → (d : Defining Reference) → Leads (Stands new) (rule d definition) (Err h)
   tuple_halts definition fields number new h is halts d =
       halts_same (rule d definition) (rule d (defs.Tuple fields number)) h (ap (rule d) is)
       (stops (fields_as (with_tuples d.tuples base_world) fields) (λ fs. Gives (record d { tuples = d.tuples ++ (reference.TupleType number, fs) ∷ [] })) h (halts.each (with_tuples d.tuples base_world) (known_in d.tuples)))
 
   -- by what adds it
   pub tuple_led : (definition : Definition) (fields : List (Declared × Bytes)) (number : ℕ) (old new : Opened) (r : Result (Unit {0}) Halt) → definition ≡ defs.Tuple fields number → OnOk r (AddsTuple plan.vertices fields number old.tuples new.tuples)
-      → IfErr r (FieldsHalt plan.vertices fields) → new.live ≡ old.live → (d : Defining Reference) → Stands plan.places old d → Leads (Stands plan.places new) (rule d definition) r
+      → IfErr r (FieldsHalt plan.vertices fields) → new.live ≡ old.live → (d : Defining Reference) → Stands old d → Leads (Stands new) (rule d definition) r
   tuple_led definition fields number old new (Ok u) is adds halts live d stands = tuple_defined definition fields number old new is adds live d stands
   tuple_led definition fields number old new (Err h) is adds halts live d stands = tuple_halts definition fields number new h is halts d
 
   pub accums_defined : (definition : Definition) (kind : Kind) (trees : List code_accum.Accum) (old new : Opened) (r : Result (Unit {0}) Halt) → definition ≡ defs.Accums kind trees → new.tuples ≡ old.tuples
-      → ((s : State Reference) → Lives plan.places old.live s → Leads (Lives plan.places new.live) (through (opened (world_with clock g plan old.tuples) (accum_of kind)) s (map view_accum trees)) r)
-      → (d : Defining Reference) → Stands plan.places old d → Leads (Stands plan.places new) (rule d definition) r
-  accums_defined definition kind trees old new r is tuples leads d stands = leads_same (Stands plan.places new) (rule d definition) (joined (world_with clock g plan old.tuples)) r (ap (rule d) is ∙ ap (λ ts. joined (with_tuples ts base_world)) stands.tuples) (by_result r (leads d.state stands.lives))
+      → ((s : State Reference) → Lives old.live s → Leads (Lives new.live) (through (opened (world_with clock g plan old.tuples) (accum_of kind)) s (map view_accum trees)) r)
+      → (d : Defining Reference) → Stands old d → Leads (Stands new) (rule d definition) r
+  accums_defined definition kind trees old new r is tuples leads d stands = leads_same (Stands new) (rule d definition) (joined (world_with clock g plan old.tuples)) r (ap (rule d) is ∙ ap (λ ts. joined (with_tuples ts base_world)) stands.tuples) (by_result r (leads d.state stands.lives))
     where
       joined : World Reference → Answer Wrong (Defining Reference)
       joined world = through (opened world (accum_of kind)) d.state (map view_accum trees) >>= λ s. Gives (record d { state = s })
@@ -243,7 +242,7 @@ module _ (clock : Calendar) (g : code.Graph) (plan : Plan) where
       inner : Answer Wrong (State Reference)
       inner = through (opened (world_with clock g plan old.tuples) (accum_of kind)) d.state (map view_accum trees)
 
-      by_result : (r : Result (Unit {0}) Halt) → Leads (Lives plan.places new.live) inner r → Leads (Stands plan.places new) (joined (world_with clock g plan old.tuples)) r
+      by_result : (r : Result (Unit {0}) Halt) → Leads (Lives new.live) inner r → Leads (Stands new) (joined (world_with clock g plan old.tuples)) r
       by_result (Ok u) l = (
         record d { state = l.0 },
         ap (λ o. o >>= λ s. Gives (record d { state = s })) l.1,
@@ -260,32 +259,32 @@ module _ (clock : Calendar) (g : code.Graph) (plan : Plan) where
   behind names = through (defined base_world (λ w k. Gives k)) (record { tuples = []; state = record { names = names; slots = [] } }) (map view_definition plan.definitions)
 
   module _ (arguments : List Value) (live : Live) (old new : Opened) (r : Result (Unit {0}) Halt) (is_bound : IsBound plan arguments live) (is_live : old.live ≡ live) (no_tuples : old.tuples ≡ [])
-      (leads : (d : Defining Reference) → Stands plan.places old d → Leads (Stands plan.places new) (through (defined base_world (λ w k. Gives k)) d (map view_definition plan.definitions)) r) where
+      (leads : (d : Defining Reference) → Stands old d → Leads (Stands new) (through (defined base_world (λ w k. Gives k)) d (map view_definition plan.definitions)) r) where
     abbrev names_bound : List (Reference × Thing)
     names_bound = (is_bound.each base_world (knows_own clock g plan [])).0
 
     begun : whole (map val arguments) ≡ behind names_bound
     begun = ap (λ o. o >>= behind) (is_bound.each base_world (knows_own clock g plan [])).1
 
-    led : Leads (Stands plan.places new) (behind names_bound) r
+    led : Leads (Stands new) (behind names_bound) r
     led = leads (record { tuples = []; state = record { names = names_bound; slots = [] } }) (record {
       tuples = sym (ap tuples_are no_tuples);
-      lives = subst (λ (l : Live). Lives plan.places l (record { names = names_bound; slots = [] })) (sym is_live) (is_bound.each base_world (knows_own clock g plan [])).2;
+      lives = subst (λ (l : Live). Lives l (record { names = names_bound; slots = [] })) (sym is_live) (is_bound.each base_world (knows_own clock g plan [])).2;
     })
 
-    pub begins_ok : r ≡ Ok tt → Begins plan.places (whole (map val arguments)) (Ok new)
-    begins_ok e = let l : Leads (Stands plan.places new) (behind names_bound) (Ok tt) = subst (Leads (Stands plan.places new) (behind names_bound)) e led in (l.0, begun ∙ l.1, l.2)
+    pub begins_ok : r ≡ Ok tt → Begins (whole (map val arguments)) (Ok new)
+    begins_ok e = let l : Leads (Stands new) (behind names_bound) (Ok tt) = subst (Leads (Stands new) (behind names_bound)) e led in (l.0, begun ∙ l.1, l.2)
 
-    pub begins_err : (h : Halt) (result : Result Opened Halt) → IsErrAnd result (λ y. y ≡ h) → r ≡ Err h → Begins plan.places (whole (map val arguments)) result
+    pub begins_err : (h : Halt) (result : Result Opened Halt) → IsErrAnd result (λ y. y ≡ h) → r ≡ Err h → Begins (whole (map val arguments)) result
     begins_err h result is e =
         let p = err_from_is_err_and result is in
-        subst (Begins plan.places (whole (map val arguments))) (sym (p.1 ∙ ap Err p.2)) (halts_same (whole (map val arguments)) (behind names_bound) h begun (subst (Leads (Stands plan.places new) (behind names_bound)) e led))
+        subst (Begins (whole (map val arguments))) (sym (p.1 ∙ ap Err p.2)) (halts_same (whole (map val arguments)) (behind names_bound) h begun (subst (Leads (Stands new) (behind names_bound)) e led))
 
   -- its parameters can't be bound
-  pub begins_unbound : (arguments : List Value) (h : Halt) (result : Result Opened Halt) → IsErrAnd result (λ y. y ≡ h) → BoundHalts plan arguments h → Begins plan.places (whole (map val arguments)) result
+  pub begins_unbound : (arguments : List Value) (h : Halt) (result : Result Opened Halt) → IsErrAnd result (λ y. y ≡ h) → BoundHalts plan arguments h → Begins (whole (map val arguments)) result
   begins_unbound arguments h result is halts =
       let p = err_from_is_err_and result is in
-      subst (Begins plan.places (whole (map val arguments))) (sym (p.1 ∙ ap Err p.2))
+      subst (Begins (whole (map val arguments))) (sym (p.1 ∙ ap Err p.2))
       (stops (bound base_world (map view_parameter plan.parameters) (map val arguments)) behind h (halts.each base_world (knows_own clock g plan [])))
 
 -- ---- before the first definition

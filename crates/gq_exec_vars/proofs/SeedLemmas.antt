@@ -105,13 +105,13 @@ vertex_meant world (Some (SetOf types vs)) = refl
 vertex_meant world (Some (EdgeRow r t)) = refl
 vertex_meant world (Some (Member types vs v)) = refl
 
-seed_is : (at : Lookup) (world : World Reference) (s : State Reference) (p : ℕ) (v : Option (Base × ℕ)) → IsSeen at world s → v ≡ vertex_in (variable_in (thing_in at.places.now at.frame.now.things p))
+seed_is : (at : Lookup) (world : World Reference) (s : State Reference) (p : ℕ) (v : Option (Base × ℕ)) → IsSeen at world s → v ≡ vertex_in (variable_in (thing_in at.frame.now.things p))
     → seed_of world s (plain.OneVertex (Place p)) ≡ vertex_seed world v
 seed_is at world s p v seen e =
     ap (λ f. thing_seen (under f (Place p) s.names) >>= of_variable world) seen.over.like ∙ ap (λ o. thing_seen o >>= of_variable world) (seen.shows.names (Place p))
-    ∙ vertex_meant world (thing_in at.places.now at.frame.now.things p) ∙ ap (vertex_seed world) (sym e)
+    ∙ vertex_meant world (thing_in at.frame.now.things p) ∙ ap (vertex_seed world) (sym e)
 
-pub vertex_seeded : (at : Lookup) (p : ℕ) (b : Base) (v : ℕ) (old new : SetBitmap) → Some (b, v) ≡ vertex_in (variable_in (thing_in at.places.now at.frame.now.things p))
+pub vertex_seeded : (at : Lookup) (p : ℕ) (b : Base) (v : ℕ) (old new : SetBitmap) → Some (b, v) ≡ vertex_in (variable_in (thing_in at.frame.now.things p))
     → Gains (base_types at.own.now b) old.types new.types → Gains (v ∷ []) old.vertices new.vertices
     → (world : World Reference) (s : State Reference) → IsSeen at world s → Seeded (seed_of world s (plain.OneVertex (Place p))) old new (Ok tt)
 vertex_seeded at p b v old new e g h world s seen = (
@@ -120,7 +120,7 @@ vertex_seeded at p b v old new e g h world s seen = (
   record { types = g; vertices = h },
 )
 
-pub no_vertex : (at : Lookup) (p : ℕ) (old new : SetBitmap) → None ≡ vertex_in (variable_in (thing_in at.places.now at.frame.now.things p))
+pub no_vertex : (at : Lookup) (p : ℕ) (old new : SetBitmap) → None ≡ vertex_in (variable_in (thing_in at.frame.now.things p))
     → (world : World Reference) (s : State Reference) → IsSeen at world s → Seeded (seed_of world s (plain.OneVertex (Place p))) old new (Err halt.Stuck)
 no_vertex at p old new e world s seen = seed_is at world s p None seen e
 
@@ -165,7 +165,6 @@ content_put k c own old new (Ok u) sound put = let p = put sound in record {
 }
 content_put k c own old new (Err halt.Stuck) sound put = record { each = λ world o. no_set world k (view k (out-Content c)) put }
 content_put k c own old new (Err halt.OutOfMemory) sound put = record { each = λ world o. tt }
-content_put k c own old new (Err halt.Outside) sound put = absurd put
 content_put k c own old new (Err (halt.Wrong w)) sound put = absurd put
 
 fresh_set : (k : Accum) (b : Base) → k ≡ SetAccum b → [] ≡ vertices_in (elements_of k (fresh k))
@@ -177,7 +176,6 @@ none_put k own old new (Ok u) put = record {
 }
 none_put k own old new (Err halt.Stuck) put = record { each = λ world o. no_set world k (fresh k) put }
 none_put k own old new (Err halt.OutOfMemory) put = record { each = λ world o. tt }
-none_put k own old new (Err halt.Outside) put = absurd put
 none_put k own old new (Err (halt.Wrong w)) put = absurd put
 
 -- by what was read

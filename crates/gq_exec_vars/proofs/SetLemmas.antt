@@ -21,13 +21,10 @@ use Rattle.gq_rules_meaning.specs.Sets.{TypedSet, set_in, set_named, term_of, jo
 use Rattle.gq_plan_ir.specs.declared.step.Seed.{Seed}
 use Rattle.gq_plan_ir.specs.declared.step.SetTerm.{SetTerm}
 use Rattle.gq_plan_ir.specs.PlanView.{view_seed, view_term}
-use Rattle.gq_plan_ir.specs.declared.plan.PlaceType.TheVariants as held
-use Rattle.gq_plan_ir.specs.declared.plan.PlaceType.{PlaceType}
 use Rattle.gq_plan_ir.specs.Reference.{Reference, Place, VertexType}
 use Rattle.gq_plan_ir.specs.References.{same}
 use Rattle.gq_frame.specs.declared.frame.Thing.{Thing}
-use Rattle.gq_frame.specs.declared.frame.Thing.TheVariants as thing
-use Rattle.gq_frame.specs.Names.{held_thing, thing_in}
+use Rattle.gq_frame.specs.Names.{thing_in}
 use Rattle.gq_eval_operand.specs.declared.halt.Halt.{Halt}
 use Rattle.gq_eval_operand.specs.declared.halt.Halt.TheVariants as halt
 use Rattle.gq_eval_operand.specs.Meant.{Halts, Tells}
@@ -37,11 +34,11 @@ use Rattle.gq_frame.proofs.LookupLemmas.{seen_there}
 use Rattle.gq_exec_vars.specs.declared.lookup.Lookup.{Lookup}
 use Rattle.gq_exec_vars.specs.declared.typed.TypedSet as code
 use Rattle.gq_exec_vars.specs.Lookups.{IsOver, IsSeen}
-use Rattle.gq_exec_vars.specs.Written.{Fixes, Agrees, typed, is_bare, others_of, chain_of, step_of}
+use Rattle.gq_exec_vars.specs.Written.{Keeps, typed, is_bare, others_of, chain_of, step_of}
 
 -- ---- set variables that are read
 
-pub set_seen : (at : Lookup) (world : World Reference) (s : State Reference) (p : ℕ) (types vs : List ℕ) → IsSeen at world s → thing_in at.places.now at.frame.now.things p ≡ Some (SetOf types vs) → set_named world s (Place p) ≡ Gives (types, vs)
+pub set_seen : (at : Lookup) (world : World Reference) (s : State Reference) (p : ℕ) (types vs : List ℕ) → IsSeen at world s → thing_in at.frame.now.things p ≡ Some (SetOf types vs) → set_named world s (Place p) ≡ Gives (types, vs)
 set_seen at world s p types vs seen e =
     ap (λ f. found (under f (Place p) s.names) >>= set_in) seen.over.like ∙ ap (λ o. found o >>= set_in) (seen.shows.names (Place p) ∙ e)
 
@@ -52,9 +49,9 @@ not_set (Some (SetOf types vs)) e = cc
 not_set (Some (states.EdgeRow r t)) e = refl
 not_set (Some (states.Member types vs v)) e = refl
 
-pub set_unseen : (at : Lookup) (world : World Reference) (s : State Reference) (p : ℕ) → IsSeen at world s → is_set (thing_in at.places.now at.frame.now.things p) ≡ false → set_named world s (Place p) ≡ Stuck
+pub set_unseen : (at : Lookup) (world : World Reference) (s : State Reference) (p : ℕ) → IsSeen at world s → is_set (thing_in at.frame.now.things p) ≡ false → set_named world s (Place p) ≡ Stuck
 set_unseen at world s p seen e =
-    ap (λ f. found (under f (Place p) s.names) >>= set_in) seen.over.like ∙ ap (λ o. found o >>= set_in) (seen.shows.names (Place p)) ∙ not_set (thing_in at.places.now at.frame.now.things p) e
+    ap (λ f. found (under f (Place p) s.names) >>= set_in) seen.over.like ∙ ap (λ o. found o >>= set_in) (seen.shows.names (Place p)) ∙ not_set (thing_in at.frame.now.things p) e
 
 -- ---- chains
 
@@ -96,7 +93,6 @@ step_made world s b c made op t e m = ap (λ o. o >>= λ c. Gives (joined op b c
 pub step_halts : (world : World Reference) (s : State Reference) (b : TypedSet) (op : SetOp) (t : plain.SetTerm Reference) (h : Halt) → Halts (term_of world s t) h → Halts (step_of world s b op t) h
 step_halts world s b op t (halt.Wrong w) e = ap (λ o. o >>= λ c. Gives (joined op b c)) e
 step_halts world s b op t halt.Stuck e = ap (λ o. o >>= λ c. Gives (joined op b c)) e
-step_halts world s b op t halt.Outside e = tt
 step_halts world s b op t halt.OutOfMemory e = tt
 
 -- the remaining operators, from a set on
@@ -109,7 +105,6 @@ chain_begins world s first a rest e = ap (λ o. chain_of world s o rest) e
 pub chain_halts : (world : World Reference) (s : State Reference) (first : Answer Wrong TypedSet) (h : Halt) (rest : List (SetOp × plain.SetTerm Reference)) → Halts first h → Halts (chain_of world s first rest) h
 chain_halts world s first (halt.Wrong w) rest e = ap (λ o. chain_of world s o rest) e
 chain_halts world s first halt.Stuck rest e = ap (λ o. chain_of world s o rest) e
-chain_halts world s first halt.Outside rest e = tt
 chain_halts world s first halt.OutOfMemory rest e = tt
 
 -- the operator at a place, and those after it
@@ -125,7 +120,6 @@ pub chain_stops : (world : World Reference) (s : State Reference) (whole : Answe
     → whole ≡ onward world s b (others_of (drop i others)) → Halts (step_of world s b x.0 (view_term x.1)) h → Halts whole h
 chain_stops world s whole b (halt.Wrong f) others i x l e w g = w ∙ ap (onward world s b) (others_next others i x l e) ∙ ap (λ o. o >>= λ c. onward world s c (others_of (drop (i + 1) others))) g
 chain_stops world s whole b halt.Stuck others i x l e w g = w ∙ ap (onward world s b) (others_next others i x l e) ∙ ap (λ o. o >>= λ c. onward world s c (others_of (drop (i + 1) others))) g
-chain_stops world s whole b halt.Outside others i x l e w g = tt
 chain_stops world s whole b halt.OutOfMemory others i x l e w g = tt
 
 pub chain_ends : (world : World Reference) (s : State Reference) (whole : Answer Wrong TypedSet) (b c : TypedSet) (others : List (SetOp × SetTerm)) (i : ℕ) → length others ≤ i
@@ -140,75 +134,66 @@ halts_on view o h r e p =
 
 -- ---- set variables that are assigned
 
-kept : (types fixed : List ℕ) (o : Option (Option Thing)) → is_some (held_thing (Some (held.Set types)) o) ≡ true → types_kept (held_thing (Some (held.Set types)) o) fixed ≡ types
-kept types fixed None e = cc
-kept types fixed (Some None) e = cc
-kept types fixed (Some (Some (thing.Value v))) e = cc
-kept types fixed (Some (Some (thing.Set vs))) e = refl
+-- what isn't a set gives way
+not_kept : (o : Option states.Thing) (fixed : List ℕ) → is_set o ≡ false → types_kept o fixed ≡ fixed
+not_kept None fixed e = refl
+not_kept (Some (states.Variable b v)) fixed e = refl
+not_kept (Some (SetOf types vs)) fixed e = absurd (let no : ⊥ = cc in no)
+not_kept (Some (states.EdgeRow r t)) fixed e = refl
+not_kept (Some (states.Member types vs v)) fixed e = refl
 
-not_kept : (fixed : List ℕ) (o : Option states.Thing) → is_some o ≡ false → types_kept o fixed ≡ fixed
-not_kept fixed None e = refl
-not_kept fixed (Some t) e = cc
+module _ (own : List ℕ) (declared : Option (plain.SetTypes Reference)) (types kept : List ℕ) where
+  -- a set in view keeps its types
+  pub kept_seen : (slice things : List (Option Thing)) (p : ℕ) (held vs : List ℕ) → slice ≡ things → thing_in slice p ≡ Some (SetOf held vs) → kept ≡ held → Keeps own declared (thing_in things p) types kept
+  kept_seen slice things p held vs s e is = record {
+    each = λ vertices world o. is ∙ ap (λ t. types_kept t (types_fixed world declared types)) (sym e ∙ ap (λ ts. thing_in ts p) s);
+  }
 
-types_agree : (places : List PlaceType) (old : Live) (p : ℕ) (types : List ℕ) (own found_types : List ℕ) (declared : Option (plain.SetTypes Reference)) (vertices : List VertexRow) (world : World Reference) (s : State Reference)
-    → (at : Option PlaceType) → at ≡ Some (held.Set types) → slice_get places p ≡ at → (seen : Bool) → is_some (thing_in places old.frame.things p) ≡ seen → Agrees own declared found_types types seen
-    → IsOver vertices own world → Lives places old s → types_kept (thing_named world s.names (Place p)) (types_fixed world declared found_types) ≡ types
-types_agree places old p types own found_types declared vertices world s at e h true y a o l =
-    ap (λ f. types_kept (under f (Place p) s.names) (types_fixed world declared found_types)) o.like
-    ∙ ap (λ t. types_kept t (types_fixed world declared found_types)) (seen_there places old p s l ∙ ap (λ a. held_thing a (slice_get old.frame.things p)) (h ∙ e))
-    ∙ kept types (types_fixed world declared found_types) (slice_get old.frame.things p) (ap (λ a. is_some (held_thing a (slice_get old.frame.things p))) (sym (h ∙ e)) ∙ y)
-types_agree places old p types own found_types declared vertices world s at e h false y a o l =
-    ap (λ f. types_kept (under f (Place p) s.names) (types_fixed world declared found_types)) o.like
-    ∙ ap (λ t. types_kept t (types_fixed world declared found_types)) (seen_there places old p s l)
-    ∙ not_kept (types_fixed world declared found_types) (thing_in places old.frame.things p) y
-    ∙ sym (a.each vertices world o)
+  pub kept_new : (slice things : List (Option Thing)) (p : ℕ) → slice ≡ things → is_set (thing_in slice p) ≡ false → Keeps own declared None types kept → Keeps own declared (thing_in things p) types kept
+  kept_new slice things p s e k = record {
+    each = λ vertices world o. k.each vertices world o ∙ sym (not_kept (thing_in things p) (types_fixed world declared types) (ap (λ ts. is_set (thing_in ts p)) (sym s) ∙ e));
+  }
 
-pub set_lives : (places : List PlaceType) (old new : Live) (p : ℕ) (types vs own found_types slice : List ℕ) (declared : Option (plain.SetTypes Reference)) (result : Result (Unit {0}) OutOfMemory)
-    → slice_get places p ≡ Some (held.Set types) → slice ≡ found_types → Agrees own declared slice types (is_some (thing_in places old.frame.things p))
-    → OnOk result ((world : World Reference) (s : State Reference) (t : states.Thing) → world.words.same ≡ same → Lives places old s → held_thing (slice_get places p) (Some (Some (thing.Set vs))) ≡ Some t → Lives places new (with_name world (Place p) t s))
-    → OnOk result ((vertices : List VertexRow) (world : World Reference) (s : State Reference) → IsOver vertices own world → Lives places old s → Lives places new (set_assigned world (Place p) declared (found_types, vs) s))
-set_lives places old new p types vs own found_types slice declared (Err e) at f a h = h
-set_lives places old new p types vs own found_types slice declared (Ok u) at f a h = λ vertices world s o l.
-    subst (λ ts. Lives places new (with_name world (Place p) (SetOf ts vs) s))
-    (sym (types_agree places old p types own found_types declared vertices world s (Some (held.Set types)) refl at (is_some (thing_in places old.frame.things p)) refl (subst (λ ts. Agrees own declared ts types (is_some (thing_in places old.frame.things p))) f a) o l))
-    (h world s (SetOf types vs) o.like l (ap (λ x. held_thing x (Some (Some (thing.Set vs)))) at))
+pub ruleset kept_laws = (kept_seen, kept_new)
+
+pub set_lives : (old new : Live) (p : ℕ) (kept vs own types slice : List ℕ) (declared : Option (plain.SetTypes Reference)) (result : Result (Unit {0}) OutOfMemory)
+    → slice ≡ types → Keeps own declared (thing_in old.frame.things p) slice kept
+    → OnOk result ((world : World Reference) (s : State Reference) → world.words.same ≡ same → Lives old s → Lives new (with_name world (Place p) (SetOf kept vs) s))
+    → OnOk result ((vertices : List VertexRow) (world : World Reference) (s : State Reference) → IsOver vertices own world → Lives old s → Lives new (set_assigned world (Place p) declared (types, vs) s))
+set_lives old new p kept vs own types slice declared (Err e) f k h = h
+set_lives old new p kept vs own types slice declared (Ok u) f k h = λ vertices world s o l.
+    subst (λ ts. Lives new (with_name world (Place p) (SetOf ts vs) s))
+    (k.each vertices world o
+    ∙ ap₂ (λ t ts. types_kept t (types_fixed world declared ts)) (sym (ap (λ f. under f (Place p) s.names) o.like ∙ seen_there old p s l)) f)
+    (h world s o.like l)
 
 -- ---- types that are fixed
 
-pub fixed_none : (own types held : List ℕ) → held ≡ types → Fixes own None types held
-fixed_none own types held e = record { each = λ vertices world o. e }
+module _ (own types kept : List ℕ) where
+  pub fixed_none : kept ≡ types → Keeps own None None types kept
+  fixed_none e = record { each = λ vertices world o. e }
 
-pub fixed_every : (own types held : List ℕ) → held ≡ own → Fixes own (Some plain.AnyType) types held
-fixed_every own types held e = record { each = λ vertices world o. e ∙ sym o.types }
+  pub fixed_every : kept ≡ own → Keeps own (Some plain.AnyType) None types kept
+  fixed_every e = record { each = λ vertices world o. e ∙ sym o.types }
 
-fixed_of : (own : List ℕ) (kind : ℕ) (types held : List ℕ) (b : Bool) → among own kind ≡ b → held ≡ (if b then kind ∷ [] else types) → Fixes own (Some (plain.TypeOf (VertexType kind))) types held
-fixed_of own kind types held b a e = record { each = λ vertices world o. e ∙ by b ∙ sym (ap of_type (o.vertex_type kind ∙ ap (λ b. if b then Some kind else None) a)) }
-  where
-    of_type : Option ℕ → List ℕ
-    of_type None = types
-    of_type (Some n) = n ∷ []
+  fixed_of : (kind : ℕ) (b : Bool) → among own kind ≡ b → kept ≡ (if b then kind ∷ [] else types) → Keeps own (Some (plain.TypeOf (VertexType kind))) None types kept
+  fixed_of kind b a e = record { each = λ vertices world o. e ∙ by b ∙ sym (ap of_type (o.vertex_type kind ∙ ap (λ b. if b then Some kind else None) a)) }
+    where
+      of_type : Option ℕ → List ℕ
+      of_type None = types
+      of_type (Some n) = n ∷ []
 
-    by : (b : Bool) → (if b then kind ∷ [] else types) ≡ of_type (if b then Some kind else None)
-    by true = refl
-    by false = refl
+      by : (b : Bool) → (if b then kind ∷ [] else types) ≡ of_type (if b then Some kind else None)
+      by true = refl
+      by false = refl
 
-pub fixed_own : (own : List ℕ) (kind : ℕ) (types held : List ℕ) → among own kind ≡ true → held ≡ kind ∷ [] → Fixes own (Some (plain.TypeOf (VertexType kind))) types held
-fixed_own own kind types held a e = fixed_of own kind types held true a e
+  pub fixed_own : (kind : ℕ) → among own kind ≡ true → kept ≡ kind ∷ [] → Keeps own (Some (plain.TypeOf (VertexType kind))) None types kept
+  fixed_own kind a e = fixed_of kind true a e
 
-pub fixed_other : (own : List ℕ) (kind : ℕ) (types held : List ℕ) → among own kind ≡ false → held ≡ types → Fixes own (Some (plain.TypeOf (VertexType kind))) types held
-fixed_other own kind types held a e = fixed_of own kind types held false a e
+  pub fixed_other : (kind : ℕ) → among own kind ≡ false → kept ≡ types → Keeps own (Some (plain.TypeOf (VertexType kind))) None types kept
+  fixed_other kind a e = fixed_of kind false a e
 
 pub ruleset fixed_laws = (fixed_none, fixed_every, fixed_own, fixed_other)
-
-pub agrees_seen : (own : List ℕ) (declared : Option (plain.SetTypes Reference)) (types held : List ℕ) (has b : Bool) → has ≡ b → has ≡ true → Agrees own declared types held b
-agrees_seen own declared types held true true e h = tt
-agrees_seen own declared types held true false e h = cc
-agrees_seen own declared types held false true e h = tt
-agrees_seen own declared types held false false e h = cc
-
-pub agrees_fixed : (own : List ℕ) (declared : Option (plain.SetTypes Reference)) (types held : List ℕ) (b : Bool) → Fixes own declared types held → Agrees own declared types held b
-agrees_fixed own declared types held true f = tt
-agrees_fixed own declared types held false f = f
 
 pub ruleset chain_laws = (chain_begins, chain_more, chain_stops, chain_halts, chain_ends)
 

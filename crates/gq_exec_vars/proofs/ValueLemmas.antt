@@ -49,7 +49,6 @@ use Rattle.gq_exec_vars.specs.Begun.{Sets, TellsFirst, over_of, sets, world_with
 pub stops : {A B : Type 0} (o : Answer Wrong A) (f : A → Answer Wrong B) (h : Halt) → Halts o h → Halts (o >>= f) h
 stops o f (halt.Wrong w) e = ap (λ p. p >>= f) e
 stops o f halt.Stuck e = ap (λ p. p >>= f) e
-stops o f halt.Outside e = tt
 stops o f halt.OutOfMemory e = tt
 
 -- ---- the value that a kind is set to
@@ -212,11 +211,11 @@ module _ {N : Type 0} (look : Look N) (k : Accum) (xs : List ℕ) where
 -- ---- in the state so far
 
 -- an opening sees what the state shows
-pub seen_so : (clock : Calendar) (g : code.Graph) (plan : Plan) (tuples : List TupleType) (live : Live) (over : Over) (s : State Reference) → over ≡ over_of g plan tuples live.frame → Lives plan.places live s
+pub seen_so : (clock : Calendar) (g : code.Graph) (plan : Plan) (tuples : List TupleType) (live : Live) (over : Over) (s : State Reference) → over ≡ over_of g plan tuples live.frame → Lives live s
     → look_of clock (viewed over [] over.frame.accums over.frame.accums) ≡ seen (world_with clock g plan tuples) s
 seen_so clock g plan tuples live over s is lives =
     ap (λ (o : Over). look_of clock (viewed o [] o.frame.accums o.frame.accums)) is
-    ∙ look_shows clock (over_of g plan tuples live.frame) s (record { names = (alike_now plan.places live.frame.things (reverse live.undo.items) s.names lives.names).each; slots = lives.slots })
+    ∙ look_shows clock (over_of g plan tuples live.frame) s (record { names = (alike_now live.frame.things (reverse live.undo.items) s.names lives.names).each; slots = lives.slots })
 
 module _ (clock : Calendar) (g : code.Graph) (plan : Plan) (tuples : List TupleType) (live : Live) (over : Over) (k : Accum) (attached : Bool) (o : Option Expr) (t : Expr) (is : o ≡ Some t) (made : over ≡ over_of g plan tuples live.frame) where
   abbrev world : World Reference
@@ -225,16 +224,16 @@ module _ (clock : Calendar) (g : code.Graph) (plan : Plan) (tuples : List TupleT
   abbrev look : Look Reference
   look = look_of clock (viewed over [] over.frame.accums over.frame.accums)
 
-  pub first_told : (v : Value) → opening look k (Some (view t)) ≡ Gives (sets k v) → (s : State Reference) → Lives plan.places live s → TellsFirst (seen world s) k (places world attached) (option_map view o) (Ok (Some v))
+  pub first_told : (v : Value) → opening look k (Some (view t)) ≡ Gives (sets k v) → (s : State Reference) → Lives live s → TellsFirst (seen world s) k (places world attached) (option_map view o) (Ok (Some v))
   first_told v e s lives = first_put (seen world s) k (places world attached) (option_map view o) (view t) v (ap (option_map view) is) (ap (λ l. opening l k (Some (view t))) (sym (seen_so clock g plan tuples live over s made lives)) ∙ e)
 
   pub first_halted : (n : ℕ) (h : Halt) → n ≡ (if attached then length g.store.now.vertices else 1) → n ≢ 0 → Halts (opening look k (Some (view t))) h
-      → (s : State Reference) → Lives plan.places live s → TellsFirst (seen world s) k (places world attached) (option_map view o) (Err h)
+      → (s : State Reference) → Lives live s → TellsFirst (seen world s) k (places world attached) (option_map view o) (Err h)
   first_halted n h many some e s lives =
       first_stops (seen world s) k (places world attached) (option_map view o) (view t) h (ap (option_map view) is) (λ z. some (many ∙ sym (many_places clock g plan tuples attached) ∙ z))
       (subst (λ l. Halts (opening l k (Some (view t))) h) (seen_so clock g plan tuples live over s made lives) e)
 
 -- if there is no target
 pub told_nowhere : (clock : Calendar) (g : code.Graph) (plan : Plan) (tuples : List TupleType) (live : Live) (k : Accum) (attached : Bool) (o : Option (Tree Reference)) (n : ℕ) → n ≡ (if attached then length g.store.now.vertices else 1) → n ≡ 0
-    → (s : State Reference) → Lives plan.places live s → TellsFirst (seen (world_with clock g plan tuples) s) k (places (world_with clock g plan tuples) attached) o (Ok None)
+    → (s : State Reference) → Lives live s → TellsFirst (seen (world_with clock g plan tuples) s) k (places (world_with clock g plan tuples) attached) o (Ok None)
 told_nowhere clock g plan tuples live k attached o n many none s lives = first_nowhere (seen (world_with clock g plan tuples) s) k (places (world_with clock g plan tuples) attached) o (many_places clock g plan tuples attached ∙ sym many ∙ none)

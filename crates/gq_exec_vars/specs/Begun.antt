@@ -36,7 +36,6 @@ use Rattle.gq_rules_meaning.specs.States as states
 use Rattle.gq_rules_meaning.specs.States.{State, Variable, Thing}
 use Rattle.gq_rules_meaning.specs.Queries.{Defining, bound, fields_of, opening, scope_of, start}
 use Rattle.gq_plan_ir.specs.declared.plan.Declared.{Declared}
-use Rattle.gq_plan_ir.specs.declared.plan.PlaceType.{PlaceType}
 use Rattle.gq_plan_ir.specs.declared.plan.Parameter.{Parameter}
 use Rattle.gq_plan_ir.specs.declared.plan.Plan.{Plan}
 use Rattle.gq_plan_ir.specs.Belonging.{world_of}
@@ -50,7 +49,6 @@ use Rattle.gq_eval_attributes.specs.declared.tuple_type.TupleType.{TupleType}
 use Rattle.gq_eval_attributes.specs.Tuples.{fields_in, tuples_are}
 use Rattle.gq_exec_feed.proofs.SlotLemmas.{Every}
 use Rattle.gq_frame.specs.declared.frame.Frame.{Frame}
-use Rattle.gq_frame.specs.declared.frame.Thing as frame
 use Rattle.gq_frame.specs.Slots.{AreSound, slots_are}
 use Rattle.gq_eval_context.specs.Looks.{graph_for}
 use Rattle.gq_eval_context.specs.Viewed.{Over}
@@ -73,14 +71,14 @@ abbrev pub begins : Calendar → code.Graph → Plan → List Val → Answer Wro
 begins clock g plan arguments = start (world_with clock g plan []) (λ w k. Gives k) (view_plan plan) arguments
 
 -- tuple types, names and accumulators are those of the definitions
-pub record Stands (places : List PlaceType) (opened : Opened) (d : Defining Reference) : Type 0 where
+pub record Stands (opened : Opened) (d : Defining Reference) : Type 0 where
   pub tuples : d.tuples ≡ tuples_are opened.tuples
-  pub lives : Lives places opened.live d.state
+  pub lives : Lives opened.live d.state
 
 -- the result is opened, or it ends as the definitions do
-abbrev pub Begins : List PlaceType → Answer Wrong (Defining Reference) → Result Opened Halt → Type 0
-Begins places o (Ok opened) = (d : Defining Reference) × (o ≡ Gives d) × Stands places opened d
-Begins places o (Err h) = Halts o h
+abbrev pub Begins : Answer Wrong (Defining Reference) → Result Opened Halt → Type 0
+Begins o (Ok opened) = (d : Defining Reference) × (o ≡ Gives d) × Stands opened d
+Begins o (Err h) = Halts o h
 
 -- a content for each target, in a store of `count` vertices, and none is spoiled
 pub record AreReady (count : ℕ) (a : Accums) : Type 0 where
@@ -155,14 +153,10 @@ pub record AddsTuple (own : List ℕ) (fields : List (Declared × Bytes)) (numbe
 abbrev pub no_accums : ℕ → Accums
 no_accums count = record { slots = record { declared = []; vertices = count }; contents = [] }
 
--- no place has anything
-pub record HasNothing (things : List (Option frame.Thing)) : Type 0 where
-  pub each : (n : ℕ) (thing : frame.Thing) → slice_get things n ≡ Some (Some thing) → ⊥
-
 -- names and values are those of the parameters, and there are no accumulators
 pub record IsBound (plan : Plan) (arguments : List Value) (live : Live) : Type 0 where
   pub each : (world : World Reference) → KnowsTypes plan.vertices world
-      → (names : List (Reference × Thing)) × (bound world (map view_parameter plan.parameters) (map val arguments) ≡ Gives names) × Lives plan.places live (record { names = names; slots = [] })
+      → (names : List (Reference × Thing)) × (bound world (map view_parameter plan.parameters) (map val arguments) ≡ Gives names) × Lives live (record { names = names; slots = [] })
 
 -- it ends as the parameters do
 pub record BoundHalts (plan : Plan) (arguments : List Value) (h : Halt) : Type 0 where
@@ -178,7 +172,7 @@ BindHalts plan parameter h = ⊥
 pub record Binds (plan : Plan) (parameter : Parameter) (argument : Value) (old new : Live) : Type 0 where
   pub base : BaseType
   pub declared : IsDeclared plan.vertices parameter.base base
-  pub lives : (s : State Reference) → Lives plan.places old s → Lives plan.places new (states.with_new (Place parameter.place) (Variable (base_of base) (val argument)) s)
+  pub lives : (s : State Reference) → Lives old s → Lives new (states.with_new (Place parameter.place) (Variable (base_of base) (val argument)) s)
 
 -- ---- accumulators
 

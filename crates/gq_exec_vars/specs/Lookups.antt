@@ -23,7 +23,7 @@ pub record IsOver (vertices : List VertexRow) (own : List ℕ) (world : World Re
 -- the world and the state of the look-up
 pub record IsSeen (at : Lookup) (world : World Reference) (s : State Reference) : Type 0 where
   pub over : IsOver at.vertices.now at.own.now world
-  pub shows : Shows at.places.now at.frame.now s
+  pub shows : Shows at.frame.now s
 
 -- the type and the value of a variable
 abbrev pub variable_in : Option Thing → Option (Base × Val)

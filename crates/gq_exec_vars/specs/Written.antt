@@ -11,7 +11,7 @@ use Rattle.gq_rules_typing.specs.Statements as plain
 use Rattle.gq_rules_meaning.specs.Answers.{Answer, Gives, ◌>>=◌, through}
 use Rattle.gq_rules_meaning.specs.Expressions.{World}
 use Rattle.gq_rules_meaning.specs.Meanings.{Meant}
-use Rattle.gq_rules_meaning.specs.States.{State}
+use Rattle.gq_rules_meaning.specs.States.{State, Thing}
 use Rattle.gq_plan_ir.specs.declared.step.SetTerm.{SetTerm}
 use Rattle.gq_plan_ir.specs.Reference.{Reference}
 use Rattle.gq_plan_ir.specs.PlanView.{view_term}
@@ -109,11 +109,6 @@ chain_of world s first rest = first >>= λ a. through (λ b next. step_of world 
 
 -- ---- set variables
 
--- the types of a place are those that an assignment fixes
-pub record Fixes (own : List ℕ) (declared : Option (plain.SetTypes Reference)) (types held : List ℕ) : Type 0 where
-  pub each : (vertices : List VertexRow) (world : World Reference) → IsOver vertices own world → held ≡ sets.types_fixed world declared types
-
--- a name is in view, or else its types are fixed as the place has them
-abbrev pub Agrees : List ℕ → Option (plain.SetTypes Reference) → List ℕ → List ℕ → Bool → Type 0
-Agrees own declared types held true = Unit {0}
-Agrees own declared types held false = Fixes own declared types held
+-- what a name refers to before an assignment gives these types to a set variable
+pub record Keeps (own : List ℕ) (declared : Option (plain.SetTypes Reference)) (before : Option Thing) (types kept : List ℕ) : Type 0 where
+  pub each : (vertices : List VertexRow) (world : World Reference) → IsOver vertices own world → kept ≡ sets.types_kept before (sets.types_fixed world declared types)

@@ -1,5 +1,5 @@
 // Accumulators.
-ghost use Rattle.std.specs.Prelude.{◌≡◌, ℕ, IfOk, OnOk, length, map, true};
+ghost use Rattle.std.specs.Prelude.{◌≡◌, ◌+◌, ℕ, IfOk, OnOk, length, map};
 ghost use Rattle.gq_value.specs.AccumViews.{accum_of};
 ghost use Rattle.gq_nest.specs.Shows.{Shows};
 ghost use Rattle.gq_rules_meaning.specs.Answers.{through};
@@ -10,6 +10,7 @@ ghost use Rattle.gq_plan_ir.specs.PlanView.{view_accum};
 ghost use Rattle.gq_plan_ir.specs.Reference.{Reference};
 ghost use Rattle.gq_frame.specs.Lives.{Lives};
 ghost use Rattle.gq_exec_vars.specs.Begun.{AddsContents, AddsSlot, AreReady, CanOpen, Leads, MayOpen, opens_with, world_with};
+ghost use Rattle.gq_plan_ir.specs.Numbered.{SlotsFrom};
 
 use crate::values::first_value;
 use gq_base::{List, OutOfMemory};
@@ -34,9 +35,11 @@ pub(crate) fn accums(
 ) -> Result<(), Halt>
     requires may { MayOpen graph plan.now }
     requires ready { AreReady (length graph.store.now.vertices) live.old.frame.accums }
-    ensures leads { (s : State Reference) → Lives plan.now.places live.old s
-        → Leads (Lives plan.now.places live.new) (through (opened (world_with gregorian graph.entry plan.now tuples.now) (accum_of kind.now)) s (map view_accum trees.now)) result }
+    requires next { SlotsFrom (length live.old.frame.accums.slots.declared) trees.now }
+    ensures leads { (s : State Reference) → Lives live.old s
+        → Leads (Lives live.new) (through (opened (world_with gregorian graph.entry plan.now tuples.now) (accum_of kind.now)) s (map view_accum trees.now)) result }
     ensures ready { OnOk result (AreReady (length graph.entry.store.now.vertices) live.new.frame.accums) }
+    ensures count { OnOk result (length live.new.frame.accums.slots.declared ≡ length live.old.frame.accums.slots.declared + length trees.now) }
 {
     for tree in trees.as_slice() {
         accum(alloc, graph, plan, tuples, kind, tree, live)?;
@@ -56,13 +59,12 @@ fn accum(
 ) -> Result<(), Halt>
     requires may { MayOpen graph plan.now }
     requires ready { AreReady (length graph.store.now.vertices) live.old.frame.accums }
-    ensures leads { (s : State Reference) → Lives plan.now.places live.old s
-        → Leads (Lives plan.now.places live.new) (opened (world_with gregorian graph.entry plan.now tuples.now) (accum_of kind.now) s (view_accum tree.now)) result }
+    requires next { length live.old.frame.accums.slots.declared ≡ tree.now.slot }
+    ensures leads { (s : State Reference) → Lives live.old s
+        → Leads (Lives live.new) (opened (world_with gregorian graph.entry plan.now tuples.now) (accum_of kind.now) s (view_accum tree.now)) result }
     ensures ready { OnOk result (AreReady (length graph.entry.store.now.vertices) live.new.frame.accums) }
+    ensures count { OnOk result (length live.new.frame.accums.slots.declared ≡ length live.old.frame.accums.slots.declared + 1) }
 {
-    if !is_next(&live.frame.accums, tree.slot) {
-        return Err(Halt::OutOfMemory);
-    }
     let opening = &tree.opening;
     let first = first_value(
         alloc,
@@ -78,13 +80,6 @@ fn accum(
     Ok(())
 }
 
-/// Whether a slot is the next one.
-fn is_next(accums: &Accums, slot: u32) -> bool
-    ensures { result ≡ true → length accums.now.slots.declared ≡ slot }
-{
-    accums.slots.declared.len() == slot as usize
-}
-
 /// Adds a slot and initializes its accumulators. What they open with fits, so blocks share it until they change it.
 fn add_slot(
     alloc: Global,
@@ -96,6 +91,7 @@ fn add_slot(
     requires suited { CanOpen (accum_of kind.now) first.now }
     ensures adds { OnOk result ((count : ℕ) → AreReady count accums.old → AddsSlot (accum_of kind.now) attached (opens_with (accum_of kind.now) first.now) accums.old accums.new) }
     ensures ready { OnOk result ((count : ℕ) → AreReady count accums.old → AreReady count accums.new) }
+    ensures count { OnOk result (length accums.new.slots.declared ≡ length accums.old.slots.declared + 1) }
 {
     let count = targets(attached, accums.slots.vertices);
     fill(alloc, kind, first, count, &mut accums.contents)?;

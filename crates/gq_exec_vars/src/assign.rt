@@ -1,5 +1,5 @@
 // Set variables.
-ghost use Rattle.std.specs.Prelude.{◌≡◌, List, OnOk, true, is_some};
+ghost use Rattle.std.specs.Prelude.{◌≡◌, List, IfOk, None, OnOk};
 ghost use Rattle.std.specs.Option.{option_map};
 ghost use Rattle.gq_graph.specs.declared.rows.VertexRow.{VertexRow};
 ghost use Rattle.gq_rules_meaning.specs.Expressions.{World};
@@ -10,72 +10,68 @@ ghost use Rattle.gq_plan_ir.specs.PlanView.{view_set_types};
 ghost use Rattle.gq_frame.specs.Names.{thing_in};
 ghost use Rattle.gq_frame.specs.Lives.{Lives};
 ghost use Rattle.gq_exec_vars.specs.Lookups.{IsOver};
-ghost use Rattle.gq_exec_vars.specs.Written.{typed, Fixes, Agrees};
+ghost use Rattle.gq_exec_vars.specs.Written.{typed, Keeps};
 
-use crate::lookup::types_at;
 use crate::typed::TypedSet;
-use gq_base::OutOfMemory;
-use gq_frame::{Live, Thing};
-use gq_plan_ir::{PlaceType, SetTypes};
+use gq_base::{List, OutOfMemory};
+use gq_frame::{Live, Thing, set_at};
+use gq_plan_ir::SetTypes;
+use std::alloc::Global;
 
 /// Assigns a set to a set variable. Its types are fixed when it comes into view: those that it is declared with, or
-/// else those of the set. A place to which the plan doesn't give these types is `OutOfMemory`.
+/// else those of the set.
 pub fn assign_set(
+    alloc: Global,
     live: &mut Live,
     own: &[u32],
-    places: &[PlaceType],
     place: u32,
     types: Option<SetTypes>,
     set: TypedSet,
 ) -> Result<(), OutOfMemory>
-    ensures names { OnOk result ((vertices : List VertexRow) (world : World Reference) (s : State Reference) → IsOver vertices own.now world → Lives places.now live.old s
-        → Lives places.now live.new (set_assigned world (Place place) (option_map view_set_types types) (typed set) s)) }
+    ensures names { OnOk result ((vertices : List VertexRow) (world : World Reference) (s : State Reference) → IsOver vertices own.now world → Lives live.old s
+        → Lives live.new (set_assigned world (Place place) (option_map view_set_types types) (typed set) s)) }
     ensures accums { live.new.frame.accums ≡ live.old.frame.accums }
 {
-    match types_at(places, place) {
-        Some(held) => {
-            if agrees(live, own, places, place, types, set.types.as_slice(), held) {
-                live.assign(places, place, Thing::Set(set.vertices))
-            } else {
-                Err(OutOfMemory)
-            }
-        }
-        None => Err(OutOfMemory),
-    }
+    let kept = types_kept(alloc, live, own, place, types, set.types.as_slice())?;
+    live.assign(place, Thing::Set(kept, set.vertices))
 }
 
-/// Whether a set variable is in view, or else comes into view with the types that its place holds.
-#[tactic(auto, using(crate::proofs::SetLemmas::agrees_seen, crate::proofs::SetLemmas::agrees_fixed))]
-fn agrees(
+/// The types of a set variable that gets a set of these ones: those that it has, if it is in view.
+#[tactic(auto, using(crate::proofs::SetLemmas::kept_laws))]
+fn types_kept(
+    alloc: Global,
     live: &Live,
     own: &[u32],
-    places: &[PlaceType],
     place: u32,
     declared: Option<SetTypes>,
     types: &[u32],
-    held: &[u32],
-) -> bool
-    ensures { result ≡ true → Agrees own.now (option_map view_set_types declared) types.now held.now (is_some (thing_in places.now live.now.frame.things place)) }
+) -> Result<List<u32>, OutOfMemory>
+    ensures { IfOk result (Keeps own.now (option_map view_set_types declared) (thing_in live.now.frame.things place) types.now) }
 {
-    if live.has(places, place) {
-        return true;
+    match set_at(live.frame.things.as_slice(), place) {
+        Some((held, _)) => Ok(List::from_slice(alloc, held)?),
+        None => Ok(types_fixed(alloc, own, declared, types)?),
     }
-    fixes(own, declared, types, held)
 }
 
-/// Whether a set variable that is declared with types, and gets a set of these ones, has the types that its place holds.
+/// The types of a set variable that comes into view: those that it is declared with, or else those of its set.
 #[tactic(auto, using(crate::proofs::SetLemmas::fixed_laws))]
-fn fixes(own: &[u32], declared: Option<SetTypes>, types: &[u32], held: &[u32]) -> bool
-    ensures { result ≡ true → Fixes own.now (option_map view_set_types declared) types.now held.now }
+fn types_fixed(
+    alloc: Global,
+    own: &[u32],
+    declared: Option<SetTypes>,
+    types: &[u32],
+) -> Result<List<u32>, OutOfMemory>
+    ensures { IfOk result (Keeps own.now (option_map view_set_types declared) None types.now) }
 {
     match declared {
-        None => held == types,
-        Some(SetTypes::Every) => held == own,
+        None => Ok(List::from_slice(alloc, types)?),
+        Some(SetTypes::Every) => Ok(List::from_slice(alloc, own)?),
         Some(SetTypes::Of(kind)) => {
             if own.contains(&kind) {
-                held == [kind].as_slice()
+                Ok(List::from_slice(alloc, &[kind])?)
             } else {
-                held == types
+                Ok(List::from_slice(alloc, types)?)
             }
         }
     }

@@ -64,7 +64,7 @@ fn chain(
     for other in others {
         set = SetOperand::Made(step(alloc, other.0, set, &other.1, at)?);
     }
-    Ok(set.own(alloc, at.vertices.len())?)
+    Ok(set.own(alloc)?)
 }
 
 /// One operator with its right side.
@@ -99,7 +99,7 @@ fn operand<'a>(alloc: Global, term: &SetTerm, at: &Lookup<'a>) -> Result<SetOper
 fn lent<'a>(place: u32, at: &Lookup<'a>) -> Result<SetOperand<'a>, Halt>
     ensures { (world : World Reference) (s : State Reference) → IsSeen at.now world s → Tells set_is (set_named world s (Place place)) result }
 {
-    match set_at(at.places, at.frame.things.as_slice(), place) {
+    match set_at(at.frame.things.as_slice(), place) {
         Some((types, vertices)) => Ok(SetOperand::Lent(types, vertices)),
         None => Err(Halt::Stuck),
     }

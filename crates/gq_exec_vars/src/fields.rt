@@ -1,7 +1,6 @@
 // Declared types, and fields of tuple types.
 ghost use Rattle.std.specs.Prelude.{◌≡◌, ◌++◌, ◌∷◌, [], true, false, IfErr, IfOk, MatchOption, Ok};
 ghost use Rattle.gq_rules_typing.specs.KindTypes as kinds;
-ghost use Rattle.gq_value.specs.declared.kind.BaseType.TheVariants as bases;
 ghost use Rattle.gq_exec_vars.specs.Begun.{FieldsHalt, HasFields, IsDeclared, IsForeign, is_refused};
 
 use gq_base::List;
@@ -44,7 +43,7 @@ pub(crate) fn tuple_type(
 
 /// The declared type, if it is one of the graph.
 #[tactic(auto, using(crate::proofs::FieldLemmas::declared_laws, crate::proofs::FieldLemmas::foreign_type))]
-fn declared_base(declared: Declared, own: &[u32]) -> Option<BaseType>
+pub(crate) fn declared_base(declared: Declared, own: &[u32]) -> Option<BaseType>
     ensures { MatchOption result (IsForeign own.now declared) (IsDeclared own.now declared) }
 {
     match declared {
@@ -60,64 +59,6 @@ fn declared_base(declared: Declared, own: &[u32]) -> Option<BaseType>
                 None
             }
         }
-    }
-}
-
-/// Whether a declared type is built in, or one of the graph.
-#[tactic(auto, using(crate::proofs::FieldLemmas::foreign_type))]
-pub(crate) fn is_known(declared: Declared, own: &[u32]) -> bool
-    ensures { result ≡ false → IsForeign own.now declared }
-{
-    match declared {
-        Declared::Int | Declared::UInt | Declared::Bool | Declared::Text => true,
-        Declared::AnyVertex => true,
-        Declared::VertexOf(kind) => is_own(own, kind),
-    }
-}
-
-/// Whether a type is the declared one.
-#[tactic(auto, using(crate::proofs::FieldLemmas::declared_laws))]
-pub(crate) fn is_declared(declared: Declared, base: &BaseType, own: &[u32]) -> bool
-    ensures { result ≡ true → IsDeclared own.now declared base.now }
-{
-    match declared {
-        Declared::Int => match base {
-            BaseType::Int => true,
-            BaseType::UInt | BaseType::Bool | BaseType::Text | BaseType::Time => false,
-            BaseType::AnyVertex | BaseType::VertexOf(_) | BaseType::Tuple(_, _) => false,
-        },
-        Declared::UInt => match base {
-            BaseType::UInt => true,
-            BaseType::Int | BaseType::Bool | BaseType::Text | BaseType::Time => false,
-            BaseType::AnyVertex | BaseType::VertexOf(_) | BaseType::Tuple(_, _) => false,
-        },
-        Declared::Bool => match base {
-            BaseType::Bool => true,
-            BaseType::Int | BaseType::UInt | BaseType::Text | BaseType::Time => false,
-            BaseType::AnyVertex | BaseType::VertexOf(_) | BaseType::Tuple(_, _) => false,
-        },
-        Declared::Text => match base {
-            BaseType::Text => true,
-            BaseType::Int | BaseType::UInt | BaseType::Bool | BaseType::Time => false,
-            BaseType::AnyVertex | BaseType::VertexOf(_) | BaseType::Tuple(_, _) => false,
-        },
-        Declared::AnyVertex => match base {
-            BaseType::AnyVertex => true,
-            BaseType::Int | BaseType::UInt | BaseType::Bool | BaseType::Text => false,
-            BaseType::Time | BaseType::VertexOf(_) | BaseType::Tuple(_, _) => false,
-        },
-        Declared::VertexOf(kind) => is_vertex_of(base, kind) && is_own(own, kind),
-    }
-}
-
-/// Whether a type is that of the vertices of this one.
-fn is_vertex_of(base: &BaseType, kind: u32) -> bool
-    ensures { result ≡ true → base.now ≡ bases.VertexOf kind }
-{
-    match base {
-        BaseType::VertexOf(number) => *number == kind,
-        BaseType::Int | BaseType::UInt | BaseType::Bool | BaseType::Text => false,
-        BaseType::Time | BaseType::AnyVertex | BaseType::Tuple(_, _) => false,
     }
 }
 

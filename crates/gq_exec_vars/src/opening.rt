@@ -1,5 +1,5 @@
 // Opening a query, definition by definition.
-ghost use Rattle.std.specs.Prelude.{◌≡◌, ◌≤◌, [], IfErr, IfOk, OnOk, length, map};
+ghost use Rattle.std.specs.Prelude.{◌≡◌, ◌≤◌, ◌+◌, [], IfErr, IfOk, OnOk, length, map};
 ghost use Rattle.gq_graph.specs.Catalog.{most_types};
 ghost use Rattle.gq_value.specs.Views.{val};
 ghost use Rattle.gq_index.specs.Sights.{sight_of};
@@ -11,6 +11,7 @@ ghost use Rattle.gq_rules_calendar.specs.Gregorian.{gregorian};
 ghost use Rattle.gq_plan_ir.specs.PlanView.{view_definition};
 ghost use Rattle.gq_plan_ir.specs.Reference.{Reference};
 ghost use Rattle.gq_exec_vars.specs.Begun.{AddsTuple, AreReady, Begins, FieldsHalt, Leads, MayOpen, Stands, begins, world_with};
+ghost use Rattle.gq_plan_ir.specs.Numbered.{AreNumbered, IsNext, NumberedFrom, slots_in, tuples_in};
 
 use crate::accums::accums;
 use crate::fields::tuple_type;
@@ -33,19 +34,17 @@ pub struct Opened {
 
 /// Opens a query: its parameters with their arguments, then its tuple types and accumulators in order.
 ///
-/// The query is already checked: a plan whose numbers or places aren't those of its query ends with `OutOfMemory`.
+/// The query is already checked, so its plan's tuple types and slots are numbered in order.
 #[tactic(auto, using(crate::proofs::OpenLemmas::may_open, crate::proofs::OpenLemmas::ready_none))]
 pub fn open(alloc: Global, graph: Graph<'_>, plan: &Plan, arguments: &Row) -> Result<Opened, Halt>
     requires indexed { graph.index.now ≡ adjacency (sight_of graph.catalog.now graph.store.now.vertices graph.store.now.edges) }
     requires attributes { HaveAttributes graph.catalog.now graph.store.now.vertices }
     requires ends { HaveEnds graph.store.now.vertices graph.store.now.edges.rows }
-    ensures begins { Begins plan.now.places (begins gregorian graph.entry plan.now (map val arguments.now)) result }
+    requires few { length plan.now.edges ≤ most_types }
+    requires numbered { AreNumbered plan.now.definitions }
+    ensures begins { Begins (begins gregorian graph.entry plan.now (map val arguments.now)) result }
     ensures ready { IfOk result (λ o. AreReady (length graph.entry.store.now.vertices) o.live.frame.accums) }
-    ensures few { IfOk result (λ o. length plan.now.edges ≤ most_types) }
 {
-    if plan.edges.len() > 256 {
-        return Err(Halt::OutOfMemory);
-    }
     let mut opened = Opened {
         live: bound(alloc, graph, plan, arguments)?,
         tuples: List::new(alloc),
@@ -63,8 +62,9 @@ fn definitions(
 ) -> Result<(), Halt>
     requires may { MayOpen graph plan.now }
     requires ready { AreReady (length graph.store.now.vertices) opened.old.live.frame.accums }
-    ensures leads { (d : Defining Reference) → Stands plan.now.places opened.old d
-        → Leads (Stands plan.now.places opened.new) (through (defined (world_with gregorian graph.entry plan.now []) (λ w k. Gives k)) d (map view_definition plan.now.definitions)) result }
+    requires next { NumberedFrom (length opened.old.tuples) (length opened.old.live.frame.accums.slots.declared) plan.now.definitions }
+    ensures leads { (d : Defining Reference) → Stands opened.old d
+        → Leads (Stands opened.new) (through (defined (world_with gregorian graph.entry plan.now []) (λ w k. Gives k)) d (map view_definition plan.now.definitions)) result }
     ensures ready { OnOk result (AreReady (length graph.entry.store.now.vertices) opened.new.live.frame.accums) }
 {
     for definition in plan.definitions.as_slice() {
@@ -83,9 +83,12 @@ fn define(
 ) -> Result<(), Halt>
     requires may { MayOpen graph plan.now }
     requires ready { AreReady (length graph.store.now.vertices) opened.old.live.frame.accums }
-    ensures leads { (d : Defining Reference) → Stands plan.now.places opened.old d
-        → Leads (Stands plan.now.places opened.new) (defined (world_with gregorian graph.entry plan.now []) (λ w k. Gives k) d (view_definition definition.now)) result }
+    requires next { IsNext (length opened.old.tuples) (length opened.old.live.frame.accums.slots.declared) definition.now }
+    ensures leads { (d : Defining Reference) → Stands opened.old d
+        → Leads (Stands opened.new) (defined (world_with gregorian graph.entry plan.now []) (λ w k. Gives k) d (view_definition definition.now)) result }
     ensures ready { OnOk result (AreReady (length graph.entry.store.now.vertices) opened.new.live.frame.accums) }
+    ensures tuples { OnOk result (length opened.new.tuples ≡ length opened.old.tuples + tuples_in definition.now) }
+    ensures slots { OnOk result (length opened.new.live.frame.accums.slots.declared ≡ length opened.old.live.frame.accums.slots.declared + slots_in definition.now) }
 {
     match definition {
         Definition::Tuple(fields, number) => {
@@ -114,12 +117,10 @@ fn add_tuple(
     number: u32,
     tuples: &mut List<TupleType>,
 ) -> Result<(), Halt>
+    requires { length tuples.old ≡ number }
     ensures adds { OnOk result (AddsTuple plan.now.vertices fields.now number tuples.old tuples.new) }
     ensures halts { IfErr result (FieldsHalt plan.now.vertices fields.now) }
 {
-    if tuples.len() != number as usize {
-        return Err(Halt::OutOfMemory);
-    }
     let own = plan.vertices.as_slice();
     let lent = fields.as_slice();
     tuples.push(tuple_type(alloc, own, lent)?)?;

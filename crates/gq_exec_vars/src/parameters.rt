@@ -1,13 +1,13 @@
 // Parameters.
 ghost use Rattle.std.specs.Prelude.{◌≡◌, IfErr, IfOk, OnOk, [], length};
-ghost use Rattle.gq_exec_vars.specs.Begun.{BindHalts, Binds, BoundHalts, HasNothing, IsBound, no_accums};
+ghost use Rattle.gq_exec_vars.specs.Begun.{BindHalts, Binds, BoundHalts, IsBound, no_accums};
 
-use crate::fields::{is_declared, is_known};
-use gq_base::{List, OutOfMemory};
+use crate::fields::declared_base;
+use gq_base::List;
 use gq_eval_operand::Halt;
 use gq_frame::{Accums, Frame, Live, Pages, Slots, Thing};
 use gq_index::Graph;
-use gq_plan_ir::{Parameter, PlaceType, Plan};
+use gq_plan_ir::{Parameter, Plan};
 use gq_value::{Row, Value};
 use std::alloc::Global;
 
@@ -28,7 +28,7 @@ pub(crate) fn bound(
     if arguments.len() != count {
         return Err(Halt::Stuck);
     }
-    let mut live = nothing(alloc, graph, plan)?;
+    let mut live = nothing(alloc, graph);
     for turn in 0..count {
         let at = count - turn - 1;
         bind(
@@ -42,7 +42,7 @@ pub(crate) fn bound(
     Ok(live)
 }
 
-/// A parameter with its argument, in front of all names. A place of another type is `OutOfMemory`.
+/// A parameter with its argument, in front of all names.
 #[tactic(auto, using(crate::proofs::NameLemmas::binds))]
 fn bind(
     alloc: Global,
@@ -55,36 +55,21 @@ fn bind(
     ensures halts { IfErr result (BindHalts plan.now parameter.now) }
     ensures accums { live.new.frame.accums ≡ live.old.frame.accums }
 {
-    let own = plan.vertices.as_slice();
-    if !is_known(parameter.base, own) {
-        return Err(Halt::Stuck);
-    }
-    match plan.places.get(parameter.place as usize) {
-        Some(PlaceType::Variable(base)) => {
-            if !is_declared(parameter.base, base, own) {
-                return Err(Halt::OutOfMemory);
-            }
+    match declared_base(parameter.base, plan.vertices.as_slice()) {
+        None => Err(Halt::Stuck),
+        Some(base) => {
             let value = argument.duplicate(alloc)?;
-            Ok(live.declare(parameter.place, Thing::Value(value))?)
+            Ok(live.declare(parameter.place, Thing::Value(base, value))?)
         }
-        Some(PlaceType::Set(_))
-        | Some(PlaceType::Alias(_))
-        | Some(PlaceType::EdgeAlias(_))
-        | None => Err(Halt::OutOfMemory),
     }
 }
 
 /// No name is in view, and there are no accumulators.
-#[tactic(auto, using(crate::proofs::NameLemmas::nothing_none, crate::proofs::NameLemmas::nothing_more))]
-fn nothing(alloc: Global, graph: Graph<'_>, plan: &Plan) -> Result<Live, OutOfMemory>
-    ensures undo { IfOk result (λ live. live.undo.items ≡ []) }
-    ensures things { IfOk result (λ live. HasNothing live.frame.things) }
-    ensures accums { IfOk result (λ live. live.frame.accums ≡ no_accums (length graph.entry.store.now.vertices)) }
+fn nothing(alloc: Global, graph: Graph<'_>) -> Live
+    ensures undo { result.undo.items ≡ [] }
+    ensures things { result.frame.things ≡ [] }
+    ensures accums { result.frame.accums ≡ no_accums (length graph.entry.store.now.vertices) }
 {
-    let mut things = List::new(alloc);
-    for _place in 0..plan.places.len() {
-        things.push(None)?;
-    }
     let slots = Slots {
         declared: List::new(alloc),
         vertices: graph.store.vertices.len(),
@@ -93,8 +78,11 @@ fn nothing(alloc: Global, graph: Graph<'_>, plan: &Plan) -> Result<Live, OutOfMe
         slots,
         contents: Pages::new(alloc),
     };
-    Ok(Live {
-        frame: Frame { things, accums },
+    Live {
+        frame: Frame {
+            things: List::new(alloc),
+            accums,
+        },
         undo: Vec::new(alloc),
-    })
+    }
 }

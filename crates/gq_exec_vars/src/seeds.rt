@@ -81,7 +81,7 @@ fn gather_vertex(place: u32, at: &Lookup<'_>, bits: &mut SetBitmap) -> Result<()
     ensures seeded { (world : World Reference) (s : State Reference) → IsSeen at.now world s → Seeded (seed_of world s (plain.OneVertex (Place place))) bits.old bits.new result }
     ensures few { OnOk result (HasFew bits.old → HasFew bits.new) }
 {
-    match vertex_at(at.places, at.frame.things.as_slice(), place) {
+    match vertex_at(at.frame.things.as_slice(), place) {
         Some((base, vertex)) => {
             put_base(&mut bits.types, base, at.own)?;
             put(&mut bits.vertices, vertex)?;

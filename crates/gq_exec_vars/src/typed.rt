@@ -1,11 +1,8 @@
 // Sets with their types.
-ghost use Rattle.std.specs.Prelude.{◌≡◌, ◌++◌, [], ◌∷◌, IfOk, OnOk};
-ghost use Rattle.gq_exec_source.specs.Marks.{Marks};
+ghost use Rattle.std.specs.Prelude.{◌≡◌, IfOk};
 ghost use Rattle.gq_exec_vars.specs.Written.{typed, set_is};
 
-use crate::bits::put;
 use gq_base::{List, OutOfMemory};
-use gq_exec_source::{is_marked, unmarked};
 use gq_index::VertexList;
 use std::alloc::Global;
 
@@ -44,44 +41,16 @@ impl<'a> SetOperand<'a> {
         }
     }
 
-    /// The set, owned. `vertices` is the number of vertices.
-    pub fn own(self, alloc: Global, vertices: u32) -> Result<TypedSet, OutOfMemory>
+    /// The set, owned.
+    pub fn own(self, alloc: Global) -> Result<TypedSet, OutOfMemory>
         ensures { IfOk result (λ set. typed set ≡ set_is self.entry) }
     {
         match self {
             SetOperand::Lent(types, list) => Ok(TypedSet {
                 types: List::from_slice(alloc, types)?,
-                vertices: duplicate(alloc, list.as_slice(), vertices)?,
+                vertices: list.duplicate(alloc)?,
             }),
             SetOperand::Made(set) => Ok(set),
         }
     }
-}
-
-/// A copy of the list.
-#[tactic(auto, using(crate::proofs::BitLemmas::copy_laws))]
-fn duplicate(alloc: Global, list: &[u32], vertices: u32) -> Result<VertexList, OutOfMemory>
-    ensures { IfOk result (λ copy. copy ≡ list.now) }
-{
-    let mut words = unmarked(alloc, vertices)?;
-    let mut copy = VertexList::new(alloc);
-    for vertex in list {
-        push_new(&mut words, &mut copy, *vertex)?;
-    }
-    Ok(copy)
-}
-
-/// Appends a vertex that isn't marked, and marks it. One that is marked is `OutOfMemory`.
-#[tactic(auto, using(crate::proofs::BitLemmas::not_there, crate::proofs::BitLemmas::marks_pushed))]
-fn push_new(words: &mut List<u64>, copy: &mut VertexList, vertex: u32) -> Result<(), OutOfMemory>
-    requires { Marks words.old copy.old }
-    ensures marks { OnOk result (Marks words.new copy.new) }
-    ensures copy { OnOk result (copy.new ≡ copy.old ++ vertex ∷ []) }
-{
-    if is_marked(words.as_slice(), vertex) {
-        return Err(OutOfMemory);
-    }
-    put(words, vertex)?;
-    copy.push(vertex)?;
-    Ok(())
 }

@@ -47,7 +47,7 @@ pub(crate) fn first_value(
 ) -> Result<Option<Value>, Halt>
     requires may { MayOpen graph plan.now }
     requires sound { AreSound live.now.frame.accums }
-    ensures told { (s : State Reference) → Lives plan.now.places live.now s
+    ensures told { (s : State Reference) → Lives live.now s
         → TellsFirst (seen (world_with gregorian graph.entry plan.now tuples.now) s) (accum_of kind.now) (places (world_with gregorian graph.entry plan.now tuples.now) attached) (option_map view tree.now) result }
     ensures suited { IfOk result (CanOpen (accum_of kind.now)) }
 {

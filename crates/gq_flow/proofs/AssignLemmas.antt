@@ -28,8 +28,6 @@ use Rattle.gq_rules_meaning.specs.Statements.{Fault, Evaluation, PathBound, is_s
 use Rattle.gq_rules_meaning.specs.Tails as tails
 use Rattle.gq_rules_meaning.specs.Tails.{select}
 use Rattle.gq_plan_ir.specs.declared.block.Block.{Block}
-use Rattle.gq_plan_ir.specs.declared.plan.PlaceType.{PlaceType}
-use Rattle.gq_plan_ir.specs.declared.plan.PlaceType.TheVariants as held
 use Rattle.gq_plan_ir.specs.BlockView.{view_block}
 use Rattle.gq_plan_ir.specs.Reference.{Reference, Place}
 use Rattle.gq_plan_ir.specs.References.{same}
@@ -37,8 +35,7 @@ use Rattle.gq_eval_operand.specs.declared.halt.Halt.{Halt}
 use Rattle.gq_eval_operand.specs.Meant.{Tells}
 use Rattle.gq_frame.specs.declared.frame.Frame.{Frame}
 use Rattle.gq_frame.specs.declared.frame.Thing as code
-use Rattle.gq_frame.specs.declared.frame.Thing.TheVariants as thing
-use Rattle.gq_frame.specs.Names.{held_thing, thing_in}
+use Rattle.gq_frame.specs.Names.{thing_in}
 use Rattle.gq_frame.specs.Shows.{Shows}
 use Rattle.gq_frame.specs.declared.accums.Accums.{Accums}
 use Rattle.gq_frame.specs.Slots.{AreSound, slots_are}
@@ -68,34 +65,30 @@ use Rattle.gq_flow.specs.Assigning.{Fixed, IsNoName, Kept}
 pub is_over : (clock : Calendar) (b : Basis) → IsOver b.vertices b.plan.vertices (world_on clock b)
 is_over clock b = record { like = refl; vertex_type = λ t. refl; types = refl; kinds = refl }
 
-pub is_seen : (clock : Calendar) (b : Basis) (f : Frame) (at : Lookup) → at.vertices.now ≡ b.vertices → at.own.now ≡ b.plan.vertices → at.places.now ≡ b.plan.places → at.frame.now ≡ f
-    → (s : State Reference) → Shows b.plan.places f s → IsSeen at (world_on clock b) s
-is_seen clock b f at vertices own places frame s shows = record {
+pub is_seen : (clock : Calendar) (b : Basis) (f : Frame) (at : Lookup) → at.vertices.now ≡ b.vertices → at.own.now ≡ b.plan.vertices → at.frame.now ≡ f
+    → (s : State Reference) → Shows f s → IsSeen at (world_on clock b) s
+is_seen clock b f at vertices own frame s shows = record {
   over = subst (λ vs. IsOver vs at.own.now (world_on clock b)) (sym vertices) (subst (λ o. IsOver b.vertices o (world_on clock b)) (sym own) (is_over clock b));
-  shows = subst (λ ps. Shows ps at.frame.now s) (sym places) (subst (λ g. Shows b.plan.places g s) (sym frame) shows);
+  shows = subst (λ g. Shows g s) (sym frame) shows;
 }
 
 -- the vertices of a set expression, read of each state
 pub held_on : (clock : Calendar) (b : Basis) (f : Frame) (at : Lookup) (first : plain.SetTerm Reference) (rest : List (SetOp × plain.SetTerm Reference)) (told : Result TypedSet Halt) (r : Result TypedSet RunFault)
-    → at.vertices.now ≡ b.vertices → at.own.now ≡ b.plan.vertices → at.places.now ≡ b.plan.places → at.frame.now ≡ f
+    → at.vertices.now ≡ b.vertices → at.own.now ≡ b.plan.vertices → at.frame.now ≡ f
     → ((world : World Reference) (s : State Reference) → IsSeen at world s → Tells typed (sets_of world s first rest) told) → r ≡ faults_of told
-    → Reads b.plan.places typed (λ s. blaming Evaluation (sets_of (world_on clock b) s first rest)) f r
-held_on clock b f at first rest told r vertices own places frame t e = record {
+    → Reads typed (λ s. blaming Evaluation (sets_of (world_on clock b) s first rest)) f r
+held_on clock b f at first rest told r vertices own frame t e = record {
   each = λ s shows.
       subst (Says typed (blaming Evaluation (sets_of (world_on clock b) s first rest))) (sym e)
-      (says_told typed (sets_of (world_on clock b) s first rest) told (t (world_on clock b) s (is_seen clock b f at vertices own places frame s shows)));
+      (says_told typed (sets_of (world_on clock b) s first rest) told (t (world_on clock b) s (is_seen clock b f at vertices own frame s shows)));
 }
 
 -- ---- a set variable
 
-pub fixed_by : (clock : Calendar) (b : Basis) (place : ℕ) (types : Option (SetTypes Reference)) (set : sets.TypedSet) (own : List ℕ) (places : List PlaceType) (old new : Live) (r : Result (Unit {0}) OutOfMemory)
-    → own ≡ b.plan.vertices → places ≡ b.plan.places
-    → OnOk r ((vertices : List VertexRow) (world : World Reference) (s : State Reference) → IsOver vertices own world → Lives places old s → Lives places new (set_assigned world (Place place) types set s))
-    → Fixed clock b place types set old new r
-fixed_by clock b place types set own places old new (Ok u) o p h = λ s l.
-    subst (λ ps. Lives ps new (set_assigned (world_on clock b) (Place place) types set s)) p
-    (h b.vertices (world_on clock b) s (subst (λ os. IsOver b.vertices os (world_on clock b)) (sym o) (is_over clock b)) (subst (λ ps. Lives ps old s) (sym p) l))
-fixed_by clock b place types set own places old new (Err e) o p h = tt
+pub fixed_by : (clock : Calendar) (b : Basis) (place : ℕ) (types : Option (SetTypes Reference)) (set : sets.TypedSet) (own : List ℕ) (old new : Live) (r : Result (Unit {0}) OutOfMemory) → own ≡ b.plan.vertices
+    → OnOk r ((vertices : List VertexRow) (world : World Reference) (s : State Reference) → IsOver vertices own world → Lives old s → Lives new (set_assigned world (Place place) types set s)) → Fixed clock b place types set old new r
+fixed_by clock b place types set own old new (Ok u) o h = λ s l. h b.vertices (world_on clock b) s (subst (λ os. IsOver b.vertices os (world_on clock b)) (sym o) (is_over clock b)) l
+fixed_by clock b place types set own old new (Err e) o h = tt
 
 pub ruleset fixed_laws = (fixed_by)
 
@@ -105,14 +98,14 @@ module _ (clock : Calendar) (b : Basis) (place : ℕ) (types : Option (SetTypes 
   abbrev giving : Change
   giving s = blaming Evaluation (read s) >>= λ set. Gives (set_assigned (world_on clock b) (Place place) types set s)
 
-  pub set_stops : (old new : Live) (e : RunFault) → Reads b.plan.places typed (λ s. blaming Evaluation (read s)) old.frame (Err e) → Becomes b.plan.places giving old new (Err e)
-  set_stops old new e r = record { each = λ s l. ends_bind (blaming Evaluation (read s)) (λ set. Gives (set_assigned (world_on clock b) (Place place) types set s)) e (r.each s (shows_of b.plan.places old s l)) }
+  pub set_stops : (old new : Live) (e : RunFault) → Reads typed (λ s. blaming Evaluation (read s)) old.frame (Err e) → Becomes giving old new (Err e)
+  set_stops old new e r = record { each = λ s l. ends_bind (blaming Evaluation (read s)) (λ set. Gives (set_assigned (world_on clock b) (Place place) types set s)) e (r.each s (shows_of old s l)) }
 
-  pub set_given : (old new : Live) (set : TypedSet) → Reads b.plan.places typed (λ s. blaming Evaluation (read s)) old.frame (Ok set) → Fixed clock b place types (typed set) old new (Ok tt) → Becomes b.plan.places giving old new (Ok tt)
+  pub set_given : (old new : Live) (set : TypedSet) → Reads typed (λ s. blaming Evaluation (read s)) old.frame (Ok set) → Fixed clock b place types (typed set) old new (Ok tt) → Becomes giving old new (Ok tt)
   set_given old new set r f = record {
     each = λ s l. (
       set_assigned (world_on clock b) (Place place) types (typed set) s,
-      ap (λ o. o >>= λ set. Gives (set_assigned (world_on clock b) (Place place) types set s)) (r.each s (shows_of b.plan.places old s l)),
+      ap (λ o. o >>= λ set. Gives (set_assigned (world_on clock b) (Place place) types set s)) (r.each s (shows_of old s l)),
       f s l,
     );
   }
@@ -156,18 +149,18 @@ module _ (clock : Calendar) (b : Basis) (place : ℕ) (types : Option (SetTypes 
   expressing s = blaming Evaluation (expression_assigned (world_on clock b) s (Place place) types t)
 
   -- the expression isn't a name
-  pub no_name : (r : Result (Unit {0}) RunFault) → IsNoName t → Becomes b.plan.places valuing old new r → Becomes b.plan.places expressing old new r
+  pub no_name : (r : Result (Unit {0}) RunFault) → IsNoName t → Becomes valuing old new r → Becomes expressing old new r
   no_name r h d = record {
-    each = λ s l. leads_same (Lives b.plan.places new) (expressing s) (valuing s) r (ap (blaming Evaluation) (no_name_is (world_on clock b) s (Place place) types t h)) (d.each s l);
+    each = λ s l. leads_same (Lives new) (expressing s) (valuing s) r (ap (blaming Evaluation) (no_name_is (world_on clock b) s (Place place) types t h)) (d.each s l);
   }
 
   -- a name that isn't a set
-  pub no_set : (y : ℕ) (r : Result (Unit {0}) RunFault) → t ≡ Name (Place y) → is_set (thing_in b.plan.places old.frame.things y) ≡ false → Becomes b.plan.places valuing old new r → Becomes b.plan.places expressing old new r
+  pub no_set : (y : ℕ) (r : Result (Unit {0}) RunFault) → t ≡ Name (Place y) → is_set (thing_in old.frame.things y) ≡ false → Becomes valuing old new r → Becomes expressing old new r
   no_set y r e h d = record {
     each = λ s l.
         let world = world_on clock b in
-        let is : is_set (thing_named world s.names (Place y)) ≡ false = ap is_set (seen_there b.plan.places old y s l) ∙ h in
-        leads_same (Lives b.plan.places new) (expressing s) (valuing s) r
+        let is : is_set (thing_named world s.names (Place y)) ≡ false = ap is_set (seen_there old y s l) ∙ h in
+        leads_same (Lives new) (expressing s) (valuing s) r
         (ap (λ u. blaming Evaluation (expression_assigned world s (Place place) types u)) e
         ∙ ap (λ c. blaming Evaluation (named_so world s (Place place) types (Place y) c)) is
         ∙ ap (λ u. blaming Evaluation (value_assigned world s (Place place) u)) (sym e))
@@ -175,13 +168,13 @@ module _ (clock : Calendar) (b : Basis) (place : ℕ) (types : Option (SetTypes 
   }
 
   -- the name of a set
-  pub set_named_there : (y : ℕ) (set : TypedSet) → t ≡ Name (Place y) → thing_in b.plan.places old.frame.things y ≡ Some (SetOf set.types set.vertices) → Fixed clock b place types (typed set) old new (Ok tt) → Becomes b.plan.places expressing old new (Ok tt)
+  pub set_named_there : (y : ℕ) (set : TypedSet) → t ≡ Name (Place y) → thing_in old.frame.things y ≡ Some (SetOf set.types set.vertices) → Fixed clock b place types (typed set) old new (Ok tt) → Becomes expressing old new (Ok tt)
   set_named_there y set e h f = record {
     each = λ s l.
         let world = world_on clock b in (
           set_assigned world (Place place) types (typed set) s,
           ap (λ u. blaming Evaluation (expression_assigned world s (Place place) types u)) e
-              ∙ ap (λ o. blaming Evaluation (by_name world s (Place place) types (Place y) o)) (seen_there b.plan.places old y s l ∙ h),
+              ∙ ap (λ o. blaming Evaluation (by_name world s (Place place) types (Place y) o)) (seen_there old y s l ∙ h),
           f s l,
         );
   }
@@ -196,35 +189,32 @@ valued_by world s x t o = found o >>= of_thing
     of_thing (Variable b v) = value_as (seen world s) b t >>= λ w. Gives (with_name world x (Variable b w) s)
     of_thing thing = Stuck
 
-module _ (clock : Calendar) (b : Basis) (place : ℕ) (t : Tree Reference) (base : Base) (old new : Live) (there : IsVariable base (thing_in b.plan.places old.frame.things place)) where
+module _ (clock : Calendar) (b : Basis) (place : ℕ) (t : Tree Reference) (base : Base) (old new : Live) (there : IsVariable base (thing_in old.frame.things place)) where
   abbrev with_value : State Reference → Val → State Reference
   with_value s w = with_name (world_on clock b) (Place place) (Variable base w) s
 
-  value_is : (s : State Reference) → Lives b.plan.places old s
+  value_is : (s : State Reference) → Lives old s
       → blaming Evaluation (value_assigned (world_on clock b) s (Place place) t) ≡ (blaming Evaluation (value_as (seen (world_on clock b) s) base t) >>= λ w. Gives (with_value s w))
   value_is s l =
-      ap (λ o. blaming Evaluation (valued_by (world_on clock b) s (Place place) t o)) (seen_there b.plan.places old place s l ∙ there.is)
+      ap (λ o. blaming Evaluation (valued_by (world_on clock b) s (Place place) t o)) (seen_there old place s l ∙ there.is)
       ∙ bound (value_as (seen (world_on clock b) s) base t) (λ w. Gives (with_value s w))
 
-  pub value_stops : (e : RunFault) → Reads b.plan.places val (λ s. blaming Evaluation (value_as (seen (world_on clock b) s) base t)) old.frame (Err e)
-      → Becomes b.plan.places (λ s. blaming Evaluation (value_assigned (world_on clock b) s (Place place) t)) old new (Err e)
+  pub value_stops : (e : RunFault) → Reads val (λ s. blaming Evaluation (value_as (seen (world_on clock b) s) base t)) old.frame (Err e)
+      → Becomes (λ s. blaming Evaluation (value_assigned (world_on clock b) s (Place place) t)) old new (Err e)
   value_stops e r = record {
     each = λ s l.
         ends_same (blaming Evaluation (value_assigned (world_on clock b) s (Place place) t)) (blaming Evaluation (value_as (seen (world_on clock b) s) base t) >>= λ w. Gives (with_value s w)) e (value_is s l)
-        (ends_bind (blaming Evaluation (value_as (seen (world_on clock b) s) base t)) (λ w. Gives (with_value s w)) e (r.each s (shows_of b.plan.places old s l)));
+        (ends_bind (blaming Evaluation (value_as (seen (world_on clock b) s) base t)) (λ w. Gives (with_value s w)) e (r.each s (shows_of old s l)));
   }
 
-  pub value_given : (places : List PlaceType) (held_as : BaseType) (value : Value) → places ≡ b.plan.places → slice_get b.plan.places place ≡ Some (held.Variable held_as) → base_of held_as ≡ base
-      → Reads b.plan.places val (λ s. blaming Evaluation (value_as (seen (world_on clock b) s) base t)) old.frame (Ok value)
-      → ((world : World Reference) (s : State Reference) (u : states.Thing) → world.words.same ≡ same → Lives places old s → held_thing (slice_get places place) (Some (Some (thing.Value value))) ≡ Some u → Lives places new (with_name world (Place place) u s))
-      → Becomes b.plan.places (λ s. blaming Evaluation (value_assigned (world_on clock b) s (Place place) t)) old new (Ok tt)
-  value_given places held_as value p h of r names = record {
+  pub value_given : (value : Value) → Reads val (λ s. blaming Evaluation (value_as (seen (world_on clock b) s) base t)) old.frame (Ok value)
+      → ((world : World Reference) (s : State Reference) → world.words.same ≡ same → Lives old s → Lives new (with_name world (Place place) (Variable base (val value)) s))
+      → Becomes (λ s. blaming Evaluation (value_assigned (world_on clock b) s (Place place) t)) old new (Ok tt)
+  value_given value r names = record {
     each = λ s l. (
       with_value s (val value),
-      value_is s l ∙ ap (λ o. o >>= λ w. Gives (with_value s w)) (r.each s (shows_of b.plan.places old s l)),
-      subst (λ ps. Lives ps new (with_value s (val value))) p
-          (names (world_on clock b) s (Variable base (val value)) refl (subst (λ ps. Lives ps old s) (sym p) l)
-          (ap (λ ps. held_thing (slice_get ps place) (Some (Some (thing.Value value)))) p ∙ ap (λ o. held_thing o (Some (Some (thing.Value value)))) h ∙ ap (λ c. Some (Variable c (val value))) of)),
+      value_is s l ∙ ap (λ o. o >>= λ w. Gives (with_value s w)) (r.each s (shows_of old s l)),
+      names (world_on clock b) s refl l,
     );
   }
 
@@ -236,13 +226,12 @@ no_value world s x t (Some (SetOf ts vs)) e = refl
 no_value world s x t (Some (EdgeRow r k)) e = refl
 no_value world s x t (Some (Member vs ts v)) e = refl
 
-pub value_sticks : (clock : Calendar) (b : Basis) (place : ℕ) (t : Tree Reference) (places : List PlaceType) (things : List (Option code.Thing)) (old new : Live) → places ≡ b.plan.places → things ≡ old.frame.things
-    → is_variable (thing_in places things place) ≡ false → Becomes b.plan.places (λ s. blaming Evaluation (value_assigned (world_on clock b) s (Place place) t)) old new (Err fault.Stuck)
-value_sticks clock b place t places things old new p q none = record {
+pub value_sticks : (clock : Calendar) (b : Basis) (place : ℕ) (t : Tree Reference) (old new : Live) → is_variable (thing_in old.frame.things place) ≡ false
+    → Becomes (λ s. blaming Evaluation (value_assigned (world_on clock b) s (Place place) t)) old new (Err fault.Stuck)
+value_sticks clock b place t old new none = record {
   each = λ s l.
-      ap (λ o. blaming Evaluation (valued_by (world_on clock b) s (Place place) t o)) (seen_there b.plan.places old place s l)
-      ∙ ap (blaming Evaluation) (no_value (world_on clock b) s (Place place) t (thing_in b.plan.places old.frame.things place)
-      (subst (λ ps. is_variable (thing_in ps old.frame.things place) ≡ false) p (subst (λ ts. is_variable (thing_in places ts place) ≡ false) q none)));
+      ap (λ o. blaming Evaluation (valued_by (world_on clock b) s (Place place) t o)) (seen_there old place s l)
+      ∙ ap (blaming Evaluation) (no_value (world_on clock b) s (Place place) t (thing_in old.frame.things place) none);
 }
 
 -- ---- SELECT
@@ -283,33 +272,33 @@ module _ (clock : Calendar) (b : Basis) (place : ℕ) (types : Option (SetTypes 
       bounded_joined (world_on clock b) s (Place place) types (view_block q)
       (within_bound (view_block q).walk (candidates_of (world_on clock b) (from (world_on clock b) s.names (view_block q)).start (view_block q).walk))
 
-  pub select_stops : (old new : Live) (e : RunFault) → Selects clock (over_of b old.frame) q (Err e) → Becomes b.plan.places selecting old new (Err e)
+  pub select_stops : (old new : Live) (e : RunFault) → Selects clock (over_of b old.frame) q (Err e) → Becomes selecting old new (Err e)
   select_stops old new e d = record {
     each = λ s l.
         ends_same (selecting s) (selected_by (world_on clock b) s (view_block q) >>= λ c. Gives (given_so s c)) e (select_is s)
-        (ends_bind (selected_by (world_on clock b) s (view_block q)) (λ c. Gives (given_so s c)) e (d.each s (shows_of b.plan.places old s l)));
+        (ends_bind (selected_by (world_on clock b) s (view_block q)) (λ c. Gives (given_so s c)) e (d.each s (shows_of old s l)));
   }
 
-  pub select_given : (old new : Live) (r : Selected) → Selects clock (over_of b old.frame) q (Ok r) → Kept clock b place types r old new (Ok tt) → Becomes b.plan.places selecting old new (Ok tt)
+  pub select_given : (old new : Live) (r : Selected) → Selects clock (over_of b old.frame) q (Ok r) → Kept clock b place types r old new (Ok tt) → Becomes selecting old new (Ok tt)
   select_given old new r d k = record {
     each = λ s l. (
       given_so s (chosen r),
-      select_is s ∙ ap (λ o. o >>= λ c. Gives (given_so s c)) (d.each s (shows_of b.plan.places old s l)),
+      select_is s ∙ ap (λ o. o >>= λ c. Gives (given_so s c)) (d.each s (shows_of old s l)),
       k s l,
     );
   }
 
 -- the accumulators are replaced
-accums_live : (places : List PlaceType) (old new : Live) (s : State Reference) → new.frame.things ≡ old.frame.things → new.undo ≡ old.undo → Lives places old s → Lives places new (record s { slots = slots_are new.frame.accums })
-accums_live places old new s things undo l = record {
-  names = subst (λ ts. Unwinds places ts (reverse new.undo.items) s.names) (sym things) (subst (λ us. Unwinds places old.frame.things (reverse us.items) s.names) (sym undo) l.names);
+accums_live : (old new : Live) (s : State Reference) → new.frame.things ≡ old.frame.things → new.undo ≡ old.undo → Lives old s → Lives new (record s { slots = slots_are new.frame.accums })
+accums_live old new s things undo l = record {
+  names = subst (λ ts. Unwinds ts (reverse new.undo.items) s.names) (sym things) (subst (λ us. Unwinds old.frame.things (reverse us.items) s.names) (sym undo) l.names);
   slots = refl;
 }
 
 pub kept_by : (clock : Calendar) (b : Basis) (place : ℕ) (types : Option (SetTypes Reference)) (r : Selected) (old mid new : Live) (result : Result (Unit {0}) OutOfMemory) → mid.frame.things ≡ old.frame.things → mid.undo ≡ old.undo → mid.frame.accums ≡ r.accums
     → Fixed clock b place types (r.types, r.vertices) mid new result → Kept clock b place types r old new result
 kept_by clock b place types r old mid new (Ok u) things undo accums f = λ s l.
-    f (record s { slots = slots_are r.accums }) (subst (λ a. Lives b.plan.places mid (record s { slots = slots_are a })) accums (accums_live b.plan.places old mid s things undo l))
+    f (record s { slots = slots_are r.accums }) (subst (λ a. Lives mid (record s { slots = slots_are a })) accums (accums_live old mid s things undo l))
 kept_by clock b place types r old mid new (Err e) things undo accums f = tt
 
 -- ---- contents
@@ -321,13 +310,12 @@ sound_kept (Err x) old new e h = tt
 pub sound_given : (r : Selected) (new : Accums) → new ≡ r.accums → AreSound r.accums → AreSound new
 sound_given r new e h = subst AreSound (sym e) h
 
-pub no_memory : (places : List PlaceType) (does : Change) (old new : Live) → Becomes places does old new (Err fault.OutOfMemory)
-no_memory places does old new = record { each = λ s l. tt }
+pub no_memory : (does : Change) (old new : Live) → Becomes does old new (Err fault.OutOfMemory)
+no_memory does old new = record { each = λ s l. tt }
 
--- ---- what the code finds in the lists that it borrows
+-- ---- the type of a variable
 
-pub there_is : (b : Basis) (f : Frame) (place : ℕ) (base : Base) (places : List PlaceType) (things : List (Option code.Thing)) → places ≡ b.plan.places → things ≡ f.things → IsVariable base (thing_in places things place) → IsVariable base (thing_in b.plan.places f.things place)
-there_is b f place base places things p t h = subst (λ ps. IsVariable base (thing_in ps f.things place)) p (subst (λ ts. IsVariable base (thing_in places ts place)) t h)
+pub base_copied : (things all : List (Option code.Thing)) (place : ℕ) (base copy : BaseType) → things ≡ all → copy ≡ base → IsVariable (base_of base) (thing_in things place) → IsVariable (base_of copy) (thing_in all place)
+base_copied things all place base copy e f h = subst (λ ts. IsVariable (base_of copy) (thing_in ts place)) e (subst (λ c. IsVariable (base_of c) (thing_in things place)) (sym f) h)
 
-pub place_there : (b : Basis) (place : ℕ) (base : BaseType) (places : List PlaceType) → places ≡ b.plan.places → slice_get places place ≡ Some (held.Variable base) → slice_get b.plan.places place ≡ Some (held.Variable base)
-place_there b place base places p h = subst (λ ps. slice_get ps place ≡ Some (held.Variable base)) p h
+pub ruleset base_laws = (base_copied)

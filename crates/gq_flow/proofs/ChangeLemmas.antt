@@ -41,7 +41,6 @@ pub makes_told : (look : Look Reference) (a : Accums) (n : ℕ) (change : plain.
 makes_told look a n change s (Ok m) e t = (s, e, t)
 makes_told look a n change s (Err (halt.Wrong w)) e t = (s, e, t)
 makes_told look a n change s (Err halt.Stuck) e t = made_there look a n change s (Err halt.Stuck) e t
-makes_told look a n change s (Err halt.Outside) e t = tt
 makes_told look a n change s (Err halt.OutOfMemory) e t = tt
 
 pub makes_gone : (look : Look Reference) (a : Accums) (n : ℕ) (change : plain.Change Reference) → slice_get a.slots.declared n ≡ None → Makes look a n change (Err halt.Stuck)
@@ -56,18 +55,17 @@ module _ (clock : Calendar) (b : Basis) (n : ℕ) (change : plain.Change Referen
   abbrev slots_then : Answer WriteFault (List (states.Slot Reference))
   slots_then = slots_changed (look_on clock b old.frame) (slots_are old.frame.accums) (Slot n) 0 change
 
-  so_is : (s : State Reference) → Lives b.plan.places old s → global_so (world_on clock b) n change s ≡ (blaming of_write slots_then >>= λ slots. Gives (record s { slots = slots }))
+  so_is : (s : State Reference) → Lives old s → global_so (world_on clock b) n change s ≡ (blaming of_write slots_then >>= λ slots. Gives (record s { slots = slots }))
   so_is s l =
       ap₂ (λ look slots. blaming of_write (slots_changed look slots (Slot n) 0 change) >>= λ slots. Gives (record s { slots = slots }))
-      (sym (look_there clock b old.frame s (shows_of b.plan.places old s l))) l.slots
+      (sym (look_there clock b old.frame s (shows_of old s l))) l.slots
 
   ends_so : (h : Halt) → Makes (look_on clock b old.frame) old.frame.accums n change (Err h) → Ends (blaming of_write slots_then) (fault_of h)
   ends_so (halt.Wrong w) m = ap (blaming of_write) (change_faults (look_on clock b old.frame) old.frame.accums n 0 change m.0 refl m.1 w m.2)
   ends_so halt.Stuck m = ap (blaming of_write) (change_sticks (look_on clock b old.frame) old.frame.accums n 0 change refl m)
-  ends_so halt.Outside m = tt
   ends_so halt.OutOfMemory m = tt
 
-  pub change_stops : (new : Live) (h : Halt) (e : RunFault) → e ≡ fault_of h → Makes (look_on clock b old.frame) old.frame.accums n change (Err h) → Becomes b.plan.places (global_so (world_on clock b) n change) old new (Err e)
+  pub change_stops : (new : Live) (h : Halt) (e : RunFault) → e ≡ fault_of h → Makes (look_on clock b old.frame) old.frame.accums n change (Err h) → Becomes (global_so (world_on clock b) n change) old new (Err e)
   change_stops new h e is m = record {
     each = λ s l.
         ends_same (global_so (world_on clock b) n change s) (blaming of_write slots_then >>= λ slots. Gives (record s { slots = slots })) e (so_is s l)
@@ -75,7 +73,7 @@ module _ (clock : Calendar) (b : Basis) (n : ℕ) (change : plain.Change Referen
   }
 
   pub change_too_big : (new : Live) (now : Accums) (m : Made) → Makes (look_on clock b old.frame) old.frame.accums n change (Ok m) → Changed m old.frame.accums now n 0 false
-      → Becomes b.plan.places (global_so (world_on clock b) n change) old new (Err (fault.SumRange n))
+      → Becomes (global_so (world_on clock b) n change) old new (Err (fault.SumRange n))
   change_too_big new now m k c = record {
     each = λ s l.
         so_is s l
@@ -83,13 +81,13 @@ module _ (clock : Calendar) (b : Basis) (n : ℕ) (change : plain.Change Referen
   }
 
   pub change_done : (new : Live) (m : Made) → Makes (look_on clock b old.frame) old.frame.accums n change (Ok m) → new.frame.things ≡ old.frame.things → new.undo ≡ old.undo
-      → Changed m old.frame.accums new.frame.accums n 0 true → Becomes b.plan.places (global_so (world_on clock b) n change) old new (Ok tt)
+      → Changed m old.frame.accums new.frame.accums n 0 true → Becomes (global_so (world_on clock b) n change) old new (Ok tt)
   change_done new m k things undo c = record {
     each = λ s l. (
       record s { slots = slots_are new.frame.accums },
       so_is s l ∙ ap (λ o. blaming of_write o >>= λ slots. Gives (record s { slots = slots })) (change_made (look_on clock b old.frame) old.frame.accums n 0 change k.0 refl k.1 m new.frame.accums true k.2 c),
       record {
-        names = subst (λ ts. Unwinds b.plan.places ts (reverse new.undo.items) s.names) (sym things) (subst (λ us. Unwinds b.plan.places old.frame.things (reverse us.items) s.names) (sym undo) l.names);
+        names = subst (λ ts. Unwinds ts (reverse new.undo.items) s.names) (sym things) (subst (λ us. Unwinds old.frame.things (reverse us.items) s.names) (sym undo) l.names);
         slots = refl;
       },
     );

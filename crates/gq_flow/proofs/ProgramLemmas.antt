@@ -7,10 +7,9 @@ use Rattle.gq_rules_typing.specs.Statements.{BaseTree, SetTypes, Right}
 use Rattle.gq_rules_meaning.specs.Answers.{Gives, blaming, through}
 use Rattle.gq_rules_meaning.specs.Expressions.{World, truth_of}
 use Rattle.gq_rules_meaning.specs.States.{seen}
-use Rattle.gq_rules_meaning.specs.Statements.{Evaluation, of_write, base_of_tree, with_local, assigned}
+use Rattle.gq_rules_meaning.specs.Statements.{Evaluation, of_write, base_of_tree, gone_over, with_local, assigned}
 use Rattle.gq_rules_meaning.specs.Writes.{slots_changed}
 use Rattle.gq_rules_meaning.specs.Runs.{with_state, run, condition_of, limit_of}
-use Rattle.gq_plan_ir.specs.declared.plan.PlaceType.{PlaceType}
 use Rattle.gq_plan_ir.specs.declared.block.Change.{Change}
 use Rattle.gq_plan_ir.specs.declared.expr.Expr.{Expr}
 use Rattle.gq_plan_ir.specs.declared.plan.Declared.{Declared}
@@ -34,7 +33,7 @@ use Rattle.gq_exec_control.specs.Changes.{Becomes, Reads}
 use Rattle.gq_exec_control.proofs.ContextLemmas.{becomes_does, shows_of}
 use Rattle.gq_exec_control.proofs.Steps.{joined}
 use Rattle.gq_exec_control.specs.Locals.{declared_all}
-use Rattle.gq_exec_control.specs.Rounds.{GoesRound}
+use Rattle.gq_exec_control.specs.Values.{rounds_in}
 use Rattle.gq_flow.specs.Steps.{IsSimple, global_so}
 
 -- ---- statements without a body
@@ -74,49 +73,50 @@ pub ruleset simple_laws = (not_if, not_while, not_foreach)
 
 -- ---- statements
 
-stated : (places : List PlaceType) (world : World Reference) (step : Step) (stmt : plain.Stmt Reference) (old new : Running) (r : Result (Unit {0}) RunFault) → view_step step ≡ stmt → Does places (run world stmt) old new r → Does places (run world (view_step step)) old new r
-stated places world step stmt old new r e d = subst (λ s. Does places (run world s) old new r) (sym e) d
+stated : (world : World Reference) (step : Step) (stmt : plain.Stmt Reference) (old new : Running) (r : Result (Unit {0}) RunFault) → view_step step ≡ stmt → Does (run world stmt) old new r → Does (run world (view_step step)) old new r
+stated world step stmt old new r e d = subst (λ s. Does (run world s) old new r) (sym e) d
 
 sound_on : (r : Result (Unit {0}) RunFault) (a : Accums) → OnOk r (AreSound a) → r ≡ Ok tt → AreSound a
 sound_on (Ok u) a h e = h
 sound_on (Err x) a h e = absurd (let no : ⊥ = cc in no)
 
-module _ (places : List PlaceType) (world : World Reference) (step : Step) (old new : Running) (r : Result (Unit {0}) RunFault) (turns : new.turns ≡ old.turns) (printed : new.printed ≡ old.printed) where
+module _ (world : World Reference) (step : Step) (old new : Running) (r : Result (Unit {0}) RunFault) (turns : new.turns ≡ old.turns) (printed : new.printed ≡ old.printed) where
   pub local_does : (base : BaseTree Reference) (xs : List (Reference × Option (Tree Reference))) → view_step step ≡ plain.Local base xs → new.live.frame.accums ≡ old.live.frame.accums → AreSound old.live.frame.accums
-      → Becomes places (declared_all world base xs) old.live new.live r → Does places (run world (view_step step)) old new r
+      → Becomes (declared_all world base xs) old.live new.live r → Does (run world (view_step step)) old new r
   local_does base xs e accums sound d =
-      stated places world step (plain.Local base xs) old new r e
-      (becomes_does places (declared_all world base xs) (run world (plain.Local base xs)) old new r
+      stated world step (plain.Local base xs) old new r e
+      (becomes_does (declared_all world base xs) (run world (plain.Local base xs)) old new r
       (λ q. sym (joined (blaming Evaluation (base_of_tree world base)) (λ b. blaming Evaluation (through (with_local world b) q.state xs)) (λ s. Gives (with_state s q))))
       turns printed (λ ok. subst AreSound (sym accums) sound) d)
 
   pub assign_does : (x : Reference) (types : Option (SetTypes Reference)) (right : Right Reference) → view_step step ≡ plain.Assign x types right → OnOk r (AreSound new.live.frame.accums)
-      → Becomes places (λ s. assigned world s x types right) old.live new.live r → Does places (run world (view_step step)) old new r
+      → Becomes (λ s. assigned world s x types right) old.live new.live r → Does (run world (view_step step)) old new r
   assign_does x types right e sound d =
-      stated places world step (plain.Assign x types right) old new r e
-      (becomes_does places (λ s. assigned world s x types right) (run world (plain.Assign x types right)) old new r (λ q. refl) turns printed (sound_on r new.live.frame.accums sound) d)
+      stated world step (plain.Assign x types right) old new r e
+      (becomes_does (λ s. assigned world s x types right) (run world (plain.Assign x types right)) old new r (λ q. refl) turns printed (sound_on r new.live.frame.accums sound) d)
 
   pub global_does : (n : ℕ) (change : selecting.Change Reference) → view_step step ≡ plain.ChangeGlobal (Slot n) change → OnOk r (AreSound new.live.frame.accums)
-      → Becomes places (global_so world n change) old.live new.live r → Does places (run world (view_step step)) old new r
+      → Becomes (global_so world n change) old.live new.live r → Does (run world (view_step step)) old new r
   global_does n change e sound d =
-      stated places world step (plain.ChangeGlobal (Slot n) change) old new r e
-      (becomes_does places (global_so world n change) (run world (plain.ChangeGlobal (Slot n) change)) old new r
+      stated world step (plain.ChangeGlobal (Slot n) change) old new r e
+      (becomes_does (global_so world n change) (run world (plain.ChangeGlobal (Slot n) change)) old new r
       (λ q. sym (joined (blaming of_write (slots_changed (seen world q.state) q.state.slots (Slot n) 0 change)) (λ slots. Gives (record (q.state) { slots = slots })) (λ s. Gives (with_state s q))))
       turns printed (sound_on r new.live.frame.accums sound) d)
 
-pub print_does : (places : List PlaceType) (world : World Reference) (step : Step) (old new : Running) (r : Result (Unit {0}) RunFault) (items : List (plain.Printed Reference)) → view_step step ≡ plain.Print items
-    → Does places (run world (plain.Print items)) old new r → Does places (run world (view_step step)) old new r
-print_does places world step old new r items e d = stated places world step (plain.Print items) old new r e d
+pub print_does : (world : World Reference) (step : Step) (old new : Running) (r : Result (Unit {0}) RunFault) (items : List (plain.Printed Reference)) → view_step step ≡ plain.Print items
+    → Does (run world (plain.Print items)) old new r → Does (run world (view_step step)) old new r
+print_does world step old new r items e d = stated world step (plain.Print items) old new r e d
 
 -- ---- what is read
 
-pub truth_tests : (places : List PlaceType) (world : World Reference) (t : Tree Reference) (r : Running) (result : Result Bool RunFault)
-    → Reads places (itself {A = Bool}) (λ s. blaming Evaluation (truth_of (seen world s) t)) r.live.frame result → Tests places (condition_of world t) r result
-truth_tests places world t r result d = record { each = λ q s. d.each q.state (shows_of places r.live q.state s.lives) }
+pub truth_tests : (world : World Reference) (t : Tree Reference) (r : Running) (result : Result Bool RunFault)
+    → Reads (itself {A = Bool}) (λ s. blaming Evaluation (truth_of (seen world s) t)) r.live.frame result → Tests (condition_of world t) r result
+truth_tests world t r result d = record { each = λ q s. d.each q.state (shows_of r.live q.state s.lives) }
 
-pub limit_limits : (places : List PlaceType) (world : World Reference) (t : Tree Reference) (r : Running) (result : Result ℕ RunFault)
-    → Reads places Some (λ s. blaming Evaluation (limit_of world s (Some t))) r.live.frame result → Limits places world t r result
-limit_limits places world t r result d = record { each = λ q s. d.each q.state (shows_of places r.live q.state s.lives) }
+pub limit_limits : (world : World Reference) (t : Tree Reference) (r : Running) (result : Result ℕ RunFault)
+    → Reads Some (λ s. blaming Evaluation (limit_of world s (Some t))) r.live.frame result → Limits world t r result
+limit_limits world t r result d = record { each = λ q s. d.each q.state (shows_of r.live q.state s.lives) }
 
-pub rounds_go : (places : List PlaceType) (world : World Reference) (place : ℕ) (over : plain.Over Reference) (r : Running) (result : Result Rounds RunFault) → GoesRound places world place over r.live.frame result → GoesOver places world place over r result
-rounds_go places world place over r result d = record { each = λ q s. d.each q.state (shows_of places r.live q.state s.lives) }
+pub rounds_go : (world : World Reference) (over : plain.Over Reference) (r : Running) (result : Result Rounds RunFault)
+    → Reads rounds_in (λ s. blaming Evaluation (gone_over (seen world s) over)) r.live.frame result → GoesOver world over r result
+rounds_go world over r result d = record { each = λ q s. d.each q.state (shows_of r.live q.state s.lives) }

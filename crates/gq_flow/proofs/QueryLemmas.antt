@@ -31,7 +31,7 @@ use Rattle.gq_flow.specs.Plans.{Objects, Prints, RunsFrom, plan_world, printed_f
 
 -- ---- the initial values
 
-pub query_stops : (clock : Calendar) (g : code.Graph) (plan : Plan) (arguments : List Val) (turns : ℕ) (h : Halt) (e : RunFault) → e ≡ fault_of h → Begins plan.places (begins clock g plan arguments) (Err h)
+pub query_stops : (clock : Calendar) (g : code.Graph) (plan : Plan) (arguments : List Val) (turns : ℕ) (h : Halt) (e : RunFault) → e ≡ fault_of h → Begins (begins clock g plan arguments) (Err h)
     → Prints (run_plan (plan_world clock g plan) (view_plan plan) arguments turns) (Err e)
 query_stops clock g plan arguments turns h e is b =
     subst (Ends (run_plan (plan_world clock g plan) (view_plan plan) arguments turns)) (sym is)
@@ -41,7 +41,7 @@ prints_same : (o p : Answer Fault Objects) (r : Result (List Printed) RunFault) 
 prints_same o p (Ok printed) e d = (d.0, e ∙ d.1, d.2)
 prints_same o p (Err x) e d = ends_same o p x e d
 
-pub query_runs : (clock : Calendar) (g : code.Graph) (plan : Plan) (arguments : List Val) (turns : ℕ) (opened : Opened) (r : Result (List Printed) RunFault) → Begins plan.places (begins clock g plan arguments) (Ok opened)
+pub query_runs : (clock : Calendar) (g : code.Graph) (plan : Plan) (arguments : List Val) (turns : ℕ) (opened : Opened) (r : Result (List Printed) RunFault) → Begins (begins clock g plan arguments) (Ok opened)
     → RunsFrom clock g plan opened turns r → Prints (run_plan (plan_world clock g plan) (view_plan plan) arguments turns) r
 query_runs clock g plan arguments turns opened r b d =
     prints_same (run_plan (plan_world clock g plan) (view_plan plan) arguments turns) (printed_from clock g plan turns b.0) r
@@ -58,16 +58,16 @@ abbrev pub begun : Live → ℕ → List Printed → Running
 begun live turns first = record { live = live; turns = turns; printed = first }
 
 module _ (clock : Calendar) (g : code.Graph) (plan : Plan) (opened : Opened) (turns : ℕ) (sound : AreSound opened.live.frame.accums) (tuples : List TupleType) (steps : List Step) (same_tuples : tuples ≡ opened.tuples) (same_steps : steps ≡ plan.steps) (first : List Printed) (none : first ≡ []) where
-  begins_so : (d : Defining Reference) → Stands plan.places opened d → standing plan.places (begun opened.live turns first) (record { state = d.state; turns = turns; printed = [] })
+  begins_so : (d : Defining Reference) → Stands opened d → standing (begun opened.live turns first) (record { state = d.state; turns = turns; printed = [] })
   begins_so d s = record { lives = s.lives; turns = refl; printed = ap (map (λ (p : Printed). p.members)) none; sound = sound }
 
-  from_is : (d : Defining Reference) → Stands plan.places opened d
+  from_is : (d : Defining Reference) → Stands opened d
       → printed_from clock g plan turns d ≡ (run_all (world_on clock (basis_of g plan tuples)) (view_steps steps) (record { state = d.state; turns = turns; printed = [] }) >>= λ r. Gives r.printed)
   from_is d s =
       ap (λ ts. run_all (with_tuples ts (plan_world clock g plan)) (view_steps plan.steps) (record { state = d.state; turns = turns; printed = [] }) >>= λ r. Gives r.printed) (s.tuples ∙ ap tuples_are (sym same_tuples))
       ∙ ap (λ xs. run_all (world_on clock (basis_of g plan tuples)) (view_steps xs) (record { state = d.state; turns = turns; printed = [] }) >>= λ r. Gives r.printed) (sym same_steps)
 
-  pub steps_stop : (new : Running) (e : RunFault) → Does plan.places (run_all (world_on clock (basis_of g plan tuples)) (view_steps steps)) (begun opened.live turns first) new (Err e) → RunsFrom clock g plan opened turns (Err e)
+  pub steps_stop : (new : Running) (e : RunFault) → Does (run_all (world_on clock (basis_of g plan tuples)) (view_steps steps)) (begun opened.live turns first) new (Err e) → RunsFrom clock g plan opened turns (Err e)
   steps_stop new e d = record {
     each = λ x s.
         let q : runs.Running Reference = record { state = x.state; turns = turns; printed = [] } in
@@ -75,7 +75,7 @@ module _ (clock : Calendar) (g : code.Graph) (plan : Plan) (opened : Opened) (tu
         (ends_bind (run_all (world_on clock (basis_of g plan tuples)) (view_steps steps) q) (λ r. Gives r.printed) e (d.each q (begins_so x s)));
   }
 
-  pub steps_end : (new : Running) (printed : List Printed) → printed ≡ new.printed → Does plan.places (run_all (world_on clock (basis_of g plan tuples)) (view_steps steps)) (begun opened.live turns first) new (Ok tt)
+  pub steps_end : (new : Running) (printed : List Printed) → printed ≡ new.printed → Does (run_all (world_on clock (basis_of g plan tuples)) (view_steps steps)) (begun opened.live turns first) new (Ok tt)
       → RunsFrom clock g plan opened turns (Ok printed)
   steps_end new printed is d = record {
     each = λ x s.

@@ -116,7 +116,7 @@ module _ (clock : Calendar) (o : Over) (block : Block) where
   too_many many = record { each = λ s shows. ap (chosen_if (world_over clock o) s (view_block block)) (many.each clock s shows) }
 
   -- candidates that were listed are at most as many as allowed
-  few_enough : (cs : List Candidate) → AreCandidates o block cs → (s : State Reference) → Shows o.plan.places o.frame s
+  few_enough : (cs : List Candidate) → AreCandidates o block cs → (s : State Reference) → Shows o.frame s
       → selected_by (world_over clock o) s (view_block block) ≡ blaming of_block (chosen_by (world_over clock o) s (view_block block))
   few_enough cs are s shows =
       ap (chosen_if (world_over clock o) s (view_block block)) (ap (within_bound (view_block block).walk) (sym (are.each clock s shows)) ∙ are.bounded)
@@ -137,7 +137,7 @@ module _ (clock : Calendar) (o : Over) (block : Block) where
 
 -- the answers, as the code promises each of them
 abbrev pub Told : {A B : Type 0} → Over → (B → A) → (State Reference → Answer blocks.BlockFault A) → Result B BlockFault → Type 0
-Told o view does r = (s : State Reference) → Shows o.plan.places o.frame s → Answered view (does s) r
+Told o view does r = (s : State Reference) → Shows o.frame s → Answered view (does s) r
 
 module _ (clock : Calendar) (o : Over) (block : Block) (after : After) where
   -- what comes after POST-ACCUM

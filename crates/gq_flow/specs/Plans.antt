@@ -41,4 +41,4 @@ abbrev pub printed_from : Calendar → code.Graph → Plan → ℕ → Defining 
 printed_from clock g plan turns d = run_all (with_tuples d.tuples (plan_world clock g plan)) (view_steps plan.steps) (record { state = d.state; turns = turns; printed = [] }) >>= λ r. Gives r.printed
 
 pub record RunsFrom (clock : Calendar) (g : code.Graph) (plan : Plan) (opened : Opened) (turns : ℕ) (result : Result (List Printed) RunFault) : Type 0 where
-  pub each : (d : Defining Reference) → Stands plan.places opened d → Prints (printed_from clock g plan turns d) result
+  pub each : (d : Defining Reference) → Stands opened d → Prints (printed_from clock g plan turns d) result

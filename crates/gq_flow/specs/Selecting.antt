@@ -50,16 +50,16 @@ chosen_after world s q a = posted world s q a >>= λ b. tail world s q b >>= λ 
 
 -- whatever state the frame shows, the answer is that of the definitions
 pub record Selects (clock : Calendar) (o : Over) (block : Block) (result : Result Selected RunFault) : Type 0 where
-  pub each : (s : State Reference) → Shows o.plan.places o.frame s → Says chosen (selected_by (world_over clock o) s (view_block block)) result
+  pub each : (s : State Reference) → Shows o.frame s → Says chosen (selected_by (world_over clock o) s (view_block block)) result
 
 -- the same, among the candidates
 pub record Chooses (clock : Calendar) (o : Over) (block : Block) (result : Result Selected BlockFault) : Type 0 where
-  pub each : (s : State Reference) → Shows o.plan.places o.frame s → Answered chosen (chosen_by (world_over clock o) s (view_block block)) result
+  pub each : (s : State Reference) → Shows o.frame s → Answered chosen (chosen_by (world_over clock o) s (view_block block)) result
 
 -- the same for POST-ACCUM and the tail
 pub record Posts (clock : Calendar) (o : Over) (block : Block) (after : After) (result : Result Selected BlockFault) : Type 0 where
-  pub each : (s : State Reference) → Shows o.plan.places o.frame s → Answered chosen (chosen_after (world_over clock o) s (view_block block) (after_is after)) result
+  pub each : (s : State Reference) → Shows o.frame s → Answered chosen (chosen_after (world_over clock o) s (view_block block) (after_is after)) result
 
 -- the types are those of the end with the selected alias
 pub record HasTypes (clock : Calendar) (o : Over) (block : Block) (types : List ℕ) : Type 0 where
-  pub each : (s : State Reference) → Shows o.plan.places o.frame s → types ≡ types_at (from (world_over clock o) s.names (view_block block)) (selects_target (world_over clock o) (view_block block))
+  pub each : (s : State Reference) → Shows o.frame s → types ≡ types_at (from (world_over clock o) s.names (view_block block)) (selects_target (world_over clock o) (view_block block))

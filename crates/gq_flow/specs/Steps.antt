@@ -15,7 +15,6 @@ use Rattle.gq_rules_meaning.specs.Printing.{printed}
 use Rattle.gq_rules_meaning.specs.States.{State, seen}
 use Rattle.gq_rules_meaning.specs.Statements.{Fault, Evaluation, of_write}
 use Rattle.gq_rules_meaning.specs.Writes.{made_by, slots_changed}
-use Rattle.gq_plan_ir.specs.declared.plan.PlaceType.{PlaceType}
 use Rattle.gq_plan_ir.specs.Reference.{Reference, Slot}
 use Rattle.gq_eval_operand.specs.declared.halt.Halt.{Halt}
 use Rattle.gq_eval_operand.specs.declared.halt.Halt.TheVariants as halt
@@ -48,7 +47,6 @@ abbrev pub Makes : Look Reference → Accums → ℕ → plain.Change Reference 
 Makes look a n change (Ok m) = (s : code.Slot) × (slice_get a.slots.declared n ≡ Some s) × (made_by look (accum_of s.kind) change ≡ Gives (making_of m))
 Makes look a n change (Err (halt.Wrong w)) = (s : code.Slot) × (slice_get a.slots.declared n ≡ Some s) × (made_by look (accum_of s.kind) change ≡ Faults w)
 Makes look a n change (Err halt.Stuck) = made_at look a.slots n change ≡ Stuck
-Makes look a n change (Err halt.Outside) = Unit {0}
 Makes look a n change (Err halt.OutOfMemory) = Unit {0}
 
 -- ---- PRINT
@@ -58,13 +56,13 @@ abbrev pub members_of : World Reference → State Reference → List (statements
 members_of world s items = each (printed world s) items
 
 -- the object that one PRINT prints, for each state that the frame shows
-pub record PrintsOn (places : List PlaceType) (world : World Reference) (items : List (statements.Printed Reference)) (f : Frame) (result : Result json.Printed Halt) : Type 0 where
-  pub each : (s : State Reference) → Shows places f s → Prints (members_of world s items) result
+pub record PrintsOn (world : World Reference) (items : List (statements.Printed Reference)) (f : Frame) (result : Result json.Printed Halt) : Type 0 where
+  pub each : (s : State Reference) → Shows f s → Prints (members_of world s items) result
 
 -- the same as an answer of a run
 abbrev pub PrintsSo : Answer Fault (List (Bytes × Out)) → Result json.Printed RunFault → Type 0
 PrintsSo o (Ok p) = (ms : List (Bytes × Out)) × (o ≡ Gives ms) × (p.members ≡ built_print ms)
 PrintsSo o (Err e) = Ends o e
 
-pub record PrintsOne (places : List PlaceType) (world : World Reference) (items : List (statements.Printed Reference)) (f : Frame) (result : Result json.Printed RunFault) : Type 0 where
-  pub each : (s : State Reference) → Shows places f s → PrintsSo (blaming Evaluation (members_of world s items)) result
+pub record PrintsOne (world : World Reference) (items : List (statements.Printed Reference)) (f : Frame) (result : Result json.Printed RunFault) : Type 0 where
+  pub each : (s : State Reference) → Shows f s → PrintsSo (blaming Evaluation (members_of world s items)) result

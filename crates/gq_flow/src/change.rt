@@ -28,7 +28,7 @@ pub(crate) fn change(
     live: &mut Live,
 ) -> Result<(), RunFault>
     requires { AreSound live.old.frame.accums }
-    ensures names { Becomes context.now.plan.places (global_so (world_on gregorian context.now) slot (view_change change.now)) live.old live.new result }
+    ensures names { Becomes (global_so (world_on gregorian context.now) slot (view_change change.now)) live.old live.new result }
     ensures sound { OnOk result (AreSound live.new.frame.accums) }
 {
     match made_over(alloc, context, slot, change, &live.frame) {

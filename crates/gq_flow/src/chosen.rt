@@ -33,12 +33,12 @@ pub(crate) fn assign_select<R: Threads + Sync>(
     live: &mut Live,
 ) -> Result<(), RunFault>
     requires { AreSound live.old.frame.accums }
-    ensures names { Becomes context.now.plan.places (λ s. assigned (world_on gregorian context.now) s (Place place) (option_map view_set_types types) (view_right (right.Select block.now))) live.old live.new result }
+    ensures names { Becomes (λ s. assigned (world_on gregorian context.now) s (Place place) (option_map view_set_types types) (view_right (right.Select block.now))) live.old live.new result }
     ensures sound { OnOk result (AreSound live.new.frame.accums) }
 {
     match select_over(workers, alloc, context, block, &live.frame) {
         Err(fault) => Err(fault),
-        Ok(selected) => match keep(context, place, types, selected, live) {
+        Ok(selected) => match keep(alloc, context, place, types, selected, live) {
             Err(_) => Err(RunFault::OutOfMemory),
             Ok(()) => Ok(()),
         },
@@ -62,6 +62,7 @@ fn select_over<R: Threads + Sync>(
 
 /// Keeps the accumulators of a SELECT, and assigns its vertices to the set variable at a place.
 fn keep(
+    alloc: Global,
     context: &RunContext<'_>,
     place: u32,
     types: Option<SetTypes>,
@@ -81,5 +82,5 @@ fn keep(
         types: found,
         vertices,
     };
-    give_set(context, place, types, set, live)
+    give_set(alloc, context, place, types, set, live)
 }

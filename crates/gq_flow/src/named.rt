@@ -33,15 +33,15 @@ pub(crate) fn assign_value(
     live: &mut Live,
 ) -> Result<(), RunFault>
     requires { AreSound live.old.frame.accums }
-    ensures names { Becomes context.now.plan.places (λ s. assigned (world_on gregorian context.now) s (Place place) (option_map view_set_types types) (view_right (right.Value expr.now))) live.old live.new result }
+    ensures names { Becomes (λ s. assigned (world_on gregorian context.now) s (Place place) (option_map view_set_types types) (view_right (right.Value expr.now))) live.old live.new result }
     ensures accums { live.new.frame.accums ≡ live.old.frame.accums }
 {
     match name_of(expr) {
         None => assign_variable(alloc, context, place, expr, live),
-        Some(name) => match set_copied(alloc, context, name, &live.frame) {
+        Some(name) => match set_copied(alloc, name, &live.frame) {
             Err(_) => Err(RunFault::OutOfMemory),
             Ok(None) => assign_variable(alloc, context, place, expr, live),
-            Ok(Some(set)) => match give_set(context, place, types, set, live) {
+            Ok(Some(set)) => match give_set(alloc, context, place, types, set, live) {
                 Err(_) => Err(RunFault::OutOfMemory),
                 Ok(()) => Ok(()),
             },
@@ -64,21 +64,11 @@ fn name_of(expr: &Expr) -> Option<u32>
 }
 
 /// Returns a copy of the set at a place, if one is in view.
-fn set_copied(
-    alloc: Global,
-    context: &RunContext<'_>,
-    place: u32,
-    frame: &Frame,
-) -> Result<Option<TypedSet>, OutOfMemory>
-    ensures { IfOk result (IsCopied (thing_in context.now.plan.places frame.now.things place)) }
+fn set_copied(alloc: Global, place: u32, frame: &Frame) -> Result<Option<TypedSet>, OutOfMemory>
+    ensures { IfOk result (IsCopied (thing_in frame.now.things place)) }
 {
-    let count = context.graph.store.vertices.len();
-    match set_at(
-        context.plan.places.as_slice(),
-        frame.things.as_slice(),
-        place,
-    ) {
+    match set_at(frame.things.as_slice(), place) {
         None => Ok(None),
-        Some((types, vertices)) => Ok(Some(SetOperand::Lent(types, vertices).own(alloc, count)?)),
+        Some((types, vertices)) => Ok(Some(SetOperand::Lent(types, vertices).own(alloc)?)),
     }
 }

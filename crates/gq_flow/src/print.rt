@@ -25,7 +25,7 @@ pub(crate) fn print_more(
     r: &mut Running,
 ) -> Result<(), RunFault>
     requires { AreSound r.old.live.frame.accums }
-    ensures does { Does context.now.plan.places (run (world_on gregorian context.now) (plain.Print (map view_item items.now))) r.old r.new result }
+    ensures does { Does (run (world_on gregorian context.now) (plain.Print (map view_item items.now))) r.old r.new result }
     ensures live { r.new.live ≡ r.old.live }
     ensures turns { r.new.turns ≡ r.old.turns }
 {
@@ -46,7 +46,7 @@ fn printed(
     frame: &Frame,
 ) -> Result<Printed, RunFault>
     requires { AreSound frame.now.accums }
-    ensures { PrintsOne context.now.plan.places (world_on gregorian context.now) (map view_item items.now) frame.now result }
+    ensures { PrintsOne (world_on gregorian context.now) (map view_item items.now) frame.now result }
 {
     or_fault(print_over(alloc, context, items, frame))
 }
@@ -58,7 +58,7 @@ fn print_over(
     frame: &Frame,
 ) -> Result<Printed, Halt>
     requires { AreSound frame.now.accums }
-    ensures { PrintsOn context.now.plan.places (world_on gregorian context.now) (map view_item items.now) frame.now result }
+    ensures { PrintsOn (world_on gregorian context.now) (map view_item items.now) frame.now result }
 {
     let over = context.block_context(frame);
     print(alloc, items, &over)

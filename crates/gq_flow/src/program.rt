@@ -32,7 +32,7 @@ impl<'a, R: Threads + Sync> Program<'a, R> {
     pub(crate) fn act(&self, step: &Step, r: &mut Running) -> Result<(), RunFault>
         requires simple { IsSimple (view_step step.now) }
         requires sound { AreSound r.old.live.frame.accums }
-        ensures does { Does self.now.context.plan.places (run (world_on gregorian self.now.context) (view_step step.now)) r.old r.new result }
+        ensures does { Does (run (world_on gregorian self.now.context) (view_step step.now)) r.old r.new result }
         ensures sound { OnOk result (AreSound r.new.live.frame.accums) }
         ensures turns { r.new.turns ≡ r.old.turns }
     {
@@ -64,7 +64,7 @@ impl<'a, R: Threads + Sync> Program<'a, R> {
     /// Evaluates a condition.
     pub(crate) fn truth(&self, condition: &Expr, r: &Running) -> Result<bool, RunFault>
         requires sound { AreSound r.now.live.frame.accums }
-        ensures { Tests self.now.context.plan.places (condition_of (world_on gregorian self.now.context) (view condition.now)) r.now result }
+        ensures { Tests (condition_of (world_on gregorian self.now.context) (view condition.now)) r.now result }
     {
         truth(self.alloc, &self.context, condition, &r.live.frame)
     }
@@ -72,16 +72,16 @@ impl<'a, R: Threads + Sync> Program<'a, R> {
     /// Returns how often a body may run under LIMIT; a negative number counts as 0.
     pub(crate) fn limit(&self, most: &Expr, r: &Running) -> Result<u64, RunFault>
         requires sound { AreSound r.now.live.frame.accums }
-        ensures { Limits self.now.context.plan.places (world_on gregorian self.now.context) (view most.now) r.now result }
+        ensures { Limits (world_on gregorian self.now.context) (view most.now) r.now result }
     {
         limit(self.alloc, &self.context, most, &r.live.frame)
     }
 
-    /// Returns what FOREACH iterates over, with values of the type of a place.
-    pub(crate) fn rounds(&self, place: u32, over: &Over, r: &Running) -> Result<Rounds, RunFault>
+    /// Returns what FOREACH iterates over.
+    pub(crate) fn rounds(&self, over: &Over, r: &Running) -> Result<Rounds, RunFault>
         requires sound { AreSound r.now.live.frame.accums }
-        ensures { GoesOver self.now.context.plan.places (world_on gregorian self.now.context) place (view_over over.now) r.now result }
+        ensures { GoesOver (world_on gregorian self.now.context) (view_over over.now) r.now result }
     {
-        rounds(self.alloc, &self.context, place, over, &r.live.frame)
+        rounds(self.alloc, &self.context, over, &r.live.frame)
     }
 }

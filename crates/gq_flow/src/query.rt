@@ -9,6 +9,7 @@ ghost use Rattle.gq_rules_meaning.specs.Queries.{run_plan};
 ghost use Rattle.gq_rules_calendar.specs.Gregorian.{gregorian};
 ghost use Rattle.gq_plan_ir.specs.PlanView.{view_plan};
 ghost use Rattle.gq_frame.specs.Slots.{AreSound};
+ghost use Rattle.gq_plan_ir.specs.Numbered.{AreNumbered};
 ghost use Rattle.gq_flow.specs.Plans.{Prints, RunsFrom, plan_world};
 
 use crate::program::Program;
@@ -27,7 +28,7 @@ use std::thread::Threads;
 /// Runs a plan over its arguments, with a limit on turns, and returns the object of each PRINT, in order. Each
 /// iteration of a loop takes a turn.
 ///
-/// A plan that isn't that of a checked query may get stuck, which is `OutOfMemory`.
+/// A plan that isn't that of a checked query may get stuck.
 pub fn run_query<'x, R: Threads + Sync>(
     workers: &'x Workers<'x, R>,
     alloc: Global,
@@ -39,6 +40,8 @@ pub fn run_query<'x, R: Threads + Sync>(
     requires indexed { graph.index.now ≡ adjacency (sight_of graph.catalog.now graph.store.now.vertices graph.store.now.edges) }
     requires attributes { HaveAttributes graph.catalog.now graph.store.now.vertices }
     requires ends { HaveEnds graph.store.now.vertices graph.store.now.edges.rows }
+    requires few { length plan.now.edges ≤ most_types }
+    requires numbered { AreNumbered plan.now.definitions }
     ensures { Prints (run_plan (plan_world gregorian graph.entry plan.now) (view_plan plan.now) (map val arguments.now) turns) result }
 {
     match open(alloc, graph, plan, arguments) {

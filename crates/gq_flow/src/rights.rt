@@ -22,7 +22,7 @@ use std::thread::Threads;
 /// Assigns the right side of an assignment to the variable at a place.
 ///
 /// A SELECT also gives its accumulators, and its vertices to a set variable, whose types are fixed when it comes into
-/// view. Returns `OutOfMemory` for a place that doesn't fit.
+/// view.
 pub fn assign<R: Threads + Sync>(
     workers: &Workers<'_, R>,
     alloc: Global,
@@ -33,7 +33,7 @@ pub fn assign<R: Threads + Sync>(
     live: &mut Live,
 ) -> Result<(), RunFault>
     requires { AreSound live.old.frame.accums }
-    ensures names { Becomes context.now.plan.places (λ s. assigned (world_on gregorian context.now) s (Place place) (option_map view_set_types types) (view_right right.now)) live.old live.new result }
+    ensures names { Becomes (λ s. assigned (world_on gregorian context.now) s (Place place) (option_map view_set_types types) (view_right right.now)) live.old live.new result }
     ensures sound { OnOk result (AreSound live.new.frame.accums) }
 {
     match right {

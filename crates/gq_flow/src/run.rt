@@ -1,19 +1,16 @@
 // Statements, in order.
-ghost use Rattle.std.specs.Prelude.{◌≡◌, ◌≤◌, ◌<◌, true, false, OnOk, Some, slice_get};
+ghost use Rattle.std.specs.Prelude.{◌≡◌, ◌≤◌, ◌<◌, true, false, OnOk};
 ghost use Rattle.std.specs.Option.{option_map};
-ghost use Rattle.gq_value.specs.declared.kind.BaseType.{BaseType};
-ghost use Rattle.gq_value.specs.AccumViews.{base_of};
 ghost use Rattle.gq_value.specs.Views.{val};
 ghost use Rattle.gq_rules_meaning.specs.Runs.{run, run_all, inner, enter, condition_of, is_reached, one_less};
 ghost use Rattle.gq_rules_calendar.specs.Gregorian.{gregorian};
-ghost use Rattle.gq_plan_ir.specs.declared.plan.PlaceType.TheVariants.{Variable};
 ghost use Rattle.gq_plan_ir.specs.Reference.{Place};
 ghost use Rattle.gq_plan_ir.specs.ExprView.{view};
 ghost use Rattle.gq_plan_ir.specs.PlanView.{view_over, view_step, view_steps};
 ghost use Rattle.gq_frame.specs.Slots.{AreSound};
 ghost use Rattle.gq_exec_control.specs.Contexts.{world_on};
 ghost use Rattle.gq_exec_control.specs.Standing.{Does, TakesTurn, HasNoTurn};
-ghost use Rattle.gq_exec_control.specs.Values.{values_of};
+ghost use Rattle.gq_exec_control.specs.Values.{base_in, values_of};
 ghost use Rattle.gq_flow.specs.Bodies.{while_of, foreach_of, goes_round, named_body, values_from, with_value};
 
 use crate::program::Program;
@@ -32,7 +29,7 @@ pub fn run_steps<R: Threads + Sync>(
     r: &mut Running,
 ) -> Result<(), RunFault>
     requires sound { AreSound r.old.live.frame.accums }
-    ensures does { Does program.now.context.plan.places (run_all (world_on gregorian program.now.context) (view_steps steps.now)) r.old r.new result }
+    ensures does { Does (run_all (world_on gregorian program.now.context) (view_steps steps.now)) r.old r.new result }
     ensures sound { OnOk result (AreSound r.new.live.frame.accums) }
     ensures turns { r.new.turns ≤ r.old.turns }
 {
@@ -51,7 +48,7 @@ fn run_step<R: Threads + Sync>(
     r: &mut Running,
 ) -> Result<(), RunFault>
     requires sound { AreSound r.old.live.frame.accums }
-    ensures does { Does program.now.context.plan.places (run (world_on gregorian program.now.context) (view_step step.now)) r.old r.new result }
+    ensures does { Does (run (world_on gregorian program.now.context) (view_step step.now)) r.old r.new result }
     ensures sound { OnOk result (AreSound r.new.live.frame.accums) }
     ensures turns { r.new.turns ≤ r.old.turns }
 {
@@ -89,7 +86,7 @@ fn run_body<R: Threads + Sync>(
     r: &mut Running,
 ) -> Result<(), RunFault>
     requires sound { AreSound r.old.live.frame.accums }
-    ensures does { Does program.now.context.plan.places (inner (run_all (world_on gregorian program.now.context) (view_steps body.now))) r.old r.new result }
+    ensures does { Does (inner (run_all (world_on gregorian program.now.context) (view_steps body.now))) r.old r.new result }
     ensures sound { OnOk result (AreSound r.new.live.frame.accums) }
     ensures turns { r.new.turns ≤ r.old.turns }
 {
@@ -108,7 +105,7 @@ fn run_turn<R: Threads + Sync>(
     r: &mut Running,
 ) -> Result<(), RunFault>
     requires sound { AreSound r.old.live.frame.accums }
-    ensures does { Does program.now.context.plan.places (enter (run_all (world_on gregorian program.now.context) (view_steps body.now))) r.old r.new result }
+    ensures does { Does (enter (run_all (world_on gregorian program.now.context) (view_steps body.now))) r.old r.new result }
     ensures sound { OnOk result (AreSound r.new.live.frame.accums) }
     ensures turns { r.new.turns ≤ r.old.turns }
     ensures fewer { OnOk result (r.new.turns < r.old.turns) }
@@ -143,7 +140,7 @@ fn run_while<R: Threads + Sync>(
     r: &mut Running,
 ) -> Result<(), RunFault>
     requires sound { AreSound r.old.live.frame.accums }
-    ensures does { Does program.now.context.plan.places (while_of (world_on gregorian program.now.context) (view condition.now) (option_map view limit.now) (run_all (world_on gregorian program.now.context) (view_steps body.now))) r.old r.new result }
+    ensures does { Does (while_of (world_on gregorian program.now.context) (view condition.now) (option_map view limit.now) (run_all (world_on gregorian program.now.context) (view_steps body.now))) r.old r.new result }
     ensures sound { OnOk result (AreSound r.new.live.frame.accums) }
     ensures turns { r.new.turns ≤ r.old.turns }
 {
@@ -167,7 +164,7 @@ fn run_rounds<R: Threads + Sync>(
     r: &mut Running,
 ) -> Result<(), RunFault>
     requires sound { AreSound r.old.live.frame.accums }
-    ensures does { Does program.now.context.plan.places (goes_round most (condition_of (world_on gregorian program.now.context) (view condition.now)) (run_all (world_on gregorian program.now.context) (view_steps body.now))) r.old r.new result }
+    ensures does { Does (goes_round most (condition_of (world_on gregorian program.now.context) (view condition.now)) (run_all (world_on gregorian program.now.context) (view_steps body.now))) r.old r.new result }
     ensures sound { OnOk result (AreSound r.new.live.frame.accums) }
     ensures turns { r.new.turns ≤ r.old.turns }
 {
@@ -212,11 +209,11 @@ fn run_foreach<R: Threads + Sync>(
     r: &mut Running,
 ) -> Result<(), RunFault>
     requires sound { AreSound r.old.live.frame.accums }
-    ensures does { Does program.now.context.plan.places (foreach_of (world_on gregorian program.now.context) (Place place) (view_over over.now) (run_all (world_on gregorian program.now.context) (view_steps body.now))) r.old r.new result }
+    ensures does { Does (foreach_of (world_on gregorian program.now.context) (Place place) (view_over over.now) (run_all (world_on gregorian program.now.context) (view_steps body.now))) r.old r.new result }
     ensures sound { OnOk result (AreSound r.new.live.frame.accums) }
     ensures turns { r.new.turns ≤ r.old.turns }
 {
-    let values = program.rounds(place, over, r)?;
+    let values = program.rounds(over, r)?;
     run_values(body, place, &values, program, r)
 }
 
@@ -238,8 +235,7 @@ fn run_values<R: Threads + Sync>(
     r: &mut Running,
 ) -> Result<(), RunFault>
     requires sound { AreSound r.old.live.frame.accums }
-    ensures does { (base : BaseType) → slice_get program.now.context.plan.places place ≡ Some (Variable base)
-        → Does program.now.context.plan.places (values_from (Place place) (run_all (world_on gregorian program.now.context) (view_steps body.now)) (base_of base) (values_of values.now)) r.old r.new result }
+    ensures does { Does (values_from (Place place) (run_all (world_on gregorian program.now.context) (view_steps body.now)) (base_in values.now) (values_of values.now)) r.old r.new result }
     ensures sound { OnOk result (AreSound r.new.live.frame.accums) }
     ensures turns { r.new.turns ≤ r.old.turns }
 {
@@ -249,25 +245,25 @@ fn run_values<R: Threads + Sync>(
     'value: loop {
         match values.at(program.alloc, at)? {
             None => return Ok(()),
-            Some(value) => run_value(body, place, value, program, r)?,
+            Some(value) => run_value(body, place, values, value, program, r)?,
         }
         at += 1;
     }
 }
 
-/// Runs an iteration for a value, which takes a turn.
+/// Runs an iteration for one of the values, which takes a turn.
 #[cycle(steps)]
 #[tactic(auto, using(crate::proofs::ControlLemmas::sound_laws))]
 fn run_value<R: Threads + Sync>(
     body: &[Step],
     place: u32,
+    values: &Rounds,
     value: Value,
     program: &Program<'_, R>,
     r: &mut Running,
 ) -> Result<(), RunFault>
     requires sound { AreSound r.old.live.frame.accums }
-    ensures does { (base : BaseType) → slice_get program.now.context.plan.places place ≡ Some (Variable base)
-        → Does program.now.context.plan.places (with_value (Place place) (run_all (world_on gregorian program.now.context) (view_steps body.now)) (base_of base, val value)) r.old r.new result }
+    ensures does { Does (with_value (Place place) (run_all (world_on gregorian program.now.context) (view_steps body.now)) (base_in values.now, val value)) r.old r.new result }
     ensures sound { OnOk result (AreSound r.new.live.frame.accums) }
     ensures turns { r.new.turns ≤ r.old.turns }
     ensures fewer { OnOk result (r.new.turns < r.old.turns) }
@@ -275,27 +271,28 @@ fn run_value<R: Threads + Sync>(
     if !take_turn(r) {
         return Err(RunFault::LoopBound);
     }
-    run_named(body, place, value, program, r)
+    run_named(body, place, values, value, program, r)
 }
 
-/// Runs a body with its own variable.
+/// Runs a body with its own variable, which has the type of the values.
 #[cycle(steps)]
 #[tactic(auto, using(crate::proofs::ControlLemmas::sound_laws))]
 fn run_named<R: Threads + Sync>(
     body: &[Step],
     place: u32,
+    values: &Rounds,
     value: Value,
     program: &Program<'_, R>,
     r: &mut Running,
 ) -> Result<(), RunFault>
     requires sound { AreSound r.old.live.frame.accums }
-    ensures does { (base : BaseType) → slice_get program.now.context.plan.places place ≡ Some (Variable base)
-        → Does program.now.context.plan.places (inner (named_body (Place place) (base_of base, val value) (run_all (world_on gregorian program.now.context) (view_steps body.now)))) r.old r.new result }
+    ensures does { Does (inner (named_body (Place place) (base_in values.now, val value) (run_all (world_on gregorian program.now.context) (view_steps body.now)))) r.old r.new result }
     ensures sound { OnOk result (AreSound r.new.live.frame.accums) }
     ensures turns { r.new.turns ≤ r.old.turns }
 {
     let names = r.live.mark();
-    r.live.declare(place, Thing::Value(value))?;
+    let base = values.base(program.alloc)?;
+    r.live.declare(place, Thing::Value(base, value))?;
     run_steps(body, program, r)?;
     r.live.leave(names);
     Ok(())

@@ -31,12 +31,12 @@ pub(crate) fn assign_sets(
     live: &mut Live,
 ) -> Result<(), RunFault>
     requires { AreSound live.old.frame.accums }
-    ensures names { Becomes context.now.plan.places (λ s. assigned (world_on gregorian context.now) s (Place place) (option_map view_set_types types) (view_right (right.Sets sets.now))) live.old live.new result }
+    ensures names { Becomes (λ s. assigned (world_on gregorian context.now) s (Place place) (option_map view_set_types types) (view_right (right.Sets sets.now))) live.old live.new result }
     ensures accums { live.new.frame.accums ≡ live.old.frame.accums }
 {
     match set_held(alloc, context, sets, &live.frame) {
         Err(fault) => Err(fault),
-        Ok(set) => match give_set(context, place, types, set, live) {
+        Ok(set) => match give_set(alloc, context, place, types, set, live) {
             Err(_) => Err(RunFault::OutOfMemory),
             Ok(()) => Ok(()),
         },
@@ -51,12 +51,11 @@ fn set_held(
     frame: &Frame,
 ) -> Result<TypedSet, RunFault>
     requires { AreSound frame.now.accums }
-    ensures { Reads context.now.plan.places typed (λ s. blaming Evaluation (sets_of (world_on gregorian context.now) s (view_term expression.now.first) (others_of expression.now.others))) frame.now result }
+    ensures { Reads typed (λ s. blaming Evaluation (sets_of (world_on gregorian context.now) s (view_term expression.now.first) (others_of expression.now.others))) frame.now result }
 {
     let at = Lookup {
         vertices: &context.graph.store.vertices,
         own: context.plan.vertices.as_slice(),
-        places: context.plan.places.as_slice(),
         frame,
     };
     or_fault(sets(alloc, expression, &at))
@@ -64,6 +63,7 @@ fn set_held(
 
 /// Assigns a set to the set variable at a place.
 pub(crate) fn give_set(
+    alloc: Global,
     context: &RunContext<'_>,
     place: u32,
     types: Option<SetTypes>,
@@ -74,6 +74,5 @@ pub(crate) fn give_set(
     ensures accums { live.new.frame.accums ≡ live.old.frame.accums }
 {
     let own = context.plan.vertices.as_slice();
-    let places = context.plan.places.as_slice();
-    assign_set(live, own, places, place, types, set)
+    assign_set(alloc, live, own, place, types, set)
 }

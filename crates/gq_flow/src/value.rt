@@ -1,5 +1,5 @@
 // Assignments of values.
-ghost use Rattle.std.specs.Prelude.{◌≡◌};
+ghost use Rattle.std.specs.Prelude.{◌≡◌, IfOk};
 ghost use Rattle.gq_value.specs.AccumViews.{base_of};
 ghost use Rattle.gq_value.specs.Views.{val};
 ghost use Rattle.gq_rules_meaning.specs.Answers.{blaming};
@@ -10,10 +10,13 @@ ghost use Rattle.gq_rules_calendar.specs.Gregorian.{gregorian};
 ghost use Rattle.gq_plan_ir.specs.ExprView.{view};
 ghost use Rattle.gq_plan_ir.specs.Reference.{Place};
 ghost use Rattle.gq_eval_operand.specs.Meant.{Tells};
+ghost use Rattle.gq_frame.specs.Names.{thing_in};
 ghost use Rattle.gq_frame.specs.Slots.{AreSound};
 ghost use Rattle.gq_exec_control.specs.Changes.{Becomes, Reads};
 ghost use Rattle.gq_exec_control.specs.Contexts.{look_on, world_on};
+ghost use Rattle.gq_flow.specs.Assigning.{IsBase};
 
+use gq_base::OutOfMemory;
 use gq_eval_operand::Halt;
 use gq_exec_control::{RunContext, RunFault, or_fault, value_as, variable_in_view};
 use gq_frame::{Frame, Live, Thing};
@@ -30,19 +33,30 @@ pub(crate) fn assign_variable(
     live: &mut Live,
 ) -> Result<(), RunFault>
     requires { AreSound live.old.frame.accums }
-    ensures names { Becomes context.now.plan.places (λ s. blaming Evaluation (value_assigned (world_on gregorian context.now) s (Place place) (view expr.now))) live.old live.new result }
+    ensures names { Becomes (λ s. blaming Evaluation (value_assigned (world_on gregorian context.now) s (Place place) (view expr.now))) live.old live.new result }
     ensures accums { live.new.frame.accums ≡ live.old.frame.accums }
 {
-    let places = context.plan.places.as_slice();
-    match variable_in_view(places, live.frame.things.as_slice(), place) {
-        None => Err(RunFault::Stuck),
-        Some(base) => match converted_value(alloc, context, expr, base, &live.frame) {
+    match base_in_view(alloc, place, &live.frame) {
+        Err(_) => Err(RunFault::OutOfMemory),
+        Ok(None) => Err(RunFault::Stuck),
+        Ok(Some(base)) => match converted_value(alloc, context, expr, &base, &live.frame) {
             Err(fault) => Err(fault),
-            Ok(value) => match live.assign(places, place, Thing::Value(value)) {
+            Ok(value) => match live.assign(place, Thing::Value(base, value)) {
                 Err(_) => Err(RunFault::OutOfMemory),
                 Ok(()) => Ok(()),
             },
         },
+    }
+}
+
+/// Returns a copy of the type of the variable at a place, if one is in view.
+#[tactic(auto, using(crate::proofs::AssignLemmas::base_laws))]
+fn base_in_view(alloc: Global, place: u32, frame: &Frame) -> Result<Option<BaseType>, OutOfMemory>
+    ensures { IfOk result (IsBase (thing_in frame.now.things place)) }
+{
+    match variable_in_view(frame.things.as_slice(), place) {
+        None => Ok(None),
+        Some(base) => Ok(Some(base.duplicate(alloc)?)),
     }
 }
 
@@ -55,7 +69,7 @@ fn converted_value(
     frame: &Frame,
 ) -> Result<Value, RunFault>
     requires { AreSound frame.now.accums }
-    ensures { Reads context.now.plan.places val (λ s. blaming Evaluation (value_as (seen (world_on gregorian context.now) s) (base_of base.now) (view expr.now))) frame.now result }
+    ensures { Reads val (λ s. blaming Evaluation (value_as (seen (world_on gregorian context.now) s) (base_of base.now) (view expr.now))) frame.now result }
 {
     or_fault(value_over(alloc, context, expr, base, frame))
 }

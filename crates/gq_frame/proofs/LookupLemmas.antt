@@ -10,12 +10,10 @@ use Rattle.gq_rules_typing.specs.Words.{under}
 use Rattle.gq_rules_meaning.specs.Expressions.{World}
 use Rattle.gq_rules_meaning.specs.States as states
 use Rattle.gq_rules_meaning.specs.States.{State, with_new, with_name, changed}
-use Rattle.gq_plan_ir.specs.declared.plan.PlaceType.{PlaceType}
-use Rattle.gq_plan_ir.specs.declared.plan.PlaceType.TheVariants as held
 use Rattle.gq_plan_ir.specs.Reference.{Reference, Place, Slot, VertexType, EdgeType, TupleType, TypeName, FieldAt, Calls, Does}
 use Rattle.gq_plan_ir.specs.References.{same}
 use Rattle.gq_frame.specs.declared.frame.Thing.{Thing}
-use Rattle.gq_frame.specs.Names.{held_thing, thing_in, thing_for}
+use Rattle.gq_frame.specs.Names.{thing_is, held_thing, thing_in, thing_for}
 use Rattle.gq_frame.specs.Slots.{slots_are}
 use Rattle.gq_frame.specs.declared.live.Live.{Live}
 use Rattle.gq_frame.specs.declared.live.Undo.{Undo}
@@ -63,128 +61,114 @@ same_self n = grind (arith, nat_tests)
 -- ---- a place after something else was put there
 
 -- the frame with another thing at place p
-choice : (places : List PlaceType) (things : List (Option Thing)) (p : ℕ) (old : Option Thing) (thing : Thing) (t : states.Thing) (other : Reference → Option states.Thing)
-    → slice_get things p ≡ Some old → held_thing (slice_get places p) (Some (Some thing)) ≡ Some t
-    → ((x : Reference) → other x ≡ thing_for places things x)
-    → (x : Reference) → cond (same (Place p) x) (Some t) (other x) ≡ thing_for places (set things p (Some thing)) x
-choice places things p old thing t other at h o (Place n) = chosen (eqb_tells p n)
+choice : (things : List (Option Thing)) (p : ℕ) (old : Option Thing) (thing : Thing) (t : states.Thing) (other : Reference → Option states.Thing)
+    → slice_get things p ≡ Some old → held_thing (Some (Some thing)) ≡ Some t
+    → ((x : Reference) → other x ≡ thing_for things x)
+    → (x : Reference) → cond (same (Place p) x) (Some t) (other x) ≡ thing_for (set things p (Some thing)) x
+choice things p old thing t other at h o (Place n) = chosen (eqb_tells p n)
   where
-    chosen : (((p == n) ≡ true) × (p ≡ n)) ⊎ (((p == n) ≡ false) × (p ≢ n)) → cond (p == n) (Some t) (other (Place n)) ≡ thing_for places (set things p (Some thing)) (Place n)
+    chosen : (((p == n) ≡ true) × (p ≡ n)) ⊎ (((p == n) ≡ false) × (p ≢ n)) → cond (p == n) (Some t) (other (Place n)) ≡ thing_for (set things p (Some thing)) (Place n)
     chosen (inl e) =
         ap (λ b. cond b (Some t) (other (Place n))) e.0
-        ∙ sym (subst (λ m. thing_for places (set things p (Some thing)) (Place m) ≡ Some t) e.1 (ap (held_thing (slice_get places p)) (get_set_same things p old (Some thing) at) ∙ h))
+        ∙ sym (subst (λ m. thing_for (set things p (Some thing)) (Place m) ≡ Some t) e.1 (ap held_thing (get_set_same things p old (Some thing) at) ∙ h))
     chosen (inr e) =
         ap (λ b. cond b (Some t) (other (Place n))) e.0
         ∙ o (Place n)
-        ∙ ap (held_thing (slice_get places n)) (sym (get_set_other things p n (Some thing) e.0))
-choice places things p old thing t other at h o (Slot n) = o (Slot n)
-choice places things p old thing t other at h o (VertexType n) = o (VertexType n)
-choice places things p old thing t other at h o (EdgeType n) = o (EdgeType n)
-choice places things p old thing t other at h o (TupleType n) = o (TupleType n)
-choice places things p old thing t other at h o TypeName = o TypeName
-choice places things p old thing t other at h o (FieldAt c) = o (FieldAt c)
-choice places things p old thing t other at h o (Calls f) = o (Calls f)
-choice places things p old thing t other at h o (Does m) = o (Does m)
+        ∙ ap held_thing (sym (get_set_other things p n (Some thing) e.0))
+choice things p old thing t other at h o (Slot n) = o (Slot n)
+choice things p old thing t other at h o (VertexType n) = o (VertexType n)
+choice things p old thing t other at h o (EdgeType n) = o (EdgeType n)
+choice things p old thing t other at h o (TupleType n) = o (TupleType n)
+choice things p old thing t other at h o TypeName = o TypeName
+choice things p old thing t other at h o (FieldAt c) = o (FieldAt c)
+choice things p old thing t other at h o (Calls f) = o (Calls f)
+choice things p old thing t other at h o (Does m) = o (Does m)
 
 -- ---- names that are declared
 
-pub alike_now : (places : List PlaceType) (things : List (Option Thing)) (us : List Undo) (ns : List (Reference × states.Thing)) → Unwinds places things us ns → Alike places things ns
-alike_now places things [] [] h = h
-alike_now places things (u ∷ us) (n ∷ ns) h = h.0
-alike_now places things [] (n ∷ ns) h = absurd h
-alike_now places things (u ∷ us) [] h = absurd h
+pub alike_now : (things : List (Option Thing)) (us : List Undo) (ns : List (Reference × states.Thing)) → Unwinds things us ns → Alike things ns
+alike_now things [] [] h = h
+alike_now things (u ∷ us) (n ∷ ns) h = h.0
+alike_now things [] (n ∷ ns) h = absurd h
+alike_now things (u ∷ us) [] h = absurd h
 
-as_long : (places : List PlaceType) (things : List (Option Thing)) (us : List Undo) (ns : List (Reference × states.Thing)) → Unwinds places things us ns → length us ≡ length ns
-as_long places things [] [] h = refl
-as_long places things (u ∷ us) (n ∷ ns) h = ap suc (as_long places (set things u.place u.was) us ns h.2)
-as_long places things [] (n ∷ ns) h = absurd h
-as_long places things (u ∷ us) [] h = absurd h
+as_long : (things : List (Option Thing)) (us : List Undo) (ns : List (Reference × states.Thing)) → Unwinds things us ns → length us ≡ length ns
+as_long things [] [] h = refl
+as_long things (u ∷ us) (n ∷ ns) h = ap suc (as_long (set things u.place u.was) us ns h.2)
+as_long things [] (n ∷ ns) h = absurd h
+as_long things (u ∷ us) [] h = absurd h
 
-pub as_many : (places : List PlaceType) (live : Live) (s : State Reference) → Lives places live s → length live.undo.items ≡ length s.names
-as_many places live s l = sym (length-reverse live.undo.items) ∙ as_long places live.frame.things (reverse live.undo.items) s.names l.names
+pub as_many : (live : Live) (s : State Reference) → Lives live s → length live.undo.items ≡ length s.names
+as_many live s l = sym (length-reverse live.undo.items) ∙ as_long live.frame.things (reverse live.undo.items) s.names l.names
 
-new_unwinds : (places : List PlaceType) (things : List (Option Thing)) (us : List Undo) (u : Undo) (thing : Thing) (t : states.Thing) (ns : List (Reference × states.Thing))
-    → slice_get things u.place ≡ Some u.was → held_thing (slice_get places u.place) (Some (Some thing)) ≡ Some t
-    → Unwinds places things us ns → Unwinds places (set things u.place (Some thing)) (u ∷ us) ((Place u.place, t) ∷ ns)
-new_unwinds places things us u thing t ns at h l = (
-  record { each = choice places things u.place u.was thing t (λ x. under same x ns) at h (alike_now places things us ns l).each },
+new_unwinds : (things : List (Option Thing)) (us : List Undo) (u : Undo) (thing : Thing) (t : states.Thing) (ns : List (Reference × states.Thing))
+    → slice_get things u.place ≡ Some u.was → held_thing (Some (Some thing)) ≡ Some t
+    → Unwinds things us ns → Unwinds (set things u.place (Some thing)) (u ∷ us) ((Place u.place, t) ∷ ns)
+new_unwinds things us u thing t ns at h l = (
+  record { each = choice things u.place u.was thing t (λ x. under same x ns) at h (alike_now things us ns l).each },
   refl,
-  subst (λ xs. Unwinds places xs us ns) (sym (set_set things u.place (Some thing) u.was ∙ set_get things u.place u.was at)) l,
+  subst (λ xs. Unwinds xs us ns) (sym (set_set things u.place (Some thing) u.was ∙ set_get things u.place u.was at)) l,
 )
 
-pub new_lives : (places : List PlaceType) (old new : Live) (u : Undo) (thing : Thing) (s : State Reference) (t : states.Thing)
+pub new_lives : (old new : Live) (u : Undo) (thing : Thing) (s : State Reference) (t : states.Thing)
     → new.frame.things ≡ set old.frame.things u.place (Some thing) → new.undo.items ≡ old.undo.items ++ u ∷ [] → new.frame.accums ≡ old.frame.accums
-    → slice_get old.frame.things u.place ≡ Some u.was → held_thing (slice_get places u.place) (Some (Some thing)) ≡ Some t
-    → Lives places old s → Lives places new (with_new (Place u.place) t s)
-new_lives places old new u thing s t things log accums at h l = record {
+    → slice_get old.frame.things u.place ≡ Some u.was → held_thing (Some (Some thing)) ≡ Some t
+    → Lives old s → Lives new (with_new (Place u.place) t s)
+new_lives old new u thing s t things log accums at h l = record {
   names =
-      subst (λ xs. Unwinds places xs (reverse new.undo.items) ((Place u.place, t) ∷ s.names)) (sym things)
-      (subst (λ us. Unwinds places (set old.frame.things u.place (Some thing)) us ((Place u.place, t) ∷ s.names)) (sym (ap reverse log ∙ reverse-append old.undo.items (u ∷ [])))
-      (new_unwinds places old.frame.things (reverse old.undo.items) u thing t s.names at h l.names));
+      subst (λ xs. Unwinds xs (reverse new.undo.items) ((Place u.place, t) ∷ s.names)) (sym things)
+      (subst (λ us. Unwinds (set old.frame.things u.place (Some thing)) us ((Place u.place, t) ∷ s.names)) (sym (ap reverse log ∙ reverse-append old.undo.items (u ∷ [])))
+      (new_unwinds old.frame.things (reverse old.undo.items) u thing t s.names at h l.names));
   slots = l.slots ∙ ap slots_are (sym accums);
 }
 
 -- a place whose name is visible has something
-nothing : (held : Option PlaceType) (old : states.Thing) → held_thing held None ≡ Some old → ⊥
-nothing None old h = cc
-nothing (Some (held.Variable b)) old h = cc
-nothing (Some (held.Set ts)) old h = cc
-nothing (Some (held.Alias ts)) old h = cc
-nothing (Some (held.EdgeAlias ts)) old h = cc
-
-there : (places : List PlaceType) (things : List (Option Thing)) (p : ℕ) (old : states.Thing) → thing_in places things p ≡ Some old → (was : Option Thing) × (slice_get things p ≡ Some was)
-there places things p old h = of_entry (slice_get things p) refl h
+there : (things : List (Option Thing)) (p : ℕ) (old : states.Thing) → thing_in things p ≡ Some old → (was : Option Thing) × (slice_get things p ≡ Some was)
+there things p old h = of_entry (slice_get things p) refl h
   where
-    of_entry : (o : Option (Option Thing)) → slice_get things p ≡ o → held_thing (slice_get places p) o ≡ Some old → (was : Option Thing) × (slice_get things p ≡ Some was)
+    of_entry : (o : Option (Option Thing)) → slice_get things p ≡ o → held_thing o ≡ Some old → (was : Option Thing) × (slice_get things p ≡ Some was)
     of_entry (Some was) e h = (was, e)
-    of_entry None e h = absurd (nothing (slice_get places p) old h)
+    of_entry None e h = cc
 
 -- ---- a frame with one place more, which has nothing
 
-held_nothing : (h : Option PlaceType) → held_thing h (Some None) ≡ held_thing h None
-held_nothing None = refl
-held_nothing (Some (held.Variable b)) = refl
-held_nothing (Some (held.Set ts)) = refl
-held_nothing (Some (held.Alias ts)) = refl
-held_nothing (Some (held.EdgeAlias ts)) = refl
+held_more : (things : List (Option Thing)) (n : ℕ) → held_thing (slice_get (things ++ None ∷ []) n) ≡ held_thing (slice_get things n)
+held_more [] zero = refl
+held_more [] (suc n) = refl
+held_more (a ∷ things) zero = refl
+held_more (a ∷ things) (suc n) = held_more things n
 
-held_more : (h : Option PlaceType) (things : List (Option Thing)) (n : ℕ) → held_thing h (slice_get (things ++ None ∷ []) n) ≡ held_thing h (slice_get things n)
-held_more h [] zero = held_nothing h
-held_more h [] (suc n) = refl
-held_more h (a ∷ things) zero = refl
-held_more h (a ∷ things) (suc n) = held_more h things n
+thing_more : (things : List (Option Thing)) (x : Reference) → thing_for (things ++ None ∷ []) x ≡ thing_for things x
+thing_more things (Place n) = held_more things n
+thing_more things (Slot n) = refl
+thing_more things (VertexType n) = refl
+thing_more things (EdgeType n) = refl
+thing_more things (TupleType n) = refl
+thing_more things TypeName = refl
+thing_more things (FieldAt c) = refl
+thing_more things (Calls f) = refl
+thing_more things (Does m) = refl
 
-thing_more : (places : List PlaceType) (things : List (Option Thing)) (x : Reference) → thing_for places (things ++ None ∷ []) x ≡ thing_for places things x
-thing_more places things (Place n) = held_more (slice_get places n) things n
-thing_more places things (Slot n) = refl
-thing_more places things (VertexType n) = refl
-thing_more places things (EdgeType n) = refl
-thing_more places things (TupleType n) = refl
-thing_more places things TypeName = refl
-thing_more places things (FieldAt c) = refl
-thing_more places things (Calls f) = refl
-thing_more places things (Does m) = refl
-
-alike_more : (places : List PlaceType) (things : List (Option Thing)) (ns : List (Reference × states.Thing)) → Alike places things ns → Alike places (things ++ None ∷ []) ns
-alike_more places things ns a = record { each = λ x. a.each x ∙ sym (thing_more places things x) }
+alike_more : (things : List (Option Thing)) (ns : List (Reference × states.Thing)) → Alike things ns → Alike (things ++ None ∷ []) ns
+alike_more things ns a = record { each = λ x. a.each x ∙ sym (thing_more things x) }
 
 first_name : (p : ℕ) (n : Reference × states.Thing) (ns : List (Reference × states.Thing)) → n.0 ≡ Place p → under same (Place p) (n ∷ ns) ≡ Some n.1
 first_name p n ns e = ap (λ r. cond (same r (Place p)) (Some n.1) (under same (Place p) ns)) e ∙ ap (λ b. cond b (Some n.1) (under same (Place p) ns)) (same_self p)
 
-unwinds_more : (places : List PlaceType) (things : List (Option Thing)) (us : List Undo) (ns : List (Reference × states.Thing)) → Unwinds places things us ns → Unwinds places (things ++ None ∷ []) us ns
-unwinds_more places things [] [] h = alike_more places things [] h
-unwinds_more places things (u ∷ us) (n ∷ ns) h =
-    let w = there places things u.place n.1 (sym (h.0.each (Place u.place)) ∙ first_name u.place n ns h.1) in
-    (alike_more places things (n ∷ ns) h.0, h.1, subst (λ xs. Unwinds places xs us ns) (sym (set_end things u.place w.0 u.was None w.1)) (unwinds_more places (set things u.place u.was) us ns h.2))
-unwinds_more places things [] (n ∷ ns) h = absurd h
-unwinds_more places things (u ∷ us) [] h = absurd h
+unwinds_more : (things : List (Option Thing)) (us : List Undo) (ns : List (Reference × states.Thing)) → Unwinds things us ns → Unwinds (things ++ None ∷ []) us ns
+unwinds_more things [] [] h = alike_more things [] h
+unwinds_more things (u ∷ us) (n ∷ ns) h =
+    let w = there things u.place n.1 (sym (h.0.each (Place u.place)) ∙ first_name u.place n ns h.1) in
+    (alike_more things (n ∷ ns) h.0, h.1, subst (λ xs. Unwinds xs us ns) (sym (set_end things u.place w.0 u.was None w.1)) (unwinds_more (set things u.place u.was) us ns h.2))
+unwinds_more things [] (n ∷ ns) h = absurd h
+unwinds_more things (u ∷ us) [] h = absurd h
 
-pub lives_more : (places : List PlaceType) (old new : Live) (s : State Reference) → new.frame.things ≡ old.frame.things ++ None ∷ [] → new.undo.items ≡ old.undo.items → new.frame.accums ≡ old.frame.accums
-    → Lives places old s → Lives places new s
-lives_more places old new s things log accums l = record {
+pub lives_more : (old new : Live) (s : State Reference) → new.frame.things ≡ old.frame.things ++ None ∷ [] → new.undo.items ≡ old.undo.items → new.frame.accums ≡ old.frame.accums
+    → Lives old s → Lives new s
+lives_more old new s things log accums l = record {
   names =
-      subst (λ xs. Unwinds places xs (reverse new.undo.items) s.names) (sym things)
-      (subst (λ us. Unwinds places (old.frame.things ++ None ∷ []) us s.names) (sym (ap reverse log)) (unwinds_more places old.frame.things (reverse old.undo.items) s.names l.names));
+      subst (λ xs. Unwinds xs (reverse new.undo.items) s.names) (sym things)
+      (subst (λ us. Unwinds (old.frame.things ++ None ∷ []) us s.names) (sym (ap reverse log)) (unwinds_more old.frame.things (reverse old.undo.items) s.names l.names));
   slots = l.slots ∙ ap slots_are (sym accums);
 }
 
@@ -245,41 +229,41 @@ under_changed p old t (n ∷ ns) x e = by_name (λ d. under_changed p old t ns x
         ∙ ap (cond (same n.0 x) (Some n.1)) (next d)
         ∙ exchanged (same n.0 x) (same (Place p) x) (Some n.1) (Some t) (under same x ns) (not_both p n.0 x d)
 
-alike_changed : (places : List PlaceType) (things : List (Option Thing)) (p : ℕ) (thing : Thing) (old t : states.Thing) (ns : List (Reference × states.Thing))
-    → Alike places things ns → under same (Place p) ns ≡ Some old → held_thing (slice_get places p) (Some (Some thing)) ≡ Some t
-    → Alike places (set things p (Some thing)) (changed same (Place p) t ns)
-alike_changed places things p thing old t ns a e h =
-    let w = there places things p old (sym (a.each (Place p)) ∙ e) in
-    record { each = λ x. under_changed p old t ns x e ∙ choice places things p w.0 thing t (λ x. under same x ns) w.1 h a.each x }
+alike_changed : (things : List (Option Thing)) (p : ℕ) (thing : Thing) (old t : states.Thing) (ns : List (Reference × states.Thing))
+    → Alike things ns → under same (Place p) ns ≡ Some old → held_thing (Some (Some thing)) ≡ Some t
+    → Alike (set things p (Some thing)) (changed same (Place p) t ns)
+alike_changed things p thing old t ns a e h =
+    let w = there things p old (sym (a.each (Place p)) ∙ e) in
+    record { each = λ x. under_changed p old t ns x e ∙ choice things p w.0 thing t (λ x. under same x ns) w.1 h a.each x }
 
-changed_unwinds : (places : List PlaceType) (things : List (Option Thing)) (us : List Undo) (p : ℕ) (thing : Thing) (old t : states.Thing) (ns : List (Reference × states.Thing))
-    → under same (Place p) ns ≡ Some old → held_thing (slice_get places p) (Some (Some thing)) ≡ Some t
-    → Unwinds places things us ns → Unwinds places (set things p (Some thing)) us (changed same (Place p) t ns)
-changed_unwinds places things [] p thing old t [] e h l = cc
-changed_unwinds places things [] p thing old t (n ∷ ns) e h l = absurd l
-changed_unwinds places things (u ∷ us) p thing old t [] e h l = absurd l
-changed_unwinds places things (u ∷ us) p thing old t (n ∷ ns) e h l = by_place (λ e. changed_unwinds places (set things u.place u.was) us p thing old t ns e h l.2) (eqb_tells u.place p)
+changed_unwinds : (things : List (Option Thing)) (us : List Undo) (p : ℕ) (thing : Thing) (old t : states.Thing) (ns : List (Reference × states.Thing))
+    → under same (Place p) ns ≡ Some old → held_thing (Some (Some thing)) ≡ Some t
+    → Unwinds things us ns → Unwinds (set things p (Some thing)) us (changed same (Place p) t ns)
+changed_unwinds things [] p thing old t [] e h l = cc
+changed_unwinds things [] p thing old t (n ∷ ns) e h l = absurd l
+changed_unwinds things (u ∷ us) p thing old t [] e h l = absurd l
+changed_unwinds things (u ∷ us) p thing old t (n ∷ ns) e h l = by_place (λ e. changed_unwinds (set things u.place u.was) us p thing old t ns e h l.2) (eqb_tells u.place p)
   where
-    alike : Alike places (set things p (Some thing)) (changed same (Place p) t (n ∷ ns))
-    alike = alike_changed places things p thing old t (n ∷ ns) l.0 e h
+    alike : Alike (set things p (Some thing)) (changed same (Place p) t (n ∷ ns))
+    alike = alike_changed things p thing old t (n ∷ ns) l.0 e h
 
     tested : same n.0 (Place p) ≡ (u.place == p)
     tested = ap (λ r. same r (Place p)) l.1
 
-    by_place : (under same (Place p) ns ≡ Some old → Unwinds places (set (set things u.place u.was) p (Some thing)) us (changed same (Place p) t ns)) → (((u.place == p) ≡ true) × (u.place ≡ p)) ⊎ (((u.place == p) ≡ false) × (u.place ≢ p)) → Unwinds places (set things p (Some thing)) (u ∷ us) (changed same (Place p) t (n ∷ ns))
+    by_place : (under same (Place p) ns ≡ Some old → Unwinds (set (set things u.place u.was) p (Some thing)) us (changed same (Place p) t ns)) → (((u.place == p) ≡ true) × (u.place ≡ p)) ⊎ (((u.place == p) ≡ false) × (u.place ≢ p)) → Unwinds (set things p (Some thing)) (u ∷ us) (changed same (Place p) t (n ∷ ns))
     by_place next (inl y) =
         let is : changed same (Place p) t (n ∷ ns) ≡ (Place p, t) ∷ ns = ap (λ b. cond b ((Place p, t) ∷ ns) (n ∷ changed same (Place p) t ns)) (tested ∙ y.0) in
-        subst (Unwinds places (set things p (Some thing)) (u ∷ us)) (sym is) (
-          subst (Alike places (set things p (Some thing))) is alike,
+        subst (Unwinds (set things p (Some thing)) (u ∷ us)) (sym is) (
+          subst (Alike (set things p (Some thing))) is alike,
           ap Place (sym y.1),
-          subst (λ q. Unwinds places (set (set things q (Some thing)) u.place u.was) us ns) y.1 (subst (λ xs. Unwinds places xs us ns) (sym (set_set things u.place (Some thing) u.was)) l.2),
+          subst (λ q. Unwinds (set (set things q (Some thing)) u.place u.was) us ns) y.1 (subst (λ xs. Unwinds xs us ns) (sym (set_set things u.place (Some thing) u.was)) l.2),
         )
     by_place next (inr d) =
         let is : changed same (Place p) t (n ∷ ns) ≡ n ∷ changed same (Place p) t ns = ap (λ b. cond b ((Place p, t) ∷ ns) (n ∷ changed same (Place p) t ns)) (tested ∙ d.0) in
-        subst (Unwinds places (set things p (Some thing)) (u ∷ us)) (sym is) (
-          subst (Alike places (set things p (Some thing))) is alike,
+        subst (Unwinds (set things p (Some thing)) (u ∷ us)) (sym is) (
+          subst (Alike (set things p (Some thing))) is alike,
           l.1,
-          subst (λ xs. Unwinds places xs us (changed same (Place p) t ns)) (sym (set_swap things p u.place (Some thing) u.was (turned u.place p d.0)))
+          subst (λ xs. Unwinds xs us (changed same (Place p) t ns)) (sym (set_swap things p u.place (Some thing) u.was (turned u.place p d.0)))
               (next (ap (λ b. cond b (Some n.1) (under same (Place p) ns)) (sym (tested ∙ d.0)) ∙ e)),
         )
 
@@ -289,15 +273,15 @@ is_some_is : {A : Type 0} (o : Option A) → is_some o ≡ true → (a : A) × (
 is_some_is (Some a) e = (a, refl)
 is_some_is None e = absurd (let f : ⊥ = cc in f)
 
-changed_lives : (places : List PlaceType) (old new : Live) (p : ℕ) (thing : Thing) (s : State Reference) (t was : states.Thing)
+changed_lives : (old new : Live) (p : ℕ) (thing : Thing) (s : State Reference) (t was : states.Thing)
     → new.frame.things ≡ set old.frame.things p (Some thing) → new.undo.items ≡ old.undo.items → new.frame.accums ≡ old.frame.accums
-    → held_thing (slice_get places p) (Some (Some thing)) ≡ Some t → under same (Place p) s.names ≡ Some was
-    → Lives places old s → Lives places new (record s { names = changed same (Place p) t s.names })
-changed_lives places old new p thing s t was things log accums h e l = record {
+    → held_thing (Some (Some thing)) ≡ Some t → under same (Place p) s.names ≡ Some was
+    → Lives old s → Lives new (record s { names = changed same (Place p) t s.names })
+changed_lives old new p thing s t was things log accums h e l = record {
   names =
-      subst (λ xs. Unwinds places xs (reverse new.undo.items) (changed same (Place p) t s.names)) (sym things)
-      (subst (λ us. Unwinds places (set old.frame.things p (Some thing)) us (changed same (Place p) t s.names)) (sym (ap reverse log))
-      (changed_unwinds places old.frame.things (reverse old.undo.items) p thing was t s.names e h l.names));
+      subst (λ xs. Unwinds xs (reverse new.undo.items) (changed same (Place p) t s.names)) (sym things)
+      (subst (λ us. Unwinds (set old.frame.things p (Some thing)) us (changed same (Place p) t s.names)) (sym (ap reverse log))
+      (changed_unwinds old.frame.things (reverse old.undo.items) p thing was t s.names e h l.names));
   slots = l.slots ∙ ap slots_are (sym accums);
 }
 
@@ -305,60 +289,59 @@ changed_lives places old new p thing s t was things log accums h e l = record {
 abbrev named_by : (Reference → Reference → Bool) → ℕ → states.Thing → State Reference → State Reference
 named_by f p t s = if is_some (under f (Place p) s.names) then (record s { names = changed f (Place p) t s.names }) else with_new (Place p) t s
 
-pub seen_there : (places : List PlaceType) (live : Live) (p : ℕ) (s : State Reference) → Lives places live s → under same (Place p) s.names ≡ thing_in places live.frame.things p
-seen_there places live p s l = (alike_now places live.frame.things (reverse live.undo.items) s.names l.names).each (Place p)
+pub seen_there : (live : Live) (p : ℕ) (s : State Reference) → Lives live s → under same (Place p) s.names ≡ thing_in live.frame.things p
+seen_there live p s l = (alike_now live.frame.things (reverse live.undo.items) s.names l.names).each (Place p)
 
 -- a visible name
-pub assigned_lives : (places : List PlaceType) (old new : Live) (p : ℕ) (thing : Thing)
-    → is_some (thing_in places old.frame.things p) ≡ true
+pub assigned_lives : (old new : Live) (p : ℕ) (thing : Thing)
+    → is_some (thing_in old.frame.things p) ≡ true
     → new.frame.things ≡ set old.frame.things p (Some thing) → new.undo.items ≡ old.undo.items → new.frame.accums ≡ old.frame.accums
-    → (world : World Reference) (s : State Reference) (t : states.Thing) → world.words.same ≡ same → Lives places old s → held_thing (slice_get places p) (Some (Some thing)) ≡ Some t
-    → Lives places new (with_name world (Place p) t s)
-assigned_lives places old new p thing y things log accums world s t w l h =
-    let is = is_some_is (under same (Place p) s.names) (ap is_some (seen_there places old p s l) ∙ y) in
-    subst (λ f. Lives places new (named_by f p t s)) (sym w)
-    (subst (λ b. Lives places new (if b then (record s { names = changed same (Place p) t s.names }) else with_new (Place p) t s)) (sym (ap is_some (seen_there places old p s l) ∙ y))
-    (changed_lives places old new p thing s t is.0 things log accums h is.1 l))
+    → (world : World Reference) (s : State Reference) → world.words.same ≡ same → Lives old s
+    → Lives new (with_name world (Place p) (thing_is thing) s)
+assigned_lives old new p thing y things log accums world s w l =
+    let is = is_some_is (under same (Place p) s.names) (ap is_some (seen_there old p s l) ∙ y) in
+    subst (λ f. Lives new (named_by f p (thing_is thing) s)) (sym w)
+    (subst (λ b. Lives new (if b then (record s { names = changed same (Place p) (thing_is thing) s.names }) else with_new (Place p) (thing_is thing) s)) (sym (ap is_some (seen_there old p s l) ∙ y))
+    (changed_lives old new p thing s (thing_is thing) is.0 things log accums refl is.1 l))
 
 -- another one
-pub declared_lives : (places : List PlaceType) (old new : Live) (p : ℕ) (thing : Thing)
-    → is_some (thing_in places old.frame.things p) ≡ false
-    → ((places : List PlaceType) (s : State Reference) (t : states.Thing) → Lives places old s → held_thing (slice_get places p) (Some (Some thing)) ≡ Some t → Lives places new (with_new (Place p) t s))
-    → (world : World Reference) (s : State Reference) (t : states.Thing) → world.words.same ≡ same → Lives places old s → held_thing (slice_get places p) (Some (Some thing)) ≡ Some t
-    → Lives places new (with_name world (Place p) t s)
-declared_lives places old new p thing d next world s t w l h =
-    subst (λ f. Lives places new (named_by f p t s)) (sym w)
-    (subst (λ b. Lives places new (if b then (record s { names = changed same (Place p) t s.names }) else with_new (Place p) t s)) (sym (ap is_some (seen_there places old p s l) ∙ d))
-    (next places s t l h))
+pub declared_lives : (old new : Live) (p : ℕ) (thing : Thing)
+    → is_some (thing_in old.frame.things p) ≡ false
+    → ((s : State Reference) → Lives old s → Lives new (with_new (Place p) (thing_is thing) s))
+    → (world : World Reference) (s : State Reference) → world.words.same ≡ same → Lives old s
+    → Lives new (with_name world (Place p) (thing_is thing) s)
+declared_lives old new p thing d next world s w l =
+    subst (λ f. Lives new (named_by f p (thing_is thing) s)) (sym w)
+    (subst (λ b. Lives new (if b then (record s { names = changed same (Place p) (thing_is thing) s.names }) else with_new (Place p) (thing_is thing) s)) (sym (ap is_some (seen_there old p s l) ∙ d))
+    (next s l))
 
 -- ---- names that are removed
 
 -- the last name is removed
-pub last_leaves : (places : List PlaceType) (things : List (Option Thing)) (log rest : List Undo) (u : Undo) (ns : List (Reference × states.Thing))
-    → log ≡ rest ++ u ∷ [] → Unwinds places things (reverse log) ns → Unwinds places (set things u.place u.was) (reverse rest) (drop 1 ns)
-last_leaves places things log rest u ns e l = one ns (subst (λ us. Unwinds places things us ns) (ap reverse e ∙ reverse-append rest (u ∷ [])) l)
+pub last_leaves : (things : List (Option Thing)) (log rest : List Undo) (u : Undo) (ns : List (Reference × states.Thing))
+    → log ≡ rest ++ u ∷ [] → Unwinds things (reverse log) ns → Unwinds (set things u.place u.was) (reverse rest) (drop 1 ns)
+last_leaves things log rest u ns e l = one ns (subst (λ us. Unwinds things us ns) (ap reverse e ∙ reverse-append rest (u ∷ [])) l)
   where
-    one : (ns : List (Reference × states.Thing)) → Unwinds places things (u ∷ reverse rest) ns → Unwinds places (set things u.place u.was) (reverse rest) (drop 1 ns)
+    one : (ns : List (Reference × states.Thing)) → Unwinds things (u ∷ reverse rest) ns → Unwinds (set things u.place u.was) (reverse rest) (drop 1 ns)
     one [] l = absurd l
     one (n ∷ ns) l = l.2
 
-pub none_leaves : (places : List PlaceType) (things : List (Option Thing)) (ns : List (Reference × states.Thing)) → Unwinds places things [] ns → Unwinds places things [] (drop 1 ns)
-none_leaves places things [] l = l
-none_leaves places things (n ∷ ns) l = absurd l
+pub none_leaves : (things : List (Option Thing)) (ns : List (Reference × states.Thing)) → Unwinds things [] ns → Unwinds things [] (drop 1 ns)
+none_leaves things [] l = l
+none_leaves things (n ∷ ns) l = absurd l
 
-pub more_leave : (places : List PlaceType) (live : Live) (s : State Reference) (k j : ℕ) → j ≡ k + 1 → Lives places live (without 1 (without k s)) → Lives places live (without j s)
-more_leave places live s k j e l = record {
-  names = subst (Unwinds places live.frame.things (reverse live.undo.items)) (drop-drop 1 k s.names ∙ ap (λ n. drop n s.names) (let d : k + 1 ≡ j = omega arith in d)) l.names;
+pub more_leave : (live : Live) (s : State Reference) (k j : ℕ) → j ≡ k + 1 → Lives live (without 1 (without k s)) → Lives live (without j s)
+more_leave live s k j e l = record {
+  names = subst (Unwinds live.frame.things (reverse live.undo.items)) (drop-drop 1 k s.names ∙ ap (λ n. drop n s.names) (let d : k + 1 ≡ j = omega arith in d)) l.names;
   slots = l.slots;
 }
 
-pub declared_on_ok : (result : Result (Unit {0}) OutOfMemory) (places : List PlaceType) (old new : Live) (p : ℕ) (thing : Thing)
-    → is_some (thing_in places old.frame.things p) ≡ false
-    → OnOk result ((places : List PlaceType) (s : State Reference) (t : states.Thing) → Lives places old s → held_thing (slice_get places p) (Some (Some thing)) ≡ Some t → Lives places new (with_new (Place p) t s))
-    → OnOk result ((world : World Reference) (s : State Reference) (t : states.Thing) → world.words.same ≡ same → Lives places old s → held_thing (slice_get places p) (Some (Some thing)) ≡ Some t
-    → Lives places new (with_name world (Place p) t s))
-declared_on_ok (Ok x) places old new p thing d h = declared_lives places old new p thing d h
-declared_on_ok (Err e) places old new p thing d h = h
+pub declared_on_ok : (result : Result (Unit {0}) OutOfMemory) (old new : Live) (p : ℕ) (thing : Thing)
+    → is_some (thing_in old.frame.things p) ≡ false
+    → OnOk result ((s : State Reference) → Lives old s → Lives new (with_new (Place p) (thing_is thing) s))
+    → OnOk result ((world : World Reference) (s : State Reference) → world.words.same ≡ same → Lives old s → Lives new (with_name world (Place p) (thing_is thing) s))
+declared_on_ok (Ok x) old new p thing d h = declared_lives old new p thing d h
+declared_on_ok (Err e) old new p thing d h = h
 
 pub turns_taken : (turn mark last n : ℕ) → last ≡ n → (mark ≤ last → turn ≤ last) → last ≤ turn → (last ≤ mark → turn ≡ mark) → turn - mark ≡ n - mark
 turns_taken turn mark last n e above below none = by_order (leb_tells mark last)

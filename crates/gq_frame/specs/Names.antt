@@ -8,8 +8,6 @@ use Rattle.gq_eval_operand.specs.Answers.{Gives, Stuck, ◌>>=◌, found}
 use Rattle.gq_eval_operand.specs.Meanings.{Outcome}
 use Rattle.gq_eval_operand.specs.States as states
 use Rattle.gq_eval_operand.specs.States.{Variable, SetOf, EdgeRow, Member, a_vertex, meant}
-use Rattle.gq_eval_operand.specs.PlaceType.{PlaceType}
-use Rattle.gq_eval_operand.specs.PlaceType.TheVariants as held
 use Rattle.gq_eval_operand.specs.Reference.{Reference, Place}
 use Rattle.gq_frame.specs.declared.frame.Alias.{Alias}
 use Rattle.gq_frame.specs.declared.frame.Bound.{Bound}
@@ -49,24 +47,28 @@ aliases_named aliases = map alias_named aliases
 
 -- ---- places
 
--- what a place has, with the type that the plan gives to it
-abbrev pub held_thing : Option PlaceType → Option (Option Thing) → Option states.Thing
-held_thing (Some (held.Variable b)) (Some (Some (thing.Value v))) = Some (Variable (base_of b) (val v))
-held_thing (Some (held.Set types)) (Some (Some (thing.Set vs))) = Some (SetOf types vs)
-held_thing _ _ = None
+-- a value or a set, with its types
+abbrev pub thing_is : Thing → states.Thing
+thing_is (thing.Value b v) = Variable (base_of b) (val v)
+thing_is (thing.Set types vs) = SetOf types vs
+
+-- what a place has
+abbrev pub held_thing : Option (Option Thing) → Option states.Thing
+held_thing (Some (Some thing)) = Some (thing_is thing)
+held_thing _ = None
 
 -- the variable or the set at a place
-abbrev pub thing_in : List PlaceType → List (Option Thing) → ℕ → Option states.Thing
-thing_in places things n = held_thing (slice_get places n) (slice_get things n)
+abbrev pub thing_in : List (Option Thing) → ℕ → Option states.Thing
+thing_in things n = held_thing (slice_get things n)
 
 -- variables and sets alone have places
-abbrev pub thing_for : List PlaceType → List (Option Thing) → Reference → Option states.Thing
-thing_for places things (Place n) = thing_in places things n
-thing_for places things r = None
+abbrev pub thing_for : List (Option Thing) → Reference → Option states.Thing
+thing_for things (Place n) = thing_in things n
+thing_for things r = None
 
 -- with aliases before them
-abbrev pub thing_at : List (ℕ × Placed) → List PlaceType → List (Option Thing) → ℕ → Option states.Thing
-thing_at aliases places things n = option_or (option_map thing_of (under ◌==◌ n aliases)) (thing_in places things n)
+abbrev pub thing_at : List (ℕ × Placed) → List (Option Thing) → ℕ → Option states.Thing
+thing_at aliases things n = option_or (option_map thing_of (under ◌==◌ n aliases)) (thing_in things n)
 
 abbrev pub thing_meant : Option states.Thing → Outcome
 thing_meant o = found o >>= λ thing. Gives (meant thing)

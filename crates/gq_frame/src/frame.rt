@@ -2,13 +2,16 @@
 use crate::accums::Accums;
 use gq_base::List;
 use gq_index::VertexList;
-use gq_value::Value;
+use gq_value::{BaseType, Value};
 
-/// What a name refers to: a value or a set.
+/// What a name refers to.
 #[derive(Drop)]
 pub enum Thing {
-    Value(Value),
-    Set(VertexList),
+    /// A value with its type.
+    Value(BaseType, Value),
+
+    /// A set after the types that its vertices may have, by their numbers.
+    Set(List<u32>, VertexList),
 }
 
 /// The values of names and the contents of accumulators while a query runs.

@@ -9,10 +9,11 @@ ghost use Rattle.gq_frame.specs.Ints.{AddsInt};
 use gq_accum::{Scalar, count, total};
 use gq_base::OutOfMemory;
 use gq_nest::Content;
-use gq_value::Value;
+use gq_value::{Input, Value};
+use std::alloc::Global;
 
 /// Feeds a content with an INT. Only a collection needs memory.
-pub(crate) fn feed_content(content: &mut Content, x: i64) -> Result<(), OutOfMemory>
+pub(crate) fn feed_content(alloc: Global, content: &mut Content, x: i64) -> Result<(), OutOfMemory>
     ensures { OnOk result (Feeds (out-Content content.old) (One (Int x)) (out-Content content.new)) }
 {
     match content {
@@ -20,7 +21,7 @@ pub(crate) fn feed_content(content: &mut Content, x: i64) -> Result<(), OutOfMem
             add(scalar, x);
             Ok(())
         }
-        _ => content.push(Value::Int(x)),
+        _ => content.feed(alloc, &Input::One(Value::Int(x))),
     }
 }
 

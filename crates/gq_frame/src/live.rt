@@ -1,17 +1,14 @@
 // Scopes: how names come into view and leave it.
-ghost use Rattle.std.specs.Prelude.{◌≡◌, ◌<◌, ◌-◌, ℕ, List, Some, OnOk, length, is_some, slice_get, slice_set};
+ghost use Rattle.std.specs.Prelude.{◌≡◌, ◌<◌, ◌-◌, OnOk, length, is_some, slice_set};
 ghost use Rattle.gq_rules_meaning.specs.Expressions.{World};
-ghost use Rattle.gq_rules_meaning.specs.States as states;
 ghost use Rattle.gq_rules_meaning.specs.States.{State, with_new, with_name};
-ghost use Rattle.gq_plan_ir.specs.declared.plan.PlaceType.{PlaceType};
 ghost use Rattle.gq_plan_ir.specs.Reference.{Reference, Place};
 ghost use Rattle.gq_plan_ir.specs.References.{same};
-ghost use Rattle.gq_frame.specs.Names.{held_thing, thing_in};
+ghost use Rattle.gq_frame.specs.Names.{thing_in, thing_is};
 ghost use Rattle.gq_frame.specs.Lives.{Lives, without};
 
 use crate::frame::{Frame, Thing};
 use gq_base::OutOfMemory;
-use gq_plan_ir::PlaceType;
 use std::mem::replace;
 
 /// The former content of a place, which a name hides.
@@ -32,15 +29,14 @@ impl Live {
     /// The number of visible names.
     #[tactic(auto, using(crate::proofs::LookupLemmas::as_many))]
     pub fn mark(&self) -> usize
-        ensures { (places : List PlaceType) (s : State Reference) → Lives places self.now s → result ≡ length s.names }
+        ensures { (s : State Reference) → Lives self.now s → result ≡ length s.names }
     {
         self.undo.len()
     }
 
     /// Declares a name, which hides an earlier one of the same place.
     pub fn declare(&mut self, place: u32, thing: Thing) -> Result<(), OutOfMemory>
-        ensures names { OnOk result ((places : List PlaceType) (s : State Reference) (t : states.Thing) → Lives places self.old s
-            → held_thing (slice_get places place) (Some (Some thing)) ≡ Some t → Lives places self.new (with_new (Place place) t s)) }
+        ensures names { OnOk result ((s : State Reference) → Lives self.old s → Lives self.new (with_new (Place place) (thing_is thing) s)) }
         ensures accums { self.new.frame.accums ≡ self.old.frame.accums }
     {
         self.reach(place)?;
@@ -52,7 +48,7 @@ impl Live {
     /// Adds places with nothing until the frame has this one.
     fn reach(&mut self, place: u32) -> Result<(), OutOfMemory>
         ensures there { OnOk result (place < length self.new.frame.things) }
-        ensures names { OnOk result ((places : List PlaceType) (s : State Reference) → Lives places self.old s → Lives places self.new s) }
+        ensures names { OnOk result ((s : State Reference) → Lives self.old s → Lives self.new s) }
         ensures accums { self.new.frame.accums ≡ self.old.frame.accums }
     {
         for _more in self.frame.things.len()..place as usize + 1 {
@@ -62,17 +58,12 @@ impl Live {
     }
 
     /// Assigns a value or a set to a name. A visible name keeps its scope; another name is declared.
-    pub fn assign(
-        &mut self,
-        places: &[PlaceType],
-        place: u32,
-        thing: Thing,
-    ) -> Result<(), OutOfMemory>
-        ensures names { OnOk result ((world : World Reference) (s : State Reference) (t : states.Thing) → world.words.same ≡ same → Lives places.now self.old s
-            → held_thing (slice_get places.now place) (Some (Some thing)) ≡ Some t → Lives places.now self.new (with_name world (Place place) t s)) }
+    pub fn assign(&mut self, place: u32, thing: Thing) -> Result<(), OutOfMemory>
+        ensures names { OnOk result ((world : World Reference) (s : State Reference) → world.words.same ≡ same → Lives self.old s
+            → Lives self.new (with_name world (Place place) (thing_is thing) s)) }
         ensures accums { self.new.frame.accums ≡ self.old.frame.accums }
     {
-        if self.has(places, place) {
+        if self.has(place) {
             self.frame.things.set(place as usize, Some(thing));
             Ok(())
         } else {
@@ -81,21 +72,18 @@ impl Live {
     }
 
     /// Whether a name is visible.
-    pub fn has(&self, places: &[PlaceType], place: u32) -> bool
-        ensures { result ≡ is_some (thing_in places.now self.now.frame.things place) }
+    pub fn has(&self, place: u32) -> bool
+        ensures { result ≡ is_some (thing_in self.now.frame.things place) }
     {
-        match self.frame.things.as_slice().get(place as usize) {
-            Some(Some(thing)) => match places.get(place as usize) {
-                Some(held) => fits(held, thing),
-                None => false,
-            },
+        match self.frame.things.get(place as usize) {
+            Some(Some(_)) => true,
             Some(None) | None => false,
         }
     }
 
     /// Removes names, the last one first, until `mark` are left. What they hid is visible again.
     pub fn leave(&mut self, mark: usize)
-        ensures names { (places : List PlaceType) (s : State Reference) → Lives places self.old s → Lives places self.new (without (length s.names - mark) s) }
+        ensures names { (s : State Reference) → Lives self.old s → Lives self.new (without (length s.names - mark) s) }
         ensures accums { self.new.frame.accums ≡ self.old.frame.accums }
     {
         for _turn in mark..self.mark() {
@@ -105,7 +93,7 @@ impl Live {
 
     /// Removes the last name.
     fn leave_last(&mut self)
-        ensures names { (places : List PlaceType) (s : State Reference) → Lives places self.old s → Lives places self.new (without 1 s) }
+        ensures names { (s : State Reference) → Lives self.old s → Lives self.new (without 1 s) }
         ensures accums { self.new.frame.accums ≡ self.old.frame.accums }
     {
         if let Some(undo) = self.undo.pop() {
@@ -123,22 +111,5 @@ impl Live {
         if (place as usize) < self.frame.things.len() {
             self.frame.things.set(place as usize, was);
         }
-    }
-}
-
-/// Whether a thing has the sort that the plan gives to its place.
-fn fits(held: &PlaceType, thing: &Thing) -> bool
-    ensures { result ≡ is_some (held_thing (Some held.now) (Some (Some thing.now))) }
-{
-    match held {
-        PlaceType::Variable(_) => match thing {
-            Thing::Value(_) => true,
-            Thing::Set(_) => false,
-        },
-        PlaceType::Set(_) => match thing {
-            Thing::Set(_) => true,
-            Thing::Value(_) => false,
-        },
-        PlaceType::Alias(_) | PlaceType::EdgeAlias(_) => false,
     }
 }

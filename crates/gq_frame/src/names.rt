@@ -1,5 +1,5 @@
 // Name look-up.
-ghost use Rattle.std.specs.Prelude.{◌≡◌, ◌==◌, IfOk, MatchOption, Some, false, map, slice_get};
+ghost use Rattle.std.specs.Prelude.{◌≡◌, ◌==◌, IfOk, MatchOption, Some, false, map};
 ghost use Rattle.std.specs.Option.{option_map};
 ghost use Rattle.gq_eval_operand.specs.Types.{vertex_base};
 ghost use Rattle.gq_eval_operand.specs.Words.{under};
@@ -14,42 +14,30 @@ ghost use Rattle.gq_frame.specs.Names.{alias_of, placed_of, thing_of, thing_at, 
 use crate::frame::{Alias, Bound, Thing};
 use gq_eval_operand::{Halt, Operand, Seen, Sort};
 use gq_index::VertexList;
-use gq_plan_ir::PlaceType;
 use gq_value::Value;
 
 /// Looks up the name of a place: the first alias of the place, or else the variable or the set there. Doesn't allocate.
 pub fn named<'a>(
     aliases: &[Alias<'a>],
-    places: &'a [PlaceType],
     things: &'a [Option<Thing>],
     place: u32,
 ) -> Result<Seen<'a>, Halt>
-    ensures named { Tells meant (named_in (thing_at (map alias_of aliases.now) places.entry.now things.entry.now) (Place place)) result }
+    ensures named { Tells meant (named_in (thing_at (map alias_of aliases.now) things.entry.now) (Place place)) result }
     ensures sound { IfOk result Sound }
 {
     match alias_at(aliases, place) {
         Some(bound) => Ok(seen_as(bound)),
-        None => held(places, things, place),
+        None => held(things, place),
     }
 }
 
 /// The types and the vertices of the set at a place, if it is visible. Doesn't allocate.
-pub fn set_at<'a>(
-    places: &'a [PlaceType],
-    things: &'a [Option<Thing>],
-    place: u32,
-) -> Option<(&'a [u32], &'a VertexList)>
-    ensures { MatchOption result (is_set (thing_in places.entry.now things.entry.now place) ≡ false) (λ set. thing_in places.entry.now things.entry.now place ≡ Some (SetOf set.0.now set.1.now)) }
+pub fn set_at(things: &[Option<Thing>], place: u32) -> Option<(&[u32], &VertexList)>
+    ensures { MatchOption result (is_set (thing_in things.entry.now place) ≡ false) (λ set. thing_in things.entry.now place ≡ Some (SetOf set.0.now set.1.now)) }
 {
-    match places.get(place as usize) {
-        Some(PlaceType::Set(types)) => match things.get(place as usize) {
-            Some(Some(Thing::Set(vertices))) => Some((types.as_slice(), vertices)),
-            Some(Some(Thing::Value(_))) | Some(None) | None => None,
-        },
-        Some(PlaceType::Variable(_))
-        | Some(PlaceType::Alias(_))
-        | Some(PlaceType::EdgeAlias(_))
-        | None => None,
+    match things.get(place as usize) {
+        Some(Some(Thing::Set(types, vertices))) => Some((types.as_slice(), vertices)),
+        Some(Some(Thing::Value(_, _))) | Some(None) | None => None,
     }
 }
 
@@ -91,26 +79,15 @@ fn sort_among<'a>(types: &[u32]) -> Sort<'a>
 }
 
 /// The variable or the set at a place.
-fn held<'a>(
-    places: &'a [PlaceType],
-    things: &'a [Option<Thing>],
-    place: u32,
-) -> Result<Seen<'a>, Halt>
-    ensures named { Tells meant (thing_meant (thing_in places.entry.now things.entry.now place)) result }
+fn held(things: &[Option<Thing>], place: u32) -> Result<Seen<'_>, Halt>
+    ensures named { Tells meant (thing_meant (thing_in things.entry.now place)) result }
     ensures sound { IfOk result Sound }
 {
-    match places.get(place as usize) {
-        None => Err(Halt::Stuck),
-        Some(PlaceType::Variable(base)) => match things.get(place as usize) {
-            Some(Some(Thing::Value(value))) => {
-                Ok(Seen::Value(Sort::of(base), Operand::Lent(value)))
-            }
-            Some(Some(Thing::Set(_))) | Some(None) | None => Err(Halt::Stuck),
-        },
-        Some(PlaceType::Set(_)) => match things.get(place as usize) {
-            Some(Some(Thing::Set(set))) => Ok(Seen::Set(set.as_slice())),
-            Some(Some(Thing::Value(_))) | Some(None) | None => Err(Halt::Stuck),
-        },
-        Some(PlaceType::Alias(_)) | Some(PlaceType::EdgeAlias(_)) => Err(Halt::Stuck),
+    match things.get(place as usize) {
+        Some(Some(Thing::Value(base, value))) => {
+            Ok(Seen::Value(Sort::of(base), Operand::Lent(value)))
+        }
+        Some(Some(Thing::Set(_, set))) => Ok(Seen::Set(set.as_slice())),
+        Some(None) | None => Err(Halt::Stuck),
     }
 }

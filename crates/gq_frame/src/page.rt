@@ -149,7 +149,7 @@ pub(crate) fn feed_int(alloc: Global, page: &mut Page, at: usize, x: i64) -> Res
 {
     own(alloc, page)?;
     match page {
-        Page::Own(items) => feed_content(items.at_mut(at), x),
+        Page::Own(items) => feed_content(alloc, items.at_mut(at), x),
         Page::Shared(_) => unreachable!(),
     }
 }

@@ -8,7 +8,7 @@ ghost use Rattle.gq_frame.specs.Pages.{AllFit, AllowsAt, ArePages, ChangesAt, Is
 
 use crate::page;
 use crate::page::{PAGE_SIZE, Page};
-use gq_base::{List, OutOfMemory};
+use gq_base::{List, OutOfMemory, within};
 use gq_nest::Content;
 use gq_value::{Input, Value};
 use std::alloc::Global;
@@ -77,14 +77,12 @@ impl Pages {
         }
     }
 
-    /// Appends a content. On `OutOfMemory`, which is returned past `usize::MAX` contents too, nothing changes.
+    /// Appends a content. On `OutOfMemory` nothing changes.
     pub fn push(&mut self, alloc: Global, content: Content) -> Result<(), OutOfMemory>
         ensures ok { OnOk result (self.new ≡ self.old ++ content ∷ []) }
         ensures err { OnErr result (self.new ≡ self.old) }
     {
-        if self.len == usize::MAX {
-            return Err(OutOfMemory);
-        }
+        within(self.len, usize::MAX - 1)?;
         push_last(alloc, &mut self.pages, content)?;
         self.len += 1;
         Ok(())

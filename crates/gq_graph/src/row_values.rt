@@ -3,7 +3,7 @@ ghost use Rattle.std.specs.Prelude.{◌≡◌, ◌+◌, ◌<◌, ◌≤◌, ◌+
 ghost use Rattle.gq_value.specs.declared.value.Value.TheVariants as values;
 ghost use Rattle.gq_graph.specs.Spans.{written};
 
-use gq_base::OutOfMemory;
+use gq_base::{OutOfMemory, within};
 use gq_value::{Row, Value};
 use std::mem;
 
@@ -45,9 +45,8 @@ pub(crate) fn append(values: &mut Vec<Value>, row: &mut Row) -> Result<Span, Out
     ensures err { OnErr result (values.new.items ≡ values.old.items) }
 {
     let (start, len) = (values.len(), row.len());
-    if start > MOST_VALUES || len > MOST_VALUES - start {
-        return Err(OutOfMemory);
-    }
+    within(start, MOST_VALUES)?;
+    within(len, MOST_VALUES - start)?;
     match move_all(values, row) {
         Ok(()) => Ok(Span {
             start: start as u32,

@@ -17,7 +17,7 @@ use crate::store::Graph;
 use crate::stretches::Stretches;
 use crate::vertex_list::VertexList;
 use crate::walks::{Neighbor, Traversal};
-use gq_base::OutOfMemory;
+use gq_base::{OutOfMemory, within};
 use gq_graph::{Candidate, Pattern, Steps};
 use gq_vertex::Vertices;
 use std::alloc::Global;
@@ -128,9 +128,7 @@ fn add_way(
         → Holds segments.new.items reached.new.items
         (before ++ filter (is_wanted wanted.now.edges (vertex_kinds vertices.now) wanted.now.targets) (walk ∷ []))) }
 {
-    if reached.len() >= u32::MAX as usize {
-        return Err(OutOfMemory);
-    }
+    within(reached.len(), u32::MAX as usize - 1)?;
     if wants(wanted, vertices, walk.kind, walk.target) {
         push(segments, reached, walk)?;
         return Ok(());
@@ -346,6 +344,9 @@ impl<'g> Candidates<'g> {
 
         // A binary search takes at most as many steps as the number of segments has binary digits.
         ensures few { (d : ℕ) → segment_count self.now < 2 ^ d → steps.new ≤ steps.old + d + 1 }
+
+        // A candidate along an edge adds at least one step.
+        ensures counts { IfSome result.edge (λ _. steps.old < steps.new) }
     {
         match &self.held {
             CandidateRows::Vertices(vertices) => vertex_alone(vertices[place as usize]),
@@ -354,16 +355,26 @@ impl<'g> Candidates<'g> {
         }
     }
 
-    /// The candidate at a place, as `at` finds it. If places are read in order, each takes one step; otherwise the
-    /// cursor doesn't help. Allocates nothing.
-    pub fn near(&self, place: u64, cursor: &mut Cursor) -> Candidate
-        requires { place < length self.now }
-        ensures { slice_get self.now place ≡ Some result }
+    /// The candidate at a place, as `at` finds it. Looks first at the segment that was read last and at the next one, so
+    /// no search is needed if places are read in order; otherwise the cursor doesn't help.
+    ///
+    /// Adds one to `steps` for each of these two looks, one for each segment that the search examines, and one for the
+    /// edge that is read. Allocates nothing.
+    pub fn near(&self, place: u64, cursor: &mut Cursor, steps: &mut Steps) -> Candidate
+        requires within { place < length self.now }
+        requires room { steps.old < 2 ^ 63 }
+        ensures candidate { slice_get self.now place ≡ Some result }
+
+        // The two looks come before the search.
+        ensures few { (d : ℕ) → segment_count self.now < 2 ^ d → steps.new ≤ steps.old + d + 3 }
+
+        // A candidate along an edge adds at least one step.
+        ensures counts { IfSome result.edge (λ _. steps.old < steps.new) }
     {
         match &self.held {
             CandidateRows::Vertices(vertices) => vertex_alone(vertices[place as usize]),
-            CandidateRows::Edges(walks) => walked_candidate(walks.near(place, cursor)),
-            CandidateRows::InPlace(walks) => walked_candidate(walks.near(place, cursor)),
+            CandidateRows::Edges(walks) => walked_candidate(walks.near(place, cursor, steps)),
+            CandidateRows::InPlace(walks) => walked_candidate(walks.near(place, cursor, steps)),
         }
     }
 }

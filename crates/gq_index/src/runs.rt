@@ -28,8 +28,9 @@ pub struct Reached {
 fn find(segments: &[Segment], place: u64, steps: &mut Steps) -> usize
     requires rising { IsRising segments.now }
     requires short { length segments.now < 2 ^ 63 }
-    requires room { steps.old < 2 ^ 63 }
+    requires room { steps.old < 2 ^ 63 + 2 }
     ensures found { result ≡ count_by (λ s. nat_le s.start place) segments.now }
+    ensures grown { steps.old ≤ steps.new }
     ensures counted { (d : ℕ) → length segments.now < 2 ^ d → steps.new ≤ steps.old + d }
 {
     let mut low = 0;
@@ -81,20 +82,26 @@ fn is_end(segments: &[Segment], place: u64, end: usize) -> bool
     starts_after(segments, place, end)
 }
 
-/// The number of segments that start at or before a place: `near`, or one more, or else found by binary search.
-fn find_near(segments: &[Segment], place: u64, near: usize) -> usize
+/// The number of segments that start at or before a place: `near`, or one more, or else found by binary search. Each
+/// look at one of them is a step.
+fn find_near(segments: &[Segment], place: u64, near: usize, steps: &mut Steps) -> usize
     requires rising { IsRising segments.now }
     requires short { length segments.now < 2 ^ 63 }
-    ensures { result ≡ count_by (λ s. nat_le s.start place) segments.now }
+    requires room { steps.old < 2 ^ 63 }
+    ensures found { result ≡ count_by (λ s. nat_le s.start place) segments.now }
+    ensures counted { (d : ℕ) → length segments.now < 2 ^ d → steps.new ≤ steps.old + d + 2 }
+    ensures grown { steps.old ≤ steps.new }
 {
+    steps.tick();
     if is_end(segments, place, near) {
         return near;
     }
+    steps.tick();
     let next = near.saturating_add(1);
     if is_end(segments, place, next) {
         return next;
     }
-    find(segments, place, &mut Steps::new())
+    find(segments, place, steps)
 }
 
 /// Whether a walk belongs to the last segment.
@@ -150,6 +157,7 @@ fn walk_at_place(
     requires room { steps.old < 2 ^ 63 }
     ensures exact { result ≡ walk_of (segment_of segments.now place) (reached_at reached.now place) }
     ensures counted { (d : ℕ) → length segments.now < 2 ^ d → steps.new ≤ steps.old + d + 1 }
+    ensures grown { steps.old < steps.new }
 {
     let end = find(segments, place, steps);
     let segment = segments[end - 1];
@@ -175,15 +183,20 @@ fn walk_near(
     reached: &[Reached],
     place: u64,
     cursor: &mut Cursor,
+    steps: &mut Steps,
 ) -> Traversal
     requires holds { Holds segments.now reached.now (shown segments.now reached.now) }
     requires within { place < length reached.now }
     requires short { length segments.now < 2 ^ 63 }
-    ensures { result ≡ walk_of (segment_of segments.now place) (reached_at reached.now place) }
+    requires room { steps.old < 2 ^ 63 }
+    ensures exact { result ≡ walk_of (segment_of segments.now place) (reached_at reached.now place) }
+    ensures counted { (d : ℕ) → length segments.now < 2 ^ d → steps.new ≤ steps.old + d + 3 }
+    ensures grown { steps.old < steps.new }
 {
-    let end = find_near(segments, place, cursor.near);
+    let end = find_near(segments, place, cursor.near, steps);
     cursor.near = end;
     let segment = segments[end - 1];
+    steps.tick();
     traversal(segment, reached[place as usize])
 }
 
@@ -242,15 +255,19 @@ impl Runs {
         requires room { steps.old < 2 ^ 63 }
         ensures exact { result ≡ walk_at self.now place }
         ensures counted { (d : ℕ) → run_count self.now < 2 ^ d → steps.new ≤ steps.old + d + 1 }
+        ensures grown { steps.old < steps.new }
     {
         walk_at_place(&self.segments, &self.reached, place, steps)
     }
 
-    /// The walk at a place; takes one step if its segment is that of the cursor or the next one.
-    pub fn near(&self, place: u64, cursor: &mut Cursor) -> Traversal
+    /// The walk at a place; takes no search if its segment is that of the cursor or the next one.
+    pub fn near(&self, place: u64, cursor: &mut Cursor, steps: &mut Steps) -> Traversal
         requires within { place < length self.now }
-        ensures { result ≡ walk_at self.now place }
+        requires room { steps.old < 2 ^ 63 }
+        ensures exact { result ≡ walk_at self.now place }
+        ensures counted { (d : ℕ) → run_count self.now < 2 ^ d → steps.new ≤ steps.old + d + 3 }
+        ensures grown { steps.old < steps.new }
     {
-        walk_near(&self.segments, &self.reached, place, cursor)
+        walk_near(&self.segments, &self.reached, place, cursor, steps)
     }
 }

@@ -6,7 +6,7 @@ ghost use Rattle.gq_index.specs.Walks.{walk_at, walked};
 
 use crate::runs::Cursor;
 use crate::walks::{Neighbor, Traversal};
-use gq_base::OutOfMemory;
+use gq_base::{OutOfMemory, within};
 use gq_graph::Steps;
 use std::alloc::Global;
 use std::marker::Model;
@@ -22,11 +22,12 @@ pub struct Stretch<'g> {
 /// The number of stretches that start at or before a place, found by binary search. Each examined stretch is a step.
 fn find(stretches: &[Stretch<'_>], place: u64, steps: &mut Steps) -> usize
     requires short { length stretches.now < 2 ^ 63 }
-    requires room { steps.old < 2 ^ 63 }
+    requires room { steps.old < 2 ^ 63 + 2 }
     ensures within { result ≤ length stretches.now }
     ensures before { 0 < result → (stretch_at stretches.now (result - 1)).start ≤ place }
     ensures behind { result < length stretches.now → place < (stretch_at stretches.now result).start }
     ensures counted { (d : ℕ) → length stretches.now < 2 ^ d → steps.new ≤ steps.old + d }
+    ensures grown { steps.old ≤ steps.new }
 {
     let mut low = 0;
     let mut high = stretches.len();
@@ -63,29 +64,35 @@ fn number_of(stretches: &[Stretch<'_>], place: u64, steps: &mut Steps) -> usize
     requires follow { FollowFrom 0 stretches.now }
     requires within { place < length (walks_along stretches.now) }
     requires short { length stretches.now < 2 ^ 63 }
-    requires room { steps.old < 2 ^ 63 }
+    requires room { steps.old < 2 ^ 63 + 2 }
     ensures there { result < length stretches.now }
     ensures low { (stretch_at stretches.now result).start ≤ place }
     ensures high { place < end_of (stretch_at stretches.now result) }
     ensures counted { (d : ℕ) → length stretches.now < 2 ^ d → steps.new ≤ steps.old + d }
+    ensures grown { steps.old ≤ steps.new }
 {
     find(stretches, place, steps) - 1
 }
 
-/// The number of the stretch of a place: the next one, or else found by binary search.
-fn number_behind(stretches: &[Stretch<'_>], place: u64, last: usize) -> usize
+/// The number of the stretch of a place: the next one, or else found by binary search. The look at the next one is a
+/// step.
+fn number_behind(stretches: &[Stretch<'_>], place: u64, last: usize, steps: &mut Steps) -> usize
     requires follow { FollowFrom 0 stretches.now }
     requires within { place < length (walks_along stretches.now) }
     requires short { length stretches.now < 2 ^ 63 }
+    requires room { steps.old < 2 ^ 63 + 1 }
     ensures there { result < length stretches.now }
     ensures low { (stretch_at stretches.now result).start ≤ place }
     ensures high { place < end_of (stretch_at stretches.now result) }
+    ensures counted { (d : ℕ) → length stretches.now < 2 ^ d → steps.new ≤ steps.old + d + 1 }
+    ensures grown { steps.old ≤ steps.new }
 {
+    steps.tick();
     let next = last.saturating_add(1);
     if is_in(stretches, next, place) {
         return next;
     }
-    number_of(stretches, place, &mut Steps::new())
+    number_of(stretches, place, steps)
 }
 
 /// The walk along one of the ways from a vertex.
@@ -153,9 +160,7 @@ impl<'g> Stretches<'g> {
         if ways.is_empty() {
             return Ok(());
         }
-        if ways.len() > (u32::MAX - self.count) as usize {
-            return Err(OutOfMemory);
-        }
+        within(ways.len(), (u32::MAX - self.count) as usize)?;
         self.stretches.push(Stretch {
             source,
             start: self.count,
@@ -178,22 +183,29 @@ impl<'g> Stretches<'g> {
         requires room { steps.old < 2 ^ 63 }
         ensures exact { result ≡ walk_at self.now place }
         ensures counted { (d : ℕ) → run_count self.now < 2 ^ d → steps.new ≤ steps.old + d + 1 }
+        ensures grown { steps.old < steps.new }
     {
         let number = number_of(&self.stretches, place, steps);
         steps.tick();
         read(&self.stretches, number, place)
     }
 
-    /// The walk at a place; takes one step if its stretch is that of the cursor or the next one.
-    pub fn near(&self, place: u64, cursor: &mut Cursor) -> Traversal
+    /// The walk at a place; takes no search if its stretch is that of the cursor or the next one.
+    pub fn near(&self, place: u64, cursor: &mut Cursor, steps: &mut Steps) -> Traversal
         requires within { place < length self.now }
-        ensures { result ≡ walk_at self.now place }
+        requires room { steps.old < 2 ^ 63 }
+        ensures exact { result ≡ walk_at self.now place }
+        ensures counted { (d : ℕ) → run_count self.now < 2 ^ d → steps.new ≤ steps.old + d + 3 }
+        ensures grown { steps.old < steps.new }
     {
+        steps.tick();
         if is_in(&self.stretches, cursor.near, place) {
+            steps.tick();
             return read(&self.stretches, cursor.near, place);
         }
-        let number = number_behind(&self.stretches, place, cursor.near);
+        let number = number_behind(&self.stretches, place, cursor.near, steps);
         cursor.near = number;
+        steps.tick();
         read(&self.stretches, number, place)
     }
 }

@@ -1,5 +1,5 @@
 // Lists of vertices.
-ghost use Rattle.std.specs.Prelude.{◌≡◌, ◌<◌, ◌++◌, [], ◌∷◌, false, length, slice_get, Some, OnOk, OnErr};
+ghost use Rattle.std.specs.Prelude.{◌≡◌, ◌<◌, ◌++◌, [], ◌∷◌, false, length, slice_get, Some, IfOk, OnOk, OnErr};
 ghost use Rattle.gq_graph.specs.Candidates.{among};
 
 use gq_base::{List, OutOfMemory};
@@ -40,6 +40,15 @@ impl VertexList {
         ensures err { OnErr result (self.new ≡ self.old) }
     {
         self.vertices.push(vertex)
+    }
+
+    /// Copies the list into newly allocated memory.
+    pub fn duplicate(&self, alloc: Global) -> Result<VertexList, OutOfMemory>
+        ensures { IfOk result (λ copy. copy ≡ self.now) }
+    {
+        Ok(VertexList {
+            vertices: List::from_slice(alloc, self.vertices.as_slice())?,
+        })
     }
 
     /// Whether a vertex is listed. The time is linear.

@@ -24,7 +24,8 @@ use Rattle.gq_load_csv.specs.Fields.{zero_of, default_of}
 use Rattle.gq_load_check.specs.declared.job.Target.{Target}
 use Rattle.gq_load_check.specs.declared.insert.InsertFault.TheVariants as fault
 use Rattle.gq_load_check.specs.Targets.{id_count}
-use Rattle.gq_insert.specs.Fits.{is_value, row_fits, IsId, AttributeFits}
+use Rattle.gq_index.specs.Rows.{IsId}
+use Rattle.gq_insert.specs.Fits.{is_value, row_fits, AttributeFits}
 use Rattle.gq_tree.specs.Signed.{signed}
 use Rattle.gq_insert.specs.Inserts.{if_fits, number_id, text_id, given_id, is_no_id, default_row, not_allowed}
 

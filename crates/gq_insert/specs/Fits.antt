@@ -1,25 +1,21 @@
 -- Fits: when a catalog's types are sound, and when an insert fits a catalog.
-use Rattle.std.specs.Prelude.{ℕ, ◌<◌, ◌≤◌, ◌≡◌, ◌≢◌, Bool, true, false, ◌&&◌, List, [], ◌∷◌, length, All, None, ℤ, pos}
-use Rattle.std.specs.Fmt.{decimal, signed_decimal}
+use Rattle.std.specs.Prelude.{ℕ, ◌<◌, ◌≤◌, ◌≡◌, ◌≢◌, Bool, true, false, ◌&&◌, List, [], ◌∷◌, length, All, None}
 use Rattle.std.specs.Option.{option_map_or}
 use Rattle.gq_graph.specs.declared.types.Attribute.{Attribute}
 use Rattle.gq_graph.specs.declared.types.EdgeType.{EdgeType}
 use Rattle.gq_graph.specs.declared.types.VertexType.{VertexType}
-use Rattle.gq_graph.specs.declared.types.IdKind.{IdKind}
-use Rattle.gq_graph.specs.declared.types.IdKind.TheVariants as id
-use Rattle.gq_value.specs.declared.kind.Number.TheVariants as number
 use Rattle.gq_value.specs.declared.value.Value.{Value}
-use Rattle.gq_value.specs.Arithmetic.{is_within}
 use Rattle.gq_graph.specs.Catalog.{Schema}
 use Rattle.gq_graph.specs.Defaults.{Sort, INT, UINT, BOOL, STRING, DATETIME, OTHER, sort_of, is_time}
 use Rattle.gq_value.specs.Val.{Val, Int, UInt, Truth, Text}
 use Rattle.gq_value.specs.Views.{val}
+use Rattle.gq_index.specs.Rows.{IsId}
 use Rattle.gq_load_check.specs.declared.insert.Endpoint.{Endpoint}
 use Rattle.gq_load_check.specs.declared.insert.Insert.{Insert}
 use Rattle.gq_load_check.specs.declared.insert.Insert.TheVariants as insert
 use Rattle.gq_load_check.specs.Targets.{vertex_type_at, edge_type_at}
 
--- ---- values and ids
+-- ---- values
 
 -- a value of an attribute's type. The code's numbers always fit in 64 bits
 abbrev pub is_value : Sort → Val → Bool
@@ -35,12 +31,6 @@ abbrev pub row_fits : List Attribute → List Value → Bool
 row_fits [] [] = true
 row_fits (a ∷ attributes) (v ∷ row) = is_value (sort_of a.kind) (val v) && row_fits attributes row
 row_fits _ _ = false
-
--- an id in stored form: a text that isn't empty, or the shortest decimal text of a number
-abbrev pub IsId : IdKind → List ℕ → Type 0
-IsId id.Text text = text ≢ []
-IsId id.Int text = (z : ℤ) × (is_within number.Int z ≡ true) × (text ≡ signed_decimal z)
-IsId id.UInt text = (n : ℕ) × (is_within number.UInt (pos n) ≡ true) × (text ≡ decimal n)
 
 -- ---- catalogs
 

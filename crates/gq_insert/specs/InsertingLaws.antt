@@ -19,6 +19,7 @@ use Rattle.gq_load_check.specs.declared.insert.InsertFault.{InsertFault}
 use Rattle.gq_load_check.specs.Targets.{vertex_type_at, edge_type_at}
 use Rattle.gq_index.specs.Namings.{naming_in}
 use Rattle.gq_index.specs.Kept.{StoreGrown}
+use Rattle.gq_index.specs.Rows.{IsId}
 use Rattle.gq_index.proofs.KeptLemmas.{puts_grow, store_same}
 use Rattle.gq_insert.specs.Fits.{is_value, row_fits, EdgeTypeFits, IsSound, EndFits, InsertFits}
 use Rattle.gq_insert.specs.Inserts.{insert_named, insert_refusal}
@@ -55,13 +56,14 @@ row_named schema store (insert.Edge n directed key from to attributes) sound fit
 end_fits : (schema : Schema) (n : ℕ) (end : Endpoint) → EndFits schema n end → IsVertexOf schema (end_row end)
 end_fits schema n end fits = record {
   there = subst (λ k. k < length schema.vertex_types) (sym fits.kind) fits.there;
+  id = subst (λ k. IsId (vertex_type_at schema k).id.kind end.id) (sym fits.kind) fits.id;
   values = sym (row_long (vertex_type_at schema n).attributes end.missing fits.missing) ∙ ap (λ k. length (vertex_type_at schema k).attributes) (sym fits.kind);
 }
 
 -- the upserts of a row have types of the catalog, and put each edge after its ends
 row_fit : (schema : Schema) (row : Insert) → InsertFits schema row → UpsertsFit schema (steps_of_insert row)
 row_fit schema (insert.Vertex n id attributes) fits =
-    one_fits schema _ (record { there = fits.there; values = sym (row_long (vertex_type_at schema n).attributes attributes fits.row) })
+    one_fits schema _ (record { there = fits.there; id = fits.id; values = sym (row_long (vertex_type_at schema n).attributes attributes fits.row) })
 row_fit schema (insert.Edge n directed key from to attributes) fits =
     let t : EdgeType = edge_type_at schema n in
     edge_fits schema (naming_with n directed key) (end_row from) (end_row to) attributes fits.there

@@ -1,5 +1,5 @@
--- Keeping: when a store fits a catalog, and when upserts keep it so. Its vertices have existing types, and their
--- attributes; its edges have existing types, are named as these say, and lead from vertex to vertex.
+-- Keeping: when a store fits a catalog, and when upserts keep it so. Its vertices have existing types, ids in stored
+-- form, and their attributes; its edges have existing types, are named as these say, and lead from vertex to vertex.
 use Rattle.std.specs.Prelude.{◌≡◌, ℕ, ◌<◌, true, List, [], ◌∷◌, length, Some, All}
 use Rattle.gq_graph.specs.Catalog.{Schema}
 use Rattle.gq_graph.specs.declared.rows.Naming.{Naming}
@@ -9,6 +9,7 @@ use Rattle.gq_graph.specs.Edges.{naming_of}
 use Rattle.gq_index.specs.declared.store.Store.{Store}
 use Rattle.gq_load_check.specs.Targets.{vertex_type_at, edge_type_at}
 use Rattle.gq_index.specs.Namings.{AreNamedBy, naming_in}
+use Rattle.gq_index.specs.Rows.{IsId}
 use Rattle.gq_index.specs.Steps.{Step, Vertex, End, Edge, after, has_vertex}
 
 -- a store without vertices and edges
@@ -19,9 +20,10 @@ no_rows = record { vertices = []; edges = record { rows = []; namings = [] } }
 abbrev pub AreWithin : ℕ → List Naming → Type 0
 AreWithin n namings = (kind : ℕ) (known : Naming) → naming_of namings kind ≡ Some known → kind < n
 
--- a vertex has a type of the catalog, and a value for each attribute
+-- a vertex has a type of the catalog, an id in the stored form of that type, and a value for each attribute
 pub record IsVertexOf (schema : Schema) (row : VertexRow) : Type 0 where
   pub there : row.kind < length schema.vertex_types
+  pub id : IsId (vertex_type_at schema row.kind).id.kind row.id
   pub values : length row.attributes ≡ length (vertex_type_at schema row.kind).attributes
 
 -- both ends of an edge are among the first `count` vertices

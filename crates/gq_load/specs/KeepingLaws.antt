@@ -23,7 +23,7 @@ use Rattle.gq_load_check.specs.Fits.{HasGrown}
 use Rattle.gq_load_check.specs.GrowthLaws.{vertex_type_stays, edge_type_stays}
 use Rattle.gq_index.specs.Ends.{edge_steps}
 use Rattle.gq_index.specs.Namings.{AreNamedBy, naming_in}
-use Rattle.gq_index.specs.Rows.{HaveAttributes, HaveEnds}
+use Rattle.gq_index.specs.Rows.{IsId, HaveAttributes, HaveEnds}
 use Rattle.gq_index.specs.Steps.{Name, Step, Vertex, End, Edge, after, after_all, edge_between, has_vertex, name_of, number_of, Begun}
 use Rattle.gq_index.proofs.NamingLemmas.{named_more}
 use Rattle.gq_index.proofs.StepLemmas.{number_kept, number_new}
@@ -212,22 +212,27 @@ growth_fits before after store grown fits = record {
       ∙ ap (λ (t : EdgeType). naming_with kind t.directed t.discriminators) (sym (edge_type_stays before after kind grown (fits.within kind known is)));
   within = λ kind known is. omega (arith, fits.within kind known is, grow before.edge_types after.edge_types grown.edge_types);
   vertices = λ k d low.
-      let f = fits.vertices k d low in
+      let f = fits.vertices k d low in let row = get_or store.vertices k d in
+      let stays = sym (vertex_type_stays before after row.kind grown f.there) in
       record {
         there = omega (arith, f.there, grow before.vertex_types after.vertex_types grown.vertex_types);
-        values = f.values ∙ ap (λ (t : VertexType). length t.attributes) (sym (vertex_type_stays before after (get_or store.vertices k d).kind grown f.there));
+        id = subst (λ (t : VertexType). IsId t.id.kind row.id) stays f.id;
+        values = f.values ∙ ap (λ (t : VertexType). length t.attributes) stays;
       };
   edges = fits.edges;
 }
 
 -- ---- rows
 
--- each vertex has its attributes
+-- each vertex has its attributes, and an id in stored form
 pub attributes_there : (schema : Schema) (store : Store) → StoreFits schema store → HaveAttributes schema store.vertices
 attributes_there schema store fits = record {
   each = λ v t low is.
       let own = fits.vertices v no_vertex low in
       omega (arith, own.values, ap (λ (u : VertexType). length u.attributes) (get_or_from_slice_get schema.vertex_types (vertex_at store.vertices v).kind t no_vertex_type is));
+  ids = λ v t low is.
+      subst (λ (u : VertexType). IsId u.id.kind (vertex_at store.vertices v).id)
+      (get_or_from_slice_get schema.vertex_types (vertex_at store.vertices v).kind t no_vertex_type is) (fits.vertices v no_vertex low).id;
 }
 
 -- and each edge has its ends

@@ -23,7 +23,8 @@ pub fn stores_stay_fit()
     ensures by_growth { (before after : Schema) (store : Store) → HasGrown before after → StoreFits before store → StoreFits after store }
 {}
 
-/// In a store of a catalog each vertex has a value for each attribute of its type, and the ends of each edge are vertices.
+/// In a store of a catalog each vertex has a value for each attribute of its type and an id in stored form, and the ends of
+/// each edge are vertices.
 pub fn rows_are_whole()
     ensures attributes { (schema : Schema) (store : Store) → StoreFits schema store → HaveAttributes schema store.vertices }
     ensures ends { (schema : Schema) (store : Store) → StoreFits schema store → HaveEnds store.vertices store.edges.rows }

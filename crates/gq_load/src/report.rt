@@ -5,7 +5,7 @@ ghost use Rattle.gq_load.specs.Records.{Judged, verdict_of};
 ghost use Rattle.gq_load.specs.Reports.{report_of};
 
 use crate::record::Verdict;
-use gq_base::OutOfMemory;
+use gq_base::{OutOfMemory, within};
 
 /// The number of records of a file, without its header, and how they were judged.
 #[derive(Clone, Copy, Debug, PartialEq, Eq)]
@@ -69,8 +69,6 @@ pub(crate) fn with_record(report: Report, verdict: Verdict) -> Result<Report, Ou
 fn one_more(count: u64) -> Result<u64, OutOfMemory>
     ensures { IfOk result (λ more. more ≡ count + 1) }
 {
-    match count.checked_add(1) {
-        Some(more) => Ok(more),
-        None => Err(OutOfMemory),
-    }
+    within(count as usize, usize::MAX - 1)?;
+    Ok(count + 1)
 }

@@ -38,6 +38,10 @@ pub on_ok : {T E : Type 0} {P Q : Type 0} (r : Result T E) → OnOk r P → (P �
 on_ok (Ok t) h f = f h
 on_ok (Err e) h f = tt
 
+pub on_any : {T E : Type 0} {Q : Type 0} (r : Result T E) → Q → OnOk r Q
+on_any (Ok t) h = h
+on_any (Err e) h = tt
+
 -- what is promised for the kinds that a level may be of, is for each kind that it is of
 pub by_kind : {A : Type 0} (K : A → Accum) (l : Content-F Content) → ((k : Accum) → HasForm l k → (a : A) × (k ≡ K a)) → (Q : Accum → Type 0)
     → ((a : A) → Deep (K a) l → Q (K a)) → (k : Accum) → IsOf k l → Q k

@@ -15,7 +15,7 @@ use Rattle.gq_accum_laws.proofs.Shuffles.{past}
 use Rattle.gq_accum_laws.proofs.GatherLaws.{put_commutes}
 use Rattle.gq_accum_laws.proofs.RowLaws.{row_linear}
 use Rattle.gq_accum_laws.proofs.ProperLaws.{each_neutral}
-use Rattle.gq_nest.specs.declared.content.Content.{Content, Content-F, out-Content}
+use Rattle.gq_nest.specs.declared.content.Content.{Content, Content-F, out-Content, roll-Content, roll-out-Content}
 use Rattle.gq_nest.specs.declared.content.Content.TheVariants as made
 use Rattle.gq_nest.specs.Entries.{group_row, at_or, rows, under, Each}
 use Rattle.gq_nest.specs.Forms.{view_each, AreOf, Merges, MergesGroup, GroupsAreReady, UnitesGroups, HaveRoom, parts_at, groups_in}
@@ -23,7 +23,7 @@ use Rattle.gq_nest.proofs.EntryLemmas.{same_row, changed}
 use Rattle.gq_nest.proofs.LevelLemmas.{opened-Group}
 use Rattle.gq_nest.proofs.CopySteps.{Rising, first_under, later_under, other_under}
 use Rattle.gq_nest.proofs.MergeSteps.{merges_by, rows_both}
-use Rattle.gq_nest.proofs.PartSteps.{copies_are, merges_are}
+use Rattle.gq_nest.proofs.PartSteps.{copies_are, same_many, merges_are}
 use Rattle.gq_nest.proofs.GroupSteps.{group_of, group_form}
 
 -- midway: what is left of the key rows is still to be merged
@@ -62,7 +62,7 @@ module _ (ps : Parts) (openings : List Content) (old all now now' rest : List (V
   joined : Each group_row (λ cs. AreOf ps cs) now' × ((q : List Val) → parts_at ps q now' ≡ (if is_eq (row_cmp q row) then merged_each ps (parts_at ps q now) (view_each ps part) else parts_at ps q now))
   joined = changed group_row (λ cs. view_each ps cs) (fresh_each ps) _ _ (λ cs. AreOf ps cs) (λ d. merged_each ps d (view_each ps part)) now now' row j u.kept
       (λ p h. let e = copies_are ps openings p h ready.first in (e.0, e.1 ∙ ready.opens))
-      (λ was new s of_kind same. merges_are ps was part new s of_kind (ready.theirs row part there.1) (subst (AreProper ps) (sym (same ∙ there.0)) (ready.proper row)) (subst (HaveRoom ps) (sym (same ∙ there.0)) (ready.room row)) also)
+      (λ was new s of_kind same. merges_are ps was part new (s (same_many ps part was (ready.theirs row part there.1) of_kind)) of_kind (ready.theirs row part there.1) (subst (AreProper ps) (sym (same ∙ there.0)) (ready.proper row)) (subst (HaveRoom ps) (sym (same ∙ there.0)) (ready.room row)) also)
 
   passes : (q : List Val) → is_eq (row_cmp q row) ≡ false → parts_at ps q now' ≡ parts_at ps q now
   passes q s = joined.1 q ∙ ap (λ b. if b then merged_each ps (parts_at ps q now) (view_each ps part) else parts_at ps q now) s
@@ -116,3 +116,21 @@ merge_group os m m' l u = merges_by group_of (Content-F.Group os m) l (Content-F
     let e = u.each a.1 (record { first = deep.0.0.0; opens = deep.0.0.1; mine = deep.1; theirs = other.1.1; proper = proper.2; room = λ q. (room.0, room.1, room.2 q); also = λ q. (also.0, also.1, also.2 q) }) in
     let keys = u.keys in
     (((a.0, a.1, refl), (deep.0, e.0)), λ i. (keys i, λ q. e.1 q i)))
+
+-- a group to which no key rows come
+pub groups_none : (openings : List Content) (old all : List (Vec Value × List Content)) → all ≡ [] → UnitesGroups openings old all old
+groups_none openings old all e = groups_all openings old all old all e (groups_first openings old all all refl (subst (Rising group_row) (sym e) tt))
+
+-- what isn't a group has no key rows
+pub no_groups : (c : Content) → ((os : List Content) (m : BTreeMap (Vec Value) (List Content)) → c ≡ made.Group os m → ⊥) → groups_in (out-Content c) ≡ []
+no_groups c isnt = by (out-Content c) refl
+  where
+    by : (l : Content-F Content) → out-Content c ≡ l → groups_in l ≡ []
+    by (Content-F.Scalar s) e = refl
+    by (Content-F.Set m) e = refl
+    by (Content-F.Bag items) e = refl
+    by (Content-F.List items) e = refl
+    by (Content-F.Heap h) e = refl
+    by (Content-F.Map o m) e = refl
+    by (Content-F.Group os m) e = absurd (isnt os m (sym (roll-out-Content c) ∙ ap roll-Content e ∙ made.rolls-Group os m))
+    by Content-F.Spoiled e = refl

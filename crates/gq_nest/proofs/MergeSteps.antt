@@ -20,7 +20,7 @@ use Rattle.gq_accum_laws.proofs.ProperLaws.{merged_neutral}
 use Rattle.gq_accum.specs.declared.scalar.Scalar.{Scalar}
 use Rattle.gq_accum.specs.Scalars.{kind_of, content}
 use Rattle.gq_nest.specs.declared.content.Heap.{Heap}
-use Rattle.gq_nest.specs.declared.content.Content.{Content, Content-F, out-Content}
+use Rattle.gq_nest.specs.declared.content.Content.{Content, Content-F, out-Content, roll-Content, roll-out-Content}
 use Rattle.gq_nest.specs.declared.content.Content.TheVariants as made
 use Rattle.gq_nest.specs.Entries.{key_row, at_or, rows, under, Each}
 use Rattle.gq_nest.specs.Forms.{view, HasForm, Deep, IsOf, Merges, MergesAt, AreReady, Unites, at_row, TakesTuples, entries_in}
@@ -164,3 +164,23 @@ uniting_all opening old all now left e before = close (subst (Uniting opening ol
       keys = u.keys ∙ rows_both (rows key_row all) (rows key_row old);
       each = λ k ready. let m = u.each k ready in (m.kept, λ q. m.finished q refl ∙ by k ready q (under key_row q all));
     }
+
+-- ---- contents of other forms
+
+-- a map to which no entries come
+pub unites_none : (opening : Content) (old all : List (Value × Content)) → all ≡ [] → Unites opening old all old
+unites_none opening old all e = uniting_all opening old all old all e (uniting_first opening old all all refl (subst (Rising key_row) (sym e) tt))
+
+-- what isn't a map has no entries
+pub no_entries : (c : Content) → ((o : Content) (m : BTreeMap Value Content) → c ≡ made.Map o m → ⊥) → entries_in (out-Content c) ≡ []
+no_entries c isnt = by (out-Content c) refl
+  where
+    by : (l : Content-F Content) → out-Content c ≡ l → entries_in l ≡ []
+    by (Content-F.Scalar s) e = refl
+    by (Content-F.Set m) e = refl
+    by (Content-F.Bag items) e = refl
+    by (Content-F.List items) e = refl
+    by (Content-F.Heap h) e = refl
+    by (Content-F.Map o m) e = absurd (isnt o m (sym (roll-out-Content c) ∙ ap roll-Content e ∙ made.rolls-Map o m))
+    by (Content-F.Group os m) e = refl
+    by Content-F.Spoiled e = refl

@@ -109,6 +109,15 @@ as_many (part_and name k ps) [] xs a s = absurd a
 as_many (part_and name k ps) (c ∷ cs) [] a s = absurd (cc s)
 as_many (part_and name k ps) (c ∷ cs) (x ∷ xs) a s = ap suc (as_many ps cs xs a.1 (both (suits k x) (suit ps (givens xs)) s).1)
 
+-- as many contents in both
+pub same_many : (ps : Parts) (cs ds : List Content) → AreOf ps cs → AreOf ps ds → length cs ≡ length ds
+same_many no_part [] [] a b = refl
+same_many no_part [] (d ∷ ds) a b = absurd b
+same_many no_part (c ∷ cs) ds a b = absurd a
+same_many (part_and name k ps) [] ds a b = absurd a
+same_many (part_and name k ps) (c ∷ cs) [] a b = absurd b
+same_many (part_and name k ps) (c ∷ cs) (d ∷ ds) a b = ap suc (same_many ps cs ds a.1 b.1)
+
 pub merges_are : (ps : Parts) (old other new : List Content) → MergesEach old other new → AreOf ps old → AreOf ps other → AreProper ps (view_each ps old)
     → HaveRoom ps (view_each ps old) → HaveRoom ps (view_each ps other) → AreOf ps new × (view_each ps new ≡ merged_each ps (view_each ps old) (view_each ps other))
 merges_are no_part [] [] [] h a b p room also = (tt, refl)

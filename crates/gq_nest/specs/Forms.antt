@@ -180,6 +180,10 @@ FeedsParts old xs new = length xs ≡ length old → FeedsEach old xs new
 abbrev pub MergesEach : List Content → List Content → List Content → Type 0
 MergesEach = StepsEach (λ c p d. Merges (out-Content c) (out-Content p) (out-Content d))
 
+-- if there are as many
+abbrev pub MergesParts : List Content → List Content → List Content → Type 0
+MergesParts old parts new = length parts ≡ length old → MergesEach old parts new
+
 -- each part once more
 abbrev pub CopyEach : List Content → List Content → Type 0
 CopyEach = Pairs (λ c d. Copies (out-Content c) (out-Content d))
@@ -190,7 +194,7 @@ FeedsGroup openings old row xs new = Changes group_row (CopyEach openings) (λ w
 
 -- other parts merged into those at a key row
 abbrev pub MergesGroup : List Content → List (Vec Value × List Content) → List Val → List Content → List (Vec Value × List Content) → Type 0
-MergesGroup openings old row parts new = Changes group_row (CopyEach openings) (λ was now. MergesEach was parts now) old row new
+MergesGroup openings old row parts new = Changes group_row (CopyEach openings) (λ was now. MergesParts was parts now) old row new
 
 -- what a group holds, once more
 abbrev pub CopiesGroups : List (Vec Value × List Content) → List (Vec Value × List Content) → Type 0

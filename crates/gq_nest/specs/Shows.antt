@@ -25,6 +25,15 @@ spoiled_in l = false
 abbrev pub is_spoiled : Content → Bool
 is_spoiled c = spoiled_in (out-Content c)
 
+-- a list, or what was one before memory ran out
+abbrev pub ListIn : Content-F Content → Type 0
+ListIn (Content-F.List items) = Unit {0}
+ListIn Content-F.Spoiled = Unit {0}
+ListIn l = ⊥
+
+abbrev pub IsList : Content → Type 0
+IsList c = ListIn (out-Content c)
+
 -- whether it holds one number, truth or average
 abbrev pub plain_in : Content-F Content → Bool
 plain_in (Content-F.Scalar s) = true

@@ -4,7 +4,7 @@ ghost use Rattle.gq_value.specs.Accums as plain;
 ghost use Rattle.gq_value.specs.AccumViews.{accum_of, given};
 ghost use Rattle.gq_value.specs.Views.{val};
 ghost use Rattle.gq_accum_laws.specs.After as model;
-ghost use Rattle.gq_nest.specs.Shows.{Shows, ShowsTheSame, TakesContent, TakesInput, is_one, is_plain, is_spoiled};
+ghost use Rattle.gq_nest.specs.Shows.{IsList, Shows, ShowsTheSame, TakesContent, TakesInput, is_one, is_plain, is_spoiled};
 
 use crate::copies::duplicate;
 use crate::feed::{feed, push};
@@ -92,7 +92,7 @@ impl Content {
         }
     }
 
-    /// Merges `other`, a content of the same kind.
+    /// Merges `other`, a content of the same kind. One of another form changes nothing.
     #[tactic(auto, using(crate::proofs::LevelLemmas::opened, crate::proofs::ShowSteps::takes_content))]
     pub fn merge(&mut self, alloc: Global, other: &Content) -> Result<(), OutOfMemory>
         ensures merged { OnOk result (TakesContent self.old other.now self.new) }
@@ -112,9 +112,11 @@ impl Content {
     /// Appends a value to a list, without a copy.
     #[tactic(auto, using(crate::proofs::LevelLemmas::opened, crate::proofs::ShowSteps::takes_input))]
     pub fn push(&mut self, x: Value) -> Result<(), OutOfMemory>
+        requires { IsList self.old }
         ensures pushed { OnOk result (TakesInput self.old (plain.One (val x)) self.new) }
         ensures spoiled { OnErr result (is_spoiled self.new ≡ true) }
         ensures stays { is_spoiled self.old ≡ true → IsErr result }
+        ensures list { IsList self.new }
     {
         match push(self, x) {
             Ok(()) => Ok(()),

@@ -5,7 +5,7 @@ ghost use Rattle.gq_value.specs.Views.{val};
 ghost use Rattle.gq_value.specs.AccumViews.{given};
 ghost use Rattle.gq_nest.specs.declared.content.Content.{out-Content};
 ghost use Rattle.gq_nest.specs.Forms.{Feeds, FeedsAt, FeedsGroup, FeedsParts};
-ghost use Rattle.gq_nest.specs.Shows.{is_one, is_plain, is_spoiled};
+ghost use Rattle.gq_nest.specs.Shows.{ListIn, is_one, is_plain, is_spoiled};
 
 use crate::content::{Content, Parts};
 use crate::copies::{duplicate, duplicate_parts, key_row};
@@ -128,13 +128,16 @@ fn feed_parts(alloc: Global, inputs: &[Input], parts: &mut Parts) -> Result<(), 
     Ok(())
 }
 
-/// Appends a value to a list. Any other content returns `OutOfMemory`.
+/// Appends a value to a list. A spoiled content returns `OutOfMemory`.
 pub(crate) fn push(content: &mut Content, x: Value) -> Result<(), OutOfMemory>
+    requires { ListIn (out-Content content.old) }
     ensures pushed { OnOk result (Feeds (out-Content content.old) (plain.One (val x)) (out-Content content.new)) }
     ensures stays { is_spoiled content.old ≡ true → IsErr result }
+    ensures list { OnOk result (ListIn (out-Content content.new)) }
 {
     match content {
         Content::List(items) => push_item(items, x),
-        _ => Err(OutOfMemory),
+        Content::Spoiled => Err(OutOfMemory),
+        _ => unreachable!(),
     }
 }

@@ -2,7 +2,7 @@
 ghost use Rattle.std.specs.Prelude.{◌≡◌, ◌∷◌, [], true, map, OnOk, IsOk, IsErr};
 ghost use Rattle.gq_value.specs.Views.{val};
 ghost use Rattle.gq_nest.specs.declared.content.Content.{out-Content};
-ghost use Rattle.gq_nest.specs.Forms.{Merges, MergesAt, MergesEach, MergesGroup, Unites, UnitesGroups, entries_in, groups_in};
+ghost use Rattle.gq_nest.specs.Forms.{Merges, MergesAt, MergesParts, MergesGroup, Unites, UnitesGroups, entries_in, groups_in};
 ghost use Rattle.gq_nest.specs.Shows.{is_plain, is_spoiled};
 
 use crate::content::{Content, Parts};
@@ -14,7 +14,7 @@ use gq_base::OutOfMemory;
 use gq_value::Value;
 use std::alloc::Global;
 
-/// Merges `other` into `content`. Returns `OutOfMemory` if `other` has another form.
+/// Merges `other` into `content`. An `other` of another form changes nothing.
 #[cycle(merging)]
 pub(crate) fn merge(
     alloc: Global,
@@ -44,31 +44,41 @@ fn merge_flat(alloc: Global, content: &mut Content, other: &Content) -> Result<(
                 mine.merge(theirs);
                 Ok(())
             }
-            Content::Set(_)
-            | Content::Bag(_)
-            | Content::List(_)
-            | Content::Heap(_)
-            | Content::Map(_, _)
-            | Content::Group(_, _)
-            | Content::Spoiled => Err(OutOfMemory),
+            _ => passed(other),
         },
         Content::Set(keys) => match other {
             Content::Set(more) => add_keys(alloc, keys, more),
-            _ => Err(OutOfMemory),
+            _ => passed(other),
         },
         Content::Bag(items) => match other {
             Content::Bag(more) => add_items(alloc, items, more.as_slice()),
-            _ => Err(OutOfMemory),
+            _ => passed(other),
         },
         Content::List(items) => match other {
             Content::List(more) => add_items(alloc, items, more.as_slice()),
-            _ => Err(OutOfMemory),
+            _ => passed(other),
         },
         Content::Heap(heap) => match other {
             Content::Heap(more) => heap.add_all(alloc, more.tuples.as_slice()),
-            _ => Err(OutOfMemory),
+            _ => passed(other),
         },
         Content::Map(_, _) | Content::Group(_, _) | Content::Spoiled => Err(OutOfMemory),
+    }
+}
+
+/// A content of another form is passed over. A spoiled one isn't: it has no form, since memory ran out for it.
+fn passed(other: &Content) -> Result<(), OutOfMemory>
+    ensures { is_spoiled other.now ≡ true → IsErr result }
+{
+    match other {
+        Content::Scalar(_)
+        | Content::Set(_)
+        | Content::Bag(_)
+        | Content::List(_)
+        | Content::Heap(_)
+        | Content::Map(_, _)
+        | Content::Group(_, _) => Ok(()),
+        Content::Spoiled => Err(OutOfMemory),
     }
 }
 
@@ -89,7 +99,7 @@ fn merge_entries(
             }
             Ok(())
         }
-        _ => Err(OutOfMemory),
+        _ => passed(other),
     }
 }
 
@@ -131,7 +141,7 @@ fn merge_groups(
             }
             Ok(())
         }
-        _ => Err(OutOfMemory),
+        _ => passed(other),
     }
 }
 
@@ -156,13 +166,13 @@ fn merge_group(
     }
 }
 
-/// Merges each part into the one at the same index. Returns `OutOfMemory` if there are more or fewer.
+/// Merges each part into the one at the same index, if there are as many.
 #[cycle(merging)]
 fn merge_parts(alloc: Global, parts: &[Content], mine: &mut Parts) -> Result<(), OutOfMemory>
-    ensures { OnOk result (MergesEach mine.old parts.now mine.new) }
+    ensures { OnOk result (MergesParts mine.old parts.now mine.new) }
 {
     if parts.len() != mine.len() {
-        return Err(OutOfMemory);
+        return Ok(());
     }
     for (i, part) in parts.iter().enumerate() {
         merge(alloc, mine.at_mut(i), part)?;

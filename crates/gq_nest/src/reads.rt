@@ -119,9 +119,16 @@ impl Content {
     pub fn part(&self, key: &Row, i: u32) -> Option<&Content>
         ensures { MatchOption result (LacksPart self.now (map val key.now) i) (λ part. HasPart self.now (map val key.now) i part.now) }
     {
+        self.part_at(key, i as usize)
+    }
+
+    /// The same, by a place in memory.
+    pub fn part_at(&self, key: &Row, i: usize) -> Option<&Content>
+        ensures { MatchOption result (LacksPart self.now (map val key.now) i) (λ part. HasPart self.now (map val key.now) i part.now) }
+    {
         match self {
             Content::Group(_, groups) => match groups.get(key.as_slice()) {
-                Some(parts) => parts.as_slice().get(i as usize),
+                Some(parts) => parts.as_slice().get(i),
                 None => None,
             },
             Content::Scalar(_) => None,

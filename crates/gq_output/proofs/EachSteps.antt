@@ -15,7 +15,6 @@ use Rattle.gq_output.proofs.EachLemmas.{EachFrom, each_next, each_begins, each_a
 pub stops : {A B : Type 0} (o : Answer Wrong A) (f : A → Answer Wrong B) (h : Halt) → Halts o h → Halts (o >>= f) h
 stops o f (halt.Wrong w) e = ap (λ p. p >>= f) e
 stops o f halt.Stuck e = ap (λ p. p >>= f) e
-stops o f halt.Outside e = tt
 stops o f halt.OutOfMemory e = tt
 
 module _ {A B : Type 0} (f : A → Answer Wrong B) where

@@ -71,7 +71,7 @@ module _ (world : World Reference) (look : Look Reference) (slots : List (Slot R
 
 -- ---- over a state
 
-module _ (clock : Calendar) (s : Over) (state : State Reference) (shows : Shows s.plan.places s.frame state) where
+module _ (clock : Calendar) (s : Over) (state : State Reference) (shows : Shows s.frame state) where
   member_is : (columns : List (Expr × Bytes)) (n : ℕ) (types vs : List ℕ) (v : ℕ) → shown (out_member (world_over clock s) state (Place n) types (map view_keyed columns) vs v) ≡ member_at clock s columns n types vs v
   member_is columns n types vs v =
       one_member (world_over clock s) (seen (world_over clock s) (with_new (Place n) (Member types vs v) state)) state.slots columns v
@@ -94,7 +94,7 @@ module _ (clock : Calendar) (s : Over) (state : State Reference) (shows : Shows 
       ∙ ap₂ (λ look slots. item_shown (world_over clock s) look slots (view t) >>= λ o. Gives (key, o)) (sym (look_shows clock s state shows)) shows.slots
   printed_is (item.Columns n columns key) =
       keyed_value key (found (under (world_over clock s).words.same (Place n) state.names) >>= selection (world_over clock s) state (Place n) (map view_keyed columns))
-      ∙ ap (λ p. p >>= λ o. Gives (key, o)) (ap (λ o. shown (found o >>= selection (world_over clock s) state (Place n) (map view_keyed columns))) (shows.names (Place n)) ∙ columns_are columns n (thing_in s.plan.places s.frame.things n))
+      ∙ ap (λ p. p >>= λ o. Gives (key, o)) (ap (λ o. shown (found o >>= selection (world_over clock s) state (Place n) (map view_keyed columns))) (shows.names (Place n)) ∙ columns_are columns n (thing_in s.frame.things n))
 
   pub all_printed : (items : List PrintItem) → (each (printed (world_over clock s) state) (map view_item items) >>= λ ms. Gives (built_print ms)) ≡ each (keyed_shown clock s) items
   all_printed items =

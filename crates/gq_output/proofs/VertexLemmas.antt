@@ -15,7 +15,7 @@ use Rattle.gq_graph.specs.declared.types.IdKind.{IdKind}
 use Rattle.gq_graph.specs.declared.types.IdKind.TheVariants as id
 use Rattle.gq_graph.specs.declared.types.VertexType.{VertexType}
 use Rattle.gq_graph.specs.declared.rows.VertexRow.{VertexRow}
-use Rattle.gq_index.specs.Rows.{HaveAttributes}
+use Rattle.gq_index.specs.Rows.{HaveAttributes, IsId}
 use Rattle.gq_value.specs.declared.value.Value.{Value}
 use Rattle.gq_value.specs.declared.value.Wrong.{Wrong}
 use Rattle.gq_json.specs.declared.out.Out as json
@@ -81,7 +81,7 @@ pub type_told : (clock : Calendar) (s : Over) (v k : ℕ) (o : Option (Bor Verte
 type_told clock s v k None has there kind e = kind_there clock s v k there kind ∙ ap (option_map vertex_sort) e
 type_told clock s v k (Some of) has there kind e =
     let found = ap (slice_get s.schema.vertex_types) (sym kind) ∙ e in
-    record { there = there; found = found; values = has.each v of.now there found }
+    record { there = there; found = found; values = has.each v of.now there found; id = has.ids v of.now there found }
 
 module _ (clock : Calendar) (s : Over) (v : ℕ) (t : VertexType) (has : HasType s v t) where
   pub sort_there : sort_of_vertex (world_over clock s).graph v ≡ Some (vertex_sort t)
@@ -133,16 +133,20 @@ three_put a b c d name kind attributes e f g h =
 
 pub ruleset vertex_laws = (vertex_described, vertex_stuck)
 
-pub ruleset whole_laws = (whole_told, whole_stuck)
+-- its id is in stored form
+pub id_there : (s : Over) (rows : List VertexRow) (v : ℕ) (t : VertexType) → HasType s v t → rows ≡ s.vertices → IsId t.id.kind (vertex_at rows v).id
+id_there s rows v t has same = subst (λ vs. IsId t.id.kind (vertex_at vs v).id) (sym same) has.id
+
+pub ruleset whole_laws = (whole_told, whole_stuck, id_there)
 
 -- ---- attributes
 
 pub attribute_at : (xs : List Attribute) (i : ℕ) (a : Attribute) → slice_get xs i ≡ Some a → slice_get (attribute_fields xs) i ≡ Some (a.name, base_of a.kind)
 attribute_at xs i a e = slice_get-map (λ (a : Attribute). (a.name, base_of a.kind)) xs i ∙ ap (option_map (λ (a : Attribute). (a.name, base_of a.kind))) e
 
-pub attribute_next : (world : World Reference) (xs : List Attribute) (row : List Value) (whole done new : List (Bytes × json.Out)) (i j : ℕ) (a : Attribute) (v : Value) → NamedFrom world (attribute_fields xs) (map val row) whole done i → i < length xs → a ≡ get_or xs i a
-    → j ≡ i → slice_get row j ≡ Some v → new ≡ done ++ (a.name, value_shown world (base_of a.kind) (val v)) ∷ [] → NamedFrom world (attribute_fields xs) (map val row) whole new (i + 1)
-attribute_next world xs row whole done new i j a v inv l e same f is = row_field world (attribute_fields xs) row whole done new i a.name (base_of a.kind) v inv (attribute_at xs i a (at_get xs i a l e)) (ap (slice_get row) (sym same) ∙ f) is
+pub attribute_next : (world : World Reference) (xs : List Attribute) (row : List Value) (whole done new : List (Bytes × json.Out)) (i : ℕ) (a : Attribute) (v : Value) → NamedFrom world (attribute_fields xs) (map val row) whole done i → i < length xs → a ≡ get_or xs i a
+    → slice_get row i ≡ Some v → new ≡ done ++ (a.name, value_shown world (base_of a.kind) (val v)) ∷ [] → NamedFrom world (attribute_fields xs) (map val row) whole new (i + 1)
+attribute_next world xs row whole done new i a v inv l e f is = row_field world (attribute_fields xs) row whole done new i a.name (base_of a.kind) v inv (attribute_at xs i a (at_get xs i a l e)) f is
 
 pub attributes_through : (world : World Reference) (xs : List Attribute) (row : List Value) (whole done : List (Bytes × json.Out)) (i : ℕ) → NamedFrom world (attribute_fields xs) (map val row) whole done i → length xs ≤ i → done ≡ whole
 attributes_through world xs row whole done i inv l = named_fields world (attribute_fields xs) (map val row) whole done i inv (let m = length-map {B = Bytes × Base} xs (λ (a : Attribute). (a.name, base_of a.kind)) in omega (arith, m, l))

@@ -65,10 +65,9 @@ stuck_back Stuck e = refl
 halts_back : (o : Answer Wrong (List (Bytes × Out))) (h : Halt) → Halts (o >>= λ ms. Gives (built_print ms)) h → Halts o h
 halts_back o (halt.Wrong w) e = faults_back o w e
 halts_back o halt.Stuck e = stuck_back o e
-halts_back o halt.Outside e = tt
 halts_back o halt.OutOfMemory e = tt
 
-module _ (clock : Calendar) (s : Over) (items : List PrintItem) (state : State Reference) (shows : Shows s.plan.places s.frame state) where
+module _ (clock : Calendar) (s : Over) (items : List PrintItem) (state : State Reference) (shows : Shows s.frame state) where
   pub print_given : (p : Printed) → each (keyed_shown clock s) items ≡ Gives p.members → Prints (each (printed (world_over clock s) state) (map view_item items)) (Ok p)
   print_given p h = given_back (each (printed (world_over clock s) state) (map view_item items)) p (all_printed clock s state shows items ∙ h)
 

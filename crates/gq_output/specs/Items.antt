@@ -53,7 +53,7 @@ columns_shown clock s columns n o = Stuck
 
 abbrev pub value_at : Calendar → Over → PrintItem → Answer Wrong json.Out
 value_at clock s (item.Value t key) = item_shown (world_over clock s) (look_with clock s []) (slots_are s.frame.accums) (view t)
-value_at clock s (item.Columns n columns key) = columns_shown clock s columns n (thing_in s.plan.places s.frame.things n)
+value_at clock s (item.Columns n columns key) = columns_shown clock s columns n (thing_in s.frame.things n)
 
 abbrev pub key_in : PrintItem → Bytes
 key_in (item.Value t key) = key

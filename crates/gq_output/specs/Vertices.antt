@@ -6,6 +6,7 @@ use Rattle.gq_graph.specs.declared.types.VertexType.{VertexType}
 use Rattle.gq_graph.specs.declared.rows.VertexRow.{VertexRow}
 use Rattle.gq_value.specs.declared.value.Wrong.{Wrong}
 use Rattle.gq_graph.specs.Vertices.{vertex_at}
+use Rattle.gq_index.specs.Rows.{IsId}
 use Rattle.gq_value.specs.Views.{val}
 use Rattle.gq_json.specs.declared.out.Out as json
 use Rattle.gq_json.specs.declared.out.Out.TheVariants as out
@@ -30,11 +31,12 @@ id_shown id.Text s = out.Text s
 id_shown id.Int s = out.Int (integer_in s)
 id_shown id.UInt s = out.UInt (number_in s 0)
 
--- the type of a vertex, which has a value for each of its attributes
+-- the type of a vertex, which has a value for each of its attributes, and an id in stored form
 pub record HasType (s : Over) (v : ℕ) (t : VertexType) : Type 0 where
   pub there : v < length s.vertices
   pub found : slice_get s.schema.vertex_types (vertex_at s.vertices v).kind ≡ Some t
   pub values : length t.attributes ≤ length (vertex_at s.vertices v).attributes
+  pub id : IsId t.id.kind (vertex_at s.vertices v).id
 
 -- the attributes of a row of a type
 abbrev pub vertex_named : World Reference → VertexType → VertexRow → List (Bytes × json.Out)

@@ -4,6 +4,7 @@ ghost use Rattle.std.specs.List.{flat_map};
 ghost use Rattle.std.specs.Option.{option_copied, unwrap_or};
 ghost use Rattle.gq_value.specs.Views.{val};
 ghost use Rattle.gq_graph.specs.Vertices.{vertex_at};
+ghost use Rattle.gq_index.specs.Rows.{IsId};
 ghost use Rattle.gq_rules_typing.specs.Sorts.{attribute_fields};
 ghost use Rattle.gq_eval_context.specs.Looks.{world_over};
 ghost use Rattle.gq_frame.specs.Slots.{slots_are};
@@ -38,6 +39,7 @@ pub(crate) fn attributes(
 ) -> Result<Members, OutOfMemory>
     requires there { vertex < length vertices.now }
     requires within { length of.now.attributes ≤ length (vertex_at vertices.now vertex).attributes }
+    requires id { IsId of.now.id.kind (vertex_at vertices.now vertex).id }
     ensures { IfOk result (λ members. members ≡ vertex_named (world_over gregorian over.now) of.now (vertex_at vertices.now vertex)) }
 {
     let mut members = List::new(alloc);
@@ -71,20 +73,15 @@ fn put_attributes(
     ensures { OnOk result (members.new ≡ members.old ++ named_shown (world_over gregorian over.now) (attribute_fields attributes.now) (map val (vertex_at vertices.now vertex).attributes)) }
 {
     for (place, attribute) in attributes.iter().enumerate() {
-        match u32::try_from(place) {
-            Err(_) => return Err(OutOfMemory),
-            Ok(at) => {
-                let value = vertices.attr(vertex, at);
-                put_value(
-                    alloc,
-                    over,
-                    &attribute.name,
-                    &attribute.kind,
-                    value,
-                    members,
-                )?;
-            }
-        }
+        let value = vertices.attr(vertex, place);
+        put_value(
+            alloc,
+            over,
+            &attribute.name,
+            &attribute.kind,
+            value,
+            members,
+        )?;
     }
     Ok(())
 }

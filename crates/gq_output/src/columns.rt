@@ -30,7 +30,7 @@ pub(crate) fn columns(
     over: &BlockContext<'_>,
     place: u32,
 ) -> Result<Out, Halt>
-    ensures { Tells itself (columns_shown gregorian over.now columns.now place (thing_in over.now.plan.places over.now.frame.things place)) result }
+    ensures { Tells itself (columns_shown gregorian over.now columns.now place (thing_in over.now.frame.things place)) result }
 {
     match set_of(over, place) {
         None => Err(Halt::Stuck),
@@ -43,13 +43,9 @@ pub(crate) fn columns(
 
 /// Returns the types and the vertices of the set at a place, if there is one.
 fn set_of<'a>(over: &BlockContext<'a>, place: u32) -> Option<(&'a [u32], &'a [u32])>
-    ensures { MatchOption result (is_set (thing_in over.now.plan.places over.now.frame.things place) ≡ false) (λ set. thing_in over.now.plan.places over.now.frame.things place ≡ Some (SetOf set.0.now set.1.now)) }
+    ensures { MatchOption result (is_set (thing_in over.now.frame.things place) ≡ false) (λ set. thing_in over.now.frame.things place ≡ Some (SetOf set.0.now set.1.now)) }
 {
-    match set_at(
-        over.plan.places.as_slice(),
-        over.frame.things.as_slice(),
-        place,
-    ) {
+    match set_at(over.frame.things.as_slice(), place) {
         None => None,
         Some((types, set)) => Some((types, set.as_slice())),
     }

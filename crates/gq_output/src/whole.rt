@@ -32,7 +32,7 @@ use std::alloc::Global;
 /// Items are evaluated from left to right, and the first fault counts. What the definitions don't print, such as an edge,
 /// ends as stuck.
 pub fn print(alloc: Global, items: &[PrintItem], over: &BlockContext<'_>) -> Result<Printed, Halt>
-    ensures { (s : State Reference) → Shows over.now.plan.places over.now.frame s → Prints (each (printed (world_over gregorian over.now) s) (map view_item items.now)) result }
+    ensures { (s : State Reference) → Shows over.now.frame s → Prints (each (printed (world_over gregorian over.now) s) (map view_item items.now)) result }
 {
     match members_of(items, alloc, over) {
         Ok(members) => Ok(Printed { members }),

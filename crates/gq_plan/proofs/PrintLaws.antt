@@ -18,7 +18,6 @@ use Rattle.gq_rules_meaning.specs.Fitting.{Safe}
 use Rattle.gq_rules_safety.proofs.KindLaws.{query_law as never_stuck}
 use Rattle.gq_plan_ir.specs.declared.plan.Parameter as code
 use Rattle.gq_plan_ir.specs.declared.plan.Definition as definition_code
-use Rattle.gq_plan_ir.specs.declared.plan.PlaceType as held
 use Rattle.gq_plan_ir.specs.declared.plan.Plan.{Plan}
 use Rattle.gq_plan_ir.specs.Belonging.{world_of}
 use Rattle.gq_plan_ir.specs.PlanView.{view_plan, accum_names}
@@ -104,20 +103,6 @@ plan_made s t q p names behind before tuples first slots none nothing scoped wit
   edges = edges;
 }
 
--- adding the types of the places
-pub with_places : (sorts : Sorts) (q : Query Bytes) (p : Plan) (places : List held.PlaceType) → IsPlanned sorts q p → IsPlanned sorts q (record p { places = places })
-with_places sorts q p places is = record {
-  names = is.names;
-  heads = is.heads;
-  behind = is.behind;
-  with_paths = is.with_paths;
-  parameters = is.parameters;
-  definitions = is.definitions;
-  statements = is.statements;
-  vertices = is.vertices;
-  edges = is.edges;
-}
-
 -- ---- no plan
 
 pub without_parameters : (sorts : Sorts) (q : Query Bytes) → NoParameters sorts q.parameters → NoPlan sorts q
@@ -187,4 +172,4 @@ pub safe_new : (s : Held) (schema : Schema) (graph : Option ℕ) (q : Query Byte
     → IsPlanned (sorts_in s) q p → NeverStuck schema (graph_in schema graph) q p
 safe_new s schema graph q p is planned = safe_law schema (graph_in schema graph) q p (planned_new s schema graph q p is planned)
 
-pub ruleset plan_laws = (plan_made, scope_new, planned_new, prints_new, safe_new, with_places)
+pub ruleset plan_laws = (plan_made, scope_new, planned_new, prints_new, safe_new)

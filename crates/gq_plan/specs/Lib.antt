@@ -1,4 +1,3 @@
-pub mod Noted
 pub mod Unplanned
 pub mod Heading
 pub mod Prints

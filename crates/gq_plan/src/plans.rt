@@ -14,8 +14,7 @@ ghost use Rattle.gq_plan.specs.Unplanned.{NoPlan, NotTyped};
 
 use crate::definitions::definitions;
 use crate::parameters::parameters;
-use crate::places::places_of;
-use gq_base::List;
+use gq_base::{List, within};
 use gq_plan_expr::{CatalogNames, PlanFault};
 use gq_plan_ir::Plan;
 use gq_plan_stmt::plan_steps;
@@ -24,7 +23,7 @@ use gq_scope::{Places, Scope, allows_paths};
 use gq_tree::QueryTree;
 use std::alloc::Global;
 
-/// Plans a query in a scope without declarations, except for the types of its places.
+/// Plans a query in a scope without declarations.
 ///
 /// Returns `Unknown` if something isn't found: then no plan can be made.
 #[tactic(auto, using(crate::proofs::PrintLaws::plan_laws))]
@@ -36,9 +35,7 @@ fn planned(alloc: Global, scope: &mut Scope<'_>, query: &QueryTree) -> Result<Pl
 {
     let vertices = List::from_slice(alloc, scope.own_vertices())?;
     let edges = List::from_slice(alloc, scope.own_edges())?;
-    if edges.len() > 256 {
-        return Err(PlanFault::OutOfMemory);
-    }
+    within(edges.len(), 256)?;
     let mut places = Places::new(alloc);
     let mut tuples = List::new(alloc);
     let mut slots = Places::new(alloc);
@@ -56,7 +53,6 @@ fn planned(alloc: Global, scope: &mut Scope<'_>, query: &QueryTree) -> Result<Pl
         with_paths: allows_paths(query.modes.as_slice()),
         definitions,
         steps,
-        places: List::new(alloc),
         vertices,
         edges,
     })
@@ -97,7 +93,6 @@ pub fn plan(
         return Err(PlanFault::Unknown);
     }
     let mut scope = Scope::new(alloc, catalog, graph);
-    let mut plan = planned(alloc, &mut scope, query)?;
-    plan.places = places_of(alloc, catalog, graph, query)?;
+    let plan = planned(alloc, &mut scope, query)?;
     Ok(plan)
 }

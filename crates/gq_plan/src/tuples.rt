@@ -16,7 +16,7 @@ ghost use Rattle.gq_plan.specs.Heading.{IsScoped, heads_of, resolved_field};
 ghost use Rattle.gq_plan.specs.Unplanned.{Fails, NoDefinition, is_taken, tuple_names};
 
 use crate::accums::fault_of;
-use gq_base::{List, OutOfMemory};
+use gq_base::{List, OutOfMemory, narrow};
 use gq_check_decls::base_written;
 use gq_plan_expr::{CatalogNames, NamedTupleType, PlanFault};
 use gq_plan_ir::{Declared, Definition};
@@ -174,10 +174,7 @@ pub(crate) fn tuple_type(
     ensures unknown { IfErr result (λ f. f ≢ fault.OutOfMemory → (n : Named)
         → NoDefinition (sorts_in scope.old) n (heads_of tuples.old slots.now) (a_tuple_type (view_fields trees.now) name.now)) }
 {
-    let number = tuples.len();
-    if number > u32::MAX as usize {
-        return Err(PlanFault::OutOfMemory);
-    }
+    let number = narrow(tuples.len())?;
     let found = CatalogNames {
         scope: &*scope,
         tuples: tuples.as_slice(),
@@ -186,5 +183,5 @@ pub(crate) fn tuple_type(
     let planned = planned_fields(alloc, &found, trees)?;
     let fields = typed_fields(alloc, scope, trees)?;
     declare(alloc, scope, tuples, name, fields)?;
-    Ok(Definition::Tuple(planned, number as u32))
+    Ok(Definition::Tuple(planned, number))
 }

@@ -4,7 +4,7 @@ ghost use Rattle.std.specs.Option.{option_map};
 ghost use Rattle.gq_rules_typing.specs.Sorts.{names_of, attribute_fields, with_id};
 ghost use Rattle.gq_rules_typing.specs.Words.{place_of};
 
-use gq_base::OutOfMemory;
+use gq_base::{OutOfMemory, narrow, within};
 use gq_graph::{Attribute, IdShape};
 
 /// Returns the place of an attribute. Returns `OutOfMemory` past 2^32 - 1 attributes.
@@ -15,9 +15,7 @@ pub(crate) fn attribute_place(
 ) -> Result<Option<u32>, OutOfMemory>
     ensures { IfOk result (λ place. place ≡ place_of (names_of (attribute_fields attributes.now)) name.now) }
 {
-    if attributes.len() > u32::MAX as usize {
-        return Err(OutOfMemory);
-    }
+    within(attributes.len(), u32::MAX as usize)?;
     for (place, attribute) in attributes.iter().enumerate() {
         if name == attribute.name.as_str() {
             return Ok(Some(place as u32));
@@ -53,11 +51,6 @@ fn behind(place: Option<u32>) -> Result<Option<u32>, OutOfMemory>
 {
     match place {
         None => Ok(None),
-        Some(place) => {
-            if place == u32::MAX {
-                return Err(OutOfMemory);
-            }
-            Ok(Some(place + 1))
-        }
+        Some(place) => Ok(Some(narrow(place as usize + 1)?)),
     }
 }

@@ -3,7 +3,7 @@ ghost use Rattle.std.specs.Prelude.{◌≡◌, IfOk};
 ghost use Rattle.gq_plan_expr.specs.Found.{field_types, function_at, language};
 
 use crate::names::NamedTupleType;
-use gq_base::{List, OutOfMemory};
+use gq_base::{List, OutOfMemory, within};
 use gq_plan_ir::Function;
 use gq_rules_typing::builtin_named;
 use gq_value::{BaseType, Fields, Txt};
@@ -41,9 +41,7 @@ pub(crate) fn function_of(
 ) -> Result<Option<Function>, OutOfMemory>
     ensures { IfOk result (λ function. function ≡ function_at tuples.now name.now) }
 {
-    if tuples.len() > u32::MAX as usize {
-        return Err(OutOfMemory);
-    }
+    within(tuples.len(), u32::MAX as usize)?;
     for (number, tuple) in tuples.iter().enumerate() {
         if tuple.0.as_str() == name {
             let types = types_of(alloc, tuple.1.as_slice())?;

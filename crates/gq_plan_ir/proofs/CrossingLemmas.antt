@@ -26,7 +26,6 @@ use Rattle.gq_plan_ir.specs.contracts.step.PrintItem as item
 use Rattle.gq_plan_ir.specs.contracts.step.Step as step
 use Rattle.gq_plan_ir.specs.contracts.plan.Accum as accum
 use Rattle.gq_plan_ir.specs.contracts.plan.Definition as definition
-use Rattle.gq_plan_ir.specs.contracts.plan.PlaceType as held
 use Rattle.gq_plan_ir.specs.contracts.plan.Plan as plan
 use Rattle.gq_plan_ir.proofs.expr.Behind.TheLaws.TheKnot as expr_knot
 use Rattle.gq_plan_ir.proofs.block.Feed.TheLaws.TheKnot as feed_knot
@@ -107,8 +106,5 @@ accum_sync = search (expr_sync, txt_sync, crosses, sendable) depth 30 fits 50000
 definition_sync : IsSync definition.the_row
 definition_sync = search (accum_sync, kind_field, txt_sync, list_crosses.the_sync, crosses, sendable) depth 30 fits 50000
 
-held_sync : IsSync held.the_row
-held_sync = search (base_field, list_crosses.the_sync, crosses, sendable) depth 30 fits 50000
-
 pub plan_sync : IsSync plan.the_row
-plan_sync = search (step_sync, definition_sync, held_sync, list_crosses.the_sync, crosses, sendable) depth 30 fits 50000
+plan_sync = search (step_sync, definition_sync, list_crosses.the_sync, crosses, sendable) depth 30 fits 50000

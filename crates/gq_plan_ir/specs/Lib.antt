@@ -6,6 +6,7 @@ pub mod PlanView
 pub mod Renamed
 pub mod Settled
 pub mod PlanKinds
+pub mod Numbered
 pub mod Belonging
 pub mod Naming
 pub mod RenamedBlocks

@@ -19,5 +19,5 @@ mod step;
 pub use block::{Act, Block, Change, Feed, Hop, PathStep, SelectSource, Types, Walk};
 pub use expr::{Behind, Expr, Field, FieldPlaces, Function, Method};
 pub use laws::references_mean_what_names_do;
-pub use plan::{Accum, Declared, Definition, Parameter, PlaceType, Plan};
+pub use plan::{Accum, Declared, Definition, Parameter, Plan};
 pub use step::{Over, PrintItem, Right, Seed, SetTerm, SetTypes, Sets, Step};

@@ -2,8 +2,7 @@
 use crate::expr::Expr;
 use crate::step::Step;
 use gq_base::List;
-use gq_graph::Numbers;
-use gq_value::{BaseType, Kind, Txt};
+use gq_value::{Kind, Txt};
 
 /// A type that a variable, a parameter or a tuple's field is declared with.
 #[derive(Clone, Copy, Debug, PartialEq, Eq)]
@@ -46,18 +45,6 @@ pub enum Definition {
     Accums(Kind, List<Accum>),
 }
 
-/// The type of a place of the frame.
-#[derive(Drop)]
-pub enum PlaceType {
-    /// A value of a type.
-    Variable(BaseType),
-
-    /// A set, a vertex, an edge, each with its types.
-    Set(Numbers),
-    Alias(Numbers),
-    EdgeAlias(Numbers),
-}
-
 /// A query with numbers for names. It is made for a catalog and a graph, and rebuilt if the catalog has grown.
 #[derive(Drop)]
 pub struct Plan {
@@ -67,9 +54,6 @@ pub struct Plan {
     pub with_paths: bool,
     pub definitions: List<Definition>,
     pub steps: List<Step>,
-
-    /// The type of each place of the frame.
-    pub places: List<PlaceType>,
 
     /// The vertex and the edge types of its graph, by their numbers.
     pub vertices: List<u32>,

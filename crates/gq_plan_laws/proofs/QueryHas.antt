@@ -208,7 +208,7 @@ query_law sorts q s h =
     let ds = definitions_have sorts ps.names q.definitions u.0 v.0 no_heads (record { setting = ps.setting; shows = shown; free = λ x i. refl }) v.1 in
     let body = statements_law (globals_of sorts ds.heads.tuples ds.heads.slots) v.0 ps.names ds.defined.shows q.statements s v.2 in
     record {
-      plan = record { parameters = ps.planned; with_paths = q.with_paths; definitions = ds.planned; steps = body.steps; places = []; vertices = sorts.own_vertices; edges = sorts.own_edges };
+      plan = record { parameters = ps.planned; with_paths = q.with_paths; definitions = ds.planned; steps = body.steps; vertices = sorts.own_vertices; edges = sorts.own_edges };
       is = record {
         names = ps.names;
         heads = ds.heads;

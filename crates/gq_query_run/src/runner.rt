@@ -96,6 +96,7 @@ pub trait RunsQueries {
     ) -> Result<List<Printed>, QueryFault>
         requires sync { IsSync R.row }
         requires indexed { IsIndexed catalog.now store.now index.now }
+        requires prepared { (graph : Option ℕ) × (query : Query Bytes) × is_of prepared.now catalog.now graph query }
         ensures { (graph : Option ℕ) (query : Query Bytes) → is_of prepared.now catalog.now graph query
             → Runs (meaning.run_query (graph_read catalog.now graph store.now) gregorian query (map val arguments.now) turns) result };
 }

@@ -15,12 +15,12 @@ use Rattle.gq_rules_typing.specs.Types.{same_bases, is_number, convert_all}
 use Rattle.gq_rules_typing.specs.CallTypes.{has_text, function_type}
 use Rattle.gq_rules_meaning.specs.Answers.{Answer, Gives, Faults, Stuck, found, of_result}
 use Rattle.gq_rules_meaning.specs.Answers as answers
-use Rattle.gq_rules_meaning.specs.Meanings.{Is, as_number, as_bytes, numbered, said, at_time}
-use Rattle.gq_rules_meaning.specs.Calls.{function_wants, function_of, text_of, if_in_calendar}
+use Rattle.gq_rules_meaning.specs.Meanings.{Is, as_number, as_int, as_time, as_bytes, numbered, said, if_in_calendar, at_time}
+use Rattle.gq_rules_meaning.specs.Calls.{function_wants, function_of, text_of}
 use Rattle.gq_rules_meaning.specs.Expressions.{World, setting}
 use Rattle.gq_rules_meaning.specs.Fitting.{Safe, are_values, WorldFits, Suits}
 use Rattle.gq_rules_meaning.proofs.AnswerLaws.{safe_then, safe_found, checked, ok_inj, both_ok}
-use Rattle.gq_rules_meaning.proofs.ValueLaws.{IsValue, number_safe, time_safe, bytes_safe, in_type_safe, numbered_safe}
+use Rattle.gq_rules_meaning.proofs.ValueLaws.{IsValue, number_safe, int_given, time_safe, bytes_safe, in_type_safe, numbered_safe}
 use Rattle.gq_rules_meaning.proofs.CallLaws.{AreArguments, is_adding, tuple_made, tuple_values, same_bases_refl}
 
 module _ {N : Type 0} (world : World N) where
@@ -93,13 +93,13 @@ module _ {N : Type 0} (world : World N) where
       gives_one EpochToDatetime ty b vs a (λ v h. subst (λ ty. Safe (Suits world ty) (function_of world.calendar EpochToDatetime (v ∷ []))) (ok_inj u.1)
       (safe_then _ _ (as_number v) _ (number_safe world b v u.0 h) (λ x z. in_calendar_safe x)))
   function_gives fits f DatetimeToEpoch ts (DATETIME ∷ []) vs ty k n e a =
-      gives_one DatetimeToEpoch ty DATETIME vs a (λ v h. subst (λ ty. Safe (Suits world ty) (function_of world.calendar DatetimeToEpoch (v ∷ []))) (ok_inj e) (safe_then _ _ (as_number v) _ (time_safe world v h) (λ x z. int_safe x)))
+      gives_one DatetimeToEpoch ty DATETIME vs a (λ v h. subst (λ ty. Safe (Suits world ty) (function_of world.calendar DatetimeToEpoch (v ∷ []))) (ok_inj e) (safe_then _ _ (as_time v) _ (time_safe world v h) (λ x z. int_safe x)))
   function_gives fits f DatetimeDiff ts (DATETIME ∷ DATETIME ∷ []) vs ty k n e a =
       gives_two DatetimeDiff ty DATETIME DATETIME vs a (λ v w h g. subst (λ ty. Safe (Suits world ty) (function_of world.calendar DatetimeDiff (v ∷ w ∷ []))) (ok_inj e)
-      (safe_then _ _ (as_number v) _ (time_safe world v h) (λ x z. safe_then _ _ (as_number w) _ (time_safe world w g) (λ y z. int_safe (x -ℤ y)))))
+      (safe_then _ _ (as_time v) _ (time_safe world v h) (λ x z. safe_then _ _ (as_time w) _ (time_safe world w g) (λ y z. int_safe (x -ℤ y)))))
   function_gives fits f (PartOf part) ts (DATETIME ∷ []) vs ty k n e a =
       gives_one (PartOf part) ty DATETIME vs a (λ v h. subst (λ ty. Safe (Suits world ty) (function_of world.calendar (PartOf part) (v ∷ []))) (ok_inj e)
-      (safe_then _ _ (as_number v) _ (time_safe world v h) (λ x z. int_safe (world.calendar.part part x))))
+      (safe_then _ _ (as_time v) _ (time_safe world v h) (λ x z. int_safe (world.calendar.part part x))))
   function_gives fits f DatetimeAdd ts bs vs ty k n e a = cc
   function_gives fits f g ts bs vs ty k n e a = cc
 
@@ -108,4 +108,4 @@ module _ {N : Type 0} (world : World N) where
       → Safe (Suits world ty) (function_of world.calendar DatetimeAdd (v ∷ w ∷ val.Text text ∷ []))
   adding_gives fits v w text ty unit u e h g =
       subst (λ ty. Safe (Suits world ty) (function_of world.calendar DatetimeAdd (v ∷ w ∷ val.Text text ∷ []))) (sym e)
-      (safe_then _ _ (as_number v) _ (time_safe world v h) (λ x z. safe_then _ _ (as_number w) _ (number_safe world INT w refl g) (λ n z'. safe_found _ (unit_named text) unit _ u (at_time_safe (world.calendar.add unit n x) (λ y e. fits.times.adds unit n x y z e)))))
+      (safe_then _ _ (as_time v) _ (time_safe world v h) (λ x z. safe_then _ _ (as_int w) _ (int_given world w g) (λ n z'. safe_found _ (unit_named text) unit _ u (at_time_safe (world.calendar.add unit n x) (λ y e. fits.times.adds unit n x y z e)))))

@@ -1,5 +1,5 @@
 -- ValueLaws: values of a type: what they are read as, the results of operators, conversions.
-use Rattle.std.proofs.Common.{◌≡◌, ℕ, Bool, true, false, List, [], ◌∷◌, Result, Ok, Err, refl, ap, sym, ◌∙◌, subst, arith}
+use Rattle.std.proofs.Common.{◌≡◌, ℕ, Bool, true, false, List, [], ◌∷◌, Some, None, Result, Ok, Err, refl, ap, sym, ◌∙◌, subst, arith}
 use Rattle.std.proofs.lemmas.Bool.Decides.{nat_tests}
 use Rattle.std.specs.Prelude.{◌&&◌, ◌==◌, ℤ, if◌then◌else◌}
 use Rattle.gq_rules_typing.specs.MulSign.{MulSign}
@@ -16,9 +16,9 @@ use Rattle.gq_value.specs.Arithmetic.{in_type, is_within, as_type, type_of_both,
 use Rattle.gq_rules_typing.specs.Judging.{Typed, Of, AliasOf, MemberOf, Mismatch}
 use Rattle.gq_rules_typing.specs.Types.{same_base, same_bases, is_number, is_bool, converts, vertex_base, as_base, stands_for_vertex, has_accums, alone, number_of_both, calculated}
 use Rattle.gq_rules_typing.specs.Types as types
-use Rattle.gq_rules_meaning.specs.Answers.{Answer, Gives, Faults, Stuck, of_result}
+use Rattle.gq_rules_meaning.specs.Answers.{Answer, Gives, Faults, Stuck, found, of_result}
 use Rattle.gq_rules_meaning.specs.Answers as answers
-use Rattle.gq_rules_meaning.specs.Meanings.{Meant, Is, IsMember, value_of_meant, vertex_of_meant, as_number, as_truth, as_bytes, numbered}
+use Rattle.gq_rules_meaning.specs.Meanings.{Meant, Is, IsMember, value_of_meant, vertex_of_meant, as_number, as_int, as_time, as_truth, as_bytes, numbered}
 use Rattle.gq_rules_meaning.specs.Expressions.{World}
 use Rattle.gq_rules_meaning.specs.Expressions as expressions
 use Rattle.gq_rules_meaning.specs.Fitting.{Safe, is_vertex_of, is_value, Suits}
@@ -85,9 +85,18 @@ module _ {N : Type 0} (world : World N) where
   bytes_safe v h = cc
 
   -- a time is its seconds
-  pub time_safe : (v : Val) → IsValue DATETIME v → Safe (λ (x : ℤ). in_calendar x ≡ true) (as_number v)
-  time_safe (Int x) h = h
+  pub time_safe : (v : Val) → IsValue DATETIME v → Safe (λ (x : ℤ). in_calendar x ≡ true) (as_time v)
+  time_safe (Int x) h = go (in_calendar x) h
+    where
+      go : (b : Bool) → b ≡ true → Safe {F = Wrong} (λ (x : ℤ). in_calendar x ≡ true) (found (if b then Some x else None))
+      go true e = h
+      go false e = absurd (let f : ⊥ = cc in f)
   time_safe v h = cc
+
+  -- an INT is its number
+  pub int_given : (v : Val) → IsValue INT v → Safe (λ (x : ℤ). Unit {0}) (as_int v)
+  int_given (Int x) h = tt
+  int_given v h = cc
 
   -- an existing vertex of the graph
   abbrev pub IsOwn : ℕ → Type 0

@@ -7,7 +7,6 @@ use Rattle.gq_value.specs.Val.{Val, Int, UInt, Truth, Text, Tuple, vals_of}
 use Rattle.gq_value.specs.Arithmetic.{absolute}
 use Rattle.gq_value.specs.Accums.{Base, INT, TUPLE}
 use Rattle.gq_value.specs.AccumViews.{bases}
-use Rattle.gq_value.specs.Typed.{in_calendar}
 use Rattle.gq_graph.specs.Candidates.{degree}
 use Rattle.gq_rules_typing.specs.Statements.{Bytes}
 use Rattle.gq_rules_typing.specs.Words.{Function, Makes, Abs, ToString, ToDatetime, EpochToDatetime, DatetimeToEpoch, DatetimeDiff, DatetimeAdd, PartOf, Method, Size, Contains, ContainsKey, Get, Outdegree, edge_quoted, unit_named}
@@ -15,7 +14,7 @@ use Rattle.gq_rules_typing.specs.Kinds.{contained_type, key_types}
 use Rattle.gq_rules_meaning.specs.Answers.{Answer, Gives, Stuck, ◌>>=◌, found, of_result}
 use Rattle.gq_rules_meaning.specs.Calendars.{Calendar}
 use Rattle.gq_rules_meaning.specs.Graphs.{Graph}
-use Rattle.gq_rules_meaning.specs.Meanings.{Meant, Is, IsContent, IsSet, IsMember, Outcome, vertex_of_meant, as_number, as_bytes, numbered, said, truly, counted, at_time}
+use Rattle.gq_rules_meaning.specs.Meanings.{Meant, Is, IsContent, IsSet, IsMember, Outcome, vertex_of_meant, as_number, as_int, as_time, as_bytes, numbered, said, truly, counted, if_in_calendar, at_time}
 use Rattle.gq_rules_meaning.specs.Collections.{size_of, has_element, has_row, got}
 
 -- ---- methods
@@ -72,17 +71,14 @@ text_of (Int x) = Gives (signed_decimal x)
 text_of (UInt n) = Gives (decimal n)
 text_of _ = Stuck
 
-abbrev pub if_in_calendar : ℤ → Option ℤ
-if_in_calendar x = if in_calendar x then Some x else None
-
 abbrev pub function_of : Calendar → Function → List Val → Outcome
 function_of clock (Makes n fields) vs = Gives (Is (TUPLE n (bases fields)) (Tuple (vals_of vs)))
 function_of clock Abs (v ∷ []) = as_number v >>= λ x. of_result (absolute v) >>= numbered
 function_of clock ToString (v ∷ []) = text_of v >>= said
 function_of clock ToDatetime (v ∷ []) = as_bytes v >>= λ s. at_time (clock.read s)
 function_of clock EpochToDatetime (v ∷ []) = as_number v >>= λ x. at_time (if_in_calendar x)
-function_of clock DatetimeToEpoch (v ∷ []) = as_number v >>= λ x. numbered (Int x)
-function_of clock DatetimeDiff (v ∷ w ∷ []) = as_number v >>= λ x. as_number w >>= λ y. numbered (Int (x -ℤ y))
-function_of clock DatetimeAdd (v ∷ w ∷ u ∷ []) = as_number v >>= λ x. as_number w >>= λ n. as_bytes u >>= λ s. found (unit_named s) >>= λ unit. at_time (clock.add unit n x)
-function_of clock (PartOf part) (v ∷ []) = as_number v >>= λ x. numbered (Int (clock.part part x))
+function_of clock DatetimeToEpoch (v ∷ []) = as_time v >>= λ x. numbered (Int x)
+function_of clock DatetimeDiff (v ∷ w ∷ []) = as_time v >>= λ x. as_time w >>= λ y. numbered (Int (x -ℤ y))
+function_of clock DatetimeAdd (v ∷ w ∷ u ∷ []) = as_time v >>= λ x. as_int w >>= λ n. as_bytes u >>= λ s. found (unit_named s) >>= λ unit. at_time (clock.add unit n x)
+function_of clock (PartOf part) (v ∷ []) = as_time v >>= λ x. numbered (Int (clock.part part x))
 function_of clock f vs = Stuck

@@ -6,11 +6,11 @@ use Rattle.gq_value.specs.declared.kind.Number.TheVariants as number
 use Rattle.gq_value.specs.Val.{Val, Int, UInt, Truth, Text, Vertex}
 use Rattle.gq_value.specs.Accums.{Base, INT, UINT, BOOL, STRING, DATETIME, Accum, SumAccum, MinAccum, MaxAccum, OrAccum, AndAccum, BitwiseOrAccum, BitwiseAndAccum, AvgAccum, Parts}
 use Rattle.gq_value.specs.Arithmetic.{in_type}
-use Rattle.gq_value.specs.Typed.{number_type}
+use Rattle.gq_value.specs.Typed.{number_type, in_calendar}
 use Rattle.gq_rules_typing.specs.Holds.{Holds, HoldsEach}
 use Rattle.gq_rules_typing.specs.Reads.{value_in}
 use Rattle.gq_rules_typing.specs.Statements.{Bytes}
-use Rattle.gq_rules_meaning.specs.Answers.{Answer, Gives, Faults, Stuck, ◌>>=◌, of_result}
+use Rattle.gq_rules_meaning.specs.Answers.{Answer, Gives, Faults, Stuck, ◌>>=◌, found, of_result}
 
 -- a value of a base type, an average, a whole collection, a group's row, an edge row with the type under which it was walked,
 -- a set, or, within `S[..]`, the set and each vertex of it in turn
@@ -42,6 +42,17 @@ abbrev pub as_number : Val → Answer Wrong ℤ
 as_number (Int x) = Gives x
 as_number (UInt n) = Gives (pos n)
 as_number _ = Stuck
+
+abbrev pub as_int : Val → Answer Wrong ℤ
+as_int (Int x) = Gives x
+as_int _ = Stuck
+
+-- the seconds, if they are a DATETIME
+abbrev pub if_in_calendar : ℤ → Option ℤ
+if_in_calendar x = if in_calendar x then Some x else None
+
+abbrev pub as_time : Val → Answer Wrong ℤ
+as_time v = as_int v >>= λ x. found (if_in_calendar x)
 
 abbrev pub as_truth : Val → Answer Wrong Bool
 as_truth (Truth b) = Gives b

@@ -6,7 +6,7 @@ ghost use Rattle.gq_graph.specs.Catalog.{vertex_names, edge_names, graph_names, 
 
 use crate::attributes::add_settled;
 use crate::names::NameTable;
-use gq_base::{List, OutOfMemory};
+use gq_base::{List, OutOfMemory, narrow, within};
 use gq_graph::{Attribute, Attributes, EdgeType, GraphType, IdShape, VertexType};
 use gq_value::Txt;
 use std::alloc::Global;
@@ -38,9 +38,7 @@ pub(crate) fn edge_type(
     requires good { All (λ a. has_good_default a ≡ true) rest.now }
     ensures { IfOk result (λ t. t ≡ edge_type_with name.now directed ends.0 ends.1 pair.0 pair.1 (length key.now) (key.now ++ rest.now)) }
 {
-    if key.len() > u32::MAX as usize {
-        return Err(OutOfMemory);
-    }
+    let discriminators = narrow(key.len())?;
     let mut copies = Vec::new(alloc);
     add_settled(alloc, &mut copies, key)?;
     add_settled(alloc, &mut copies, rest)?;
@@ -51,7 +49,7 @@ pub(crate) fn edge_type(
         to: ends.1,
         forward: pair.0,
         reverse: pair.1,
-        discriminators: key.len() as u32,
+        discriminators,
         attributes: List::from_vec(copies),
     })
 }
@@ -217,9 +215,7 @@ pub(crate) fn append_graph(
         (λ n. (n ≡ length graphs.old.items) × (graphs.new.items ≡ graphs.old.items ++ entry ∷ []))
         (λ _. graphs.new.items ≡ graphs.old.items) }
 {
-    if graphs.len() >= u32::MAX as usize {
-        return Err(OutOfMemory);
-    }
+    within(graphs.len(), u32::MAX as usize - 1)?;
     let number = graphs.len() as u32;
     graphs.reserve(1)?;
     names.push(entry.name.as_str())?;

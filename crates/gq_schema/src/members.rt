@@ -8,7 +8,7 @@ ghost use Rattle.gq_schema.specs.Members as spec;
 use crate::catalog::Catalog;
 use crate::fault::{SchemaFault, no_such_type};
 use crate::names::NameTable;
-use gq_base::OutOfMemory;
+use gq_base::{OutOfMemory, within};
 use gq_graph::{GraphType, Names, Numbers};
 use gq_value::Txt;
 use std::alloc::Global;
@@ -43,9 +43,7 @@ pub(crate) fn all(alloc: Global, count: u32) -> Result<Numbers, OutOfMemory>
 pub(crate) fn chosen(alloc: Global, marks: &[bool]) -> Result<Numbers, OutOfMemory>
     ensures { IfOk result (λ numbers. numbers ≡ filter (λ k. slice_index_or marks.now k false) (spec.below (length marks.now))) }
 {
-    if marks.len() > u32::MAX as usize {
-        return Err(OutOfMemory);
-    }
+    within(marks.len(), u32::MAX as usize)?;
     let mut numbers = Numbers::new(alloc);
     for number in 0..marks.len() {
         add_if(marks[number], &mut numbers, number as u32)?;

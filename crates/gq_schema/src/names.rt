@@ -3,7 +3,7 @@ ghost use Rattle.std.specs.Prelude.{◌≡◌, ◌≤◌, ◌++◌, [], ◌∷�
 ghost use Rattle.gq_graph.specs.Catalog.{name_place};
 ghost use Rattle.gq_schema.specs.Kept.{HavePlaces, name_at};
 
-use gq_base::OutOfMemory;
+use gq_base::{OutOfMemory, within};
 use gq_value::Txt;
 use std::alloc::Global;
 use std::collections::BTreeMap;
@@ -60,9 +60,7 @@ impl NameTable {
         requires { name_place self.old name.now ≡ None }
         ensures { MatchResult result (λ _. self.new ≡ self.old ++ name.now ∷ []) (λ _. self.new ≡ self.old) }
     {
-        if self.names.len() >= u32::MAX as usize {
-            return Err(OutOfMemory);
-        }
+        within(self.names.len(), u32::MAX as usize - 1)?;
         let alloc = *self.names.allocator();
         let copy = Txt::of(alloc, name)?;
         let key = String::from_str(alloc, name)?;

@@ -7,7 +7,7 @@ ghost use Rattle.std.specs.Str.{bytes_eq};
 ghost use Rattle.gq_rules_typing.specs.Words.{under};
 ghost use Rattle.gq_scope.specs.NameTables.{IsKept, row_of};
 
-use gq_base::OutOfMemory;
+use gq_base::{OutOfMemory, within};
 use gq_value::Txt;
 use std::alloc::Global;
 use std::collections::BTreeMap;
@@ -83,9 +83,7 @@ impl<T: Drop> NameTable<T> {
         ensures added { MatchResult result (λ _. self.new ≡ self.old ++ (name.now, what) ∷ []) (λ _. self.new ≡ self.old) }
         ensures few { length self.new < 4294967296 }
     {
-        if self.rows.len() >= u32::MAX as usize {
-            return Err(OutOfMemory);
-        }
+        within(self.rows.len(), u32::MAX as usize - 1)?;
         let alloc = *self.rows.allocator();
         let copy = Txt::of(alloc, name)?;
         let key = String::from_str(alloc, name)?;

@@ -4,7 +4,7 @@ ghost use Rattle.std.specs.Option.{is_some};
 ghost use Rattle.gq_scope.specs.Named.{seen_at, place_at, is_marked, with_name, kept};
 
 use crate::names::NameTable;
-use gq_base::OutOfMemory;
+use gq_base::{OutOfMemory, within};
 use std::alloc::Global;
 use std::marker::Model;
 
@@ -87,9 +87,7 @@ impl Places {
         ensures given { MatchResult result (λ place. place ≡ self.old.next) (λ _. self.new ≡ self.old) }
         ensures added { MatchResult result (λ _. self.new ≡ with_name self.old name.now marked) (λ _. self.new ≡ self.old) }
     {
-        if self.next == u32::MAX {
-            return Err(OutOfMemory);
-        }
+        within(self.next as usize, u32::MAX as usize - 1)?;
         let place = self.next;
         self.table.push(name, NameBinding { place, marked })?;
         self.next = place + 1;

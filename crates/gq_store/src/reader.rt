@@ -1,9 +1,11 @@
 // Readers.
-ghost use Rattle.std.specs.Prelude.{◌≡◌, true, length, map, IfOk, IfErr};
+ghost use Rattle.std.specs.Prelude.{◌≡◌, ◌≤◌, true, length, map, IfOk, IfErr};
 ghost use mathlib.Core.List.{IsPrefix};
 ghost use Rattle.left_right.specs.Sides as sides;
 ghost use Rattle.gq_value.specs.Views.{val};
+ghost use Rattle.gq_graph.specs.Catalog.{most_types};
 ghost use Rattle.gq_load_check.specs.Fits.{HasGrown};
+ghost use Rattle.gq_plan_ir.specs.Numbered.{AreNumbered};
 ghost use Rattle.gq_store.specs.Answering.{IsAnswered, RanOver};
 
 use crate::answer::Answer;
@@ -65,6 +67,8 @@ fn answered<N: StoreName, R: Threads + Sync>(
 ) -> Result<(Answer, News<N>), OutOfMemory>
     requires sealed { copy.now.sealed ≡ true }
     requires grown { HasGrown N.schema q.now.catalog.now }
+    requires few { length q.now.plan.now.edges ≤ most_types }
+    requires numbered { AreNumbered q.now.plan.now.definitions }
     ensures { IfOk result (IsAnswered N.base q.now.catalog.now q.now.plan.now (map val q.now.arguments.now) q.now.turns told.now copy.now.rows) }
 {
     let rows = copy.news();
@@ -83,6 +87,8 @@ fn asked<N: StoreName, R: Threads + Sync>(
     q: &Question<'_, R>,
 ) -> (ReadSide<N>, Result<(Answer, News<N>), OutOfMemory>)
     requires grown { HasGrown N.schema q.now.catalog.now }
+    requires few { length q.now.plan.now.edges ≤ most_types }
+    requires numbered { AreNumbered q.now.plan.now.definitions }
     ensures later { IsPrefix (sides.view side.place).seen (sides.view result.0.place).seen }
     ensures answered { IfOk result.1 (IsAnswered N.base q.now.catalog.now q.now.plan.now (map val q.now.arguments.now) q.now.turns told.now (sides.view result.0.place).seen) }
 {
@@ -130,7 +136,7 @@ impl<N: StoreName> SharedReader<N> {
     /// begin with all that it saw before and all that it was told of, and it has seen them then. It gives the reader back.
     ///
     /// The plan's catalog is that of the store when it was shared, or has grown out of it; if it has more edge types, an index is
-    /// built for it. `run` says if the run itself found no memory; `OutOfMemory` is returned after the writer's end, too.
+    /// built for it. The plan's tuple types and slots are numbered in order, as those of each plan of a query are. `run` says if the run itself found no memory; `OutOfMemory` is returned after the writer's end, too.
     pub fn query<R: Threads + Sync>(
         self,
         workers: &Workers<'_, R>,
@@ -140,7 +146,9 @@ impl<N: StoreName> SharedReader<N> {
         arguments: &Row,
         turns: u64,
     ) -> (SharedReader<N>, Result<Answer, OutOfMemory>)
-        requires { HasGrown N.schema catalog.now }
+        requires grown { HasGrown N.schema catalog.now }
+        requires few { length plan.now.edges ≤ most_types }
+        requires numbered { AreNumbered plan.now.definitions }
         ensures upto { IfOk result.1 (λ answer. answer.upto ≡ length result.0.seen) }
         ensures begins { IsPrefix self.seen result.0.seen }
         ensures told { IfOk result.1 (λ _. IsPrefix self.told result.0.seen) }

@@ -1,13 +1,15 @@
 // A copy of the store.
-ghost use Rattle.std.specs.Prelude.{◌≡◌, [], length, true, map, IfOk, MatchResult, Some, None};
+ghost use Rattle.std.specs.Prelude.{◌≡◌, ◌≤◌, [], length, true, map, IfOk, MatchResult, Some, None};
 ghost use Rattle.std.specs.Arc.{arc_value};
 ghost use Rattle.gq_value.specs.Views.{val};
+ghost use Rattle.gq_graph.specs.Catalog.{most_types};
 ghost use Rattle.gq_index.specs.Kept.{IsKept};
 ghost use Rattle.gq_index.specs.Sights.{sight_of};
 ghost use Rattle.gq_index.specs.Walks.{adjacency};
 ghost use Rattle.gq_load.specs.Keeping.{StoreFits};
 ghost use Rattle.gq_load_check.specs.Fits.{HasGrown};
 ghost use Rattle.gq_insert.specs.Fits.{IsSound};
+ghost use Rattle.gq_plan_ir.specs.Numbered.{AreNumbered};
 ghost use Rattle.gq_store.specs.Answering.{RanOver};
 ghost use Rattle.gq_store.specs.Shows.{taken};
 
@@ -158,6 +160,8 @@ impl<N: StoreName> StoreCopy<N> {
     ) -> Result<List<Printed>, QueryFault>
         requires sealed { self.now.sealed ≡ true }
         requires grown { HasGrown N.schema catalog.now }
+        requires few { length plan.now.edges ≤ most_types }
+        requires numbered { AreNumbered plan.now.definitions }
         ensures { RanOver N.base catalog.now plan.now (map val arguments.now) turns self.now.rows result }
     {
         let store = &self.store;

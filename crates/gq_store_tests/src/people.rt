@@ -11,9 +11,7 @@ use gq_insert::{catalogs_are_sound, check_insert, insert_row};
 use gq_json::{Out, Printed};
 use gq_load::stores_stay_fit;
 use gq_load_check::Insert;
-use gq_plan_ir::{
-    Behind, Expr, Method, PlaceType, Plan, PrintItem, Right, Seed, SetTerm, Sets, Step,
-};
+use gq_plan_ir::{Behind, Expr, Method, Plan, PrintItem, Right, Seed, SetTerm, Sets, Step};
 use gq_schema::Catalog;
 use gq_tree::{InsertTree, Literal};
 use gq_value::Txt;
@@ -107,7 +105,6 @@ fn steps(alloc: Global, looks: u64) -> Result<List<Step>, OutOfMemory> {
 
 /// The plan that looks at all persons so many times and once more, and prints how many they are.
 pub fn count_plan(alloc: Global, looks: u64) -> Result<Plan, OutOfMemory> {
-    let places = one(alloc, PlaceType::Set(one(alloc, 0u32)?))?;
     let vertices = one(alloc, 0u32)?;
     let steps = steps(alloc, looks)?;
     Ok(Plan {
@@ -115,7 +112,6 @@ pub fn count_plan(alloc: Global, looks: u64) -> Result<Plan, OutOfMemory> {
         with_paths: false,
         definitions: List::new(alloc),
         steps,
-        places,
         vertices,
         edges: List::new(alloc),
     })

@@ -110,12 +110,12 @@ impl Vertices {
     }
 
     /// An attribute of a vertex, by its place among those of the type.
-    pub fn attr(&self, vertex: u32, place: u32) -> &Value
+    pub fn attr(&self, vertex: u32, place: usize) -> &Value
         requires there { vertex < length self.now }
         requires within { place < length (vertex_at self.now vertex).attributes }
         ensures { slice_get (vertex_at self.now vertex).attributes place ≡ Some result.now }
     {
-        item(self.attributes.at(vertex), place as usize)
+        item(self.attributes.at(vertex), place)
     }
 
     /// Replaces the attributes of the vertex of that name, or appends a new vertex. Moves the values out of the row,

@@ -115,7 +115,7 @@ value_field : IsSync (value.the_field).row
 value_field = search (txt_sync, list_crosses.the_sync, crosses, value_knot.crosses, sendable) depth 30 fits 50000
 
 thing_sync : IsSync thing.the_row
-thing_sync = search (value_field, value_sync, list_crosses.the_sync, crosses, sendable) depth 30 fits 50000
+thing_sync = search (base_field, base_sync, value_field, value_sync, list_crosses.the_sync, crosses, sendable) depth 30 fits 50000
 
 pub frame_sync : IsSync frame.the_row
 frame_sync = search (thing_sync, accums_field, list_crosses.the_sync, crosses, sendable) depth 30 fits 50000

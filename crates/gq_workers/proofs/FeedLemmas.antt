@@ -1,5 +1,5 @@
 -- FeedLemmas: feeding the inputs that wait.
-use Rattle.std.proofs.Common.{◌≡◌, ℕ, suc, ◌+◌, ◌^◌, ◌<◌, List, [], ◌∷◌, ◌++◌, map, length, slice_get, Some, refl, sym, ap, ◌∙◌, subst, arith, length-append}
+use Rattle.std.proofs.Common.{◌≡◌, ℕ, suc, ◌+◌, ◌^◌, ◌<◌, ◌≤◌, List, [], ◌∷◌, ◌++◌, map, length, slice_get, Some, refl, sym, ap, ◌∙◌, subst, arith, length-append}
 use Rattle.std.specs.List.{All}
 use Rattle.std.proofs.lemmas.List.Elements.{All-nil}
 use Rattle.gq_value.specs.declared.kind.Input.{Input}
@@ -46,7 +46,7 @@ first_of : {A : Type 0} {a b : A} → Some a ≡ Some b → a ≡ b
 first_of h = cc
 
 pub feeds_all : (old mid new : Accums) (fed now : ℕ) (batches : List (List (ℕ × Input))) (batch : List (ℕ × Input)) (ints : List (ℕ × ScalarInput)) → slice_get batches 0 ≡ Some batch → TakesBatch old mid batch → TakesBatch mid new (as_inputs ints)
-    → now ≡ fed + length batch + length ints → fed < 2 ^ 60 → length batch < 2 ^ 60 → length ints < 2 ^ 60 → FedFrom old new fed batches ints now
+    → now ≡ fed + length batch + length ints → fed ≤ 1152921504606846975 → length batch ≤ 1152921504606846975 → length ints ≤ 1152921504606846975 → FedFrom old new fed batches ints now
 feeds_all old mid new fed now batches batch ints at first second counted few_fed few_batch few_ints = record { each = more }
   where
     takes : TakesBatch old new (batch ++ as_inputs ints)

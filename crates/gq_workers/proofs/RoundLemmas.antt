@@ -25,7 +25,7 @@ use Rattle.gq_workers.specs.declared.work.ChunkOutput.{ChunkOutput}
 use Rattle.gq_workers.specs.declared.work.WorkerOutput.{WorkerOutput}
 use Rattle.gq_workers.specs.declared.work.RoundOutput.{RoundOutput}
 use Rattle.gq_workers.specs.Running.{come, matches_by, sources_of, targets_of, Wait, FedFrom, IsAtEnd, Cover, CoverWhole, Mark, AreMarked, IsEmpty, IsOpened, IsShaped, Came, GoneThrough, HasRun}
-use Rattle.gq_workers.specs.Rounds.{IsLeft, Only, IsPart, LeavesChunk, Joins, MarksPart, AreLefts, MarksParts, StandsIn, InRound, Feeds, FeedsLeft, FeedsParts, IsAhead, StandsOr, FeedsRound, GoesOn}
+use Rattle.gq_workers.specs.Rounds.{IsLeft, Only, IsPart, LeavesChunk, Fits, AllFit, Joins, MarksPart, AreLefts, MarksParts, StandsIn, InRound, Feeds, FeedsLeft, FeedsParts, IsAhead, StandsOr, FeedsRound, GoesOn}
 use Rattle.gq_workers.proofs.FoundLemmas.{shaped_still}
 use Rattle.gq_workers.proofs.MarkLemmas.{below_or_not, true_or_false, or_first, or_second, of_or, not_both}
 use Rattle.gq_exec_contribute.specs.declared.scalars.ScalarInput.{ScalarInput}
@@ -165,6 +165,25 @@ joined old other i now l h = record { len = h.len; marks = marks }
 
 pub ruleset join_laws = (join_first, joined)
 
+-- ---- parts that fit
+
+pub fits_here : (p : WorkerOutput) (r : Result WorkerOutput OutOfMemory) (found : MatchBuffer) → r ≡ Ok p → length p.sources ≤ length found.sources → length p.targets ≤ length found.targets → IfOk r (Fits found)
+fits_here p r found is sources targets = subst (λ x. IfOk x (Fits found)) (sym is) (record { sources = sources; targets = targets })
+
+pub ruleset fits_laws = (fits_here)
+
+pub fit_first : (parts : List (Result WorkerOutput OutOfMemory)) (found : MatchBuffer) → AllFit (take 0 parts) found
+fit_first [] found = All-nil (λ part. IfOk part (Fits found))
+fit_first (p ∷ ps) found = All-nil (λ part. IfOk part (Fits found))
+
+pub fit_next : (parts : List (Result WorkerOutput OutOfMemory)) (i : ℕ) (r : Result WorkerOutput OutOfMemory) (found : MatchBuffer) → i < length parts → r ≡ get_or parts i r → IfOk r (Fits found) → AllFit (take i parts) found → AllFit (take (i + 1) parts) found
+fit_next parts i r found l at fits h = All-more (λ part. IfOk part (Fits found)) parts i r l h (subst (λ x. IfOk x (Fits found)) at fits)
+
+pub fit_done : (parts : List (Result WorkerOutput OutOfMemory)) (i : ℕ) (found : MatchBuffer) → length parts ≤ i → AllFit (take i parts) found → AllFit parts found
+fit_done parts i found l h = subst (λ ps. AllFit ps found) (take_all i parts l) h
+
+pub ruleset fit_laws = (fit_first, fit_done)
+
 -- ---- all parts
 
 abbrev AreParts : Calendar → Over → Work → ℕ → ℕ → List (Result WorkerOutput OutOfMemory) → Type 0
@@ -177,6 +196,8 @@ pub record MarksTo (parts : List (Result WorkerOutput OutOfMemory)) (i : ℕ) (o
   pub targets : (clock : Calendar) (o : Over) (w : Work) (first last : ℕ) → All (λ part. IfOk part (IsPart clock o w first last)) parts → Mark targets_of (come clock o w) w.candidates first last old.targets now.targets
   pub shaped : (vertices : ℕ) → IsShaped vertices old → IsShaped vertices now
   pub empty : IsEmpty old → IsEmpty now
+  pub long_sources : length now.sources ≡ length old.sources
+  pub long_targets : length now.targets ≡ length old.targets
 
 same_mark : (f : List Match → List ℕ) (go : Candidate → Answer Wrong (List Match)) (cs : List Candidate) (first last : ℕ) (words : List ℕ) → Mark f go cs first last words words
 same_mark f go cs first last words = record { kept = λ v h. h; only = λ v h n. not_both (is_marked words v) h n }
@@ -188,6 +209,8 @@ marks_first parts old = record {
   targets = λ clock o w first last h. same_mark targets_of (come clock o w) w.candidates first last old.targets;
   shaped = λ n s. s;
   empty = λ e. e;
+  long_sources = refl;
+  long_targets = refl;
 }
   where
     none : (clock : Calendar) (o : Over) (w : Work) (ps : List (Result WorkerOutput OutOfMemory)) → AreLefts clock o w old.sources old.targets (take 0 ps)
@@ -226,10 +249,19 @@ marks_next parts i r p old mid new l at is h step = record {
   targets = λ clock o w first last are. mark_joined targets_of clock o w first last old.targets mid.targets p.targets new.targets (part clock o w first last are).targets (h.targets clock o w first last are) step.targets;
   shaped = λ n s. shaped_still n mid new (h.shaped n s) (ap length step.batches) step.sources.len step.targets.len;
   empty = λ e. let m = h.empty e in record { batches = step.batches ∙ m.batches; inputs = step.inputs ∙ m.inputs };
+  long_sources = step.sources.len ∙ h.long_sources;
+  long_targets = step.targets.len ∙ h.long_targets;
 }
   where
     part : (clock : Calendar) (o : Over) (w : Work) (first last : ℕ) → All (λ part. IfOk part (IsPart clock o w first last)) parts → IsPart clock o w first last p
     part clock o w first last are = subst (λ x. IfOk x (IsPart clock o w first last)) (sym at ∙ is) (All-get_or (λ part. IfOk part (IsPart clock o w first last)) parts i r l are)
+
+-- marking doesn't change the number of words, so the next part fits as before
+pub fits_still : (parts : List (Result WorkerOutput OutOfMemory)) (i : ℕ) (r : Result WorkerOutput OutOfMemory) (p : WorkerOutput) (old mid : MatchBuffer) → i < length parts → r ≡ get_or parts i r → r ≡ Ok p → AllFit parts old → MarksTo parts i old mid → Fits mid p
+fits_still parts i r p old mid l at is all h = let f : Fits old p = subst (λ x. IfOk x (Fits old)) (sym at ∙ is) (All-get_or (λ part. IfOk part (Fits old)) parts i r l all) in record {
+  sources = subst (λ n. length p.sources ≤ n) (sym h.long_sources) f.sources;
+  targets = subst (λ n. length p.targets ≤ n) (sym h.long_targets) f.targets;
+}
 
 pub marks_done : (parts : List (Result WorkerOutput OutOfMemory)) (i : ℕ) (old new : MatchBuffer) → length parts ≤ i → MarksTo parts i old new → MarksParts parts old new
 marks_done parts i old new l h = record {
@@ -354,6 +386,9 @@ module _ (g : RoundOutput) (parts : List (Result WorkerOutput OutOfMemory)) (old
   feeds_round listed marks at accums fed feeds = record {
     each = λ clock o w h ahead. round_done clock o w g.first g.last parts old mid new h (tried clock o w listed ahead) marks at accums fed feeds;
   }
+
+  pub nothing_fed : FeedsRound g old old None
+  nothing_fed = record { each = λ clock o w h ahead. h }
 
   pub feeds_round_ok : (r : Result (Option (ℕ × Stop)) OutOfMemory) → parts ≡ g.parts.items → MarksParts parts old.found mid.found → mid.at ≡ old.at → mid.accums ≡ old.accums → mid.fed ≡ old.fed → IfOk r (FeedsParts parts mid new) → IfOk r (FeedsRound g old new)
   feeds_round_ok (Ok (Some f)) listed marks at accums fed feeds = feeds_round_fault f listed marks at accums fed feeds

@@ -101,7 +101,7 @@ module _ (go : Candidate → Answer Wrong (List Match)) where
 
 -- ---- the same in terms of the definitions
 
-module _ (clock : Calendar) (o : Over) (block : Block) (ends : Ends) (edge : Option ℕ) (s : State Reference) (shows : Shows o.plan.places o.frame s)
+module _ (clock : Calendar) (o : Over) (block : Block) (ends : Ends) (edge : Option ℕ) (s : State Reference) (shows : Shows o.frame s)
     (has : HasEnds o.schema o.plan o.frame.things block ends) (at : option_map Place edge ≡ edge_alias (view_walk block.walk)) where
   abbrev the_from : From Reference
   the_from = from (world_over clock o) s.names (view_block block)

@@ -44,7 +44,7 @@ IfLeft o (Err e) = Unit {0}
 
 -- whatever state the frame shows, the answer is that of the definitions
 pub record Answers (clock : Calendar) (o : Over) (block : Block) (result : Result After BlockFault) : Type 0 where
-  pub each : (s : State Reference) → Shows o.plan.places o.frame s → Answered after_is (accumulated (world_over clock o) s (view_block block)) result
+  pub each : (s : State Reference) → Shows o.frame s → Answered after_is (accumulated (world_over clock o) s (view_block block)) result
 
 -- all contributions of these matches are fed, and the marks are those of their ends
 pub record IsOver (o : Over) (ms : List Match) (r : BlockProgress) : Type 0 where
@@ -86,5 +86,5 @@ stop_fault n stop.Stuck = fault.Stuck
 
 -- all candidates are done and all contributions are fed; or the first fault is returned
 abbrev pub RanTo : Calendar → Over → Block → Ran → Type 0
-RanTo clock o block (ran.Done r) = (ms : List Match) × ((s : State Reference) → Shows o.plan.places o.frame s → block_matches clock o block s ≡ Gives ms) × IsOver o ms r × IsShort r.found
-RanTo clock o block (ran.Fault n w) = (s : State Reference) → Shows o.plan.places o.frame s → block_matches clock o block s ≡ stopped_at n w
+RanTo clock o block (ran.Done r) = (ms : List Match) × ((s : State Reference) → Shows o.frame s → block_matches clock o block s ≡ Gives ms) × IsOver o ms r × IsShort r.found
+RanTo clock o block (ran.Fault n w) = (s : State Reference) → Shows o.frame s → block_matches clock o block s ≡ stopped_at n w

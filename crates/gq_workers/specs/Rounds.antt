@@ -61,6 +61,14 @@ pub record Joins (old other new : List ℕ) : Type 0 where
   pub len : length new ≡ length old
   pub marks : (vertex : ℕ) → is_marked new vertex ≡ (is_marked other vertex || is_marked old vertex)
 
+-- it has no more words of marks than the run
+pub record Fits (found : MatchBuffer) (p : WorkerOutput) : Type 0 where
+  pub sources : length p.sources ≤ length found.sources
+  pub targets : length p.targets ≤ length found.targets
+
+abbrev pub AllFit : List (Result WorkerOutput OutOfMemory) → MatchBuffer → Type 0
+AllFit parts found = All (λ part. IfOk part (Fits found)) parts
+
 pub record MarksPart (p : WorkerOutput) (old new : MatchBuffer) : Type 0 where
   pub sources : Joins old.sources p.sources new.sources
   pub targets : Joins old.targets p.targets new.targets

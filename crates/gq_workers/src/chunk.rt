@@ -9,6 +9,7 @@ use crate::work::Work;
 use gq_base::{List, OutOfMemory};
 use gq_eval_context::BlockContext;
 use gq_exec_contribute::Stop;
+use gq_graph::Steps;
 use gq_index::{Candidates, Cursor, Graph, Store};
 use gq_plan_ir::{Act, Behind, Change, Expr, Feed, Field};
 use gq_value::Value;
@@ -35,7 +36,7 @@ pub(crate) fn try_chunk(
     let mut cursor = Cursor::new();
     let mut evaluated = 0u32;
     for place in start..end {
-        let candidate = work.candidates.near(place, &mut cursor);
+        let candidate = work.candidates.near(place, &mut cursor, &mut Steps::new());
         match try_one(alloc, work, over, &candidate, &mut evaluated, found)? {
             Some(fault) => return Ok(Some((place, fault))),
             None => {}
@@ -73,7 +74,7 @@ fn list_edges(
     edges.truncate(0);
     let mut cursor = Cursor::new();
     for place in start..end.min(candidates.count()) {
-        match candidates.near(place, &mut cursor).edge {
+        match candidates.near(place, &mut cursor, &mut Steps::new()).edge {
             Some(edge) => edges.push(edge)?,
             None => {}
         }

@@ -1,6 +1,6 @@
 // Combines the outputs of workers.
-ghost use Rattle.std.specs.Prelude.{IfOk, OnOk};
-ghost use Rattle.gq_workers.specs.Rounds.{FeedsLeft, FeedsParts, FeedsRound, Joins, MarksPart, MarksParts};
+ghost use Rattle.std.specs.Prelude.{◌≡◌, ◌≤◌, IfOk, OnOk, length, true};
+ghost use Rattle.gq_workers.specs.Rounds.{AllFit, FeedsLeft, FeedsParts, FeedsRound, Fits, Joins, MarksPart, MarksParts};
 
 use crate::found::MatchBuffer;
 use crate::order::{Spot, in_order, left_at};
@@ -11,7 +11,7 @@ use gq_exec_contribute::Stop;
 use std::alloc::Global;
 
 /// Sets the marks of a round and feeds its contributions in order, as far as they follow what was fed before, or returns
-/// its first fault.
+/// its first fault. Feeds nothing of a round whose marks are longer than the run's, which no worker leaves.
 pub(crate) fn feed_round(
     alloc: Global,
     round: &RoundOutput,
@@ -21,9 +21,37 @@ pub(crate) fn feed_round(
     ensures { IfOk result (FeedsRound round.now run.old run.new) }
 {
     let parts = round.parts.as_slice();
+    if !all_fit(parts, &run.found) {
+        return Ok(None);
+    }
     let order = in_order(alloc, parts, round.first, round.last, size)?;
     mark_parts(parts, &mut run.found)?;
     feed_parts(alloc, parts, order.as_slice(), run)
+}
+
+/// Whether no worker has more words of marks than the run.
+#[tactic(auto, using(crate::proofs::RoundLemmas::fit_laws))]
+fn all_fit(parts: &[Result<WorkerOutput, OutOfMemory>], found: &MatchBuffer) -> bool
+    ensures { result ≡ true → AllFit parts.now found.now }
+{
+    for part in parts {
+        if !fits(part, found) {
+            return false;
+        }
+    }
+    true
+}
+
+/// Whether a worker has no more words of marks than the run, or none at all.
+#[tactic(auto, using(crate::proofs::RoundLemmas::fits_laws))]
+fn fits(part: &Result<WorkerOutput, OutOfMemory>, found: &MatchBuffer) -> bool
+    ensures { result ≡ true → IfOk part.now (Fits found.now) }
+{
+    match part {
+        Err(OutOfMemory) => true,
+        Ok(part) => part.sources.len() <= found.sources.len()
+            && part.targets.len() <= found.targets.len(),
+    }
 }
 
 /// Sets the marks of all workers.
@@ -32,39 +60,37 @@ fn mark_parts(
     parts: &[Result<WorkerOutput, OutOfMemory>],
     found: &mut MatchBuffer,
 ) -> Result<(), OutOfMemory>
+    requires { AllFit parts.now found.old }
     ensures { OnOk result (MarksParts parts.now found.old found.new) }
 {
     for part in parts {
         match part {
             Err(OutOfMemory) => return Err(OutOfMemory),
-            Ok(part) => mark_part(part, found)?,
+            Ok(part) => mark_part(part, found),
         }
     }
     Ok(())
 }
 
 /// Sets the marks of one worker.
-fn mark_part(part: &WorkerOutput, found: &mut MatchBuffer) -> Result<(), OutOfMemory>
-    ensures { OnOk result (MarksPart part.now found.old found.new) }
+fn mark_part(part: &WorkerOutput, found: &mut MatchBuffer)
+    requires { Fits found.old part.now }
+    ensures { MarksPart part.now found.old found.new }
 {
-    join(&mut found.sources, part.sources.as_slice())?;
-    join(&mut found.targets, part.targets.as_slice())?;
-    Ok(())
+    join(&mut found.sources, part.sources.as_slice());
+    join(&mut found.targets, part.targets.as_slice());
 }
 
 /// Joins marks with other words, of which there aren't more.
 #[tactic(auto, using(crate::proofs::RoundLemmas::join_laws))]
-fn join(words: &mut List<u64>, other: &[u64]) -> Result<(), OutOfMemory>
-    ensures { OnOk result (Joins words.old other.now words.new) }
+fn join(words: &mut List<u64>, other: &[u64])
+    requires { length other.now ≤ length words.old }
+    ensures { Joins words.old other.now words.new }
 {
-    if other.len() > words.len() {
-        return Err(OutOfMemory);
-    }
     for (place, word) in other.iter().enumerate() {
         let both = words.as_slice()[place] | *word;
         words.set(place, both);
     }
-    Ok(())
 }
 
 /// Feeds the outputs of the chunks, in order, up to the first that has a fault.
@@ -89,7 +115,8 @@ fn feed_parts(
     Ok(None)
 }
 
-/// Feeds the output of a chunk, or returns its fault, if it is the next one.
+/// Feeds the output of a chunk, or returns its fault, if it is the next one. Feeds nothing of more than one batch, which
+/// no worker leaves.
 #[tactic(auto, using(crate::proofs::RoundLemmas::left_laws))]
 fn feed_left(
     alloc: Global,
@@ -99,6 +126,9 @@ fn feed_left(
     ensures { IfOk result (FeedsLeft left.now run.old run.new) }
 {
     if left.start != run.at {
+        return Ok(None);
+    }
+    if left.batches.stripes() != 1 {
         return Ok(None);
     }
     match left.fault {

@@ -1,10 +1,10 @@
 // The progress of a run.
-ghost use Rattle.std.specs.Prelude.{◌≡◌, IfOk, IfSome};
+ghost use Rattle.std.specs.Prelude.{◌≡◌, IfOk, IfSome, length};
 ghost use Rattle.gq_workers.specs.Running.{FedFrom, IsShort};
 ghost use Rattle.gq_workers.specs.Results.{AreListed, IsJudged, IsBegun};
 
 use crate::found::MatchBuffer;
-use gq_base::OutOfMemory;
+use gq_base::{OutOfMemory, within};
 use gq_core::Batches;
 use gq_eval_context::{After, BlockContext, BlockFault};
 use gq_exec_contribute::{WaitingInputs, feed_scalars};
@@ -41,11 +41,10 @@ impl BlockProgress {
     }
 }
 
-/// The most inputs that a block may feed.
-const MOST_INPUTS: u64 = 1 << 60;
+/// The most inputs that a block may feed: 2^60 - 1.
+const MOST_INPUTS: usize = 1_152_921_504_606_846_975;
 
-/// Feeds the inputs that wait, in the batch and after it, in order, and returns the new number of fed inputs. Returns
-/// `OutOfMemory` past 2^60 inputs.
+/// Feeds the inputs that wait, in the batch and after it, in order, and returns the new number of fed inputs.
 #[tactic(auto, using(crate::proofs::FeedLemmas::feed_laws))]
 pub(crate) fn feed(
     alloc: Global,
@@ -54,18 +53,13 @@ pub(crate) fn feed(
     batches: &Batches,
     inputs: &WaitingInputs,
 ) -> Result<u64, OutOfMemory>
+    requires { length batches.now ≡ 1 }
     ensures { IfOk result (FedFrom accums.old accums.new fed batches.now inputs.now) }
 {
-    if batches.stripes() > 1 {
-        return Err(OutOfMemory);
-    }
     let batch = batches.at(0);
-    if batch.len() as u64 >= MOST_INPUTS || fed >= MOST_INPUTS {
-        return Err(OutOfMemory);
-    }
-    if inputs.len() as u64 >= MOST_INPUTS {
-        return Err(OutOfMemory);
-    }
+    within(fed as usize, MOST_INPUTS)?;
+    within(batch.len(), MOST_INPUTS)?;
+    within(inputs.len(), MOST_INPUTS)?;
     feed_all(alloc, accums, batch)?;
     feed_scalars(alloc, accums, inputs)?;
     Ok(fed + batch.len() as u64 + inputs.len() as u64)

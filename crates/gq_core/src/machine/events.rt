@@ -6,7 +6,7 @@ ghost use Rattle.gq_core.specs.Accounts.{IsInOrder};
 use super::Core;
 use crate::job::FeedJob;
 use crate::worker::{Phase, Turn, Worker};
-use gq_base::OutOfMemory;
+use gq_base::{OutOfMemory, within};
 use std::alloc::Global;
 use std::mem;
 
@@ -27,11 +27,9 @@ impl Core {
     {
         match self.phase(w) {
             Phase::Idle => {
-                // Can't occur: that many chunks don't fit in memory.
-                let next = match self.next.checked_add(1) {
-                    Some(next) => next,
-                    None => return Err(OutOfMemory),
-                };
+                // That many chunks don't fit in memory.
+                within(self.next as usize, usize::MAX - 1)?;
+                let next = self.next + 1;
                 let worker = &mut self.workers[w as usize];
                 if self.next < job.chunks.len() as u64 {
                     worker.draw(self.next)?;

@@ -1,6 +1,7 @@
 use Rattle.gq_eval_operand.specs.Meant.{valued}
 use Rattle.gq_rules_typing.specs.Builtins.{builtin_is}
 use Rattle.gq_plan_ir.specs.Reference.{Calls}
+use Rattle.gq_eval_builtins.proofs.ListSteps.{three_found, three_found_goes}
 use Rattle.gq_eval.proofs.MisfitSteps.{one_lacks, one_exceeds, two_lack, two_lack_one, two_exceed, three_lack, three_lack_two, three_lack_one, three_exceed}
 use Rattle.gq_eval.proofs.SoundSteps.{later_sound}
 use Rattle.gq_eval.proofs.expressions.+eval.Goals as goal
@@ -9,6 +10,13 @@ use Rattle.gq_eval.proofs.expressions.+eval.Goals as goal
 pub later-returns-in_ok-u-in-len3-clause-sound : goal.later-returns-in_ok-u-in-len3-clause-sound
 later-returns-in_ok-u-in-len3-clause-sound g t c =
     later_sound (g.V.Sees.look c.args.sight.now) (valued c.in_ok-x-in-len3.x) (valued c.in_ok-n-in-len3.n) (valued c.in_ok-u-in-len3.u) c.units_later.result (g.met.V.Sees.calendar c.args.sight.now) c.units_later.ensures
+
+pub later-returns-in_ok-u-in-len3-clause-told : goal.later-returns-in_ok-u-in-len3-clause-told
+later-returns-in_ok-u-in-len3-clause-told g t c =
+    three_found_goes (g.V.Sees.look c.args.sight.now) c.args.arguments.now _ _ _ (valued c.in_ok-x-in-len3.x) (valued c.in_ok-n-in-len3.n) (valued c.in_ok-u-in-len3.u) c.units_later.result
+    (g.met.V.Sees.calls c.args.sight.now) (g.met.V.Sees.calendar c.args.sight.now)
+    (three_found _ _ _ _ c.in-len3.len_at_least c.in-len3.len_below c.time-item.is c.count-item.is c.unit-item.is)
+    c.in_ok-x-in-len3.ensures c.in_ok-n-in-len3.ensures c.in_ok-u-in-len3.ensures c.units_later.ensures
 
 -- ---- calls with too few or too many arguments
 

@@ -8,16 +8,16 @@ use Rattle.gq_eval_attributes.proofs.PartLemmas.{held_sound, held_read, none_ope
 use Rattle.gq_eval_attributes.proofs.groups.row_part.Goals as goal
 
 pub read-requires : goal.read-requires
-read-requires c = held_sound c.args.shape.now c.args.content.now c.in-Some-part.held.now (map val c.args.row.now) c.in-Some.place c.in-Ok.at c.in-Some-get.part.now c.requires c.in-Some-get.ensures c.in-Some-part.ensures c.in-Ok.ensures.1
+read-requires c = held_sound c.args.shape.now c.args.content.now c.in-Some-part_at.held.now (map val c.args.row.now) c.in-Some.place c.in-Some-get.part.now c.requires c.in-Some-get.ensures c.in-Some-part_at.ensures
 
-pub returns-in-Some-part-clause-told : goal.returns-in-Some-part-clause-told
-returns-in-Some-part-clause-told c =
-    held_read c.args.shape.now c.args.content.now c.in-Some-part.held.now (map val c.args.row.now) (name_in c.args.field.now) c.in-Some.place c.in-Ok.at c.in-Some-get.part.now c.read.result c.requires
+pub returns-in-Some-part_at-clause-told : goal.returns-in-Some-part_at-clause-told
+returns-in-Some-part_at-clause-told c =
+    held_read c.args.shape.now c.args.content.now c.in-Some-part_at.held.now (map val c.args.row.now) (name_in c.args.field.now) c.in-Some.place c.in-Some-get.part.now c.read.result c.requires
     (c.in-Some.ensures ∙ ap (λ (ps : List (Bytes × Kind)). place_of (map (λ (p : Bytes × Kind). p.0) ps) (name_in c.args.field.now)) c.as_slice.ensures)
-    c.in-Some-get.ensures c.in-Some-part.ensures c.in-Ok.ensures.1 c.read.ensures.read
+    c.in-Some-get.ensures c.in-Some-part_at.ensures c.read.ensures.read
 
-pub returns-in-None-part-clause-told : goal.returns-in-None-part-clause-told
-returns-in-None-part-clause-told c =
-    none_opens c.args.shape.now c.args.content.now (map val c.args.row.now) (name_in c.args.field.now) c.in-Some.place c.in-Ok.at c.in-Some-get.part.now c.opening.result c.requires
+pub returns-in-None-part_at-clause-told : goal.returns-in-None-part_at-clause-told
+returns-in-None-part_at-clause-told c =
+    none_opens c.args.shape.now c.args.content.now (map val c.args.row.now) (name_in c.args.field.now) c.in-Some.place c.in-Some-get.part.now c.opening.result c.requires
     (c.in-Some.ensures ∙ ap (λ (ps : List (Bytes × Kind)). place_of (map (λ (p : Bytes × Kind). p.0) ps) (name_in c.args.field.now)) c.as_slice.ensures)
-    c.in-Some-get.ensures c.in-None-part.ensures c.in-Ok.ensures.1 c.opening.ensures.read
+    c.in-Some-get.ensures c.in-None-part_at.ensures c.opening.ensures.read

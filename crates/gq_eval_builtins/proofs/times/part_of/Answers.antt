@@ -10,10 +10,10 @@ use Rattle.gq_rules_typing.specs.Builtins.{part_is}
 use Rattle.gq_eval_builtins.proofs.TimeLemmas.{part_told}
 use Rattle.gq_eval_builtins.proofs.times.part_of.Goals as goal
 
-pub returns-then-in_calendar : goal.returns-then-in_calendar
-returns-then-in_calendar c =
+pub returns : goal.returns
+returns c =
     let f : FitsSigned w64 c.in_ok-x.x = search rules in
     let x = to_z-of_z w64 c.in_ok-x.x f in
     let g : FitsSigned w64 c.part_in-x.result = search rules in
-    part_told (valued c.args.operand.now) (part_is c.args.part) c.in_ok-x.x c.parts.result (Ok c.numbered.result) c.in_ok-x.ensures (sym (rw x at c.in_calendar.ensures) ∙ c.if-in_calendar.true) (rw x at c.parts.ensures.only)
+    part_told (valued c.args.operand.now) (part_is c.args.part) c.in_ok-x.x c.parts.result (Ok c.numbered.result) c.in_ok-x.ensures.told c.in_ok-x.ensures.range (rw x at c.parts.ensures.only)
     (ap numbered (ap Int (sym c.part_in-x.ensures) ∙ sym (val-Int c.part_in-x.result)) ∙ rw (to_z-of_z w64 c.part_in-x.result g) at c.numbered.ensures)

@@ -8,4 +8,4 @@ pub returns-in-Some-Some-Value : goal.returns-in-Some-Some-Value
 returns-in-Some-Some-Value c =
     let o : Over = record { schema = c.over.inside.graph.catalog.now; vertices = c.over.inside.graph.store.now.vertices; edges = c.over.inside.graph.store.now.edges; plan = c.over.inside.plan.now; tuples = c.over.inside.tuples.now; frame = c.over.inside.frame.now } in
     subst (λ (o : Over). IsHeld o c.args.leaves.now c.args.place c.in-Some-Some-Value.value) c.over.view_is
-    (held_made o c.args.leaves.now c.args.place c.in-Some-Variable._base c.in-Some-Some-Value.value (c.is_no_alias.ensures (search rules)) (search rules) (search rules))
+    (held_made o c.args.leaves.now c.args.place c.in-Some-Some-Value._base c.in-Some-Some-Value.value (c.is_no_alias.ensures (search rules)) (search rules))

@@ -7,6 +7,6 @@ use Rattle.gq_exec_control.proofs.locals.declare.Given as goal
 
 abbrev pub invariant-loop-local : goal.invariant-loop-local
 invariant-loop-local l = record {
-  declares : Declares l.context.plan.places (world_on gregorian l.context) (base_declared l.declared) l.locals (drop l.local-index l.locals) l.fn.live l.live;
+  declares : Declares (world_on gregorian l.context) (base_declared l.declared) l.locals (drop l.local-index l.locals) l.fn.live l.live;
   accums : l.live.frame.accums ≡ l.fn.live.frame.accums;
 }

@@ -13,10 +13,10 @@ use Rattle.gq_exec_control.proofs.locals.declare_one.Goals as goal
 
 pub returns-in-Err-clause-names : goal.returns-in-Err-clause-names
 returns-in-Err-clause-names c =
-    subst (λ (b : Base). Becomes c.args.context.now.plan.places (declared_one (world_on gregorian c.args.context.now) b (Place c.args.place, option_map view c.args.local.now)) c.args.live.now c.args.live.now (Err c.in-Err.fault)) c.in-Some.ensures.1
-    (one_stops c.args.context.now.plan.places (world_on gregorian c.args.context.now) c.args.place (base_of c.in-Some.base.now) (option_map view c.args.local.now) c.args.live.now c.args.live.now c.in-Err.fault c.in-Err.ensures)
+    subst (λ (b : Base). Becomes (declared_one (world_on gregorian c.args.context.now) b (Place c.args.place, option_map view c.args.local.now)) c.args.live.now c.args.live.now (Err c.in-Err.fault)) c.base_declared-base.ensures
+    (one_stops (world_on gregorian c.args.context.now) c.args.place (base_of c.base_declared-base.result) (option_map view c.args.local.now) c.args.live.now c.args.live.now c.in-Err.fault c.in-Err.ensures)
 
 pub returns-in-Ok-declare-clause-names : goal.returns-in-Ok-declare-clause-names
 returns-in-Ok-declare-clause-names c =
-    subst (λ (b : Base). Becomes c.args.context.now.plan.places (declared_one (world_on gregorian c.args.context.now) b (Place c.args.place, option_map view c.args.local.now)) c.args.live.now c.declare.new.self (Ok tt)) c.in-Some.ensures.1
-    (one_done c.args.context.now.plan.places (world_on gregorian c.args.context.now) c.args.place (base_of c.in-Some.base.now) (option_map view c.args.local.now) c.args.live.now c.declare.new.self c.in-Some.base.now c.in-Ok.value c.in-Some.ensures.0 refl c.in-Ok.ensures c.in-Ok-declare.ensures.names)
+    subst (λ (b : Base). Becomes (declared_one (world_on gregorian c.args.context.now) b (Place c.args.place, option_map view c.args.local.now)) c.args.live.now c.declare.new.self (Ok tt)) c.base_declared-base.ensures
+    (one_done (world_on gregorian c.args.context.now) c.args.place (base_of c.base_declared-base.result) (option_map view c.args.local.now) c.args.live.now c.declare.new.self c.base_declared-base.result c.in-Ok.value refl c.in-Ok.ensures c.in-Ok-declare.ensures.names)

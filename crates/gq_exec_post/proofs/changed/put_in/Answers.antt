@@ -2,7 +2,7 @@ use Rattle.gq_exec_post.proofs.ChangeLemmas.{allows_put, input_put, value_put}
 use Rattle.gq_exec_post.proofs.changed.put_in.Goals as goal
 
 pub set-requires-clause-allows : goal.set-requires-clause-allows
-set-requires-clause-allows c = allows_put c.args.made.now c.in-Value.value c.args.target c.args.accums.now.contents c.in-Value.is c.requires
+set-requires-clause-allows c = allows_put c.args.made.now c.in-Value.value c.args.target c.args.accums.now.contents c.in-Value.is c.requires.takes
 
 pub returns-in_ok-feed-in-Input : goal.returns-in_ok-feed-in-Input
 returns-in_ok-feed-in-Input c =

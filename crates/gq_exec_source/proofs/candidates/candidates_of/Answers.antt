@@ -1,4 +1,4 @@
-use Rattle.std.proofs.Common.{sym, ap, ap₂, ◌∙◌}
+use Rattle.std.proofs.Common.{sym, ap, ◌∙◌}
 use Rattle.gq_frame.specs.Names.{thing_in}
 use Rattle.gq_eval_context.specs.Viewed.{Over}
 use Rattle.gq_exec_source.specs.Starts.{listed_at, vertices_under}
@@ -10,7 +10,7 @@ returns-in-Some-clause-found c =
     let o = c.args.over.now in let block = c.args.block.now in let place = c.in-Set.place in
     found_if o block c.in-Some.set.now c.candidates_from.result
     (begins_set o block place c.in-Some.set.now c.in-Set.is
-    (sym (ap listed_at c.in-Some.ensures) ∙ ap₂ (λ p t. listed_at (thing_in p t place)) c.as_slice-places.ensures c.as_slice.ensures ∙ ap (λ (o : Over). listed_at (thing_in o.plan.places o.frame.things place)) c.over.view_is))
+    (sym (ap listed_at c.in-Some.ensures) ∙ ap (λ t. listed_at (thing_in t place)) c.as_slice.ensures ∙ ap (λ (o : Over). listed_at (thing_in o.frame.things place)) c.over.view_is))
     c.candidates_from.ensures.found
 
 pub returns-in-Some-clause-many : goal.returns-in-Some-clause-many
@@ -18,7 +18,7 @@ returns-in-Some-clause-many c = λ e.
     let o = c.args.over.now in let block = c.args.block.now in let place = c.in-Set.place in
     many_if o block c.in-Some.set.now
     (begins_set o block place c.in-Some.set.now c.in-Set.is
-    (sym (ap listed_at c.in-Some.ensures) ∙ ap₂ (λ p t. listed_at (thing_in p t place)) c.as_slice-places.ensures c.as_slice.ensures ∙ ap (λ (o : Over). listed_at (thing_in o.plan.places o.frame.things place)) c.over.view_is))
+    (sym (ap listed_at c.in-Some.ensures) ∙ ap (λ t. listed_at (thing_in t place)) c.as_slice.ensures ∙ ap (λ (o : Over). listed_at (thing_in o.frame.things place)) c.over.view_is))
     (c.candidates_from.ensures.many e)
 
 pub returns-in-None-clause-found : goal.returns-in-None-clause-found
@@ -26,7 +26,7 @@ returns-in-None-clause-found c =
     let o = c.args.over.now in let block = c.args.block.now in let place = c.in-Set.place in
     found_if o block c.new.result c.candidates_from-in-None-2.result
     (begins_set o block place c.new.result c.in-Set.is
-    (c.new.ensures ∙ no_set_listed _ c.in-None.ensures ∙ ap₂ (λ p t. listed_at (thing_in p t place)) c.as_slice-places.ensures c.as_slice.ensures ∙ ap (λ (o : Over). listed_at (thing_in o.plan.places o.frame.things place)) c.over.view_is))
+    (c.new.ensures ∙ no_set_listed _ c.in-None.ensures ∙ ap (λ t. listed_at (thing_in t place)) c.as_slice.ensures ∙ ap (λ (o : Over). listed_at (thing_in o.frame.things place)) c.over.view_is))
     c.candidates_from-in-None-2.ensures.found
 
 pub returns-in-None-clause-many : goal.returns-in-None-clause-many
@@ -34,7 +34,7 @@ returns-in-None-clause-many c = λ e.
     let o = c.args.over.now in let block = c.args.block.now in let place = c.in-Set.place in
     many_if o block c.new.result
     (begins_set o block place c.new.result c.in-Set.is
-    (c.new.ensures ∙ no_set_listed _ c.in-None.ensures ∙ ap₂ (λ p t. listed_at (thing_in p t place)) c.as_slice-places.ensures c.as_slice.ensures ∙ ap (λ (o : Over). listed_at (thing_in o.plan.places o.frame.things place)) c.over.view_is))
+    (c.new.ensures ∙ no_set_listed _ c.in-None.ensures ∙ ap (λ t. listed_at (thing_in t place)) c.as_slice.ensures ∙ ap (λ (o : Over). listed_at (thing_in o.frame.things place)) c.over.view_is))
     (c.candidates_from-in-None-2.ensures.many e)
 
 pub returns-in-Ok-clause-found : goal.returns-in-Ok-clause-found

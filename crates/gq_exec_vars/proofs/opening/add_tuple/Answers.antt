@@ -1,4 +1,4 @@
-use Rattle.std.proofs.Common.{subst, arith}
+use Rattle.std.proofs.Common.{subst}
 use Rattle.gq_exec_vars.specs.Begun.{HasFields}
 use Rattle.gq_exec_vars.proofs.OpenLemmas.{fields_end}
 use Rattle.gq_exec_vars.proofs.opening.add_tuple.Goals as goal
@@ -7,7 +7,7 @@ pub returns-clause-adds : goal.returns-clause-adds
 returns-clause-adds c = record {
   tuple = c.in_ok-tuple_type.field-0;
   fields_are = subst (λ os. HasFields os c.args.fields.now c.in_ok-tuple_type.field-0) c.as_slice-own.ensures (subst (λ fs. HasFields c.as_slice-own.result.now fs c.in_ok-tuple_type.field-0) c.as_slice-lent.ensures c.in_ok-tuple_type.ensures.fields);
-  next = omega arith;
+  next = c.requires;
   added = c.in_ok-push.ensures.ok;
 }
 

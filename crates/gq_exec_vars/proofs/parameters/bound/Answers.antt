@@ -6,9 +6,9 @@ use Rattle.gq_exec_vars.proofs.parameters.bound.Goals as goal
 pub loop-turn-init : goal.loop-turn-init
 loop-turn-init c = record {
   bound =
-      bound_none c.args.plan.now c.args.arguments.now c.in_ok-live.live (c.len-count.result - 0) (omega arith) (omega arith)
-      (nothing_lives c.args.plan.now.places c.in_ok-live.live _ c.in_ok-live.ensures.undo c.in_ok-live.ensures.things c.in_ok-live.ensures.accums);
-  accums = c.in_ok-live.ensures.accums;
+      bound_none c.args.plan.now c.args.arguments.now c.nothing-live.result (c.len-count.result - 0) (omega arith) (omega arith)
+      (nothing_lives c.nothing-live.result _ c.nothing-live.ensures.undo c.nothing-live.ensures.things c.nothing-live.ensures.accums);
+  accums = c.nothing-live.ensures.accums;
 }
 
 pub loop-turn-preserved : goal.loop-turn-preserved

@@ -6,8 +6,8 @@ use Rattle.gq_flow.proofs.PrintLemmas.{print_done, print_stops}
 use Rattle.gq_flow.proofs.print.print_more.Goals as goal
 
 pub returns-in-Err-clause-does : goal.returns-in-Err-clause-does
-returns-in-Err-clause-does c = print_stops c.args.context.now.plan.places (world_on gregorian c.args.context.now) (map view_item c.args.items.now) c.args.r.now c.args.r.now c.in-Err.fault c.in-Err.ensures
+returns-in-Err-clause-does c = print_stops (world_on gregorian c.args.context.now) (map view_item c.args.items.now) c.args.r.now c.args.r.now c.in-Err.fault c.in-Err.ensures
 
 pub returns-in-Ok-push-clause-does : goal.returns-in-Ok-push-clause-does
 returns-in-Ok-push-clause-does c =
-    print_done c.args.context.now.plan.places (world_on gregorian c.args.context.now) (map view_item c.args.items.now) c.args.r.now _ c.in-Ok.printed c.in-Ok.ensures refl refl c.in-Ok-push.ensures.ok
+    print_done (world_on gregorian c.args.context.now) (map view_item c.args.items.now) c.args.r.now _ c.in-Ok.printed c.in-Ok.ensures refl refl c.in-Ok-push.ensures.ok

@@ -6,4 +6,4 @@ use Rattle.gq_flow.proofs.PrintLemmas.{one_printed}
 use Rattle.gq_flow.proofs.print.printed.Goals as goal
 
 pub returns : goal.returns
-returns c = one_printed c.args.context.now.plan.places (world_on gregorian c.args.context.now) (map view_item c.args.items.now) c.args.frame.now c.print_over.result c.or_fault.result c.or_fault.ensures c.print_over.ensures
+returns c = one_printed (world_on gregorian c.args.context.now) (map view_item c.args.items.now) c.args.frame.now c.print_over.result c.or_fault.result c.or_fault.ensures c.print_over.ensures

@@ -12,12 +12,12 @@ use Rattle.gq_flow.proofs.rights.assign.Goals as goal
 
 pub returns-in-Select-clause-names : goal.returns-in-Select-clause-names
 returns-in-Select-clause-names g c =
-    subst (λ (r : Right). Becomes c.args.context.now.plan.places (λ s. assigned (world_on gregorian c.args.context.now) s (Place c.args.place) (option_map view_set_types c.args.types) (view_right r)) c.args.live.now c.assign_select.new.live c.assign_select.result)
+    subst (λ (r : Right). Becomes (λ s. assigned (world_on gregorian c.args.context.now) s (Place c.args.place) (option_map view_set_types c.args.types) (view_right r)) c.args.live.now c.assign_select.new.live c.assign_select.result)
     (sym c.in-Select.is) c.assign_select.ensures.names
 
 pub returns-in-Sets-clause-names : goal.returns-in-Sets-clause-names
 returns-in-Sets-clause-names g c =
-    subst (λ (r : Right). Becomes c.args.context.now.plan.places (λ s. assigned (world_on gregorian c.args.context.now) s (Place c.args.place) (option_map view_set_types c.args.types) (view_right r)) c.args.live.now c.assign_sets.new.live c.assign_sets.result)
+    subst (λ (r : Right). Becomes (λ s. assigned (world_on gregorian c.args.context.now) s (Place c.args.place) (option_map view_set_types c.args.types) (view_right r)) c.args.live.now c.assign_sets.new.live c.assign_sets.result)
     (sym c.in-Sets.is) c.assign_sets.ensures.names
 
 pub returns-in-Sets-clause-sound : goal.returns-in-Sets-clause-sound
@@ -25,7 +25,7 @@ returns-in-Sets-clause-sound g c = sound_kept c.assign_sets.result c.args.live.n
 
 pub returns-in-Value-clause-names : goal.returns-in-Value-clause-names
 returns-in-Value-clause-names g c =
-    subst (λ (r : Right). Becomes c.args.context.now.plan.places (λ s. assigned (world_on gregorian c.args.context.now) s (Place c.args.place) (option_map view_set_types c.args.types) (view_right r)) c.args.live.now c.assign_value.new.live c.assign_value.result)
+    subst (λ (r : Right). Becomes (λ s. assigned (world_on gregorian c.args.context.now) s (Place c.args.place) (option_map view_set_types c.args.types) (view_right r)) c.args.live.now c.assign_value.new.live c.assign_value.result)
     (sym c.in-Value.is) c.assign_value.ensures.names
 
 pub returns-in-Value-clause-sound : goal.returns-in-Value-clause-sound

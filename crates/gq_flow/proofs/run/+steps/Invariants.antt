@@ -1,38 +1,34 @@
-use Rattle.std.proofs.Common.{◌≡◌, ◌+◌, ◌*◌, ◌≤◌, Some, drop}
-use Rattle.std.specs.List.{slice_get}
-use Rattle.gq_value.specs.declared.kind.BaseType.{BaseType}
-use Rattle.gq_value.specs.AccumViews.{base_of}
+use Rattle.std.proofs.Common.{◌+◌, ◌*◌, ◌≤◌, drop}
 use Rattle.gq_rules_meaning.specs.Runs.{run, run_all, condition_of}
 use Rattle.gq_rules_calendar.specs.Gregorian.{gregorian}
-use Rattle.gq_plan_ir.specs.declared.plan.PlaceType.TheVariants.{Variable}
 use Rattle.gq_plan_ir.specs.Reference.{Place}
 use Rattle.gq_plan_ir.specs.ExprView.{view}
 use Rattle.gq_plan_ir.specs.PlanView.{view_step, view_steps}
 use Rattle.gq_frame.specs.Slots.{AreSound}
 use Rattle.gq_exec_control.specs.Contexts.{world_on}
 use Rattle.gq_exec_control.specs.Standing.{Goes}
-use Rattle.gq_exec_control.specs.Values.{values_of}
+use Rattle.gq_exec_control.specs.Values.{base_in, values_of}
 use Rattle.gq_flow.specs.Bodies.{branches_from, goes_round, values_from}
 use Rattle.gq_flow.proofs.LoopLemmas.{Rounding}
 use Rattle.gq_flow.proofs.run.+steps.Given as goal
 
 abbrev pub invariant-run_steps-loop-step : goal.invariant-run_steps-loop-step
 invariant-run_steps-loop-step g l = record {
-  goes : Goes l.program.context.plan.places (run_all (world_on gregorian l.program.context) (view_steps l.steps)) (run_all (world_on gregorian l.program.context) (view_steps (drop l.step-index l.steps))) l.fn.r l.r;
+  goes : Goes (run_all (world_on gregorian l.program.context) (view_steps l.steps)) (run_all (world_on gregorian l.program.context) (view_steps (drop l.step-index l.steps))) l.fn.r l.r;
   sound : AreSound l.r.live.frame.accums;
   turns : l.r.turns ≤ l.fn.r.turns;
 }
 
 abbrev pub invariant-run_step-loop-branch : goal.invariant-run_step-loop-branch
 invariant-run_step-loop-branch g l = record {
-  goes : Goes l.program.context.plan.places (run (world_on gregorian l.program.context) (view_step l.step)) (branches_from (world_on gregorian l.program.context) (drop l.branch-index l.branch-items) l.others) l.fn.r l.r;
+  goes : Goes (run (world_on gregorian l.program.context) (view_step l.step)) (branches_from (world_on gregorian l.program.context) (drop l.branch-index l.branch-items) l.others) l.fn.r l.r;
   sound : AreSound l.r.live.frame.accums;
   turns : l.r.turns ≤ l.fn.r.turns;
 }
 
 abbrev pub invariant-run_rounds-round : goal.invariant-run_rounds-round
 invariant-run_rounds-round g l = record {
-  goes : Rounding l.program.context.plan.places (goes_round l.fn.most (condition_of (world_on gregorian l.program.context) (view l.condition)) (run_all (world_on gregorian l.program.context) (view_steps l.body))) l.left
+  goes : Rounding (goes_round l.fn.most (condition_of (world_on gregorian l.program.context) (view l.condition)) (run_all (world_on gregorian l.program.context) (view_steps l.body))) l.left
       (condition_of (world_on gregorian l.program.context) (view l.condition)) (run_all (world_on gregorian l.program.context) (view_steps l.body)) l.fn.r l.r;
   sound : AreSound l.r.live.frame.accums;
   turns : l.r.turns ≤ l.fn.r.turns;
@@ -40,9 +36,8 @@ invariant-run_rounds-round g l = record {
 
 abbrev pub invariant-run_values-value : goal.invariant-run_values-value
 invariant-run_values-value g l = record {
-  goes : (base : BaseType) → slice_get l.program.context.plan.places l.place ≡ Some (Variable base)
-      → Goes l.program.context.plan.places (values_from (Place l.place) (run_all (world_on gregorian l.program.context) (view_steps l.body)) (base_of base) (values_of l.values))
-      (values_from (Place l.place) (run_all (world_on gregorian l.program.context) (view_steps l.body)) (base_of base) (drop l.at (values_of l.values))) l.fn.r l.r;
+  goes : Goes (values_from (Place l.place) (run_all (world_on gregorian l.program.context) (view_steps l.body)) (base_in l.values) (values_of l.values))
+      (values_from (Place l.place) (run_all (world_on gregorian l.program.context) (view_steps l.body)) (base_in l.values) (drop l.at (values_of l.values))) l.fn.r l.r;
   sound : AreSound l.r.live.frame.accums;
   turns : l.at + l.r.turns ≤ l.fn.r.turns;
 }

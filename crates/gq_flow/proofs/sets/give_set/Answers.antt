@@ -9,5 +9,5 @@ use Rattle.gq_flow.proofs.sets.give_set.Goals as goal
 
 pub returns-clause-names : goal.returns-clause-names
 returns-clause-names c =
-    fixed_by gregorian c.args.context.now c.args.place (option_map view_set_types c.args.types) (typed c.args.set) c.as_slice-own.result.now c.as_slice-places.result.now c.args.live.now c.assign_set.new.live c.assign_set.result
-    (c.as_slice-own.ensures ∙ ap (λ (b : Basis). b.plan.vertices) c.context.view_is) (c.as_slice-places.ensures ∙ ap (λ (b : Basis). b.plan.places) c.context.view_is) c.assign_set.ensures.names
+    fixed_by gregorian c.args.context.now c.args.place (option_map view_set_types c.args.types) (typed c.args.set) c.as_slice-own.result.now c.args.live.now c.assign_set.new.live c.assign_set.result
+    (c.as_slice-own.ensures ∙ ap (λ (b : Basis). b.plan.vertices) c.context.view_is) c.assign_set.ensures.names

@@ -9,5 +9,5 @@ use Rattle.gq_flow.proofs.sets.set_held.Goals as goal
 pub returns : goal.returns
 returns c =
     held_on gregorian c.args.context.now c.args.frame.now _ (view_term c.args.expression.now.first) (others_of c.args.expression.now.others) c.sets.result c.or_fault.result
-    (ap (λ (b : Basis). b.vertices) c.context.view_is) (c.as_slice.ensures ∙ ap (λ (b : Basis). b.plan.vertices) c.context.view_is) (c.as_slice-2.ensures ∙ ap (λ (b : Basis). b.plan.places) c.context.view_is) refl
+    (ap (λ (b : Basis). b.vertices) c.context.view_is) (c.as_slice.ensures ∙ ap (λ (b : Basis). b.plan.vertices) c.context.view_is) refl
     c.sets.ensures c.or_fault.ensures

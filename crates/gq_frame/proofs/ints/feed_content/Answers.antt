@@ -3,6 +3,8 @@ use Rattle.std.proofs.lemmas.Int.{to_z-of_z}
 use Rattle.gq_value.specs.Accums.{One}
 use Rattle.gq_value.specs.Val.{Int}
 use Rattle.gq_value.specs.ViewLaws.{val-Int}
+use Rattle.gq_value.specs.declared.value.Value.TheVariants as value
+use Rattle.gq_value.proofs.AccumLemmas.{given-One}
 use Rattle.gq_nest.proofs.LevelLemmas.{opened-Scalar}
 use Rattle.gq_nest.proofs.FeedSteps.{on_ok}
 use Rattle.gq_frame.proofs.IntLemmas.{feeds_of, scalar_feeds}
@@ -16,4 +18,4 @@ returns-in-Scalar c =
 pub returns-in_default : goal.returns-in_default
 returns-in_default c =
     let f : FitsSigned w64 c.args.x = search rules in
-    on_ok c.push.result c.push.ensures.pushed (λ takes. feeds_of c.args.content.now c.push.new.self (One (Int c.args.x)) (rw (to_z-of_z w64 c.args.x f, val-Int c.args.x) at takes))
+    on_ok c.feed.result c.feed.ensures.fed (λ takes. feeds_of c.args.content.now c.feed.new.self (One (Int c.args.x)) (rw (to_z-of_z w64 c.args.x f, given-One (value.Int c.args.x), val-Int c.args.x) at takes))

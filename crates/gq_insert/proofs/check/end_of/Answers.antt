@@ -1,7 +1,8 @@
 use Rattle.std.proofs.Common.{◌≡◌, Some, refl, ap, sym, subst, ◌∙◌}
 use Rattle.gq_graph.specs.declared.types.VertexType.{VertexType}
 use Rattle.gq_load_check.specs.Targets.{no_vertex_type, vertex_type_at}
-use Rattle.gq_insert.specs.Fits.{IsId, row_fits}
+use Rattle.gq_index.specs.Rows.{IsId}
+use Rattle.gq_insert.specs.Fits.{row_fits}
 use Rattle.gq_insert.specs.Inserts.{given_id, default_row}
 use Rattle.gq_insert.proofs.FitLemmas.{given_fits, default_row_fits}
 use Rattle.gq_insert.proofs.check.end_of.Goals as goal

@@ -4,14 +4,14 @@ use Rattle.std.proofs.lemmas.Map.Iter.{rest_more, rest_all}
 use Rattle.gq_value.specs.Views.{val}
 use Rattle.gq_nest.proofs.LevelLemmas.{opened-Map, opened-Group}
 use Rattle.gq_nest.proofs.EntryLemmas.{value_there, value_new}
-use Rattle.gq_nest.proofs.FeedSteps.{on_ok}
+use Rattle.gq_nest.proofs.FeedSteps.{on_ok, on_any}
 use Rattle.gq_nest.proofs.CopySteps.{value_rising}
-use Rattle.gq_nest.proofs.MergeSteps.{merge_map, uniting_first, uniting_more, uniting_all}
+use Rattle.gq_nest.proofs.MergeSteps.{merge_map, uniting_first, uniting_more, uniting_all, unites_none, no_entries}
 use Rattle.gq_nest.specs.declared.content.Content.{out-Content}
 use Rattle.gq_nest.specs.Forms.{Merges}
 use Rattle.gq_nest.proofs.PartSteps.{midway_all, midway_next}
 use Rattle.gq_nest.proofs.GroupLemmas.{group_there, group_new, group_rising}
-use Rattle.gq_nest.proofs.GroupMerges.{merge_group, groups_first, groups_more, groups_all}
+use Rattle.gq_nest.proofs.GroupMerges.{merge_group, groups_first, groups_more, groups_all, groups_none, no_groups}
 use Rattle.gq_nest.proofs.merge.+merging.Goals as goal
 
 pub merge-returns-in-Map-clause-merged : goal.merge-returns-in-Map-clause-merged
@@ -47,7 +47,7 @@ merge_parts-loop-i-preserved t c = midway_next (λ x p z. Merges (out-Content x)
 pub merge_parts-returns : goal.merge_parts-returns
 merge_parts-returns t c =
     let end : c.loop-i.i ≡ length c.args.parts.now = omega (arith, c.loop-i-test.false, c.loop-i.auto.i-end) in
-    midway_all (λ x p z. Merges (out-Content x) (out-Content p) (out-Content z)) _ _ _ _ end (c.if-parts-len.false ∙ c.len.ensures) c.loop-i.invariant.1
+    λ as_many. midway_all (λ x p z. Merges (out-Content x) (out-Content p) (out-Content z)) _ _ _ _ end (c.if-parts-len.false ∙ c.len.ensures) c.loop-i.invariant.1
 
 pub merge_groups-loop-row-init : goal.merge_groups-loop-row-init
 merge_groups-loop-row-init t c = rw (c.in-Group.is, opened-Group c.in-Group.field-0 c.in-Group.more) (let e = c.into_iter-row-iterator.ensures.into_iter_gives in groups_first _ _ _ _ e.0 (group_rising _ e.1))
@@ -57,3 +57,9 @@ merge_groups-loop-row-preserved t c = groups_more _ _ _ _ _ _ _ _ _ _ (rest_more
 
 pub merge_groups-returns-in-None : goal.merge_groups-returns-in-None
 merge_groups-returns-in-None t c = groups_all _ _ _ _ _ (rest_all deref_pair _ _ _ c.in-None.is c.next.ensures.steps) c.loop-row.invariant
+
+pub merge_entries-returns-in_default : goal.merge_entries-returns-in_default
+merge_entries-returns-in_default t c = on_any c.passed.result (unites_none _ _ _ (no_entries c.args.other.now c.in_default.not-Map))
+
+pub merge_groups-returns-in_default : goal.merge_groups-returns-in_default
+merge_groups-returns-in_default t c = on_any c.passed.result (groups_none _ _ _ (no_groups c.args.other.now c.in_default.not-Group))

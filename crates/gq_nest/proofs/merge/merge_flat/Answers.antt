@@ -6,8 +6,8 @@ use Rattle.gq_nest.proofs.merge.merge_flat.Goals as goal
 pub returns-in-Scalar-other-clause-merged : goal.returns-in-Scalar-other-clause-merged
 returns-in-Scalar-other-clause-merged c = rw (c.in-Scalar.is, opened-Scalar c.in-Scalar.mine, c.in-Scalar-other.is, opened-Scalar c.in-Scalar-other.theirs) (merge_scalar _ _ _ (rw c.in-Scalar.mine-is at c.merge.ensures.kept) (rw c.in-Scalar.mine-is at c.merge.ensures.joined))
 
-pub returns-in-Set-other-2-clause-merged : goal.returns-in-Set-other-2-clause-merged
-returns-in-Set-other-2-clause-merged c = rw (c.in-Set.is, opened-Set c.in-Set.keys, c.in-Set-other-2.is, opened-Set c.in-Set-other-2.more) (on_ok _ (rw c.in-Set.keys-is at c.add_keys.ensures) (merge_set _ _ _))
+pub returns-in-Set-other-clause-merged : goal.returns-in-Set-other-clause-merged
+returns-in-Set-other-clause-merged c = rw (c.in-Set.is, opened-Set c.in-Set.keys, c.in-Set-other.is, opened-Set c.in-Set-other.more) (on_ok _ (rw c.in-Set.keys-is at c.add_keys.ensures) (merge_set _ _ _))
 
 pub returns-in-Bag-other-clause-merged : goal.returns-in-Bag-other-clause-merged
 returns-in-Bag-other-clause-merged c = rw (c.in-Bag.is, opened-Bag c.in-Bag.items, c.in-Bag-other.is, opened-Bag c.in-Bag-other.more) (on_ok _ (rw (c.as_slice.ensures, c.in-Bag.items-is) at c.add_items.ensures) (merge_bag _ _ _))

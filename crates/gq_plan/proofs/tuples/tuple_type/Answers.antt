@@ -1,4 +1,4 @@
-use Rattle.std.proofs.Common.{◌≡◌, ◌≢◌, Some, None, subst, rules}
+use Rattle.std.proofs.Common.{◌≡◌, ◌≢◌, ◌∙◌, Some, None, subst, rules}
 use Rattle.gq_rules_typing.specs.StatementViews.{view_fields}
 use Rattle.gq_rules_typing.specs.Statements.{TupleType}
 use Rattle.gq_scope.specs.Held.{sorts_in}
@@ -16,8 +16,8 @@ use Rattle.gq_plan.proofs.tuples.tuple_type.Goals as goal
 pub returns-clause-planned : goal.returns-clause-planned
 unfolding globals_in
 returns-clause-planned c = λ n.
-    tuple_planned c.args.scope.now n c.args.tuples.now c.declare.new.tuples c.args.slots.now (view_fields c.args.trees.now) c.args.name.now c.in_ok-planned.planned c.in_ok-fields.fields c.len-number.result
-    c.requires c.len-number.ensures
+    tuple_planned c.args.scope.now n c.args.tuples.now c.declare.new.tuples c.args.slots.now (view_fields c.args.trees.now) c.args.name.now c.in_ok-planned.planned c.in_ok-fields.fields c.in_ok-number.number
+    c.requires (c.in_ok-number.ensures.ok ∙ c.len.ensures)
     (subst (λ (ts : TupleTypes). each_resolved (resolved_field (globals_of (sorts_in c.args.scope.now) ts c.args.slots.now)) (view_fields c.args.trees.now) ≡ Some c.in_ok-planned.planned) c.as_slice.ensures c.in_ok-planned.ensures)
     c.in_ok-fields.ensures.typed c.in_ok-declare.ensures.added
 

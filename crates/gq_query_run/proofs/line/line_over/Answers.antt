@@ -30,3 +30,6 @@ returns-in-Err g c =
     c.refused.ensures
     (run_query (graph_read c.args.catalog.now c.args.graph c.args.store.now) gregorian (view_query c.args.query.now) (map val c.args.arguments.now) c.args.runner.now.turns)
     (c.in-Err.ensures c.args.graph (view_query c.args.query.now) c.requires.prepared)
+
+pub run-requires-clause-prepared : goal.run-requires-clause-prepared
+run-requires-clause-prepared g c = (c.args.graph, view_query c.args.query.now, c.requires.prepared)

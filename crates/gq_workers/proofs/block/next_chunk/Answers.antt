@@ -4,6 +4,9 @@ use Rattle.gq_workers.specs.declared.run.BlockProgress.{BlockProgress}
 use Rattle.gq_workers.proofs.RunLemmas.{chunk_steps}
 use Rattle.gq_workers.proofs.block.next_chunk.Goals as goal
 
+pub feed-requires : goal.feed-requires
+feed-requires g c = (rw c.in-None.is at c.in_ok-fault.ensures).shaped.one
+
 pub returns : goal.returns
 returns g c =
     let new : BlockProgress = record { at = c.min-end.result; accums = c.feed.new.accums; fed = c.in_ok-run.field-0; found = record { batches = c.clear.new.self; inputs = c.truncate.new.self; room = c.try_chunk.new.found.room; sources = c.try_chunk.new.found.sources; targets = c.try_chunk.new.found.targets; edges = c.try_chunk.new.found.edges } } in

@@ -14,17 +14,17 @@ loop-place-init c =
     (record { one = c.requires.shaped.one; sources = c.requires.shaped.sources; targets = c.requires.shaped.targets; short = record { sources = c.requires.shaped.short.sources; targets = c.requires.shaped.short.targets } }) refl refl
 
 pub try_one-requires-clause-within : goal.try_one-requires-clause-within
-try_one-requires-clause-within c = within_at (length c.args.over.now.vertices) c.loop-place.place c.args.work.now.candidates c.near-candidate.result c.requires.work.candidates.within c.near-candidate.ensures
+try_one-requires-clause-within c = within_at (length c.args.over.now.vertices) c.loop-place.place c.args.work.now.candidates c.near-candidate.result c.requires.work.candidates.within c.near-candidate.ensures.candidate
 
 pub returns-in-Some : goal.returns-in-Some
 returns-in-Some c = chunk_fault (come gregorian c.args.over.now c.args.work.now) c.args.work.now.candidates c.args.over.now c.args.start c.args.end c.loop-place.place c.near-candidate.result c.in-Some.fault c.args.found.now c.loop-place.found c.try_one.new.found
-    c.near-candidate.ensures c.loop-place.invariant
+    c.near-candidate.ensures.candidate c.loop-place.invariant
     (subst (λ (f : Option Stop). Tried c.args.over.now (come gregorian c.args.over.now c.args.work.now c.near-candidate.result) c.loop-place.found c.try_one.new.found f) c.in-Some.is c.in_ok-fault.ensures.tried)
     c.in_ok-fault.ensures.shaped
 
 pub loop-place-preserved : goal.loop-place-preserved
 loop-place-preserved c = chunk_next (come gregorian c.args.over.now c.args.work.now) c.args.work.now.candidates c.args.over.now c.args.start c.args.end c.loop-place.place c.near-candidate.result c.args.found.now c.loop-place.found c.try_one.new.found
-    c.loop-place-test.true c.near-candidate.ensures c.loop-place.invariant
+    c.loop-place-test.true c.near-candidate.ensures.candidate c.loop-place.invariant
     (subst (λ (f : Option Stop). Tried c.args.over.now (come gregorian c.args.over.now c.args.work.now c.near-candidate.result) c.loop-place.found c.try_one.new.found f) c.in-None.is c.in_ok-fault.ensures.tried)
     c.in_ok-fault.ensures.shaped
 

@@ -11,4 +11,10 @@ pub returns : goal.returns
 returns g c graph query is =
     runs_same (plan_over c.args.catalog.now c.args.store.now gregorian c.args.prepared.now (map val c.args.arguments.now) c.args.turns)
     (run_query (graph_read c.args.catalog.now graph c.args.store.now) gregorian query (map val c.args.arguments.now) c.args.turns) c.run_plan.result
-    (is.same c.args.store.now.vertices c.args.store.now.edges.rows gregorian (map val c.args.arguments.now) c.args.turns) c.run_plan.ensures
+    (is.prints.same c.args.store.now.vertices c.args.store.now.edges.rows gregorian (map val c.args.arguments.now) c.args.turns) c.run_plan.ensures
+
+pub run_plan-requires-clause-few : goal.run_plan-requires-clause-few
+run_plan-requires-clause-few g c κs within = c.requires.prepared.2.few
+
+pub run_plan-requires-clause-numbered : goal.run_plan-requires-clause-numbered
+run_plan-requires-clause-numbered g c κs within = c.requires.prepared.2.numbered

@@ -5,4 +5,4 @@ use Rattle.gq_flow.proofs.ProgramLemmas.{limit_limits}
 use Rattle.gq_flow.proofs.program.Program.limit.Goals as goal
 
 pub returns : goal.returns
-returns g c = limit_limits c.args.self.now.context.plan.places (world_on gregorian c.args.self.now.context) (view c.args.most.now) c.args.r.now c.limit.result c.limit.ensures
+returns g c = limit_limits (world_on gregorian c.args.self.now.context) (view c.args.most.now) c.args.r.now c.limit.result c.limit.ensures

@@ -5,4 +5,4 @@ use Rattle.gq_flow.proofs.ProgramLemmas.{rounds_go}
 use Rattle.gq_flow.proofs.program.Program.rounds.Goals as goal
 
 pub returns : goal.returns
-returns g c = rounds_go c.args.self.now.context.plan.places (world_on gregorian c.args.self.now.context) c.args.place (view_over c.args.over.now) c.args.r.now c.rounds.result c.rounds.ensures
+returns g c = rounds_go (world_on gregorian c.args.self.now.context) (view_over c.args.over.now) c.args.r.now c.rounds.result c.rounds.ensures

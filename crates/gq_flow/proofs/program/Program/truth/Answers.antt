@@ -5,4 +5,4 @@ use Rattle.gq_flow.proofs.ProgramLemmas.{truth_tests}
 use Rattle.gq_flow.proofs.program.Program.truth.Goals as goal
 
 pub returns : goal.returns
-returns g c = truth_tests c.args.self.now.context.plan.places (world_on gregorian c.args.self.now.context) (view c.args.condition.now) c.args.r.now c.truth.result c.truth.ensures
+returns g c = truth_tests (world_on gregorian c.args.self.now.context) (view c.args.condition.now) c.args.r.now c.truth.result c.truth.ensures

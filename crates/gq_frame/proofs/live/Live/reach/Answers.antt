@@ -6,7 +6,7 @@ use Rattle.gq_frame.proofs.live.Live.reach.Goals as goal
 
 pub loop-more-preserved : goal.loop-more-preserved
 loop-more-preserved c = record {
-  names = λ places s l. lives_more places c.loop-more.self _ s c.in_ok-push.ensures.ok refl refl (c.loop-more.invariant.names places s l);
+  names = λ s l. lives_more c.loop-more.self _ s c.in_ok-push.ensures.ok refl refl (c.loop-more.invariant.names s l);
   there = ap length c.in_ok-push.ensures.ok ∙ length-append c.loop-more.self.frame.things (None ∷ []) ∙ ap (λ n. n + 1) c.loop-more.invariant.there;
   accums = c.loop-more.invariant.accums;
 }

@@ -8,7 +8,7 @@ pub invariant_of-self-2 : goal.invariant_of-self-2
 invariant_of-self-2 g c =
     let rows = c.self.inside.rows.items in
     let hidden = c.self.inside.hidden.items in
-    let few : length rows + 1 < 4294967296 = omega (arith, c.len.ensures, c.if-len.false, c.self.inside.rows.ok.0) in
+    let few : length rows + 1 < 4294967296 = omega (arith, c.len.ensures, c.in_ok-within.ensures.ok, c.self.inside.rows.ok.0) in
     let row_is : c.len-2.result + 1 ≡ suc (length rows) = omega (arith, c.len-2.ensures, c.reserve.ensures.len, c.self.inside.rows.ok.0) in
     let rows_are : c.put.new.items.items ≡ rows ++ (c.args.name.now, c.args.what) ∷ [] = cc (c.put.ensures, c.reserve.ensures.items, c.in_ok-copy.ensures) in
     let hidden_are : c.put-2.new.items.items ≡ hidden ++ c.unwrap_or-hidden.result ∷ [] = cc (c.put-2.ensures, c.reserve-2.ensures.items) in

@@ -10,8 +10,8 @@ returns-then-has_as_many g c =
     ran_over c.args.catalog.now c.args.plan.now (map val c.args.arguments.now) c.args.turns g.N.StoreName.base c.self.inside.store c.self.inside.rows c.args.self.now.rows c.run_plan.result
     c.self.invariant.after (ap (λ (s : Shown). s.rows) c.self.view_is) c.run_plan.ensures
 
-pub run_plan-requires-in-Ok-after_bounds : goal.run_plan-requires-in-Ok-after_bounds
-run_plan-requires-in-Ok-after_bounds g c κs within =
+pub run_plan-requires-in-Ok-clause-indexed : goal.run_plan-requires-in-Ok-clause-indexed
+run_plan-requires-in-Ok-clause-indexed g c κs within =
     copy_indexed g.N.StoreName.base g.N.StoreName.schema (arc_value c.self.inside.catalog) c.self.inside.store c.self.inside.index c.self.inside.sealed c.self.inside.rows c.self.invariant
     c.args.catalog.now c.in-Ok.index c.requires.grown c.in-Ok.ensures
 
