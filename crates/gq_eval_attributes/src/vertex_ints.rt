@@ -65,7 +65,7 @@ fn attribute_int(vertices: &Vertices, of: &VertexType, vertex: u32, place: u32) 
 {
     match of.attributes.get(place as usize) {
         None => None,
-        Some(_) => match vertices.attr(vertex, place as usize) {
+        Some(_) => match vertices.attr(vertex, place) {
             Value::Int(x) => Some(*x),
             _ => None,
         },

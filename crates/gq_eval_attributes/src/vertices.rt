@@ -95,7 +95,7 @@ fn attribute<'a>(
         None => Err(Halt::Stuck),
         Some(attribute) => Ok(Seen::Value(
             Sort::of(&attribute.kind),
-            Operand::Lent(vertices.attr(vertex, place)),
+            Operand::Lent(vertices.value(vertex, place)),
         )),
     }
 }

@@ -73,7 +73,7 @@ fn put_attributes(
     ensures { OnOk result (members.new ≡ members.old ++ named_shown (world_over gregorian over.now) (attribute_fields attributes.now) (map val (vertex_at vertices.now vertex).attributes)) }
 {
     for (place, attribute) in attributes.iter().enumerate() {
-        let value = vertices.attr(vertex, place);
+        let value = vertices.value(vertex, place);
         put_value(
             alloc,
             over,

@@ -110,7 +110,16 @@ impl Vertices {
     }
 
     /// An attribute of a vertex, by its place among those of the type.
-    pub fn attr(&self, vertex: u32, place: usize) -> &Value
+    pub fn attr(&self, vertex: u32, place: u32) -> &Value
+        requires there { vertex < length self.now }
+        requires within { place < length (vertex_at self.now vertex).attributes }
+        ensures { slice_get (vertex_at self.now vertex).attributes place ≡ Some result.now }
+    {
+        self.value(vertex, place as usize)
+    }
+
+    /// An attribute of a vertex, as `attr` gives it, by a place of any size.
+    pub fn value(&self, vertex: u32, place: usize) -> &Value
         requires there { vertex < length self.now }
         requires within { place < length (vertex_at self.now vertex).attributes }
         ensures { slice_get (vertex_at self.now vertex).attributes place ≡ Some result.now }

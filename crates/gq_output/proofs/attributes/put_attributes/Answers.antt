@@ -8,5 +8,5 @@ use Rattle.gq_output.proofs.attributes.put_attributes.Goals as goal
 pub loop-place-preserved : goal.loop-place-preserved
 loop-place-preserved c =
     let n : c.loop-place.place < length c.args.attributes.now = omega arith in
-    attribute_next (world_over gregorian c.args.over.now) c.args.attributes.now (vertex_at c.args.vertices.now c.args.vertex).attributes _ c.loop-place.members _ c.loop-place.place _ c.attr-value.result.now c.loop-place.invariant n
+    attribute_next (world_over gregorian c.args.over.now) c.args.attributes.now (vertex_at c.args.vertices.now c.args.vertex).attributes _ c.loop-place.members _ c.loop-place.place _ c.value-value.result.now c.loop-place.invariant n
     c.index-attributes-place.is c.attr-value.ensures c.in_ok-put_value.ensures
