@@ -47,15 +47,15 @@ module _ {A : Type 0} where
   set_behind (x ∷ xs) ys zero k w e = absurd (omega (arith, e))
   set_behind (x ∷ xs) ys (suc m) k w e = ap (λ t. x ∷ t) (set_behind xs ys m k w (omega (arith, e)))
 
-  grouped : (xs ys zs : List A) → (xs ++ ys) ++ zs ≡ xs ++ (ys ++ zs)
+  pub grouped : (xs ys zs : List A) → (xs ++ ys) ++ zs ≡ xs ++ (ys ++ zs)
   grouped [] ys zs = refl
   grouped (x ∷ xs) ys zs = ap (λ t. x ∷ t) (grouped xs ys zs)
 
-  none_after : (xs : List A) → xs ++ [] ≡ xs
+  pub none_after : (xs : List A) → xs ++ [] ≡ xs
   none_after [] = refl
   none_after (x ∷ xs) = ap (λ t. x ∷ t) (none_after xs)
 
-  every_append : (P : A → Type 0) (xs ys : List A) → every P xs → every P ys → every P (xs ++ ys)
+  pub every_append : (P : A → Type 0) (xs ys : List A) → every P xs → every P ys → every P (xs ++ ys)
   every_append P [] ys p q = q
   every_append P (x ∷ xs) ys p q = (p.0, every_append P xs ys p.1 q)
 

@@ -1,6 +1,6 @@
 -- Pages: the contents of all targets in pages, which copies share.
 -- Every page is full but the last one. Every content of a shared page fits, so such a page is never judged again.
-use Rattle.std.specs.Prelude.{◌≡◌, ◌≤◌, ℕ, ◌-◌, ℤ, true, List, [], ◌∷◌, ◌++◌, length, slice_get, slice_set, Some}
+use Rattle.std.specs.Prelude.{◌≡◌, ◌≤◌, ℕ, ◌-◌, ℤ, Bool, true, false, List, [], ◌∷◌, ◌++◌, length, slice_get, slice_set, Some}
 use Rattle.std.specs.Arc.{arc_value}
 use Rattle.gq_value.specs.Val.{Val, Int}
 use Rattle.gq_value.specs.Accums.{Given, One}
@@ -8,7 +8,7 @@ use Rattle.gq_accum_laws.specs.Fits.{fits}
 use Rattle.gq_nest.specs.declared.content.Content.{Content, out-Content}
 use Rattle.gq_nest.specs.Entries.{every}
 use Rattle.gq_nest.specs.Forms.{Feeds}
-use Rattle.gq_nest.specs.Shows.{TakesInput}
+use Rattle.gq_nest.specs.Shows.{ShowsTheSame, TakesInput}
 use Rattle.gq_nest.specs.Tells.{CanBeSet, IsSet, Tells}
 use Rattle.gq_frame.specs.declared.page.Page.{Page}
 use Rattle.gq_frame.specs.declared.page.Page.TheVariants as page
@@ -83,6 +83,35 @@ abbrev pub SealEach : List Page → List Page → Type 0
 SealEach [] [] = Unit {0}
 SealEach (p ∷ ps) (q ∷ qs) = Seals p q × SealEach ps qs
 SealEach _ _ = ⊥
+
+-- ---- many contents that are alike
+
+-- a full page
+abbrev pub IsFullPage : Page → Type 0
+IsFullPage p = IsKept p × (length (items_of p) ≡ page_size)
+
+-- a full page of contents that show what this one shows
+pub record IsFullOf (c : Content) (p : Page) : Type 0 where
+  pub full : IsFullPage p
+  pub like : every (ShowsTheSame c) (items_of p)
+
+-- a page more, whose contents show what this one's show
+pub record AddsCopy (p : Page) (old new : List Page) : Type 0 where
+  pub more : List Content
+  pub added : contents_of new ≡ contents_of old ++ more
+  pub same : ShowTheSame (items_of p) more
+
+-- so many contents more, each of which shows what this one shows
+pub record Fills (c : Content) (count : ℕ) (old new : List Content) : Type 0 where
+  pub more : List Content
+  pub added : new ≡ old ++ more
+  pub many : length more ≡ count
+  pub like : every (ShowsTheSame c) more
+
+-- the contents of a copy of the page, or nothing
+abbrev pub PushesPage : Page → Bool → List Content → List Content → Type 0
+PushesPage p true old new = (c : Content) → IsFullOf c p → Fills c page_size old new
+PushesPage p false old new = new ≡ old
 
 -- ---- changes
 

@@ -10,6 +10,7 @@
 #![tactic(auto)]
 
 mod accums;
+mod filling;
 mod frame;
 mod ints;
 mod live;

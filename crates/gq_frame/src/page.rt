@@ -4,7 +4,7 @@ ghost use Rattle.gq_value.specs.AccumViews.{given};
 ghost use Rattle.gq_value.specs.Views.{val};
 ghost use Rattle.gq_nest.specs.Shows.{ShowsTheSame};
 ghost use Rattle.gq_frame.specs.Targets.{ShowTheSame};
-ghost use Rattle.gq_frame.specs.Pages.{AllFit, AllowsAt, ChangesAt, IsKept, IsOwnCopy, Keeps, Shares, Takes, TakesInt, SetsTo, items_of, page_size};
+ghost use Rattle.gq_frame.specs.Pages.{AllFit, AllowsAt, ChangesAt, IsFullOf, IsKept, IsOwnCopy, Keeps, Shares, Takes, TakesInt, SetsTo, items_of, page_size};
 
 use crate::ints::feed_content;
 use gq_base::{List, OutOfMemory};
@@ -102,6 +102,17 @@ fn all_fit(contents: &[Content]) -> bool
         }
     }
     true
+}
+
+/// A full page of copies of `content`, which copies of the page share if they fit.
+pub(crate) fn filled(alloc: Global, content: &Content) -> Result<Page, OutOfMemory>
+    ensures { IfOk result (IsFullOf content.now) }
+{
+    let mut items = List::from_vec(Vec::with_capacity(alloc, PAGE_SIZE)?);
+    for _ in 0..PAGE_SIZE {
+        items.push(copy_of(alloc, content)?)?;
+    }
+    Ok(sealed(alloc, items))
 }
 
 /// Appends a content to a page with room for it.
@@ -232,7 +243,7 @@ fn copied(alloc: Global, contents: &[Content]) -> Result<List<Content>, OutOfMem
 
 /// Copies a content. Most are one number or truth value, and these are copied without a call.
 #[tactic(auto, using(crate::proofs::OpenSteps::shows_itself))]
-fn copy_of(alloc: Global, content: &Content) -> Result<Content, OutOfMemory>
+pub(crate) fn copy_of(alloc: Global, content: &Content) -> Result<Content, OutOfMemory>
     ensures { IfOk result (ShowsTheSame content.now) }
 {
     match content {

@@ -1,10 +1,10 @@
 // The contents of all targets, in pages.
-ghost use Rattle.std.specs.Prelude.{◌≡◌, ◌<◌, ◌++◌, [], ◌∷◌, IfOk, OnOk, OnErr, length, slice_get, Some, true};
+ghost use Rattle.std.specs.Prelude.{◌≡◌, ◌<◌, ◌++◌, [], ◌∷◌, IfOk, OnOk, OnErr, length, false, slice_get, Some, true};
 ghost use Rattle.std.specs.Option.{option_copied};
 ghost use Rattle.gq_value.specs.AccumViews.{given};
 ghost use Rattle.gq_value.specs.Views.{val};
 ghost use Rattle.gq_frame.specs.Targets.{ShowTheSame};
-ghost use Rattle.gq_frame.specs.Pages.{AllFit, AllowsAt, ArePages, ChangesAt, IsFull, SealEach, ShareEach, SetsTo, Takes, TakesInt, contents_of};
+ghost use Rattle.gq_frame.specs.Pages.{AllFit, AllowsAt, AddsCopy, ArePages, ChangesAt, IsFull, IsFullPage, PushesPage, SealEach, ShareEach, SetsTo, Takes, TakesInt, contents_of};
 
 use crate::page;
 use crate::page::{PAGE_SIZE, Page};
@@ -86,6 +86,21 @@ impl Pages {
         push_last(alloc, &mut self.pages, content)?;
         self.len += 1;
         Ok(())
+    }
+
+    /// Appends a copy of a full page, or returns false if the last page has room. On `OutOfMemory` nothing changes.
+    pub(crate) fn push_page(&mut self, alloc: Global, page: &Page) -> Result<bool, OutOfMemory>
+        requires { IsFullPage page.now }
+        ensures pushes { IfOk result (λ pushed. PushesPage page.now pushed self.old self.new) }
+        ensures err { OnErr result (self.new ≡ self.old) }
+    {
+        within(self.len, usize::MAX - PAGE_SIZE)?;
+        if has_room(self.pages.as_slice()) {
+            return Ok(false);
+        }
+        push_copy(alloc, &mut self.pages, page)?;
+        self.len += PAGE_SIZE;
+        Ok(true)
     }
 
     /// Feeds the content at an index. On `OutOfMemory` it may be spoiled.
@@ -177,6 +192,29 @@ fn push_new(alloc: Global, pages: &mut List<Page>, content: Content) -> Result<(
     let mut items = List::from_vec(Vec::with_capacity(alloc, room)?);
     items.push(content)?;
     pages.push(Page::Own(items))
+}
+
+/// Whether the last page has room for one more content.
+fn has_room(pages: &[Page]) -> bool
+    ensures { result ≡ false → IsFull pages.now }
+{
+    match pages.last() {
+        Some(page) => page::has_room(page),
+        None => false,
+    }
+}
+
+/// Appends a copy of a full page.
+fn push_copy(alloc: Global, pages: &mut List<Page>, page: &Page) -> Result<(), OutOfMemory>
+    requires pages { ArePages pages.old }
+    requires full { IsFull pages.old }
+    requires page { IsFullPage page.now }
+    ensures ok { OnOk result (AddsCopy page.now pages.old pages.new) }
+    ensures err { OnErr result (contents_of pages.new ≡ contents_of pages.old) }
+    ensures pages { ArePages pages.new }
+{
+    let copy = page::share(alloc, page)?;
+    pages.push(copy)
 }
 
 /// Copies pages.
