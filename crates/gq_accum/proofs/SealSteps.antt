@@ -17,7 +17,8 @@ use Rattle.gq_accum_laws.specs.Reads.{average}
 use Rattle.gq_accum.specs.declared.scalar.Mean.{Mean}
 use Rattle.gq_accum.specs.declared.scalar.Scalar.{Scalar}
 use Rattle.gq_accum.specs.declared.scalar.Scalar.TheVariants.{MinInt, MinUInt, MaxInt, MaxUInt, Or, And, BitOr, BitAnd}
-use Rattle.gq_accum.specs.Scalars.{kind_of, content}
+use Rattle.gq_accum.specs.Scalars.{kind_of, content, mean_of}
+use Rattle.gq_accum.specs.Wide.{count_of, sum_of}
 use Rattle.gq_accum.specs.Seals.{Seals}
 
 -- a test that an option answers
@@ -25,36 +26,36 @@ answered : {A : Type 0} (P : A → Type 0) (o : Option A) (b t : Bool) → b ≡
 answered P None b t e h = e ∙ sym h
 answered P (Some n) b t e h = e ∙ sym h.0
 
-pub judged_int : (a : ℤ) (o : Option ℤ) (b : Bool) → FitsSigned w128 a → b ≡ is_some o
-    → MatchOption o (is_within number.Int (to_z w128 (of_z w128 a)) ≡ false) (λ n. (is_within number.Int (to_z w128 (of_z w128 a)) ≡ true) × (n ≡ to_z w128 (of_z w128 a))) → b ≡ is_within number.Int a
-judged_int a o b f e h = answered (λ n. n ≡ to_z w128 (of_z w128 a)) o b _ e h ∙ ap (is_within number.Int) (to_z-of_z w128 a f)
+pub judged_int : (s a : ℤ) (o : Option ℤ) (b : Bool) → FitsSigned w128 a → a ≡ s → b ≡ is_some o
+    → MatchOption o (is_within number.Int (to_z w128 (of_z w128 a)) ≡ false) (λ n. (is_within number.Int (to_z w128 (of_z w128 a)) ≡ true) × (n ≡ to_z w128 (of_z w128 a))) → b ≡ is_within number.Int s
+judged_int s a o b f g e h = answered (λ n. n ≡ to_z w128 (of_z w128 a)) o b _ e h ∙ ap (is_within number.Int) (to_z-of_z w128 a f ∙ g)
 
-pub judged_uint : (a : ℤ) (o : Option ℕ) (b : Bool) → FitsSigned w128 a → b ≡ is_some o
-    → MatchOption o (is_within number.UInt (to_z w128 (of_z w128 a)) ≡ false) (λ n. (is_within number.UInt (to_z w128 (of_z w128 a)) ≡ true) × (pos n ≡ to_z w128 (of_z w128 a))) → b ≡ is_within number.UInt a
-judged_uint a o b f e h = answered (λ n. pos n ≡ to_z w128 (of_z w128 a)) o b _ e h ∙ ap (is_within number.UInt) (to_z-of_z w128 a f)
+pub judged_uint : (s a : ℤ) (o : Option ℕ) (b : Bool) → FitsSigned w128 a → a ≡ s → b ≡ is_some o
+    → MatchOption o (is_within number.UInt (to_z w128 (of_z w128 a)) ≡ false) (λ n. (is_within number.UInt (to_z w128 (of_z w128 a)) ≡ true) × (pos n ≡ to_z w128 (of_z w128 a))) → b ≡ is_within number.UInt s
+judged_uint s a o b f g e h = answered (λ n. pos n ≡ to_z w128 (of_z w128 a)) o b _ e h ∙ ap (is_within number.UInt) (to_z-of_z w128 a f ∙ g)
 
 pub judged_average : (m : Mean) (o : Option fraction.Fraction) (b : Bool) → b ≡ is_some o
-    → MatchOption o (fits AvgAccum (m.sum, m.count) ≡ false) (λ f. (fits AvgAccum (m.sum, m.count) ≡ true) × (Fraction f.sum f.count ≡ average m.sum m.count)) → b ≡ fits AvgAccum (m.sum, m.count)
-judged_average m o b e h = answered (λ f. Fraction f.sum f.count ≡ average m.sum m.count) o b _ e h
+    → MatchOption o (fits AvgAccum (mean_of m) ≡ false) (λ f. (fits AvgAccum (mean_of m) ≡ true) × (Fraction f.sum f.count ≡ average (sum_of m.sum) (count_of m.count))) → b ≡ fits AvgAccum (mean_of m)
+judged_average m o b e h = answered (λ f. Fraction f.sum f.count ≡ average (sum_of m.sum) (count_of m.count)) o b _ e h
 
 -- sums
-pub seals_int : (a n : ℤ) → FitsSigned w128 a → FitsSigned w64 n → (is_within number.Int (to_z w128 (of_z w128 a)) ≡ true) × (n ≡ to_z w128 (of_z w128 a))
-    → (is_within number.Int a ≡ true) × (val (value.Int (to_z w64 (of_z w64 n))) ≡ Int a)
-seals_int a n f g h =
-    let e = to_z-of_z w128 a f in
+pub seals_int : (s a n : ℤ) → FitsSigned w128 a → a ≡ s → FitsSigned w64 n → (is_within number.Int (to_z w128 (of_z w128 a)) ≡ true) × (n ≡ to_z w128 (of_z w128 a))
+    → (is_within number.Int s ≡ true) × (val (value.Int (to_z w64 (of_z w64 n))) ≡ Int s)
+seals_int s a n f is g h =
+    let e = to_z-of_z w128 a f ∙ is in
     (ap (is_within number.Int) (sym e) ∙ h.0, val-Int _ ∙ ap Int (to_z-of_z w64 n g ∙ h.1 ∙ e))
 
-pub seals_uint : (a : ℤ) (n : ℕ) → FitsSigned w128 a → (is_within number.UInt (to_z w128 (of_z w128 a)) ≡ true) × (pos n ≡ to_z w128 (of_z w128 a))
-    → (is_within number.UInt a ≡ true) × (val (value.UInt n) ≡ UInt (nat_abs a))
-seals_uint a n f h =
-    let e = to_z-of_z w128 a f in
+pub seals_uint : (s a : ℤ) (n : ℕ) → FitsSigned w128 a → a ≡ s → (is_within number.UInt (to_z w128 (of_z w128 a)) ≡ true) × (pos n ≡ to_z w128 (of_z w128 a))
+    → (is_within number.UInt s ≡ true) × (val (value.UInt n) ≡ UInt (nat_abs s))
+seals_uint s a n f is h =
+    let e = to_z-of_z w128 a f ∙ is in
     (ap (is_within number.UInt) (sym e) ∙ h.0, val-UInt n ∙ ap (λ x. UInt (nat_abs x)) (h.1 ∙ e))
 
-pub beyond : (t : Number) (a : ℤ) → FitsSigned w128 a → is_within t (to_z w128 (of_z w128 a)) ≡ false → is_within t a ≡ false
-beyond t a f h = ap (is_within t) (sym (to_z-of_z w128 a f)) ∙ h
+pub beyond : (t : Number) (s a : ℤ) → FitsSigned w128 a → a ≡ s → is_within t (to_z w128 (of_z w128 a)) ≡ false → is_within t s ≡ false
+beyond t s a f is h = ap (is_within t) (sym (to_z-of_z w128 a f ∙ is)) ∙ h
 
-pub seals_average : (m : Mean) (f : fraction.Fraction) → (fits AvgAccum (m.sum, m.count) ≡ true) × (Fraction f.sum f.count ≡ average m.sum m.count)
-    → (fits AvgAccum (m.sum, m.count) ≡ true) × (val (value.Fraction f) ≡ average m.sum m.count)
+pub seals_average : (m : Mean) (f : fraction.Fraction) → (fits AvgAccum (mean_of m) ≡ true) × (Fraction f.sum f.count ≡ average (sum_of m.sum) (count_of m.count))
+    → (fits AvgAccum (mean_of m) ≡ true) × (val (value.Fraction f) ≡ average (sum_of m.sum) (count_of m.count))
 seals_average m f h = (h.0, val-Fraction f ∙ h.1)
 
 -- contents that always fit

@@ -1,5 +1,5 @@
 -- SumSteps: sums in 128 bits that have room.
-use Rattle.std.proofs.Common.{◌≡◌, ℕ, ◌+◌, ◌*◌, ◌^◌, ◌<◌, ◌≤◌, ℤ, pos, negsuc, nat_abs, ◌+ℤ◌, sym, ap₂, ◌∙◌, subst, arith, FitsSigned, w64, to_z, of_z}
+use Rattle.std.proofs.Common.{◌≡◌, ℕ, ◌+◌, ◌*◌, ◌^◌, ◌<◌, ◌≤◌, ℤ, pos, negsuc, nat_abs, ◌+ℤ◌, sym, ap, ap₂, ◌∙◌, subst, arith, FitsSigned, w64, to_z, of_z}
 use Rattle.std.specs.Int.{w128, int_wrap}
 use Rattle.std.proofs.lemmas.Int.{ints, to_z-of_z, fits_signed_from_abs, int_wrap_fits}
 use Rattle.gq_accum.specs.Scalars.{IsFar}
@@ -21,11 +21,11 @@ pub total_is : (a b r : ℤ) → r ≡ int_wrap w128 (a +ℤ b) → IsFar a → 
 total_is a b r e h g = e ∙ int_wrap_fits w128 (a +ℤ b) (both_fit a b h g)
 
 -- as the code has it, if its sums are read back
-pub sum_is : (a b r : ℤ) → (IsFar (to_z w128 (of_z w128 a)) → IsFar (to_z w128 (of_z w128 b)) → r ≡ to_z w128 (of_z w128 a) +ℤ to_z w128 (of_z w128 b)) → IsFar a → IsFar b → to_z w128 (of_z w128 r) ≡ a +ℤ b
-sum_is a b r e h g =
-    let p = far_read a h in let q = far_read b g in
-    let s : r ≡ a +ℤ b = e (subst IsFar (sym p) h) (subst IsFar (sym q) g) ∙ ap₂ ◌+ℤ◌ p q in
-    to_z-of_z w128 r (subst (FitsSigned w128) (sym s) (both_fit a b h g)) ∙ s
+pub sum_is : (a b p q r s : ℤ) → p ≡ a → q ≡ b → s ≡ to_z w128 (of_z w128 r) → (IsFar (to_z w128 (of_z w128 p)) → IsFar (to_z w128 (of_z w128 q)) → r ≡ to_z w128 (of_z w128 p) +ℤ to_z w128 (of_z w128 q)) → IsFar a → IsFar b → s ≡ a +ℤ b
+sum_is a b p q r s pa qb sr e h g =
+    let m = ap (λ z. to_z w128 (of_z w128 z)) pa ∙ far_read a h in let n = ap (λ z. to_z w128 (of_z w128 z)) qb ∙ far_read b g in
+    let t : r ≡ a +ℤ b = e (subst IsFar (sym m) h) (subst IsFar (sym n) g) ∙ ap₂ ◌+ℤ◌ m n in
+    sr ∙ to_z-of_z w128 r (subst (FitsSigned w128) (sym t) (both_fit a b h g)) ∙ t
 
 -- one number is not far
 pub near : (x : ℤ) → FitsSigned w64 x → IsFar x
@@ -39,11 +39,11 @@ near_pos n h = (1, omega arith, omega (arith, h))
 pub widened : (x r : ℤ) → FitsSigned w64 x → r ≡ to_z w64 (of_z w64 x) → r ≡ x
 widened x r f e = e ∙ to_z-of_z w64 x f
 
-pub fed_is : (a r x t : ℤ) → (IsFar (to_z w128 (of_z w128 a)) → IsFar (to_z w128 (of_z w128 r)) → t ≡ to_z w128 (of_z w128 a) +ℤ to_z w128 (of_z w128 r)) → IsFar a → IsFar x → r ≡ x → to_z w128 (of_z w128 t) ≡ a +ℤ (x +ℤ pos 0)
-fed_is a r x t s h g e = sum_is a r t s h (subst IsFar (sym e) g) ∙ alone a r x e
+pub fed_is : (a p r x t s : ℤ) → p ≡ a → s ≡ to_z w128 (of_z w128 t) → (IsFar (to_z w128 (of_z w128 p)) → IsFar (to_z w128 (of_z w128 r)) → t ≡ to_z w128 (of_z w128 p) +ℤ to_z w128 (of_z w128 r)) → IsFar a → IsFar x → r ≡ x → s ≡ a +ℤ (x +ℤ pos 0)
+fed_is a p r x t s pa st e h g rx = sum_is a x p r t s pa rx st e h g ∙ alone a x
   where
-    alone : (a r x : ℤ) → r ≡ x → a +ℤ r ≡ a +ℤ (x +ℤ pos 0)
-    alone a r x e = omega (arith, ints, e)
+    alone : (a x : ℤ) → a +ℤ x ≡ a +ℤ (x +ℤ pos 0)
+    alone a x = omega (arith, ints)
 
 pub counts_room : (a b f g : ℕ) → f < 2 ^ 62 → g < 2 ^ 62 → a ≤ f * 2 ^ 63 → b ≤ g * 2 ^ 63 → a + b < 2 ^ 128
 counts_room a b f g k l m n = omega (arith, k, l, m, n)
@@ -51,5 +51,8 @@ counts_room a b f g k l m n = omega (arith, k, l, m, n)
 pub count_room : (a f : ℕ) → f < 2 ^ 62 → a ≤ f * 2 ^ 63 → a + 1 < 2 ^ 128
 count_room a f k l = omega (arith, k, l)
 
-pub kept_near : (x r : ℤ) → IsFar x → r ≡ x → to_z w128 (of_z w128 r) ≡ x
-kept_near x r h e = far_read r (subst IsFar (sym e) h) ∙ e
+pub count_is : (a b p q r s : ℕ) → p ≡ a → q ≡ b → s ≡ r → (p + q < 2 ^ 128 → r ≡ p + q) → a + b < 2 ^ 128 → s ≡ a + b
+count_is a b p q r s pa qb sr e l = sr ∙ e (subst (λ (n : ℕ). n < 2 ^ 128) (sym (ap₂ ◌+◌ pa qb)) l) ∙ ap₂ ◌+◌ pa qb
+
+pub kept_near : (x r s : ℤ) → IsFar x → r ≡ x → s ≡ to_z w128 (of_z w128 r) → s ≡ x
+kept_near x r s h e sr = sr ∙ far_read r (subst IsFar (sym e) h) ∙ e

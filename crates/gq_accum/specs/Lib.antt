@@ -1,3 +1,4 @@
+pub mod Wide
 pub mod Scalars
 pub mod ScalarLaws
 pub mod Seals

@@ -7,8 +7,10 @@ use Rattle.gq_value.specs.declared.value.Value.{Value}
 use Rattle.gq_value.specs.Views.{val}
 use Rattle.gq_accum_laws.specs.Holds.{Holds}
 use Rattle.gq_accum_laws.specs.After.{fresh}
+use Rattle.gq_accum.specs.declared.scalar.Mean.{Mean}
 use Rattle.gq_accum.specs.declared.scalar.Scalar.{Scalar}
 use Rattle.gq_accum.specs.declared.scalar.Scalar.TheVariants.{SumInt, SumUInt, MinInt, MinUInt, MaxInt, MaxUInt, Or, And, BitOr, BitAnd, Avg}
+use Rattle.gq_accum.specs.Wide.{count_of, sum_of}
 
 -- the kind of a scalar
 abbrev pub kind_of : Scalar → Accum
@@ -26,8 +28,8 @@ kind_of (Avg c) = AvgAccum
 
 -- its number, its truth, and its sum with its count; 0 and false if it has none
 abbrev pub number_in : Scalar → ℤ
-number_in (SumInt c) = c
-number_in (SumUInt c) = c
+number_in (SumInt c) = sum_of c
+number_in (SumUInt c) = sum_of c
 number_in (MinInt c) = c
 number_in (MinUInt c) = pos c
 number_in (MaxInt c) = c
@@ -41,8 +43,11 @@ truth_in (Or c) = c
 truth_in (And c) = c
 truth_in s = false
 
+abbrev pub mean_of : Mean → ℤ × ℕ
+mean_of m = (sum_of m.sum, count_of m.count)
+
 abbrev pub mean_in : Scalar → ℤ × ℕ
-mean_in (Avg c) = (c.sum, c.count)
+mean_in (Avg c) = mean_of c
 mean_in s = (pos 0, 0)
 
 -- the content of a scalar as one of a kind

@@ -7,6 +7,7 @@ use crate::fold::Fold;
 use crate::inputs::{int, truth, uint};
 use crate::scalar::{Mean, Scalar};
 use crate::sums::{count, total};
+use crate::wide::{Count, Sum};
 use gq_value::Value;
 
 impl Fold for Scalar {
@@ -28,8 +29,8 @@ impl Fold for Scalar {
 
     fn feed(&mut self, x: &Value) {
         *self = match *self {
-            Scalar::SumInt(sum) => Scalar::SumInt(total(sum, i128::from(int(x)))),
-            Scalar::SumUInt(sum) => Scalar::SumUInt(total(sum, i128::from(uint(x)))),
+            Scalar::SumInt(sum) => Scalar::SumInt(Sum::of(total(sum.get(), i128::from(int(x))))),
+            Scalar::SumUInt(sum) => Scalar::SumUInt(Sum::of(total(sum.get(), i128::from(uint(x))))),
             Scalar::MinInt(least) => Scalar::MinInt(int(x).min(least)),
             Scalar::MinUInt(least) => Scalar::MinUInt(uint(x).min(least)),
             Scalar::MaxInt(most) => Scalar::MaxInt(int(x).max(most)),
@@ -39,16 +40,22 @@ impl Fold for Scalar {
             Scalar::BitOr(bits) => Scalar::BitOr(int(x) | bits),
             Scalar::BitAnd(bits) => Scalar::BitAnd(int(x) & bits),
             Scalar::Avg(mean) => Scalar::Avg(Mean {
-                sum: total(mean.sum, i128::from(int(x))),
-                count: count(mean.count, 1),
+                sum: Sum::of(total(mean.sum.get(), i128::from(int(x)))),
+                count: Count::of(count(mean.count.get(), 1)),
             }),
         };
     }
 
     fn merge(&mut self, other: &Scalar) {
         *self = match (*self, *other) {
-            (Scalar::SumInt(a), Scalar::SumInt(b)) => Scalar::SumInt(total(a, b)),
-            (Scalar::SumUInt(a), Scalar::SumUInt(b)) => Scalar::SumUInt(total(a, b)),
+            (Scalar::SumInt(a), Scalar::SumInt(b)) => Scalar::SumInt(Sum::of(total(
+                a.get(),
+                b.get(),
+            ))),
+            (Scalar::SumUInt(a), Scalar::SumUInt(b)) => Scalar::SumUInt(Sum::of(total(
+                a.get(),
+                b.get(),
+            ))),
             (Scalar::MinInt(a), Scalar::MinInt(b)) => Scalar::MinInt(a.min(b)),
             (Scalar::MinUInt(a), Scalar::MinUInt(b)) => Scalar::MinUInt(a.min(b)),
             (Scalar::MaxInt(a), Scalar::MaxInt(b)) => Scalar::MaxInt(a.max(b)),
@@ -58,8 +65,8 @@ impl Fold for Scalar {
             (Scalar::BitOr(a), Scalar::BitOr(b)) => Scalar::BitOr(a | b),
             (Scalar::BitAnd(a), Scalar::BitAnd(b)) => Scalar::BitAnd(a & b),
             (Scalar::Avg(a), Scalar::Avg(b)) => Scalar::Avg(Mean {
-                sum: total(a.sum, b.sum),
-                count: count(a.count, b.count),
+                sum: Sum::of(total(a.sum.get(), b.sum.get())),
+                count: Count::of(count(a.count.get(), b.count.get())),
             }),
             (kept, _) => kept,
         };

@@ -4,7 +4,8 @@
 //! have 128 bits, so a sum is checked for overflow only at the end.
 //!
 //! Read the trait in `src/fold.rt` first, then `specs/Scalars.antt` (the content of a scalar) and
-//! `specs/Seals.antt` (its final value). The code is in `src/scalar.rt` and `src/sums.rt`.
+//! `specs/Seals.antt` (its final value). The code is in `src/scalar.rt` and `src/sums.rt`; `src/wide.rt` has
+//! numbers of 128 bits in two words.
 #![tactic(auto)]
 
 mod fold;
@@ -12,7 +13,9 @@ mod folding;
 mod inputs;
 mod scalar;
 mod sums;
+mod wide;
 
 pub use fold::Fold;
 pub use scalar::{Mean, OutOfRange, Scalar};
 pub use sums::{count, total};
+pub use wide::{Count, Sum};

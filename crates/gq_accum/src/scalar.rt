@@ -11,6 +11,7 @@ ghost use Rattle.gq_accum.specs.Seals.{Seals};
 
 use crate::inputs::{int, truth, uint};
 use crate::sums::{fraction_of, int_of, uint_of};
+use crate::wide::{Count, Sum};
 use gq_value::{Kind, Number, Value};
 use thiserror::Error;
 
@@ -22,8 +23,8 @@ pub struct OutOfRange;
 /// A sum, and how many numbers it has.
 #[derive(Clone, Copy, Debug)]
 pub struct Mean {
-    pub sum: i128,
-    pub count: u128,
+    pub sum: Sum,
+    pub count: Count,
 }
 
 /// The content of an accumulator of a scalar kind: one number, truth or average.
@@ -32,8 +33,8 @@ pub struct Mean {
 /// ends in the type of its numbers, if its kind has one. The bits are those of an INT.
 #[derive(Clone, Copy, Debug)]
 pub enum Scalar {
-    SumInt(i128),
-    SumUInt(i128),
+    SumInt(Sum),
+    SumUInt(Sum),
     MinInt(i64),
     MinUInt(u64),
     MaxInt(i64),
@@ -54,8 +55,8 @@ impl Scalar {
     {
         match kind {
             Kind::Sum(number) => match number {
-                Number::Int => Scalar::SumInt(0),
-                Number::UInt => Scalar::SumUInt(0),
+                Number::Int => Scalar::SumInt(Sum::of(0)),
+                Number::UInt => Scalar::SumUInt(Sum::of(0)),
             },
             Kind::Min(number) => match number {
                 Number::Int => Scalar::MinInt(i64::MAX),
@@ -69,7 +70,10 @@ impl Scalar {
             Kind::And => Scalar::And(true),
             Kind::BitOr => Scalar::BitOr(0),
             Kind::BitAnd => Scalar::BitAnd(-1),
-            Kind::Avg => Scalar::Avg(Mean { sum: 0, count: 0 }),
+            Kind::Avg => Scalar::Avg(Mean {
+                sum: Sum::of(0),
+                count: Count::of(0),
+            }),
             Kind::Set(_)
             | Kind::Bag(_)
             | Kind::List(_)
@@ -87,8 +91,8 @@ impl Scalar {
         ensures set { content (kind_of self.old) self.new ≡ set_to (kind_of self.old) (val x.now) }
     {
         *self = match *self {
-            Scalar::SumInt(_) => Scalar::SumInt(i128::from(int(x))),
-            Scalar::SumUInt(_) => Scalar::SumUInt(i128::from(uint(x))),
+            Scalar::SumInt(_) => Scalar::SumInt(Sum::of(i128::from(int(x)))),
+            Scalar::SumUInt(_) => Scalar::SumUInt(Sum::of(i128::from(uint(x)))),
             Scalar::MinInt(_) => Scalar::MinInt(int(x)),
             Scalar::MinUInt(_) => Scalar::MinUInt(uint(x)),
             Scalar::MaxInt(_) => Scalar::MaxInt(int(x)),
@@ -106,8 +110,8 @@ impl Scalar {
         ensures { result ≡ fits (kind_of self.now) (content (kind_of self.now) self.now) }
     {
         match self {
-            Scalar::SumInt(sum) => int_of(*sum).is_some(),
-            Scalar::SumUInt(sum) => uint_of(*sum).is_some(),
+            Scalar::SumInt(sum) => int_of(sum.get()).is_some(),
+            Scalar::SumUInt(sum) => uint_of(sum.get()).is_some(),
             Scalar::Avg(mean) => fraction_of(*mean).is_some(),
             Scalar::MinInt(_)
             | Scalar::MinUInt(_)
@@ -125,11 +129,11 @@ impl Scalar {
         ensures { Seals (kind_of self.now) (content (kind_of self.now) self.now) result }
     {
         match self {
-            Scalar::SumInt(sum) => match int_of(*sum) {
+            Scalar::SumInt(sum) => match int_of(sum.get()) {
                 Some(n) => Ok(Value::Int(n)),
                 None => Err(OutOfRange),
             },
-            Scalar::SumUInt(sum) => match uint_of(*sum) {
+            Scalar::SumUInt(sum) => match uint_of(sum.get()) {
                 Some(n) => Ok(Value::UInt(n)),
                 None => Err(OutOfRange),
             },
@@ -145,3 +149,6 @@ impl Scalar {
         }
     }
 }
+
+// Contents have millions of these.
+const _: () = prove!(size_of::<Scalar>() <= 40);

@@ -6,7 +6,8 @@ ghost use Rattle.gq_value.specs.Accums.{AvgAccum};
 ghost use Rattle.gq_value.specs.Val as plain;
 ghost use Rattle.gq_accum_laws.specs.Fits.{fits};
 ghost use Rattle.gq_accum_laws.specs.Reads.{average};
-ghost use Rattle.gq_accum.specs.Scalars.{IsFar};
+ghost use Rattle.gq_accum.specs.Scalars.{IsFar, mean_of};
+ghost use Rattle.gq_accum.specs.Wide.{count_of, sum_of};
 
 use crate::scalar::Mean;
 use gq_value::Fraction;
@@ -53,10 +54,10 @@ pub(crate) fn uint_of(sum: i128) -> Option<u64>
 
 // The fraction of an average that fits.
 pub(crate) fn fraction_of(mean: Mean) -> Option<Fraction>
-    ensures { MatchOption result (fits AvgAccum (mean.sum, mean.count) ≡ false) (λ f. (fits AvgAccum (mean.sum, mean.count) ≡ true) × (plain.Fraction f.sum f.count ≡ average mean.sum mean.count)) }
+    ensures { MatchOption result (fits AvgAccum (mean_of mean) ≡ false) (λ f. (fits AvgAccum (mean_of mean) ≡ true) × (plain.Fraction f.sum f.count ≡ average (sum_of mean.sum) (count_of mean.count))) }
 {
-    match i64::try_from(mean.sum) {
-        Ok(sum) => match u64::try_from(mean.count) {
+    match i64::try_from(mean.sum.get()) {
+        Ok(sum) => match u64::try_from(mean.count.get()) {
             Ok(count) => {
                 if count == 0 {
                     Some(Fraction { sum: 0, count: 1 })

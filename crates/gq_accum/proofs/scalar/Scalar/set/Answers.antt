@@ -5,10 +5,10 @@ use Rattle.std.proofs.lemmas.Int.{to_z-of_z}
 use Rattle.gq_accum.proofs.SumSteps.{near, near_pos, widened, kept_near}
 
 pub returns-in-SumInt-clause-set : goal.returns-in-SumInt-clause-set
-returns-in-SumInt-clause-set c = let f : FitsSigned w64 c.int.result = record { sfits = c.int.type_inv } in let s = rw c.in-SumInt.is at c.requires.takes in rw (c.in-SumInt.is, c.int.ensures s) (kept_near c.int.result c.from.result (near c.int.result f) (widened c.int.result c.from.result f c.from.ensures))
+returns-in-SumInt-clause-set c = let f : FitsSigned w64 c.int.result = record { sfits = c.int.type_inv } in let s = rw c.in-SumInt.is at c.requires.takes in rw (c.in-SumInt.is, c.int.ensures s) (kept_near c.int.result c.from.result _ (near c.int.result f) (widened c.int.result c.from.result f c.from.ensures) c.of.ensures)
 
 pub returns-in-SumUInt-clause-set : goal.returns-in-SumUInt-clause-set
-returns-in-SumUInt-clause-set c = let s = rw c.in-SumUInt.is at c.requires.takes in rw (c.in-SumUInt.is, c.uint.ensures s) (kept_near (pos c.uint.result) c.from-in-SumUInt.result (near_pos c.uint.result c.uint.type_inv) c.from-in-SumUInt.ensures)
+returns-in-SumUInt-clause-set c = let s = rw c.in-SumUInt.is at c.requires.takes in rw (c.in-SumUInt.is, c.uint.ensures s) (kept_near (pos c.uint.result) c.from-in-SumUInt.result _ (near_pos c.uint.result c.uint.type_inv) c.from-in-SumUInt.ensures c.of-in-SumUInt.ensures)
 
 pub returns-in-MinInt-clause-set : goal.returns-in-MinInt-clause-set
 returns-in-MinInt-clause-set c = let s = rw c.in-MinInt.is at c.requires.takes in rw (c.in-MinInt.is, c.int-in-MinInt.ensures s) (to_z-of_z w64 c.int-in-MinInt.result (record { sfits = c.int-in-MinInt.type_inv }))
