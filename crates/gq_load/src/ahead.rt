@@ -10,7 +10,6 @@ use crate::draft::edge_at;
 use crate::record::ReadRecord;
 use crate::route::Route;
 use gq_base::{List, OutOfMemory};
-use gq_graph::EdgeType;
 use gq_index::Store;
 use gq_load_check::Target;
 use gq_schema::Catalog;
@@ -62,7 +61,7 @@ pub(crate) fn look_ahead(
     Ok(())
 }
 
-/// The same for edges. Their ends are needed to find them.
+/// The same for edges. Their ends are needed to find them; the searches for these overlap without a loop of their own.
 fn edges_ahead(
     catalog: &Catalog,
     kind: u32,
@@ -81,7 +80,9 @@ fn edges_ahead(
         (slice_index_or found.new (length found.old + k) no_ends)) }
 {
     let edge = edge_at(catalog, kind);
-    find_ends(kind, edge, place, batch, store, places, found)?;
+    let first = found.len();
+    find_ends(edge.from, edge.to, place, batch, store, found)?;
+    list_edges(kind, edge.directed, found, first, store, places)?;
     touch_edges(store, places);
     Ok(())
 }
@@ -115,43 +116,42 @@ fn list_no_ends(batch: &[ReadRecord<'_>], found: &mut List<FoundEnds>) -> Result
     Ok(())
 }
 
-/// Finds the ends of the edges of a route, and lists where the lookups begin for the edges whose ends exist. Those reads
-/// overlap the searches for the next ends.
+/// Finds the ends of the edges of a route.
 fn find_ends(
-    kind: u32,
-    edge: &EdgeType,
+    from: u32,
+    to: u32,
     place: usize,
     batch: &[ReadRecord<'_>],
     store: &Store,
-    places: &mut Vec<u32>,
     found: &mut List<FoundEnds>,
 ) -> Result<(), OutOfMemory>
     ensures long { IfOk result (λ _. length found.new ≡ length found.old + length batch.now) }
     ensures others { IfOk result (λ _. KeepsThose found.old found.new) }
     ensures ends { IfOk result (λ _. (k : ℕ) (r : ReadRecord) (draft : Draft) →
         slice_get batch.now k ≡ Some r → slice_get r.drafts.items place ≡ Some draft →
-        EndsAreFound store.now.vertices edge.now.from edge.now.to draft (slice_index_or found.new (length found.old + k) no_ends)) }
+        EndsAreFound store.now.vertices from to draft (slice_index_or found.new (length found.old + k) no_ends)) }
 {
-    places.clear();
     for record in batch {
-        let ends = ends_of(edge.from, edge.to, place, record, store);
-        list_edge(kind, edge.directed, ends, store, places)?;
-        found.push(ends)?;
+        found.push(ends_of(from, to, place, record, store))?;
     }
     Ok(())
 }
 
-/// Lists where the lookup of an edge begins, if its ends exist.
-#[inline(always)]
-fn list_edge(
+/// Lists where the lookups begin for the edges whose ends exist, among the ends found from `first` on.
+fn list_edges(
     kind: u32,
     directed: bool,
-    ends: FoundEnds,
+    found: &List<FoundEnds>,
+    first: usize,
     store: &Store,
     places: &mut Vec<u32>,
 ) -> Result<(), OutOfMemory> {
-    if let (Some(from), Some(to)) = (ends.from, ends.to) {
-        places.push(store.edges.first(kind, directed, from, to))?;
+    places.clear();
+    for at in first..found.len() {
+        let ends = found.at(at);
+        if let (Some(from), Some(to)) = (ends.from, ends.to) {
+            places.push(store.edges.first(kind, directed, from, to))?;
+        }
     }
     Ok(())
 }

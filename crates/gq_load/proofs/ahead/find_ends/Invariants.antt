@@ -7,5 +7,5 @@ abbrev pub invariant-loop-record : goal.invariant-loop-record
 invariant-loop-record l = record {
   long : length l.found ≡ length l.fn.found + l.record-index;
   others : KeepsThose l.fn.found l.found;
-  ends : StandBehind l.store.vertices l.edge.from l.edge.to l.place l.batch (length l.fn.found) l.found l.record-index;
+  ends : StandBehind l.store.vertices l.from l.to l.place l.batch (length l.fn.found) l.found l.record-index;
 }
