@@ -230,6 +230,7 @@ fn lend_id<'a>(id: &mut Id<'a>, kind: IdKind, source: Option<u64>, line: &mut Li
 
 /// Reads the values of attributes in order, of which the first `keys` are discriminators, over `values`, whose memory
 /// is reused. Returns false if the record must be cut.
+#[inline(always)]
 fn values_in(
     alloc: Global,
     keys: u32,

@@ -2,7 +2,9 @@
 ghost use Rattle.std.specs.Prelude.{◌≡◌, ◌∷◌, ℕ, ℤ, List, Option, Some, false, IfSome, option_and_then};
 ghost use Rattle.csv.specs.Records.{field_at};
 ghost use Rattle.gq_load_csv.specs.Fields.{id_in, field_value, key_value};
+ghost use Rattle.csv.specs.Reading.{records};
 ghost use Rattle.gq_load_csv.specs.Lines.{IsPlain, lines_left};
+ghost use Rattle.gq_load_csv.specs.Records.{config_of};
 ghost use Rattle.gq_value.specs.declared.value.Value.TheVariants as variant;
 
 use crate::cursor::{Cursor, behind_line, go_to, id_at, next_field, number_at};
@@ -35,14 +37,14 @@ impl<'a> Model for Line<'a> {
 
 /// The first line of a text, if the text begins with one.
 #[inline(always)]
-pub(crate) fn line_of<'a>(lines: &Lines<'a>) -> Option<Line<'a>>
-    requires { IsPlain lines.now.separator lines.now.quote lines.now.rest.now }
-    ensures { IfSome result (λ line. lines_left lines.now ≡ line.fields ∷ line.others) }
+pub(crate) fn line_of(separator: u8, quote: Option<u8>, text: &[u8]) -> Option<Line<'_>>
+    requires { IsPlain separator quote text.now }
+    ensures { IfSome result (λ line. records (config_of separator quote) text.now ≡ line.fields ∷ line.others) }
 {
-    if lines.separator.is_ascii_digit() {
+    if separator.is_ascii_digit() {
         return None;
     }
-    match lines.rest {
+    match text {
         [] => None,
         [first, ..] => {
             if *first == b'\n' {
@@ -50,11 +52,11 @@ pub(crate) fn line_of<'a>(lines: &Lines<'a>) -> Option<Line<'a>>
             }
             Some(Line {
                 lines: Lines {
-                    separator: lines.separator,
-                    quote: lines.quote,
-                    rest: lines.rest,
+                    rest: text,
+                    separator,
+                    quote,
                 },
-                at: start_of(lines.rest),
+                at: start_of(text),
             })
         }
     }
@@ -78,7 +80,9 @@ impl<'a> Line<'a> {
     pub fn restart(&mut self)
         ensures { self.new ≡ self.old }
     {
-        self.at = start_of(self.lines.rest);
+        if self.at.next > 0 {
+            self.at = start_of(self.lines.rest);
+        }
     }
 
     /// Reads an id from a field by number, if the field wasn't passed and is an id in stored form. None says nothing
@@ -133,9 +137,9 @@ impl<'a> Line<'a> {
             behind_line(self.at.rest)
         };
         Lines {
+            rest,
             separator: self.lines.separator,
             quote: self.lines.quote,
-            rest,
         }
     }
 }

@@ -13,9 +13,9 @@ use memchr::{memchr, memchr2};
 /// byte in its tables and copies it one at a time, which takes four times as long.
 #[derive(Drop)]
 pub(crate) struct Lines<'a> {
+    pub rest: &'a [u8],
     pub separator: u8,
     pub quote: Option<u8>,
-    pub rest: &'a [u8],
 }
 
 /// Whether a text can be read by lines: it has no quote, no carriage return, and can't begin with a byte order mark.

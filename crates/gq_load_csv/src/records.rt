@@ -44,9 +44,9 @@ impl<'a> Records<'a> {
     {
         let source = if is_plain(separator, quote, bytes) {
             Source::Plain(Lines {
+                rest: bytes,
                 separator,
                 quote,
-                rest: bytes,
             })
         } else {
             Source::Any(reader_of(alloc, separator, quote, bytes))
@@ -68,7 +68,7 @@ impl<'a> Records<'a> {
         ensures { IfSome result (λ line. self.now ≡ line.fields ∷ line.others) }
     {
         match &self.source {
-            Source::Plain(lines) => line_of(lines),
+            Source::Plain(lines) => line_of(lines.separator, lines.quote, lines.rest),
             Source::Any(_) => None,
         }
     }
