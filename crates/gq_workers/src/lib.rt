@@ -9,6 +9,7 @@
 //! code begins in `src/block.rt`; `src/candidate.rt` tries one candidate, `src/workers.rt` has the threads.
 #![tactic(auto)]
 
+mod ahead;
 mod block;
 mod candidate;
 mod chunk;
@@ -16,6 +17,7 @@ mod found;
 mod joining;
 mod order;
 mod run;
+mod wanted;
 mod work;
 mod workers;
 
