@@ -160,7 +160,7 @@ pub fn touch(accums: &Accums, cells: &Cells, vertex: u32) -> u64 {
 pub(crate) fn touch_target(accums: &Accums, target: u64) -> u64 {
     match accums.contents.get(target as usize) {
         Some(content) => match int_in(content) {
-            Some(x) => x as u64,
+            Some(x) => u64::from(x > 0),
             None => 0,
         },
         None => 0,

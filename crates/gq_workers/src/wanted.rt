@@ -3,6 +3,7 @@ use gq_base::{List, OutOfMemory};
 use gq_exec_contribute::{Cells, Leaves};
 use gq_index::Graph;
 use gq_plan_ir::{Act, Behind, Block, Change, Expr, Feed, Field};
+use gq_tree::{AddSign, MulSign};
 use std::alloc::Global;
 
 /// What the expressions of a block read of the edge and the target of each candidate. It affects speed alone.
@@ -122,17 +123,11 @@ fn add_expr(
         }
         Expr::Mul(first, factors) => {
             add_expr(first.get(), leaves, graph, wanted)?;
-            for factor in factors.as_slice() {
-                add_expr(&factor.1, leaves, graph, wanted)?;
-            }
-            Ok(())
+            add_factors(factors.as_slice(), leaves, graph, wanted)
         }
         Expr::Sum(first, terms) => {
             add_expr(first.get(), leaves, graph, wanted)?;
-            for term in terms.as_slice() {
-                add_expr(&term.1, leaves, graph, wanted)?;
-            }
-            Ok(())
+            add_terms(terms.as_slice(), leaves, graph, wanted)
         }
         Expr::Cmp(left, _, right) => {
             add_expr(left.get(), leaves, graph, wanted)?;
@@ -155,6 +150,34 @@ fn add_exprs(
 ) -> Result<(), OutOfMemory> {
     for expr in exprs {
         add_expr(expr, leaves, graph, wanted)?;
+    }
+    Ok(())
+}
+
+/// Adds what factors after the first read.
+#[cycle(expr)]
+fn add_factors(
+    factors: &[(MulSign, Expr)],
+    leaves: &Leaves<'_>,
+    graph: Graph<'_>,
+    wanted: &mut Wanted,
+) -> Result<(), OutOfMemory> {
+    for factor in factors {
+        add_expr(&factor.1, leaves, graph, wanted)?;
+    }
+    Ok(())
+}
+
+/// Adds what terms after the first read.
+#[cycle(expr)]
+fn add_terms(
+    terms: &[(AddSign, Expr)],
+    leaves: &Leaves<'_>,
+    graph: Graph<'_>,
+    wanted: &mut Wanted,
+) -> Result<(), OutOfMemory> {
+    for term in terms {
+        add_expr(&term.1, leaves, graph, wanted)?;
     }
     Ok(())
 }
@@ -222,10 +245,12 @@ fn add_field(field: &Field, graph: Graph<'_>, wanted: &mut Wanted) {
 
 /// Whether a field with these places is the id of a type.
 fn is_id(places: &[Option<u32>], graph: Graph<'_>) -> bool {
-    for (kind, place) in places.iter().enumerate() {
-        if *place == Some(0) && has_shown_id(graph, kind as u32) {
+    let mut kind = 0u32;
+    for place in places {
+        if *place == Some(0) && has_shown_id(graph, kind) {
             return true;
         }
+        kind = kind.saturating_add(1);
     }
     false
 }
