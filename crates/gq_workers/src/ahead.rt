@@ -4,33 +4,56 @@
 // so the processor waits for many at once, and has them in the cache when the candidates are tried. Sources come in
 // order, so theirs are near each other.
 use crate::wanted::Wanted;
+use crate::work::Work;
 use gq_base::{List, OutOfMemory};
 use gq_edge::Edges;
+use gq_eval_context::BlockContext;
 use gq_exec_contribute::{Cells, keep, touch};
 use gq_frame::Accums;
 use gq_graph::Steps;
-use gq_index::{Candidates, Cursor, Graph};
+use gq_index::{Candidates, Cursor};
 use gq_value::Value;
 use gq_vertex::Vertices;
 
-/// Reads what the block wants of the candidates from `start` up to `end`. The room is for their numbers.
+/// So many candidates are read ahead at once: what they need has room in a cache near the processor.
+const AHEAD: u64 = 256;
+
+/// Reads what the block wants of the candidates from `place` up to `end`, at most `AHEAD` of them, at every `AHEAD`th
+/// place and at the first one, `start`. The room is for their numbers.
+#[inline]
 pub(crate) fn read_ahead(
-    wanted: &Wanted,
-    candidates: &Candidates<'_>,
-    graph: Graph<'_>,
-    accums: &Accums,
+    work: &Work<'_>,
+    over: &BlockContext<'_>,
+    start: u64,
+    place: u64,
+    end: u64,
+    room: &mut List<u32>,
+) -> Result<(), OutOfMemory> {
+    if place == start || place % AHEAD == 0 {
+        let next = (place / AHEAD).saturating_add(1).saturating_mul(AHEAD);
+        return read_up_to(work, over, place, end.min(next), room);
+    }
+    Ok(())
+}
+
+/// Reads what the block wants of the candidates from `start` up to `end`.
+fn read_up_to(
+    work: &Work<'_>,
+    over: &BlockContext<'_>,
     start: u64,
     end: u64,
     room: &mut List<u32>,
 ) -> Result<(), OutOfMemory> {
-    if wanted.edge {
-        list(candidates, start, end, false, room)?;
-        let edges = &graph.store.edges;
-        keep(widths(edges, room.as_slice()).wrapping_add(attributes(edges, room.as_slice())));
+    let store = over.graph.store;
+    if work.wanted.edge {
+        list(&work.candidates, start, end, false, room)?;
+        let edges = room.as_slice();
+        keep(widths(&store.edges, edges).wrapping_add(attributes(&store.edges, edges)));
     }
-    if wanted.target() {
-        list(candidates, start, end, true, room)?;
-        keep(targets(wanted, &graph.store.vertices, accums, room.as_slice()));
+    if work.wanted.target() {
+        list(&work.candidates, start, end, true, room)?;
+        let numbers = room.as_slice();
+        keep(targets(&work.wanted, &store.vertices, &over.frame.accums, numbers));
     }
     Ok(())
 }
