@@ -1,3 +1,4 @@
+pub mod Listing
 pub mod Running
 pub mod Rounds
 pub mod Results
