@@ -3,7 +3,6 @@ pub mod FoundLemmas
 pub mod FeedLemmas
 pub mod MarkLemmas
 pub mod ListLemmas
-pub mod ListingLemmas
 pub mod EndLemmas
 pub mod RunLemmas
 pub mod RoundLemmas

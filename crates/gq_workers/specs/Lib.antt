@@ -1,4 +1,3 @@
-pub mod Listing
 pub mod Running
 pub mod Rounds
 pub mod Results

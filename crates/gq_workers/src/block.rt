@@ -195,7 +195,7 @@ fn next_chunk<G: Gate>(
     let start = run.at;
     let end = start.saturating_add(work.size).min(work.candidates.count());
     gate.pass(0, start / work.size);
-    match try_chunk(alloc, work, over, start, end, &mut run.ahead, &mut run.found)? {
+    match try_chunk(alloc, work, over, start, end, &mut run.room, &mut run.found)? {
         Some(fault) => return Ok(Some(fault)),
         None => {}
     }

@@ -3,9 +3,8 @@ ghost use Rattle.std.specs.Prelude.{◌≡◌, IfOk, IfSome, length};
 ghost use Rattle.gq_workers.specs.Running.{FedFrom, IsShort};
 ghost use Rattle.gq_workers.specs.Results.{AreListed, IsJudged, IsBegun};
 
-use crate::ahead::Ahead;
 use crate::found::MatchBuffer;
-use gq_base::{OutOfMemory, within};
+use gq_base::{List, OutOfMemory, within};
 use gq_core::Batches;
 use gq_eval_context::{After, BlockContext, BlockFault};
 use gq_exec_contribute::{WaitingInputs, feed_scalars};
@@ -27,8 +26,8 @@ pub(crate) struct BlockProgress {
     /// Marks of the matched vertices, and room for a chunk's inputs.
     pub found: MatchBuffer,
 
-    /// Room for candidates that are listed ahead.
-    pub ahead: Ahead,
+    /// Room for numbers of what is read ahead.
+    pub room: List<u32>,
 }
 
 impl BlockProgress {
@@ -41,7 +40,7 @@ impl BlockProgress {
             accums: over.frame.accums.share(alloc)?,
             fed: 0,
             found: MatchBuffer::open(alloc, over.graph.store.vertices.len())?,
-            ahead: Ahead::new(alloc),
+            room: List::new(alloc),
         })
     }
 }

@@ -22,6 +22,13 @@ pub(crate) struct Wanted {
     pub cells: List<Cells>,
 }
 
+impl Wanted {
+    /// Whether something of the target is read.
+    pub fn target(&self) -> bool {
+        self.row || self.id || self.cells.len() > 0
+    }
+}
+
 /// What a block reads. With WHERE it is what WHERE reads, since many candidates may be filtered out.
 pub(crate) fn wanted_by(
     alloc: Global,

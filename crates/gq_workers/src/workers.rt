@@ -4,7 +4,6 @@ ghost use Rattle.gq_rules_calendar.specs.Gregorian.{gregorian};
 ghost use Rattle.gq_workers.specs.Running.{HasRun, IsEmpty, IsShaped, IsWork};
 ghost use Rattle.gq_workers.specs.Rounds.{CanWork, FeedsRound, GoesOn, IsAhead, IsPart, IsRoundPart, LeavesChunk, StandsOr};
 
-use crate::ahead::Ahead;
 use crate::chunk::try_chunk;
 use crate::found::MatchBuffer;
 use crate::joining::feed_round;
@@ -259,7 +258,7 @@ fn work_part<G: Gate>(
 {
     let mut found = MatchBuffer::open(alloc, over.graph.store.vertices.len())?;
     let mut lefts = List::new(alloc);
-    let mut ahead = Ahead::new(alloc);
+    let mut room = List::new(alloc);
     // There are no more chunks than candidates, so this bound never ends the loop.
     for _ in first..last {
         let chunk = draws.fetch_add(1, Ordering::SeqCst);
@@ -270,7 +269,7 @@ fn work_part<G: Gate>(
         // There are at most 64 workers, so this is the worker's own number.
         gate.pass(worker.min(63) as u32, start / work.size);
         let end = start.saturating_add(work.size).min(last);
-        lefts.push(work_chunk(alloc, work, over, start, end, &mut ahead, &mut found)?)?;
+        lefts.push(work_chunk(alloc, work, over, start, end, &mut room, &mut found)?)?;
     }
     Ok(WorkerOutput {
         lefts,
@@ -286,7 +285,7 @@ fn work_chunk(
     over: &BlockContext<'_>,
     start: u64,
     end: u64,
-    ahead: &mut Ahead,
+    room: &mut List<u32>,
     found: &mut MatchBuffer,
 ) -> Result<ChunkOutput, OutOfMemory>
     requires forward { start ≤ end }
@@ -296,7 +295,7 @@ fn work_chunk(
     requires shaped { IsShaped (length over.now.vertices) found.old }
     ensures { IfOk result (LeavesChunk gregorian over.now work.now start end found.old found.new) }
 {
-    let fault = try_chunk(alloc, work, over, start, end, ahead, found)?;
+    let fault = try_chunk(alloc, work, over, start, end, room, found)?;
     let none = Batches::new(alloc, 1)?;
     let batches = mem::replace(&mut found.batches, none);
     // The buffer keeps its room for the next chunk, and what waits takes no more than it needs.
