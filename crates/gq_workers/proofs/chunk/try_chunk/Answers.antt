@@ -1,7 +1,6 @@
 use Rattle.std.proofs.Common.{length, Option, refl, subst, arith}
 use Rattle.gq_exec_contribute.specs.declared.candidate.Stop.{Stop}
 use Rattle.gq_rules_calendar.specs.Gregorian.{gregorian}
-use Rattle.gq_workers.specs.declared.found.MatchBuffer.{MatchBuffer}
 use Rattle.gq_workers.specs.Running.{Tried, come}
 use Rattle.gq_workers.proofs.RunLemmas.{within_at, chunk_first, chunk_next, chunk_fault, chunk_done}
 use Rattle.gq_workers.proofs.chunk.try_chunk.Goals as goal
