@@ -10,6 +10,7 @@ use gq_exec_feed::slot_number;
 use gq_frame::{Accums, Slots};
 use gq_nest::Content;
 use std::alloc::Global;
+use std::sync::atomic::{AtomicU64, Ordering};
 
 /// The inputs that a kind of accumulator takes.
 #[derive(Clone, Copy, Debug, PartialEq, Eq)]
@@ -144,4 +145,30 @@ pub(crate) fn truth_in(content: &Content) -> Option<bool>
         },
         _ => None,
     }
+}
+
+/// Reads the INT of a vertex's content, so that it is in the cache afterwards; 0 if it isn't an INT. What it gives is
+/// for `keep` alone.
+pub fn touch(accums: &Accums, cells: &Cells, vertex: u32) -> u64 {
+    match target_in(cells, vertex) {
+        Some(target) => touch_target(accums, target),
+        None => 0,
+    }
+}
+
+/// Reads the INT of the content at a target.
+pub(crate) fn touch_target(accums: &Accums, target: u64) -> u64 {
+    match accums.contents.get(target as usize) {
+        Some(content) => match int_in(content) {
+            Some(x) => u64::from(x > 0),
+            None => 0,
+        },
+        None => 0,
+    }
+}
+
+/// Keeps a number, so that the reads that it comes of aren't left out by the compiler.
+pub fn keep(number: u64) {
+    let kept = AtomicU64::new(0);
+    kept.fetch_add(number, Ordering::SeqCst);
 }

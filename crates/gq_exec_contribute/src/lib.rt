@@ -44,7 +44,7 @@ mod waiting;
 
 pub use bound::{bind, no_alias};
 pub use candidate::{Outcome, Stop, contribute};
-pub use cells::{Cells, Taken};
+pub use cells::{Cells, Taken, keep, touch};
 pub use feeding::Room;
 pub use filters::{EndCell, Filter, filter_of, passes_by};
 pub use gathering::gather;

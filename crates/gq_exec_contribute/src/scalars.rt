@@ -6,6 +6,7 @@ ghost use Rattle.gq_value.specs.declared.value.Value.TheVariants as value;
 ghost use Rattle.gq_exec_contribute.specs.Scalars.{as_inputs, made_of, one_int};
 ghost use Rattle.gq_exec_contribute.specs.Waiting.{own};
 
+use crate::cells::keep;
 use crate::rows::Ints;
 use crate::waiting::{LentInput, WaitingInputs};
 use gq_base::{List, OutOfMemory};
@@ -196,6 +197,7 @@ pub fn feed_scalars(
 ) -> Result<(), OutOfMemory>
     ensures { OnOk result (TakesBatch accums.old accums.new (as_inputs inputs.now)) }
 {
+    keep(inputs.touched(accums));
     let mut single = Input::Keyed(List::new(alloc), List::new(alloc));
     let mut keyed = Input::Keyed(List::new(alloc), List::new(alloc));
     let mut tuple = Input::One(Value::Tuple(List::new(alloc)));

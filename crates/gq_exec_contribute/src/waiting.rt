@@ -2,9 +2,11 @@
 ghost use Rattle.std.specs.Prelude.{◌≡◌, ◌<◌, ◌≤◌, ◌++◌, ◌∷◌, [], length, slice_get, take, Some, IfOk, OnOk, OnErr};
 ghost use Rattle.gq_exec_contribute.specs.Waiting.{IsPacked, own, rows_needed, unpacked};
 
+use crate::cells::touch_target;
 use crate::rows::Ints;
 use crate::scalars::ScalarInput;
 use gq_base::{List, OutOfMemory, narrow};
+use gq_frame::Accums;
 use std::alloc::Global;
 use std::marker::Model;
 
@@ -96,6 +98,15 @@ impl WaitingInputs {
     {
         let (target, packed) = *self.heads.at(place);
         (target, lend(packed, self.rows.as_slice()))
+    }
+
+    /// Reads the contents at the targets, so that they are in the cache afterwards.
+    pub(crate) fn touched(&self, accums: &Accums) -> u64 {
+        let mut sum = 0u64;
+        for head in self.heads.as_slice() {
+            sum = sum.wrapping_add(touch_target(accums, head.0));
+        }
+        sum
     }
 
     /// Appends an input to the target with this number. Unchanged after `OutOfMemory`, which is also returned past

@@ -1,6 +1,6 @@
 -- WriteLemmas: a write at a vertex, seen and judged at once.
 use Rattle.std.proofs.Common.{◌≡◌, ℕ, Bool, true, false, List, Option, Some, None, Result, Ok, Err, slice_get, refl, sym, ap, subst, ◌∙◌}
-use Rattle.std.specs.Prelude.{IfOk}
+use Rattle.std.specs.Prelude.{OnOk}
 use Rattle.gq_value.specs.declared.kind.Slot.{Slot}
 use Rattle.gq_value.specs.declared.value.Wrong.{Wrong}
 use Rattle.gq_value.specs.AccumViews.{accum_of}
@@ -30,7 +30,7 @@ use Rattle.gq_exec_post.proofs.WriteLaws.{change_faults, change_made, change_sti
 use Rattle.gq_exec_post.specs.declared.writing.Writing.{Writing}
 use Rattle.gq_eval_context.specs.Faults.{fault_at}
 use Rattle.gq_exec_post.specs.Sights.{DoesSo, PutSo, SeesSo, look_now, made_at}
-use Rattle.gq_exec_post.specs.Writing.{KeepsTo, waiting_are, written}
+use Rattle.gq_exec_post.specs.Writing.{KeepsTo, left, waiting_are, written}
 
 -- ---- what a change makes
 
@@ -99,8 +99,8 @@ module _ (clock : Calendar) (o : Over) (aliases : List (ℕ × Placed)) (n v : �
   write_made m (Err fault.Stuck) g put = absurd put
   write_made m (Err fault.OutOfMemory) g put = record { each = λ p h. tt }
 
-pub put_keeps : (m : Made) (n v : ℕ) (before : Writing) (r : Result Writing code.BlockFault) → PutSo m n v before r → IfOk r (λ w. KeepsTo before.accums w.accums)
-put_keeps m n v before (Ok w) put = record { sound = put.0.sound refl; slots = put.0.slots }
-put_keeps m n v before (Err e) put = tt
+pub put_keeps : {U : Type 0} (m : Made) (n v : ℕ) (before after : Writing) (r : Result U code.BlockFault) → PutSo m n v before (left r after) → OnOk r (KeepsTo before.accums after.accums)
+put_keeps m n v before after (Ok u) put = record { sound = put.0.sound refl; slots = put.0.slots }
+put_keeps m n v before after (Err e) put = tt
 
 pub ruleset write_laws = (write_stops, write_made, put_keeps)

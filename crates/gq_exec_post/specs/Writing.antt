@@ -1,11 +1,12 @@
 -- Writing: the state of a phase of POST-ACCUM between two vertices.
-use Rattle.std.specs.Prelude.{◌≡◌, List, map}
+use Rattle.std.specs.Prelude.{◌≡◌, List, Result, Ok, Err, map}
 use Rattle.gq_value.specs.AccumViews.{given}
 use Rattle.gq_rules_meaning.specs.Blocks.{Contribution}
 use Rattle.gq_rules_meaning.specs.Posts.{Written}
 use Rattle.gq_plan_ir.specs.Reference.{Reference}
 use Rattle.gq_frame.specs.Slots.{AreSound, slots_are}
 use Rattle.gq_frame.specs.declared.accums.Accums.{Accums}
+use Rattle.gq_eval_context.specs.declared.after.BlockFault.{BlockFault}
 use Rattle.gq_exec_post.specs.declared.writing.Waiting.{Waiting}
 use Rattle.gq_exec_post.specs.declared.writing.Writing.{Writing}
 
@@ -24,3 +25,8 @@ written w = record { slots = slots_are w.accums; to_globals = waiting_are w.wait
 pub record KeepsTo (old new : Accums) : Type 0 where
   pub sound : AreSound new
   pub slots : new.slots ≡ old.slots
+
+-- what a step leaves: the state after it, or its fault
+abbrev pub left : {U : Type 0} → Result U BlockFault → Writing → Result Writing BlockFault
+left (Ok u) w = Ok w
+left (Err e) w = Err e

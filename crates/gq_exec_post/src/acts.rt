@@ -1,5 +1,5 @@
 // Runs the statements of a phase at one vertex.
-ghost use Rattle.std.specs.Prelude.{◌≡◌, ◌++◌, ◌∷◌, [], IfOk, map};
+ghost use Rattle.std.specs.Prelude.{◌≡◌, OnOk, map};
 ghost use Rattle.gq_value.specs.AccumViews.{given};
 ghost use Rattle.gq_rules_meaning.specs.Blocks.{contributed};
 ghost use Rattle.gq_rules_meaning.specs.Expressions.{truth_of};
@@ -14,12 +14,11 @@ ghost use Rattle.gq_frame.specs.Names.{alias_of};
 ghost use Rattle.gq_frame.specs.Slots.{AreSound, slots_are};
 ghost use Rattle.gq_exec_post.specs.Making.{making_of};
 ghost use Rattle.gq_exec_post.specs.Sights.{DoesSo, PutSo, ReadsAt, look_now, made_at, one_waiting};
-ghost use Rattle.gq_exec_post.specs.Writing.{KeepsTo};
+ghost use Rattle.gq_exec_post.specs.Writing.{KeepsTo, left};
 
 use crate::changed::{ChangeFault, change_at};
 use crate::making::{Made, made_by};
 use crate::writing::{Waiting, Writing};
-use gq_base::OutOfMemory;
 use gq_eval::run_truth;
 use gq_eval_context::{BlockContext, BlockFault, fault_at};
 use gq_eval_operand::Halt;
@@ -39,21 +38,20 @@ pub(crate) fn run_acts(
     aliases: &[Alias<'_>],
     leaves: &Leaves<'_>,
     vertex: u32,
-    before: Writing,
-) -> Result<Writing, BlockFault>
-    requires sound { AreSound before.accums }
-    requires reads { ReadsAt leaves.now (map alias_of aliases.now) vertex before.accums }
-    ensures told { DoesSo gregorian over.now (map alias_of aliases.now) vertex (λ p. post_acts p (view_acts acts.now)) before result }
-    ensures sound { IfOk result (λ w. KeepsTo before.accums w.accums) }
+    writing: &mut Writing,
+) -> Result<(), BlockFault>
+    requires sound { AreSound writing.old.accums }
+    requires reads { ReadsAt leaves.now (map alias_of aliases.now) vertex writing.old.accums }
+    ensures told { DoesSo gregorian over.now (map alias_of aliases.now) vertex (λ p. post_acts p (view_acts acts.now)) writing.old (left result writing.new) }
+    ensures sound { OnOk result (KeepsTo writing.old.accums writing.new.accums) }
 {
-    let mut writing = before;
     for act in acts {
         match run_act(act, alloc, over, aliases, leaves, vertex, writing) {
             Err(fault) => return Err(fault),
-            Ok(next) => writing = next,
+            Ok(()) => {}
         }
     }
-    Ok(writing)
+    Ok(())
 }
 
 /// Runs a statement at a vertex.
@@ -66,21 +64,21 @@ fn run_act(
     aliases: &[Alias<'_>],
     leaves: &Leaves<'_>,
     vertex: u32,
-    before: Writing,
-) -> Result<Writing, BlockFault>
-    requires sound { AreSound before.accums }
-    requires reads { ReadsAt leaves.now (map alias_of aliases.now) vertex before.accums }
-    ensures told { DoesSo gregorian over.now (map alias_of aliases.now) vertex (λ p. post_act p (view_act act.now)) before result }
-    ensures sound { IfOk result (λ w. KeepsTo before.accums w.accums) }
+    writing: &mut Writing,
+) -> Result<(), BlockFault>
+    requires sound { AreSound writing.old.accums }
+    requires reads { ReadsAt leaves.now (map alias_of aliases.now) vertex writing.old.accums }
+    ensures told { DoesSo gregorian over.now (map alias_of aliases.now) vertex (λ p. post_act p (view_act act.now)) writing.old (left result writing.new) }
+    ensures sound { OnOk result (KeepsTo writing.old.accums writing.new.accums) }
 {
     match act {
         Act::Attached(_, slot, change) => {
             let to = (*slot, vertex);
-            write(change, alloc, over, aliases, leaves, to, before)
+            write(change, alloc, over, aliases, leaves, to, writing)
         }
         Act::Global(slot, change) => {
             let to = (*slot, vertex);
-            wait(change, alloc, over, aliases, leaves, to, before)
+            wait(change, alloc, over, aliases, leaves, to, writing)
         }
         Act::If(branches, others) => {
             for branch in branches.as_slice() {
@@ -91,12 +89,12 @@ fn run_act(
                     aliases,
                     leaves,
                     vertex,
-                    &before.accums,
+                    &writing.accums,
                 ) {
                     Err(halt) => return Err(fault_at(vertex, halt)),
                     Ok(true) => {
                         let acts = branch.1.as_slice();
-                        return run_acts(acts, alloc, over, aliases, leaves, vertex, before);
+                        return run_acts(acts, alloc, over, aliases, leaves, vertex, writing);
                     }
                     Ok(false) => {}
                 }
@@ -104,9 +102,9 @@ fn run_act(
             match others {
                 Some(others) => {
                     let acts = others.as_slice();
-                    run_acts(acts, alloc, over, aliases, leaves, vertex, before)
+                    run_acts(acts, alloc, over, aliases, leaves, vertex, writing)
                 }
-                None => Ok(before),
+                None => Ok(()),
             }
         }
     }
@@ -159,16 +157,16 @@ fn write(
     aliases: &[Alias<'_>],
     leaves: &Leaves<'_>,
     to: (u32, u32),
-    before: Writing,
-) -> Result<Writing, BlockFault>
-    requires sound { AreSound before.accums }
-    requires reads { ReadsAt leaves.now (map alias_of aliases.now) to.1 before.accums }
-    ensures told { DoesSo gregorian over.now (map alias_of aliases.now) to.1 (λ p. write p (Slot to.0) (view_change change.now)) before result }
-    ensures sound { IfOk result (λ w. KeepsTo before.accums w.accums) }
+    writing: &mut Writing,
+) -> Result<(), BlockFault>
+    requires sound { AreSound writing.old.accums }
+    requires reads { ReadsAt leaves.now (map alias_of aliases.now) to.1 writing.old.accums }
+    ensures told { DoesSo gregorian over.now (map alias_of aliases.now) to.1 (λ p. write p (Slot to.0) (view_change change.now)) writing.old (left result writing.new) }
+    ensures sound { OnOk result (KeepsTo writing.old.accums writing.new.accums) }
 {
-    match made_at(change, alloc, over, aliases, leaves, to, &before.accums) {
+    match made_at(change, alloc, over, aliases, leaves, to, &writing.accums) {
         Err(halt) => Err(fault_at(to.1, halt)),
-        Ok(made) => put_in(alloc, to, &made, before),
+        Ok(made) => put_in(alloc, to, &made, writing),
     }
 }
 
@@ -223,15 +221,13 @@ fn put_in(
     alloc: Global,
     to: (u32, u32),
     made: &Made,
-    before: Writing,
-) -> Result<Writing, BlockFault>
-    requires { AreSound before.accums }
-    ensures { PutSo made.now to.0 to.1 before result }
+    writing: &mut Writing,
+) -> Result<(), BlockFault>
+    requires { AreSound writing.old.accums }
+    ensures { PutSo made.now to.0 to.1 writing.old (left result writing.new) }
 {
-    let mut accums = before.accums;
-    let waiting = before.waiting;
-    match change_at(alloc, &mut accums, to.0, to.1, made) {
-        Ok(()) => Ok(Writing { accums, waiting }),
+    match change_at(alloc, &mut writing.accums, to.0, to.1, made) {
+        Ok(()) => Ok(()),
         Err(ChangeFault::TooBig) => Err(BlockFault::SumRange {
             slot: to.0 as usize,
         }),
@@ -250,20 +246,19 @@ fn wait(
     aliases: &[Alias<'_>],
     leaves: &Leaves<'_>,
     to: (u32, u32),
-    before: Writing,
-) -> Result<Writing, BlockFault>
-    requires sound { AreSound before.accums }
-    requires reads { ReadsAt leaves.now (map alias_of aliases.now) to.1 before.accums }
-    ensures told { DoesSo gregorian over.now (map alias_of aliases.now) to.1 (λ p. feed p (Slot to.0) (view_change change.now)) before result }
-    ensures sound { IfOk result (λ w. KeepsTo before.accums w.accums) }
+    writing: &mut Writing,
+) -> Result<(), BlockFault>
+    requires sound { AreSound writing.old.accums }
+    requires reads { ReadsAt leaves.now (map alias_of aliases.now) to.1 writing.old.accums }
+    ensures told { DoesSo gregorian over.now (map alias_of aliases.now) to.1 (λ p. feed p (Slot to.0) (view_change change.now)) writing.old (left result writing.new) }
+    ensures sound { OnOk result (KeepsTo writing.old.accums writing.new.accums) }
 {
-    match input_at(change, alloc, over, aliases, leaves, to, &before.accums) {
+    match input_at(change, alloc, over, aliases, leaves, to, &writing.accums) {
         Err(halt) => Err(fault_at(to.1, halt)),
         Ok(input) => {
-            let accums = before.accums;
             let one = Waiting { slot: to.0, input };
-            match with_one(before.waiting, one) {
-                Ok(waiting) => Ok(Writing { accums, waiting }),
+            match writing.waiting.push(one) {
+                Ok(()) => Ok(()),
                 Err(_) => Err(BlockFault::OutOfMemory),
             }
         }
@@ -317,13 +312,4 @@ fn evaluated_input(
             }
         },
     }
-}
-
-/// Appends one waiting input.
-fn with_one(before: Vec<Waiting>, one: Waiting) -> Result<Vec<Waiting>, OutOfMemory>
-    ensures { IfOk result (λ waiting. waiting.items ≡ before.items ++ one ∷ []) }
-{
-    let mut waiting = before;
-    waiting.push(one)?;
-    Ok(waiting)
 }

@@ -156,13 +156,13 @@ fn vertices_at(
     ensures told { RunsAt gregorian over.now end.now (view_acts acts.now) vertices.now accums result }
     ensures keeps { IfOk result (KeepsTo accums) }
 {
-    let opened = Writing {
+    let mut writing = Writing {
         accums,
         waiting: Vec::new(alloc),
     };
-    match run_vertices(acts, alloc, over, end, leaves, vertices, opened) {
+    match run_vertices(acts, alloc, over, end, leaves, vertices, &mut writing) {
         Err(fault) => Err(fault),
-        Ok(writing) => fed(alloc, writing),
+        Ok(()) => fed(alloc, writing),
     }
 }
 

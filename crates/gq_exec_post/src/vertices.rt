@@ -1,12 +1,12 @@
 // Runs a phase at its vertices.
-ghost use Rattle.std.specs.Prelude.{◌≡◌, IfOk};
+ghost use Rattle.std.specs.Prelude.{◌≡◌, OnOk};
 ghost use Rattle.gq_rules_meaning.specs.Posts.{post_acts};
 ghost use Rattle.gq_rules_calendar.specs.Gregorian.{gregorian};
 ghost use Rattle.gq_plan_ir.specs.BlockView.{view_acts};
 ghost use Rattle.gq_exec_source.specs.Ends.{end_things};
 ghost use Rattle.gq_frame.specs.Slots.{AreSound};
 ghost use Rattle.gq_exec_post.specs.Sights.{DoesSo, GoesSo, ReadsEnd, one_alias};
-ghost use Rattle.gq_exec_post.specs.Writing.{KeepsTo};
+ghost use Rattle.gq_exec_post.specs.Writing.{KeepsTo, left};
 
 use crate::acts::run_acts;
 use crate::writing::Writing;
@@ -25,21 +25,20 @@ pub(crate) fn run_vertices(
     end: &End,
     leaves: &Leaves<'_>,
     vertices: &[u32],
-    before: Writing,
-) -> Result<Writing, BlockFault>
-    requires sound { AreSound before.accums }
-    requires reads { ReadsEnd leaves.now end.now before.accums }
-    ensures told { GoesSo gregorian over.now end.now (view_acts acts.now) vertices.now before result }
-    ensures sound { IfOk result (λ w. KeepsTo before.accums w.accums) }
+    writing: &mut Writing,
+) -> Result<(), BlockFault>
+    requires sound { AreSound writing.old.accums }
+    requires reads { ReadsEnd leaves.now end.now writing.old.accums }
+    ensures told { GoesSo gregorian over.now end.now (view_acts acts.now) vertices.now writing.old (left result writing.new) }
+    ensures sound { OnOk result (KeepsTo writing.old.accums writing.new.accums) }
 {
-    let mut writing = before;
     for vertex in vertices {
         match run_vertex(acts, alloc, over, end, leaves, *vertex, writing) {
             Err(fault) => return Err(fault),
-            Ok(next) => writing = next,
+            Ok(()) => {}
         }
     }
-    Ok(writing)
+    Ok(())
 }
 
 /// Runs statements at a vertex, which the alias of the end is bound to.
@@ -50,15 +49,15 @@ fn run_vertex(
     end: &End,
     leaves: &Leaves<'_>,
     vertex: u32,
-    before: Writing,
-) -> Result<Writing, BlockFault>
-    requires sound { AreSound before.accums }
-    requires reads { ReadsEnd leaves.now end.now before.accums }
-    ensures told { DoesSo gregorian over.now (one_alias (end_things end.now vertex)) vertex (λ p. post_acts p (view_acts acts.now)) before result }
-    ensures sound { IfOk result (λ w. KeepsTo before.accums w.accums) }
+    writing: &mut Writing,
+) -> Result<(), BlockFault>
+    requires sound { AreSound writing.old.accums }
+    requires reads { ReadsEnd leaves.now end.now writing.old.accums }
+    ensures told { DoesSo gregorian over.now (one_alias (end_things end.now vertex)) vertex (λ p. post_acts p (view_acts acts.now)) writing.old (left result writing.new) }
+    ensures sound { OnOk result (KeepsTo writing.old.accums writing.new.accums) }
 {
     match end.alias(vertex) {
-        Some(alias) => run_acts(acts, alloc, over, &[alias], leaves, vertex, before),
-        None => run_acts(acts, alloc, over, &[], leaves, vertex, before),
+        Some(alias) => run_acts(acts, alloc, over, &[alias], leaves, vertex, writing),
+        None => run_acts(acts, alloc, over, &[], leaves, vertex, writing),
     }
 }

@@ -55,6 +55,7 @@ use Rattle.gq_index.specs.contracts.stretches.Stretch as stretch
 use Rattle.gq_index.specs.contracts.stretches.Stretches as stretches
 use Rattle.gq_index.specs.contracts.candidates.CandidateRows as candidate_rows
 use Rattle.gq_index.specs.contracts.candidates.Candidates as candidates
+use Rattle.gq_workers.specs.contracts.wanted.Wanted as wanted
 use Rattle.gq_workers.specs.contracts.work.Work as work
 use Rattle.gq_workers.specs.contracts.work.Round as round
 use Rattle.gq_workers.specs.contracts.work.ChunkOutput as left
@@ -198,8 +199,11 @@ rows_of_candidates l = search (stretches_field, list_crosses.the_sync, crosses, 
 candidates_field : (l : NamedLft) → IsSync (candidates.the_field l).row
 candidates_field l = search (rows_of_candidates, list_crosses.the_sync, crosses, sendable) depth 30 fits 50000
 
+wanted_field : IsSync (wanted.the_field).row
+wanted_field = search (cells_sync, list_crosses.the_sync, crosses, sendable) depth 30 fits 50000
+
 pub work_sync : (l : NamedLft) → IsSync (work.the_row l)
-work_sync l = search (block_sync, leaves_field, filter_field, candidates_field, list_crosses.the_sync, crosses, sendable) depth 30 fits 50000
+work_sync l = search (block_sync, leaves_field, filter_field, wanted_field, candidates_field, list_crosses.the_sync, crosses, sendable) depth 30 fits 50000
 
 pub round_sync : (l : NamedLft) → IsSync (round.the_row l)
 round_sync l = search (graph_field, plan_sync, tuple_sync, frame_sync, work_sync, sync, crosses, sendable) depth 30 fits 50000

@@ -8,6 +8,7 @@ ghost use Rattle.gq_workers.specs.Running.{IsWork, HasRun, Steps};
 
 use crate::chunk::try_chunk;
 use crate::run::{BlockProgress, feed, judged};
+use crate::wanted::wanted_by;
 use crate::work::Work;
 use crate::workers::try_rounds;
 use gq_base::OutOfMemory;
@@ -104,10 +105,12 @@ fn work_of<'b>(
 {
     let leaves = leaves_of(alloc, &over.frame.accums.slots, &block.walk, ends)?;
     let filter = filter_of(&block.filter, &leaves);
+    let wanted = wanted_by(alloc, block, &leaves, over.graph)?;
     Ok(Work {
         block,
         leaves,
         filter,
+        wanted,
         candidates,
         size: shape.chunk.max(1),
     })
@@ -192,7 +195,7 @@ fn next_chunk<G: Gate>(
     let start = run.at;
     let end = start.saturating_add(work.size).min(work.candidates.count());
     gate.pass(0, start / work.size);
-    match try_chunk(alloc, work, over, start, end, &mut run.found)? {
+    match try_chunk(alloc, work, over, start, end, &mut run.room, &mut run.found)? {
         Some(fault) => return Ok(Some(fault)),
         None => {}
     }

@@ -18,9 +18,6 @@ pub(crate) struct MatchBuffer {
     pub room: Room,
     pub sources: List<u64>,
     pub targets: List<u64>,
-
-    /// Room for the edges of a chunk.
-    pub edges: List<u32>,
 }
 
 impl MatchBuffer {
@@ -35,7 +32,6 @@ impl MatchBuffer {
             room: Room::new(alloc),
             sources: unmarked(alloc, vertices)?,
             targets: unmarked(alloc, vertices)?,
-            edges: List::new(alloc),
         })
     }
 

@@ -6,9 +6,11 @@
 //!
 //! Read `Blocks.antt` of `gq_rules_meaning` first, then `specs/Running.antt` (the invariant while a block
 //! runs), `specs/Rounds.antt` (what several workers leave) and `specs/Results.antt` (how a block ends). The
-//! code begins in `src/block.rt`; `src/candidate.rt` tries one candidate, `src/workers.rt` has the threads.
+//! code begins in `src/block.rt`; `src/candidate.rt` tries one candidate, `src/ahead.rt` reads ahead what candidates need,
+//! `src/workers.rt` has the threads.
 #![tactic(auto)]
 
+mod ahead;
 mod block;
 mod candidate;
 mod chunk;
@@ -16,6 +18,7 @@ mod found;
 mod joining;
 mod order;
 mod run;
+mod wanted;
 mod work;
 mod workers;
 

@@ -4,7 +4,7 @@ ghost use Rattle.gq_workers.specs.Running.{FedFrom, IsShort};
 ghost use Rattle.gq_workers.specs.Results.{AreListed, IsJudged, IsBegun};
 
 use crate::found::MatchBuffer;
-use gq_base::{OutOfMemory, within};
+use gq_base::{List, OutOfMemory, within};
 use gq_core::Batches;
 use gq_eval_context::{After, BlockContext, BlockFault};
 use gq_exec_contribute::{WaitingInputs, feed_scalars};
@@ -25,6 +25,9 @@ pub(crate) struct BlockProgress {
 
     /// Marks of the matched vertices, and room for a chunk's inputs.
     pub found: MatchBuffer,
+
+    /// Room for numbers of what is read ahead.
+    pub room: List<u32>,
 }
 
 impl BlockProgress {
@@ -37,6 +40,7 @@ impl BlockProgress {
             accums: over.frame.accums.share(alloc)?,
             fed: 0,
             found: MatchBuffer::open(alloc, over.graph.store.vertices.len())?,
+            room: List::new(alloc),
         })
     }
 }

@@ -1,4 +1,5 @@
 // The work of a run, and the outputs of workers.
+use crate::wanted::Wanted;
 use gq_base::{List, OutOfMemory};
 use gq_core::Batches;
 use gq_eval_attributes::TupleType;
@@ -17,6 +18,9 @@ pub(crate) struct Work<'b> {
 
     /// WHERE, if its accumulators could be resolved.
     pub filter: Option<Filter>,
+
+    /// What the expressions read of targets and edges.
+    pub wanted: Wanted,
     pub candidates: Candidates<'b>,
 
     /// The number of candidates per chunk, at least 1.

@@ -258,6 +258,7 @@ fn work_part<G: Gate>(
 {
     let mut found = MatchBuffer::open(alloc, over.graph.store.vertices.len())?;
     let mut lefts = List::new(alloc);
+    let mut room = List::new(alloc);
     // There are no more chunks than candidates, so this bound never ends the loop.
     for _ in first..last {
         let chunk = draws.fetch_add(1, Ordering::SeqCst);
@@ -268,7 +269,7 @@ fn work_part<G: Gate>(
         // There are at most 64 workers, so this is the worker's own number.
         gate.pass(worker.min(63) as u32, start / work.size);
         let end = start.saturating_add(work.size).min(last);
-        lefts.push(work_chunk(alloc, work, over, start, end, &mut found)?)?;
+        lefts.push(work_chunk(alloc, work, over, start, end, &mut room, &mut found)?)?;
     }
     Ok(WorkerOutput {
         lefts,
@@ -284,6 +285,7 @@ fn work_chunk(
     over: &BlockContext<'_>,
     start: u64,
     end: u64,
+    room: &mut List<u32>,
     found: &mut MatchBuffer,
 ) -> Result<ChunkOutput, OutOfMemory>
     requires forward { start ≤ end }
@@ -293,7 +295,7 @@ fn work_chunk(
     requires shaped { IsShaped (length over.now.vertices) found.old }
     ensures { IfOk result (LeavesChunk gregorian over.now work.now start end found.old found.new) }
 {
-    let fault = try_chunk(alloc, work, over, start, end, found)?;
+    let fault = try_chunk(alloc, work, over, start, end, room, found)?;
     let none = Batches::new(alloc, 1)?;
     let batches = mem::replace(&mut found.batches, none);
     // The buffer keeps its room for the next chunk, and what waits takes no more than it needs.

@@ -1,6 +1,7 @@
 use Rattle.std.proofs.Common.{map}
 use Rattle.gq_rules_calendar.specs.Gregorian.{gregorian}
 use Rattle.gq_frame.specs.Names.{alias_of}
+use Rattle.gq_exec_post.specs.Writing.{left}
 use Rattle.gq_exec_post.proofs.ActLemmas.{act_next, act_stops, attached_is, choice_next, global_is, if_holds, if_last, if_none, if_stops}
 use Rattle.gq_exec_post.proofs.acts.+act.Goals as goal
 
@@ -8,45 +9,45 @@ use Rattle.gq_exec_post.proofs.acts.+act.Goals as goal
 
 pub run_acts-returns-in-Err-clause-told : goal.run_acts-returns-in-Err-clause-told
 run_acts-returns-in-Err-clause-told t c =
-    act_stops gregorian c.args.over.now (map alias_of c.args.aliases.now) c.args.vertex c.args.acts.now c.loop-act.act-index c.act-item.result c.args.before c.loop-act.writing c.in-Err.fault c.loop-act.invariant c.loop-act-test.true c.act-item.is c.in-Err.ensures.told
+    act_stops gregorian c.args.over.now (map alias_of c.args.aliases.now) c.args.vertex c.args.acts.now c.loop-act.act-index c.act-item.result c.args.writing.now c.loop-act.writing c.in-Err.fault c.loop-act.invariant c.loop-act-test.true c.act-item.is c.in-Err.ensures.told
 
 pub run_acts-loop-act-preserved : goal.run_acts-loop-act-preserved
 run_acts-loop-act-preserved t c =
-    act_next gregorian c.args.over.now (map alias_of c.args.aliases.now) c.args.vertex c.args.acts.now c.loop-act.act-index c.act-item.result c.args.before c.loop-act.writing c.in-Ok.next c.loop-act.invariant c.loop-act-test.true c.act-item.is c.in-Ok.ensures.told c.in-Ok.ensures.sound
+    act_next gregorian c.args.over.now (map alias_of c.args.aliases.now) c.args.vertex c.args.acts.now c.loop-act.act-index c.act-item.result c.args.writing.now c.loop-act.writing c.run_act.new.writing c.loop-act.invariant c.loop-act-test.true c.act-item.is c.in-Ok.ensures.told c.in-Ok.ensures.sound
 
 -- ---- a change
 
 pub run_act-returns-in-Attached-clause-told : goal.run_act-returns-in-Attached-clause-told
 run_act-returns-in-Attached-clause-told t c =
-    attached_is gregorian c.args.over.now (map alias_of c.args.aliases.now) c.args.vertex c.args.act.now c.in-Attached.field-0 c.in-Attached.slot c.in-Attached.change c.args.before c.write.result c.in-Attached.is c.write.ensures.told
+    attached_is gregorian c.args.over.now (map alias_of c.args.aliases.now) c.args.vertex c.args.act.now c.in-Attached.field-0 c.in-Attached.slot c.in-Attached.change c.args.writing.now (left c.write.result c.write.new.writing) c.in-Attached.is c.write.ensures.told
 
 pub run_act-returns-in-Global-clause-told : goal.run_act-returns-in-Global-clause-told
 run_act-returns-in-Global-clause-told t c =
-    global_is gregorian c.args.over.now (map alias_of c.args.aliases.now) c.args.vertex c.args.act.now c.in-Global.slot c.in-Global.change c.args.before c.wait.result c.in-Global.is c.wait.ensures.told
+    global_is gregorian c.args.over.now (map alias_of c.args.aliases.now) c.args.vertex c.args.act.now c.in-Global.slot c.in-Global.change c.args.writing.now (left c.wait.result c.wait.new.writing) c.in-Global.is c.wait.ensures.told
 
 -- ---- IF
 
 pub run_act-returns-in-Err-clause-told : goal.run_act-returns-in-Err-clause-told
 run_act-returns-in-Err-clause-told t c =
-    if_stops gregorian c.args.over.now (map alias_of c.args.aliases.now) c.args.vertex c.args.act.now c.in-If.branches c.as_slice-branch-items.result.now c.in-If.others c.in-If.is c.as_slice-branch-items.ensures c.args.before c.loop-branch.branch-index c.loop-branch.invariant
+    if_stops gregorian c.args.over.now (map alias_of c.args.aliases.now) c.args.vertex c.args.act.now c.in-If.branches c.as_slice-branch-items.result.now c.in-If.others c.in-If.is c.as_slice-branch-items.ensures c.args.writing.now c.loop-branch.branch-index c.loop-branch.invariant
     c.branch-item.result c.in-Err.halt c.loop-branch-test.true c.branch-item.is c.in-Err.ensures c.fault_at.result c.fault_at.ensures
 
 pub run_act-returns-in-Ok-true-clause-told : goal.run_act-returns-in-Ok-true-clause-told
 run_act-returns-in-Ok-true-clause-told t c =
-    if_holds gregorian c.args.over.now (map alias_of c.args.aliases.now) c.args.vertex c.args.act.now c.in-If.branches c.as_slice-branch-items.result.now c.in-If.others c.in-If.is c.as_slice-branch-items.ensures c.args.before c.loop-branch.branch-index c.loop-branch.invariant
-    c.branch-item.result c.as_slice-acts.result.now c.run_acts.result c.in-Ok-true.field-0 c.loop-branch-test.true c.branch-item.is c.in-Ok-true.ensures c.in-Ok-true.field-0-test c.as_slice-acts.ensures c.run_acts.ensures.told
+    if_holds gregorian c.args.over.now (map alias_of c.args.aliases.now) c.args.vertex c.args.act.now c.in-If.branches c.as_slice-branch-items.result.now c.in-If.others c.in-If.is c.as_slice-branch-items.ensures c.args.writing.now c.loop-branch.branch-index c.loop-branch.invariant
+    c.branch-item.result c.as_slice-acts.result.now (left c.run_acts.result c.run_acts.new.writing) c.in-Ok-true.field-0 c.loop-branch-test.true c.branch-item.is c.in-Ok-true.ensures c.in-Ok-true.field-0-test c.as_slice-acts.ensures c.run_acts.ensures.told
 
 pub run_act-loop-branch-preserved : goal.run_act-loop-branch-preserved
 run_act-loop-branch-preserved t c =
-    choice_next gregorian c.args.over.now (map alias_of c.args.aliases.now) c.args.vertex c.as_slice-branch-items.result.now c.in-If.others c.args.before c.loop-branch.branch-index c.branch-item.result c.in-Ok-false.field-0
+    choice_next gregorian c.args.over.now (map alias_of c.args.aliases.now) c.args.vertex c.as_slice-branch-items.result.now c.in-If.others c.args.writing.now c.loop-branch.branch-index c.branch-item.result c.in-Ok-false.field-0
     c.loop-branch.invariant c.loop-branch-test.true c.branch-item.is c.in-Ok-false.ensures c.in-Ok-false.field-0-test
 
 pub run_act-returns-in-Some-clause-told : goal.run_act-returns-in-Some-clause-told
 run_act-returns-in-Some-clause-told t c =
-    if_last gregorian c.args.over.now (map alias_of c.args.aliases.now) c.args.vertex c.args.act.now c.in-If.branches c.as_slice-branch-items.result.now c.in-If.others c.in-If.is c.as_slice-branch-items.ensures c.args.before c.loop-branch.branch-index c.loop-branch.invariant
-    c.in-Some.others c.as_slice-acts-in-Some.result.now c.run_acts-in-Some.result c.loop-branch-test.false c.in-Some.is c.as_slice-acts-in-Some.ensures c.run_acts-in-Some.ensures.told
+    if_last gregorian c.args.over.now (map alias_of c.args.aliases.now) c.args.vertex c.args.act.now c.in-If.branches c.as_slice-branch-items.result.now c.in-If.others c.in-If.is c.as_slice-branch-items.ensures c.args.writing.now c.loop-branch.branch-index c.loop-branch.invariant
+    c.in-Some.others c.as_slice-acts-in-Some.result.now (left c.run_acts-in-Some.result c.run_acts-in-Some.new.writing) c.loop-branch-test.false c.in-Some.is c.as_slice-acts-in-Some.ensures c.run_acts-in-Some.ensures.told
 
 pub run_act-returns-in-None-clause-told : goal.run_act-returns-in-None-clause-told
 run_act-returns-in-None-clause-told t c =
-    if_none gregorian c.args.over.now (map alias_of c.args.aliases.now) c.args.vertex c.args.act.now c.in-If.branches c.as_slice-branch-items.result.now c.in-If.others c.in-If.is c.as_slice-branch-items.ensures c.args.before c.loop-branch.branch-index c.loop-branch.invariant
+    if_none gregorian c.args.over.now (map alias_of c.args.aliases.now) c.args.vertex c.args.act.now c.in-If.branches c.as_slice-branch-items.result.now c.in-If.others c.in-If.is c.as_slice-branch-items.ensures c.args.writing.now c.loop-branch.branch-index c.loop-branch.invariant
     c.loop-branch-test.false c.in-None.is

@@ -4,4 +4,4 @@ use Rattle.gq_exec_post.proofs.VertexLemmas.{VerticesTo}
 use Rattle.gq_exec_post.proofs.vertices.run_vertices.Given as goal
 
 abbrev pub invariant-loop-vertex : goal.invariant-loop-vertex
-invariant-loop-vertex l = VerticesTo gregorian l.over l.end (view_acts l.acts) l.vertices l.fn.before l.vertex-index l.writing
+invariant-loop-vertex l = VerticesTo gregorian l.over l.end (view_acts l.acts) l.vertices l.fn.writing l.vertex-index l.writing

@@ -9,7 +9,7 @@ feed-requires g c = (rw c.in-None.is at c.in_ok-fault.ensures).shaped.one
 
 pub returns : goal.returns
 returns g c =
-    let new : BlockProgress = record { at = c.min-end.result; accums = c.feed.new.accums; fed = c.in_ok-run.field-0; found = record { batches = c.clear.new.self; inputs = c.truncate.new.self; room = c.try_chunk.new.found.room; sources = c.try_chunk.new.found.sources; targets = c.try_chunk.new.found.targets; edges = c.try_chunk.new.found.edges } } in
+    let new : BlockProgress = record { at = c.min-end.result; accums = c.feed.new.accums; fed = c.in_ok-run.field-0; found = record { batches = c.clear.new.self; inputs = c.truncate.new.self; room = c.try_chunk.new.found.room; sources = c.try_chunk.new.found.sources; targets = c.try_chunk.new.found.targets }; room = c.try_chunk.new.room } in
     let s = c.saturating_add.ensures in let n = c.count.ensures in let m = c.min-end.ensures in let some = c.requires.work.some in let more = c.requires.more in
     chunk_steps gregorian c.args.over.now c.args.work.now c.args.run.now new c.min-end.result c.try_chunk.new.found c.try_chunk.new.found.inputs c.requires.run
     (rw c.in-None.is at c.in_ok-fault.ensures) refl c.in_ok-run.ensures (omega (arith, s, n, m, some, more)) refl c.clear.ensures c.truncate.ensures refl refl

@@ -1,15 +1,13 @@
 use Rattle.std.proofs.Common.{length, Option, refl, subst, arith}
 use Rattle.gq_exec_contribute.specs.declared.candidate.Stop.{Stop}
 use Rattle.gq_rules_calendar.specs.Gregorian.{gregorian}
-use Rattle.gq_workers.specs.declared.found.MatchBuffer.{MatchBuffer}
 use Rattle.gq_workers.specs.Running.{Tried, come}
 use Rattle.gq_workers.proofs.RunLemmas.{within_at, chunk_first, chunk_next, chunk_fault, chunk_done}
 use Rattle.gq_workers.proofs.chunk.try_chunk.Goals as goal
 
 pub loop-place-init : goal.loop-place-init
 loop-place-init c =
-    let now : MatchBuffer = record { batches = c.args.found.now.batches; inputs = c.args.found.now.inputs; room = c.args.found.now.room; sources = c.args.found.now.sources; targets = c.args.found.now.targets; edges = c.read_ahead.new.edges } in
-    chunk_first (come gregorian c.args.over.now c.args.work.now) c.args.work.now.candidates c.args.over.now c.args.start c.args.end c.args.found.now now c.requires.forward
+    chunk_first (come gregorian c.args.over.now c.args.work.now) c.args.work.now.candidates c.args.over.now c.args.start c.args.end c.args.found.now c.args.found.now c.requires.forward
     (record { batches = c.requires.empty.batches; inputs = c.requires.empty.inputs })
     (record { one = c.requires.shaped.one; sources = c.requires.shaped.sources; targets = c.requires.shaped.targets; short = record { sources = c.requires.shaped.short.sources; targets = c.requires.shaped.short.targets } }) refl refl
 
