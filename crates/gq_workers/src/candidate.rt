@@ -165,7 +165,7 @@ fn try_candidate(
 }
 
 /// Evaluates a candidate: it sees its aliases, and the accumulators of the frame.
-fn outcome_of(
+pub(crate) fn outcome_of(
     alloc: Global,
     block: &Block,
     over: &BlockContext<'_>,

@@ -14,9 +14,15 @@ mod candidate;
 mod chunk;
 mod found;
 mod joining;
+mod laws;
 mod order;
 mod run;
+mod seats;
+mod tables;
 mod work;
 mod workers;
 
 pub use block::run_block;
+pub use laws::chunks_make_the_block;
+pub use seats::work;
+pub use tables::{Tables, open_tables};
