@@ -1,8 +1,9 @@
 -- JobLemmas: the chunks of a job, joined, are its candidates, and each target gets what its accumulator gets at its vertex.
-use Rattle.std.proofs.Common.{◌≡◌, ℕ, zero, suc, ◌+◌, ◌*◌, ◌<◌, ◌≤◌, ◌==◌, ◌&&◌, Bool, true, false, List, [], ◌∷◌, ◌++◌, map, take, drop, length, slice_get, Some, None, refl, sym, ap, ap₂, ◌∙◌, subst, arith, cond, eq-eqb, eqb-true, filter}
+use Rattle.std.proofs.Common.{◌≡◌, ℕ, zero, suc, ◌+◌, ◌*◌, ◌/◌, ◌%◌, ◌<◌, ◌≤◌, ◌==◌, ◌&&◌, Bool, true, false, List, [], ◌∷◌, ◌++◌, map, take, drop, length, min, slice_get, Some, None, refl, sym, ap, ap₂, ◌∙◌, subst, arith, cond, eq-eqb, eqb-true, filter}
 use Rattle.std.specs.List.{All, flat_map}
 use Rattle.std.specs.Fork.{slice_chunk}
-use Rattle.std.proofs.Halving.{spans}
+use native.Mathlib.Nat.{add-mul, one-mul, mul-le-mul_right}
+use Rattle.std.proofs.lemmas.Nat.{div-add-mod', mod_below}
 use Rattle.std.proofs.lemmas.List.{append_assoc, map-append, take_all}
 use Rattle.std.proofs.lemmas.List.Elements.{All-head, All-tail}
 use Rattle.std.proofs.lemmas.List.Concat.{flat_map-append}
@@ -25,13 +26,40 @@ use Rattle.gq_workers.specs.Running.{gives_of, matches_by}
 use Rattle.gq_workers.specs.Working.{Job, given_in, given_by, job_chunk, parts}
 use Rattle.gq_workers.specs.JobLaws.{first_chunks, given_to, JobLaw}
 
+-- ---- how many chunks there are
+
+-- so many parts are just enough
+spanned : (size n : ℕ) → 0 < size → (n ≤ parts size n * size) × (parts size n * size < n + size)
+spanned size n some = by (n % size) refl
+  where
+    by : (r : ℕ) → n % size ≡ r → (n ≤ parts size n * size) × (parts size n * size < n + size)
+    by zero e =
+        let w : parts size n * size ≡ (n / size) * size = ap (λ (k : ℕ). k * size) (let c : parts size n ≡ n / size = omega (arith, e) in c) in
+        let a = div-add-mod' n size in
+        (omega (arith, w, a, e), omega (arith, w, a, e, some))
+    by (suc r) e =
+        let w : parts size n * size ≡ (n / size) * size + size = ap (λ (k : ℕ). k * size) (let c : parts size n ≡ n / size + 1 = omega (arith, e) in c) ∙ add-mul (n / size) 1 size ∙ ap (λ (k : ℕ). (n / size) * size + k) (one-mul size) in
+        let a = div-add-mod' n size in let b = mod_below n size some in
+        (omega (arith, w, a, b), omega (arith, w, a, e))
+
+-- each of them begins at a candidate
+pub begins_inside : (size n chunk : ℕ) → 0 < size → chunk < parts size n → chunk * size < n
+begins_inside size n chunk some below =
+    let up : chunk + 1 ≤ parts size n = omega (arith, below) in
+    let m = mul-le-mul_right size up in let a = add-mul chunk 1 size in let o = one-mul size in let s = (spanned size n some).1 in omega (arith, m, a, o, s)
+
 -- ---- the chunks, joined
 
 take_chunk : (cs : List Candidate) (start size : ℕ) → take (start + size) cs ≡ take start cs ++ take size (drop start cs)
-take_chunk cs zero size = refl
-take_chunk [] (suc start) zero = refl
-take_chunk [] (suc start) (suc size) = refl
-take_chunk (c ∷ cs) (suc start) size = ap (λ xs. c ∷ xs) (take_chunk cs start size)
+take_chunk cs zero size = ap (λ (k : ℕ). take k cs) (let e : 0 + size ≡ size = omega arith in e)
+take_chunk [] (suc start) size = nothing (suc start + size) size
+  where
+    nothing : (n m : ℕ) → ◌≡◌ {A = List Candidate} (take n []) ([] ++ take m [])
+    nothing zero zero = refl
+    nothing zero (suc m) = refl
+    nothing (suc n) zero = refl
+    nothing (suc n) (suc m) = refl
+take_chunk (c ∷ cs) (suc start) size = ap (λ (k : ℕ). take k (c ∷ cs)) (let e : suc start + size ≡ suc (start + size) = omega arith in e) ∙ ap (λ xs. c ∷ xs) (take_chunk cs start size)
 
 chunks_are : (job : Job) (n : ℕ) → first_chunks job n ≡ map (targeted job.slots) (given_by job.go (take (n * job.size) job.candidates))
 chunks_are job zero = ap (λ (k : ℕ). map (targeted job.slots) (given_by job.go (take k job.candidates))) (let e : 0 ≡ 0 * job.size = omega arith in e)
@@ -44,7 +72,7 @@ chunks_are job (suc n) =
 
 all_chunks : (job : Job) → 1 ≤ job.size → first_chunks job (parts job.size (length job.candidates)) ≡ map (targeted job.slots) (given_by job.go job.candidates)
 all_chunks job some = chunks_are job (parts job.size (length job.candidates))
-    ∙ ap (λ cs. map (targeted job.slots) (given_by job.go cs)) (take_all (parts job.size (length job.candidates) * job.size) job.candidates (spans (parts job.size (length job.candidates)) (length job.candidates) job.size (omega (arith, some)) refl).0)
+    ∙ ap (λ cs. map (targeted job.slots) (given_by job.go cs)) (take_all (parts job.size (length job.candidates) * job.size) job.candidates (spanned job.size (length job.candidates) (omega (arith, some))).0)
 
 -- ---- the contributions of a block without a fault
 
@@ -54,18 +82,18 @@ gives_append ms ns = flat_map-append (λ (m : Match). m.gives) ms ns
 given_is : (go : Candidate → Answer Wrong (List Match)) (n : ℕ) (cs : List Candidate) (ms : List Match) → matches_by go n cs ≡ Gives ms → given_by go cs ≡ gives_of ms
 given_is go n [] ms h = ap gives_of (gives_same h)
   where
-    gives_same : {a b : List Match} → Gives a ≡ Gives b → a ≡ b
+    gives_same : {a b : List Match} → ◌≡◌ {A = Answer blocks.BlockFault (List Match)} (Gives a) (Gives b) → a ≡ b
     gives_same h = cc
-given_is go n (c ∷ cs) ms h = by (go c) (matches_by go (suc n) cs) refl refl h
+given_is go n (c ∷ cs) ms h = by (go c) (matches_by go (suc n) cs) refl refl h (λ ks q. given_is go (suc n) cs ks q)
   where
-    by : (g : Answer Wrong (List Match)) (r : Answer blocks.BlockFault (List Match)) → go c ≡ g → matches_by go (suc n) cs ≡ r → (blaming (AtPlace n) g >>= λ m. r >>= λ ks. Gives (m ++ ks)) ≡ Gives ms → given_by go (c ∷ cs) ≡ gives_of ms
-    by (Gives m) (Gives ks) p q e =
+    by : (g : Answer Wrong (List Match)) (r : Answer blocks.BlockFault (List Match)) → go c ≡ g → matches_by go (suc n) cs ≡ r → (blaming (AtPlace n) g >>= λ m. r >>= λ ks. Gives (m ++ ks)) ≡ Gives ms → ((ks : List Match) → matches_by go (suc n) cs ≡ Gives ks → given_by go cs ≡ gives_of ks) → given_by go (c ∷ cs) ≡ gives_of ms
+    by (Gives m) (Gives ks) p q e rest =
         let same : m ++ ks ≡ ms = cc e in
-        ap₂ (λ (xs ys : List Contribution). xs ++ ys) (ap given_in p) (given_is go (suc n) cs ks q) ∙ sym (gives_append m ks) ∙ ap gives_of same
-    by (Gives m) (Faults w) p q e = absurd (cc e)
-    by (Gives m) Stuck p q e = absurd (cc e)
-    by (Faults w) r p q e = absurd (cc e)
-    by Stuck r p q e = absurd (cc e)
+        ap₂ (λ (xs ys : List Contribution). xs ++ ys) (ap given_in p) (rest ks q) ∙ sym (gives_append m ks) ∙ ap gives_of same
+    by (Gives m) (Faults w) p q e rest = absurd (cc e)
+    by (Gives m) Stuck p q e rest = absurd (cc e)
+    by (Faults w) r p q e rest = absurd (cc e)
+    by Stuck r p q e rest = absurd (cc e)
 
 -- ---- a target and its accumulator's vertex
 
@@ -78,7 +106,7 @@ module _ (slots : Slots) (n v : ℕ) (s : Slot) (at : slice_get slots.declared n
       attached_at (e ∷ ds) zero d h = ap (λ (x : Slot). Some x.attached) (same_Some e d h)
       attached_at (e ∷ ds) (suc i) d h = attached_at ds i d h
 
-  same_pair : (m w : ℕ) (d : Slot) → slice_get slots.declared m ≡ Some d → w < targets_of slots.vertices d → number_of slots m w ≡ number_of slots n v → (m, w) ≡ (n, v)
+  same_pair : (m w : ℕ) (d : Slot) → slice_get slots.declared m ≡ Some d → w < targets_of slots.vertices d → number_of slots m w ≡ number_of slots n v → ◌≡◌ {A = ℕ × ℕ} (m, w) (n, v)
   same_pair m w d here l e = same_Some (m, w) (n, v) (sym (own_place m w d here l) ∙ ap (slice_get (targets slots.vertices (attached_in slots.declared))) e ∙ own_place n v s at below)
 
   same_test : (m w : ℕ) (d : Slot) → slice_get slots.declared m ≡ Some d → w < targets_of slots.vertices d → (number_of slots m w == number_of slots n v) ≡ ((m == n) && (w == v))

@@ -1,8 +1,9 @@
 -- WorkingLemmas: a worker's part of a block: the targets of its contributions, its batches, and what is fed to the words.
-use Rattle.std.proofs.Common.{◌≡◌, ℕ, zero, suc, ◌+◌, ◌-◌, ◌*◌, ◌/◌, ◌%◌, ◌^◌, ◌<◌, ◌≤◌, ◌==◌, Bool, true, false, List, [], ◌∷◌, ◌++◌, map, filter, take, drop, length, min, replicate, slice_get, Option, Some, None, refl, sym, ap, ap₂, ◌∙◌, subst, arith, cond, eqb-true, length-append, length-replicate, append-nil}
+use Rattle.std.proofs.Common.{◌≡◌, ℕ, zero, suc, ◌+◌, ◌-◌, ◌*◌, ◌/◌, ◌%◌, ◌^◌, ◌<◌, ◌≤◌, ◌==◌, Bool, true, false, List, [], ◌∷◌, ◌++◌, map, filter, take, drop, length, min, replicate, slice_get, Option, Some, None, refl, sym, ap, ap₂, ◌∙◌, subst, arith, cond, eqb-true, length-append, append-nil, inl, inr, Result, Ok, Err, get_or}
+use Rattle.std.specs.Prelude.{MatchResult, OnOk}
 use Rattle.std.specs.List.{All, flat_map, sum_by}
 use Rattle.std.specs.Fork.{slice_chunk}
-use Rattle.std.proofs.lemmas.List.{append_assoc, map-append, map-replicate, length-take, length-drop}
+use Rattle.std.proofs.lemmas.List.{append_assoc, map-append, length-replicate, length-take, length-drop, take_more}
 use Rattle.std.proofs.lemmas.List.Elements.{All-nil, All-cons, All-head, All-tail, All-append, All-filter, All-replicate, filter-append}
 use Rattle.std.proofs.lemmas.List.Concat.{flat_map-append}
 use Rattle.std.proofs.lemmas.Option.{none-some, same_Some, slice_get_within}
@@ -23,7 +24,9 @@ use Rattle.gq_stripe.specs.declared.view.Plan.{Plan}
 use Rattle.gq_stripe.specs.declared.view.View.{View}
 use Rattle.gq_stripe.specs.Contents.{FitsInput}
 use Rattle.gq_stripe.specs.Steps.{got}
-use Rattle.gq_stripe.specs.Seats.{contributions, FitBatches, HasPut}
+use Rattle.gq_stripe.specs.declared.seat.Seat.{Seat}
+use Rattle.gq_stripe.specs.declared.book.Book.{Book}
+use Rattle.gq_stripe.specs.Seats.{contributions, FitBatches, HasPut, IsSeatOf, IsSameSeat, IsIdle, plan_of, view_of, chunk_held, has_ended}
 use Rattle.gq_words.specs.declared.fold.Op.{Op}
 use Rattle.gq_words.specs.declared.fold.Op.TheVariants.{Min, Or}
 use Rattle.gq_words.specs.declared.view.View as words
@@ -45,8 +48,8 @@ use Rattle.gq_workers.specs.Working.{Job, kinds_from, kinds_of, parts, marks, wo
 -- ---- the kinds of targets
 
 get_behind : {A : Type 0} (xs ys : List A) (i : ℕ) → slice_get (xs ++ ys) (length xs + i) ≡ slice_get ys i
-get_behind [] ys i = refl
-get_behind (x ∷ xs) ys i = get_behind xs ys i
+get_behind [] ys i = ap (slice_get ys) (let e : 0 + i ≡ i = omega arith in e)
+get_behind (x ∷ xs) ys i = ap (slice_get (x ∷ (xs ++ ys))) (let e : suc (length xs) + i ≡ suc (length xs + i) = omega arith in e) ∙ get_behind xs ys i
 
 get_same : {A : Type 0} (n i : ℕ) (x : A) → i < n → slice_get (replicate n x) i ≡ Some x
 get_same zero i x h = absurd (omega (arith, h))
@@ -58,6 +61,7 @@ kind_at : (vertices : ℕ) (slots : List Slot) (n v : ℕ) (s : Slot) → slice_
 kind_at vertices [] n v s at below = absurd (none-some s at)
 kind_at vertices (d ∷ slots) zero v s at below =
     let same : d ≡ s = same_Some d s at in
+    ap (slice_get (kinds_from vertices (d ∷ slots))) (let e : 0 + v ≡ v = omega arith in e) ∙
     get_front (replicate (targets_of vertices d) d.kind) (kinds_from vertices slots) v s.kind
         (get_same (targets_of vertices d) v d.kind (subst (λ (x : Slot). v < targets_of vertices x) (sym same) below) ∙ ap (λ (x : Slot). Some x.kind) same)
 kind_at vertices (d ∷ slots) (suc n) v s at below =
@@ -75,17 +79,18 @@ record Takes (kinds : List Kind) (x : ℕ × Input) : Type 0 where
   pub flat : has_no_list (accum_of kind) ≡ true
   pub takes : suits (accum_of kind) (given x.1) ≡ true
 
-all_at : {A : Type 0} {P : A → Type 0} (xs : List A) (i : ℕ) (x : A) → All P xs → slice_get xs i ≡ Some x → P x
-all_at [] i x h at = absurd (none-some x at)
-all_at {A} {P} (y ∷ xs) zero x h at = subst P (same_Some y x at) (All-head P y xs h)
-all_at {A} {P} (y ∷ xs) (suc i) x h at = all_at xs i x (All-tail P y xs h) at
+module _ {A : Type 0} (P : A → Type 0) where
+  all_at : (xs : List A) (i : ℕ) (x : A) → All P xs → slice_get xs i ≡ Some x → P x
+  all_at [] i x h at = absurd (none-some x at)
+  all_at (y ∷ xs) zero x h at = subst P (same_Some y x at) (All-head P y xs h)
+  all_at (y ∷ xs) (suc i) x h at = all_at xs i x (All-tail P y xs h) at
 
 module _ (slots : Slots) (flat : All (λ (s : Slot). has_no_list (accum_of s.kind) ≡ true) slots.declared) where
   taken : (c : Contribution) (x : ℕ × Input) → MayTake slots c → as_given x ≡ targeted slots c → Takes (kinds_of slots) x
   taken c x may same = record {
     kind = may.slot.kind;
     is = ap (slice_get (kinds_of slots)) (ap (λ (y : ℕ × Given). y.0) same) ∙ kind_at slots.vertices slots.declared c.slot c.vertex may.slot may.declared may.within;
-    flat = all_at slots.declared c.slot may.slot flat may.declared;
+    flat = all_at (λ (s : Slot). has_no_list (accum_of s.kind) ≡ true) slots.declared c.slot may.slot flat may.declared;
     takes = ap (suits (accum_of may.slot.kind)) (ap (λ (y : ℕ × Given). y.1) same) ∙ may.suited;
   }
 
@@ -99,27 +104,21 @@ module _ (slots : Slots) (flat : All (λ (s : Slot). has_no_list (accum_of s.kin
 -- those of one stripe
 fit_stripe : (kinds : List Kind) (stripes stripe : ℕ) (inputs : List (ℕ × Input)) → All (Takes kinds) inputs → All (FitsInput kinds stripes stripe) (batch_of stripes stripe inputs)
 fit_stripe kinds stripes stripe [] h = All-nil (FitsInput kinds stripes stripe)
-fit_stripe kinds stripes stripe (x ∷ inputs) h = pick (x.0 % stripes == stripe) refl
+fit_stripe kinds stripes stripe (x ∷ inputs) h = pick (x.0 % stripes == stripe) refl (fit_stripe kinds stripes stripe inputs (All-tail (Takes kinds) x inputs h))
   where
-    rest : All (FitsInput kinds stripes stripe) (batch_of stripes stripe inputs)
-    rest = fit_stripe kinds stripes stripe inputs (All-tail (Takes kinds) x inputs h)
-
-    pick : (b : Bool) → (x.0 % stripes == stripe) ≡ b → All (FitsInput kinds stripes stripe) (cond b (x ∷ batch_of stripes stripe inputs) (batch_of stripes stripe inputs))
-    pick true e = let t = All-head (Takes kinds) x inputs h in All-cons (FitsInput kinds stripes stripe) x (batch_of stripes stripe inputs) (record { here = eqb-true (x.0 % stripes) stripe e; kind = t.kind; is = t.is; flat = t.flat; takes = t.takes }) rest
-    pick false e = rest
+    pick : (b : Bool) → (x.0 % stripes == stripe) ≡ b → All (FitsInput kinds stripes stripe) (batch_of stripes stripe inputs) → All (FitsInput kinds stripes stripe) (cond b (x ∷ batch_of stripes stripe inputs) (batch_of stripes stripe inputs))
+    pick true e rest = let t = All-head (Takes kinds) x inputs h in All-cons (FitsInput kinds stripes stripe) x (batch_of stripes stripe inputs) (record { here = eqb-true (x.0 % stripes) stripe e; kind = t.kind; is = t.is; flat = t.flat; takes = t.takes }) rest
+    pick false e rest = rest
 
 -- ---- batches
 
 as_given_stripe : (stripes stripe : ℕ) (inputs : List (ℕ × Input)) → map as_given (batch_of stripes stripe inputs) ≡ batch_of stripes stripe (map as_given inputs)
 as_given_stripe stripes stripe [] = refl
-as_given_stripe stripes stripe (x ∷ inputs) = pick (x.0 % stripes == stripe)
+as_given_stripe stripes stripe (x ∷ inputs) = pick (x.0 % stripes == stripe) (as_given_stripe stripes stripe inputs)
   where
-    rest : map as_given (batch_of stripes stripe inputs) ≡ batch_of stripes stripe (map as_given inputs)
-    rest = as_given_stripe stripes stripe inputs
-
-    pick : (b : Bool) → map as_given (cond b (x ∷ batch_of stripes stripe inputs) (batch_of stripes stripe inputs)) ≡ cond b (as_given x ∷ batch_of stripes stripe (map as_given inputs)) (batch_of stripes stripe (map as_given inputs))
-    pick true = ap (λ ys. as_given x ∷ ys) rest
-    pick false = rest
+    pick : (b : Bool) → map as_given (batch_of stripes stripe inputs) ≡ batch_of stripes stripe (map as_given inputs) → map as_given (cond b (x ∷ batch_of stripes stripe inputs) (batch_of stripes stripe inputs)) ≡ cond b (as_given x ∷ batch_of stripes stripe (map as_given inputs)) (batch_of stripes stripe (map as_given inputs))
+    pick true rest = ap (λ ys. as_given x ∷ ys) rest
+    pick false rest = rest
 
 get_below : {A : Type 0} (xs : List A) (i : ℕ) (x : A) → slice_get xs i ≡ Some x → i < length xs
 get_below [] i x h = absurd (none-some x h)
@@ -213,9 +212,9 @@ module _ (job : Job) (n : ℕ) (c : Candidate) (old new : List (List (ℕ × Inp
   gathers_filtered comes same = gathers_one [] [] [] (ap given_in comes.0) (ap (feeds_in job.vertices n) comes.0) (All-nil (MayTake job.slots)) refl (nothing_gained comes.1) (same ∙ sym (fed_none before))
 
   pub gathers_passed : Comes job.slots c (job.go c) old new outcome.Passed → after ≡ with_feeds before (mark_of 1 c.source ∷ mark_in (1 + marks job.vertices) c.target) → GathersOne job n c old new before after
-  gathers_passed comes fed = let m = comes.1.1 in gathers_one comes.0 (mark_of 1 c.source ∷ mark_in (1 + marks job.vertices) c.target) m.inputs
-      (ap given_in comes.1.0 ∙ append-nil comes.0)
-      (ap (feeds_in job.vertices n) comes.1.0 ∙ ap (λ xs. mark_of 1 c.source ∷ xs) (append-nil (mark_in (1 + marks job.vertices) c.target)))
+  gathers_passed comes fed = let m = comes.2 in gathers_one comes.0 (mark_of 1 c.source ∷ mark_in (1 + marks job.vertices) c.target) m.inputs
+      (ap given_in comes.1 ∙ append-nil comes.0)
+      (ap (feeds_in job.vertices n) comes.1 ∙ ap (λ xs. mark_of 1 c.source ∷ xs) (append-nil (mark_in (1 + marks job.vertices) c.target)))
       m.may m.are m.gained fed
 
 -- ---- a chunk
@@ -230,34 +229,50 @@ gathers_none job n batches w empty = record {
 }
 
 -- the next candidate of those from `start` on
-next_in : (cs : List Candidate) (start place : ℕ) (c : Candidate) → start ≤ place → slice_get cs place ≡ Some c → take (suc place - start) (drop start cs) ≡ take (place - start) (drop start cs) ++ c ∷ []
-next_in [] start place c le at = absurd (none-some c at)
-next_in (d ∷ cs) zero zero c le at = ap (λ x. x ∷ []) (same_Some d c at)
-next_in (d ∷ cs) zero (suc place) c le at = ap (λ xs. d ∷ xs) (next_in cs zero place c (omega arith) at)
-next_in (d ∷ cs) (suc start) zero c le at = absurd (omega (arith, le))
-next_in (d ∷ cs) (suc start) (suc place) c le at = next_in cs start place c (omega (arith, le)) at
+next_of : (cs : List Candidate) (k : ℕ) (c : Candidate) → slice_get cs k ≡ Some c → take (suc k) cs ≡ take k cs ++ c ∷ []
+next_of [] k c at = absurd (none-some c at)
+next_of (d ∷ cs) zero c at = ap (λ x. x ∷ []) (same_Some d c at)
+next_of (d ∷ cs) (suc k) c at = ap (λ xs. d ∷ xs) (next_of cs k c at)
+
+next_in : (cs : List Candidate) (start k : ℕ) (c : Candidate) → slice_get cs (start + k) ≡ Some c → take (suc k) (drop start cs) ≡ take k (drop start cs) ++ c ∷ []
+next_in cs zero k c at = next_of cs k c (ap (slice_get cs) (let e : k ≡ 0 + k = omega arith in e) ∙ at)
+next_in [] (suc start) k c at = absurd (none-some c at)
+next_in (d ∷ cs) (suc start) k c at = next_in cs start k c (ap (slice_get (d ∷ cs)) (let e : suc (start + k) ≡ suc start + k = omega arith in e) ∙ at)
 
 pub gathers_next : (job : Job) (start place : ℕ) (c : Candidate) (old new : List (List (ℕ × Input))) (first before after : words.View) → start ≤ place → slice_get job.candidates place ≡ Some c
-    → Gathers job start (take (place - start) (drop start job.candidates)) old first before → GathersOne job place c old new before after → Gathers job start (take (suc place - start) (drop start job.candidates)) new first after
+    → Gathers job start (take (place - start) (drop start job.candidates)) old first before → GathersOne job place c old new before after → Gathers job start (take (place + 1 - start) (drop start job.candidates)) new first after
 gathers_next job start place c old new first before after le at g one =
     let below = get_below job.candidates place c at in let l = length-take (place - start) (drop start job.candidates) in let d = length-drop start job.candidates in
-    subst (λ (cs : List Candidate). Gathers job start cs new first after) (sym (next_in job.candidates start place c le at))
+    let next : take (place + 1 - start) (drop start job.candidates) ≡ take (place - start) (drop start job.candidates) ++ c ∷ [] =
+        ap (λ (k : ℕ). take k (drop start job.candidates)) (let e : place + 1 - start ≡ suc (place - start) = omega (arith, le) in e)
+        ∙ next_in job.candidates start (place - start) c (ap (slice_get job.candidates) (let e : start + (place - start) ≡ place = omega (arith, le) in e) ∙ at) in
+    subst (λ (cs : List Candidate). Gathers job start cs new first after) (sym next)
     (one first start (take (place - start) (drop start job.candidates)) (omega (arith, le, below, l, d)) g)
 
 -- all of them
 pub whole_chunk : (cs : List Candidate) (size chunk end : ℕ) → chunk * size < length cs → end ≡ min (chunk * size + size) (length cs) → take (end - chunk * size) (drop (chunk * size) cs) ≡ slice_chunk cs size chunk
 whole_chunk cs size chunk end inside is = taken (drop (chunk * size) cs) size (end - chunk * size) (let d = length-drop (chunk * size) cs in omega (arith, inside, is, d))
   where
+    nothing : (n m : ℕ) → ◌≡◌ {A = List Candidate} (take n []) (take m [])
+    nothing zero zero = refl
+    nothing zero (suc m) = refl
+    nothing (suc n) zero = refl
+    nothing (suc n) (suc m) = refl
+
     taken : (xs : List Candidate) (size n : ℕ) → n ≡ min size (length xs) → take n xs ≡ take size xs
-    taken [] size n e = refl
-    taken (x ∷ xs) zero n e = ap (λ (k : ℕ). take k (x ∷ xs)) e
+    taken [] size n e = nothing n size
+    taken (x ∷ xs) zero n e = ap (λ (k : ℕ). take k (x ∷ xs)) (let z : n ≡ 0 = omega (arith, e) in z)
     taken (x ∷ xs) (suc size) zero e = absurd (omega (arith, e))
     taken (x ∷ xs) (suc size) (suc n) e = ap (λ ys. x ∷ ys) (taken xs size n (omega (arith, e)))
 
 -- ---- the words
 
+map_same : {A B : Type 0} (f : A → B) (n : ℕ) (x : A) → map f (replicate n x) ≡ replicate n (f x)
+map_same f zero x = refl
+map_same f (suc n) x = ap (λ ys. f x ∷ ys) (map_same f n x)
+
 op_at : (vertices i : ℕ) → i < 2 * marks vertices → slice_get (map (λ (o : Op × ℕ). o.0) (word_openings vertices)) (suc i) ≡ Some Or
-op_at vertices i h = ap (λ (os : List Op). slice_get os i) (map-replicate (λ (o : Op × ℕ). o.0) (2 * marks vertices) (Or, 0)) ∙ get_same (2 * marks vertices) i Or h
+op_at vertices i h = ap (λ (os : List Op). slice_get os i) (map_same (λ (o : Op × ℕ). o.0) (2 * marks vertices) (Or, 0)) ∙ get_same (2 * marks vertices) i Or h
 
 word_of : (vertices v : ℕ) → v < vertices → v / 64 < marks vertices
 word_of vertices v h = omega (arith, h)
@@ -266,8 +281,8 @@ pub has_mark : (words : Words) (vertices first v : ℕ) → AreWords vertices wo
 has_mark words vertices first v are is below = ap (λ (os : List (Op × ℕ)). slice_get (map (λ (o : Op × ℕ). o.0) os) (first + v / 64)) are ∙ at is
   where
     at : IsFirst vertices first → slice_get (map (λ (o : Op × ℕ). o.0) (word_openings vertices)) (first + v / 64) ≡ Some Or
-    at (inl e) = ap (slice_get (map (λ (o : Op × ℕ). o.0) (word_openings vertices))) (omega (arith, e)) ∙ op_at vertices (v / 64) (let w = word_of vertices v below in omega (arith, w))
-    at (inr e) = ap (slice_get (map (λ (o : Op × ℕ). o.0) (word_openings vertices))) (omega (arith, e)) ∙ op_at vertices (marks vertices + v / 64) (let w = word_of vertices v below in omega (arith, w))
+    at (inl e) = ap (slice_get (map (λ (o : Op × ℕ). o.0) (word_openings vertices))) (let i : first + v / 64 ≡ suc (v / 64) = omega (arith, e) in i) ∙ op_at vertices (v / 64) (let w = word_of vertices v below in omega (arith, w))
+    at (inr e) = ap (slice_get (map (λ (o : Op × ℕ). o.0) (word_openings vertices))) (let i : first + v / 64 ≡ suc (marks vertices + v / 64) = omega (arith, e) in i) ∙ op_at vertices (marks vertices + v / 64) (let w = word_of vertices v below in omega (arith, w))
 
 pub has_least : (words : Words) (vertices : ℕ) → AreWords vertices words → HasOp words 0 Min
 has_least words vertices are = ap (λ (os : List (Op × ℕ)). slice_get (map (λ (o : Op × ℕ). o.0) os) 0) are
@@ -278,3 +293,34 @@ pub one_more : (job : Job) (chunks : List ℕ) (chunk : ℕ) (old mid new : View
     → DoesChunks job (chunks ++ chunk ∷ []) old new before after
 one_more job [] chunk old mid new before between after none does = (new, (after, (record { batches = does.batches; are = does.are; put = subst (λ (v : View). HasPut chunk does.batches false (got v chunk) new) none.0 does.put; fed = does.fed ∙ ap (λ (w : words.View). with_feeds w (fed_by job.go job.vertices (chunk * job.size) (slice_chunk job.candidates job.size chunk))) none.1 }, (refl, refl))))
 one_more job (first ∷ chunks) chunk old mid new before between after all does = (all.0, (all.1.0, (all.1.1.0, one_more job chunks chunk all.0 mid new all.1.0 between after all.1.1.1 does)))
+
+-- a chunk that was gathered and put is done
+pub does_chunk : {E : Type 0} (job : Job) (chunk : ℕ) (batches : List (List (ℕ × Input))) (r : Result (Unit {0}) E) (old new : View) (before after : words.View)
+    → Gathers job (chunk * job.size) (slice_chunk job.candidates job.size chunk) batches before after → MatchResult r (λ _. HasPut chunk batches false old new) (λ _. HasPut chunk batches true old new)
+    → OnOk r ((v : View) → old ≡ got v chunk → DoesChunk job chunk v new before after)
+does_chunk job chunk batches (Ok u) old new before after g put = λ v e. record {
+  batches = batches;
+  are = job_batches job (chunk * job.size) chunk batches before after g;
+  put = subst (λ (w : View). HasPut chunk batches false w new) e put;
+  fed = g.fed;
+}
+does_chunk job chunk batches (Err e) old new before after g put = tt
+
+-- ---- the layout
+
+kinds_more : (vertices : ℕ) (xs : List Slot) (s : Slot) → kinds_from vertices (xs ++ s ∷ []) ≡ kinds_from vertices xs ++ replicate (targets_of vertices s) s.kind
+kinds_more vertices [] s = append-nil (replicate (targets_of vertices s) s.kind)
+kinds_more vertices (x ∷ xs) s = ap (λ ks. replicate (targets_of vertices x) x.kind ++ ks) (kinds_more vertices xs s) ∙ sym (append_assoc (replicate (targets_of vertices x) x.kind) (kinds_from vertices xs) (replicate (targets_of vertices s) s.kind))
+
+pub kinds_next : (vertices : ℕ) (xs : List Slot) (i : ℕ) (s : Slot) → i < length xs → s ≡ get_or xs i s → kinds_from vertices (take (i + 1) xs) ≡ kinds_from vertices (take i xs) ++ replicate (targets_of vertices s) s.kind
+kinds_next vertices xs i s below is = ap (kinds_from vertices) (take_more xs i s below ∙ ap (λ (x : Slot). take i xs ++ x ∷ []) (sym is)) ∙ kinds_more vertices (take i xs) s
+
+-- ---- the worker's seat
+
+-- it may draw again
+pub may_draw : (book : Book) (job : Job) (chunk : ℕ) (seat after : Seat) (v : View) (before then : words.View) → IsSeatOf book seat → v.of ≡ plan_of book → IsSameSeat seat after → DoesChunk job chunk v (view_of after) before then → IsIdle book after
+may_draw book job chunk seat after v before then own of same does = (
+  record { table = same.0 ∙ own.table; plan = ap (λ (w : View). w.of) does.put.3 ∙ of },
+  ap (λ (w : View). chunk_held w.phase) does.put.3,
+  ap (λ (w : View). has_ended w.phase) does.put.3,
+)

@@ -1,7 +1,7 @@
 -- Working: a worker's part of a block through a book of stripes and words: each chunk that it drew is put with its
 -- contributions, and its candidates feed the words.
 -- Here a chunk is a part of the list of candidates. The code goes through them one by one, and counts.
-use Rattle.std.specs.Prelude.{◌≡◌, ℕ, suc, ◌+◌, ◌*◌, ◌/◌, ◌%◌, ◌^◌, true, false, List, [], ◌∷◌, ◌++◌, length, map, min, max, replicate, slice_get, Option, Some, None}
+use Rattle.std.specs.Prelude.{◌≡◌, ◌⊎◌, ℕ, suc, ◌+◌, ◌*◌, ◌/◌, ◌%◌, ◌^◌, true, false, List, [], ◌∷◌, ◌++◌, length, map, min, max, replicate, slice_get, Option, Some, None}
 use Rattle.std.specs.List.{All, flat_map}
 use Rattle.std.specs.Option.{option_map}
 use Rattle.std.specs.Fork.{slice_chunk}
@@ -85,12 +85,12 @@ abbrev pub word_openings : ℕ → List (Op × ℕ)
 word_openings vertices = (Min, 18446744073709551615) ∷ replicate (2 * marks vertices) (Or, 0)
 
 -- the tables of a block; no accumulator is a list at any level
-pub record AreTables (job : Job) (plan : Plan) (openings : List (Op × ℕ)) : Type 0 where
+pub record AreTables (job : Job) (plan : Plan) (words : List (Op × ℕ)) : Type 0 where
   pub layout : plan.layout ≡ kinds_of job.slots
   pub flat : All (λ (s : Slot). has_no_list (accum_of s.kind) ≡ true) job.slots.declared
   pub chunks : plan.chunks ≡ parts job.size (length job.candidates)
   pub stripes : plan.stripes ≡ job.stripes
-  pub openings : openings ≡ word_openings job.vertices
+  pub openings : words ≡ word_openings job.vertices
 
 -- ---- candidates
 

@@ -8,7 +8,7 @@ ghost use Rattle.gq_workers.specs.Running.{IsWork, HasRun, Steps};
 
 use crate::chunk::try_chunk;
 use crate::run::{BlockProgress, feed, judged};
-use crate::work::Work;
+use crate::rounds::Work;
 use crate::workers::try_rounds;
 use gq_base::OutOfMemory;
 use gq_eval_context::{After, BlockContext, BlockFault};

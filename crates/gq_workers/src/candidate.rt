@@ -13,7 +13,7 @@ ghost use Rattle.gq_exec_contribute.specs.Prepared.{AreFound, sees};
 ghost use Rattle.gq_workers.specs.Running.{ComesUnder, Done, IsResolved, IsShaped, Tried, come, comes, marks_end};
 
 use crate::found::MatchBuffer;
-use crate::work::Work;
+use crate::rounds::Work;
 use gq_base::{List, OutOfMemory};
 use gq_core::Batches;
 use gq_eval_context::BlockContext;

@@ -16,10 +16,11 @@ mod found;
 mod joining;
 mod laws;
 mod order;
+mod rounds;
 mod run;
 mod seats;
 mod tables;
-mod work;
+
 mod workers;
 
 pub use block::run_block;

@@ -7,8 +7,8 @@ ghost use Rattle.gq_exec_source.specs.Ends.{HasEnds};
 ghost use Rattle.gq_exec_source.specs.Starts.{AreCandidates, IsWithin};
 ghost use Rattle.gq_stripe.specs.declared.view.View.{View};
 ghost use Rattle.gq_stripe.specs.Steps.{got};
-ghost use Rattle.gq_stripe.specs.Seats as book;
-ghost use Rattle.gq_words.specs.Seats as words;
+ghost use Rattle.gq_stripe.specs.Seats as stripes;
+ghost use Rattle.gq_words.specs.Seats as marked;
 ghost use Rattle.gq_workers.specs.Working.{AreTables, AreWords, DoesChunk, Gathers, GathersOne, IsEdgePlace, IsFirst, Works, job_of, mark_in, mark_of, marks, task_job, with_feeds};
 
 use crate::candidate::outcome_of;
@@ -76,12 +76,12 @@ pub fn work<'a, R: Wait, G: Gate>(
     requires ends { HasEnds over.now.schema over.now.plan over.now.frame.things block.now ends.now }
     requires candidates { AreCandidates over.now block.now candidates.now }
     requires stripes { 0 < shape.now.stripes }
-    requires tables { (edge : Option ℕ) → IsEdgePlace block.now edge → AreTables (job_of gregorian over.now block.now ends.now edge candidates.now shape.now) (book.plan_of book.now) (words.openings_of words.now) }
-    requires seat { book.IsIdle book.now seat.old }
-    requires word_seat { words.IsSeatOf words.now word_seat.old }
-    ensures same { book.IsSameSeat seat.old seat.new × words.IsSameSeat word_seat.old word_seat.new }
+    requires tables { (edge : Option ℕ) → IsEdgePlace block.now edge → AreTables (job_of gregorian over.now block.now ends.now edge candidates.now shape.now) (stripes.plan_of book.now) (marked.openings_of words.now) }
+    requires seat { stripes.IsIdle book.now seat.old }
+    requires word_seat { marked.IsSeatOf words.now word_seat.old }
+    ensures same { stripes.IsSameSeat seat.old seat.new × marked.IsSameSeat word_seat.old word_seat.new }
     ensures works { OnOk result ((edge : Option ℕ) → IsEdgePlace block.now edge →
-        Works (job_of gregorian over.now block.now ends.now edge candidates.now shape.now) (book.view_of seat.old) (book.view_of seat.new) (words.view_of word_seat.old) (words.view_of word_seat.new)) }
+        Works (job_of gregorian over.now block.now ends.now edge candidates.now shape.now) (stripes.view_of seat.old) (stripes.view_of seat.new) (marked.view_of word_seat.old) (marked.view_of word_seat.new)) }
 {
     let leaves = leaves_of(alloc, &over.frame.accums.slots, &block.walk, ends)?;
     let task = Task {
@@ -121,15 +121,15 @@ fn do_chunk<R: Wait>(
     word_seat: &mut WordSeat,
 ) -> Result<(), OutOfMemory>
     requires within { All (IsWithin (length over.now.vertices)) task.now.candidates.now }
-    requires tables { AreTables (task_job gregorian over.now task.now (length room.old.batches)) (book.plan_of book.now) (words.openings_of words.now) }
+    requires tables { AreTables (task_job gregorian over.now task.now (length room.old.batches)) (stripes.plan_of book.now) (marked.openings_of words.now) }
     requires inside { chunk * task.now.size < length task.now.candidates.now }
-    requires own { book.IsSeatOf book.now seat.old }
-    requires holds { book.chunk_held (book.view_of seat.old).phase ≡ Some chunk }
-    requires word_seat { words.IsSeatOf words.now word_seat.old }
-    ensures same { book.IsSameSeat seat.old seat.new × words.IsSameSeat word_seat.old word_seat.new }
+    requires own { stripes.IsSeatOf book.now seat.old }
+    requires holds { stripes.chunk_held (stripes.view_of seat.old).phase ≡ Some chunk }
+    requires word_seat { marked.IsSeatOf words.now word_seat.old }
+    ensures same { stripes.IsSameSeat seat.old seat.new × marked.IsSameSeat word_seat.old word_seat.new }
     ensures count { OnOk result (length room.new.batches ≡ length room.old.batches) }
-    ensures does { OnOk result ((view : View) → book.view_of seat.old ≡ got view chunk →
-        DoesChunk (task_job gregorian over.now task.now (length room.old.batches)) chunk view (book.view_of seat.new) (words.view_of word_seat.old) (words.view_of word_seat.new)) }
+    ensures does { OnOk result ((view : View) → stripes.view_of seat.old ≡ got view chunk →
+        DoesChunk (task_job gregorian over.now task.now (length room.old.batches)) chunk view (stripes.view_of seat.new) (marked.view_of word_seat.old) (marked.view_of word_seat.new)) }
 {
     gather_chunk(alloc, task, over, chunk, room, words, word_seat)?;
     are_few(&room.batches)?;
@@ -138,7 +138,7 @@ fn do_chunk<R: Wait>(
 
 /// Refuses more contributions than one put takes.
 fn are_few(batches: &Batches) -> Result<(), OutOfMemory>
-    ensures { OnOk result (book.contributions batches.now ≤ 2 ^ 35) }
+    ensures { OnOk result (stripes.contributions batches.now ≤ 2 ^ 35) }
 {
     let mut count = 0usize;
     for stripe in 0..batches.stripes() {
@@ -161,17 +161,16 @@ fn gather_chunk(
     requires within { All (IsWithin (length over.now.vertices)) task.now.candidates.now }
     requires inside { chunk * task.now.size < length task.now.candidates.now }
     requires words { AreWords (length over.now.vertices) words.now }
-    requires own { words.IsSeatOf words.now seat.old }
-    ensures same { words.IsSameSeat seat.old seat.new }
+    requires own { marked.IsSeatOf words.now seat.old }
+    ensures same { marked.IsSameSeat seat.old seat.new }
     ensures count { OnOk result (length room.new.batches ≡ length room.old.batches) }
     ensures gathers { OnOk result (Gathers (task_job gregorian over.now task.now (length room.old.batches)) (chunk * task.now.size) (slice_chunk task.now.candidates.now task.now.size chunk)
-        room.new.batches (words.view_of seat.old) (words.view_of seat.new)) }
+        room.new.batches (marked.view_of seat.old) (marked.view_of seat.new)) }
 {
     room.batches.clear();
+    let count = task.candidates.count();
     let start = chunk * task.size;
-    let end = start
-        .saturating_add(task.size)
-        .min(task.candidates.count());
+    let end = start.saturating_add(task.size).min(count);
     let mut cursor = Cursor::new();
     for place in start..end {
         let candidate = task.candidates.near(place, &mut cursor, &mut Steps::new());
@@ -193,10 +192,10 @@ fn gather_one(
 ) -> Result<(), OutOfMemory>
     requires within { IsWithin (length over.now.vertices) candidate.now }
     requires words { AreWords (length over.now.vertices) words.now }
-    requires own { words.IsSeatOf words.now seat.old }
-    ensures same { words.IsSameSeat seat.old seat.new }
+    requires own { marked.IsSeatOf words.now seat.old }
+    ensures same { marked.IsSameSeat seat.old seat.new }
     ensures count { OnOk result (length room.new.batches ≡ length room.old.batches) }
-    ensures gathers { OnOk result (GathersOne (task_job gregorian over.now task.now (length room.old.batches)) place candidate.now room.old.batches room.new.batches (words.view_of seat.old) (words.view_of seat.new)) }
+    ensures gathers { OnOk result (GathersOne (task_job gregorian over.now task.now (length room.old.batches)) place candidate.now room.old.batches room.new.batches (marked.view_of seat.old) (marked.view_of seat.new)) }
 {
     let tried = outcome_of(
         alloc,
@@ -220,9 +219,9 @@ fn gather_one(
 fn mark_ends(over: &BlockContext<'_>, candidate: &Candidate, words: &Words, seat: &mut WordSeat)
     requires within { IsWithin (length over.now.vertices) candidate.now }
     requires words { AreWords (length over.now.vertices) words.now }
-    requires own { words.IsSeatOf words.now seat.old }
-    ensures same { words.IsSameSeat seat.old seat.new }
-    ensures fed { words.view_of seat.new ≡ with_feeds (words.view_of seat.old) (mark_of 1 candidate.now.source ∷ mark_in (1 + marks (length over.now.vertices)) candidate.now.target) }
+    requires own { marked.IsSeatOf words.now seat.old }
+    ensures same { marked.IsSameSeat seat.old seat.new }
+    ensures fed { marked.view_of seat.new ≡ with_feeds (marked.view_of seat.old) (mark_of 1 candidate.now.source ∷ mark_in (1 + marks (length over.now.vertices)) candidate.now.target) }
 {
     let count = over.graph.store.vertices.len() as usize;
     feed_mark(words, seat, 1, candidate.source, count);
@@ -237,9 +236,9 @@ fn feed_mark(words: &Words, seat: &mut WordSeat, first: usize, vertex: u32, coun
     requires words { AreWords count words.now }
     requires first { IsFirst count first }
     requires below { vertex < count }
-    requires own { words.IsSeatOf words.now seat.old }
-    ensures same { words.IsSameSeat seat.old seat.new }
-    ensures fed { words.view_of seat.new ≡ with_feeds (words.view_of seat.old) (mark_of first vertex ∷ []) }
+    requires own { marked.IsSeatOf words.now seat.old }
+    ensures same { marked.IsSameSeat seat.old seat.new }
+    ensures fed { marked.view_of seat.new ≡ with_feeds (marked.view_of seat.old) (mark_of first vertex ∷ []) }
 {
     let bit = 1u64 << (vertex % 64);
     words.feed_or(seat, first + vertex as usize / 64, bit);

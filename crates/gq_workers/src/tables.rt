@@ -1,5 +1,5 @@
 // The tables that the workers of a block share: a book of stripes, and words.
-ghost use Rattle.std.specs.Prelude.{◌≡◌, ◌≤◌, ℕ, [], length, true, Option, IfOk};
+ghost use Rattle.std.specs.Prelude.{◌≡◌, ◌-◌, ◌≤◌, ℕ, [], length, true, Option, IfOk};
 ghost use Rattle.std.specs.List.{All};
 ghost use Rattle.gq_value.specs.declared.kind.Slot.{Slot};
 ghost use Rattle.gq_value.specs.AccumViews.{accum_of};
@@ -8,9 +8,9 @@ ghost use Rattle.gq_rules_meaning.specs.Calendars.{Calendar};
 ghost use Rattle.gq_plan_ir.specs.declared.block.Block.{Block};
 ghost use Rattle.gq_exec_source.specs.declared.ends.Ends.{Ends};
 ghost use Rattle.gq_stripe.specs.Rule.{first};
-ghost use Rattle.gq_stripe.specs.Seats as book;
+ghost use Rattle.gq_stripe.specs.Seats as stripes;
 ghost use Rattle.gq_words.specs.Rule.{view};
-ghost use Rattle.gq_words.specs.Seats as words;
+ghost use Rattle.gq_words.specs.Seats as marked;
 ghost use Rattle.gq_workers.specs.Working.{AreTables, job_of, kinds_of, word_openings};
 
 use gq_base::{OutOfMemory, within};
@@ -47,9 +47,9 @@ pub fn open_tables(
     requires stripes { (1 ≤ shape.now.stripes) × (shape.now.stripes ≤ 256) }
     requires seats { (1 ≤ seats) × (seats ≤ 1024) }
     ensures tables { IfOk result (λ t. (clock : Calendar) (block : Block) (ends : Ends) (edge : Option ℕ) →
-        AreTables (job_of clock over.now block ends edge candidates.now shape.now) (book.plan_of t.book) (words.openings_of t.words)) }
-    ensures seat { IfOk result (λ t. book.IsIdle t.book t.seat × (book.view_of t.seat ≡ first (book.plan_of t.book))) }
-    ensures word_seat { IfOk result (λ t. words.IsSeatOf t.words t.word_seat × (words.view_of t.word_seat ≡ view 1 (seats - 1) [])) }
+        AreTables (job_of clock over.now block ends edge candidates.now shape.now) (stripes.plan_of t.book) (marked.openings_of t.words)) }
+    ensures seat { IfOk result (λ t. stripes.IsIdle t.book t.seat × (stripes.view_of t.seat ≡ first (stripes.plan_of t.book))) }
+    ensures word_seat { IfOk result (λ t. marked.IsSeatOf t.words t.word_seat × (marked.view_of t.word_seat ≡ view 1 (seats - 1) [])) }
 {
     let layout = layout_of(alloc, &over.frame.accums.slots)?;
     let chunks = candidates.count().div_ceil(shape.chunk.max(1));
