@@ -56,10 +56,10 @@ use Rattle.gq_index.specs.contracts.stretches.Stretches as stretches
 use Rattle.gq_index.specs.contracts.candidates.CandidateRows as candidate_rows
 use Rattle.gq_index.specs.contracts.candidates.Candidates as candidates
 use Rattle.gq_workers.specs.contracts.wanted.Wanted as wanted
-use Rattle.gq_workers.specs.contracts.work.Work as work
-use Rattle.gq_workers.specs.contracts.work.Round as round
-use Rattle.gq_workers.specs.contracts.work.ChunkOutput as left
-use Rattle.gq_workers.specs.contracts.work.WorkerOutput as part
+use Rattle.gq_workers.specs.contracts.rounds.Work as work
+use Rattle.gq_workers.specs.contracts.rounds.Round as round
+use Rattle.gq_workers.specs.contracts.rounds.ChunkOutput as left
+use Rattle.gq_workers.specs.contracts.rounds.WorkerOutput as part
 pub use Rattle.gq_plan_ir.proofs.CrossingLemmas.{block_sync, plan_sync}
 
 -- ---- what workers leave

@@ -8,3 +8,5 @@ pub mod RunLemmas
 pub mod RoundLemmas
 pub mod ComesLemmas
 pub mod CrossingLemmas
+pub mod WorkingLemmas
+pub mod JobLemmas

@@ -20,10 +20,10 @@ use Rattle.gq_rules_meaning.specs.Calendars.{Calendar}
 use Rattle.gq_eval_context.specs.Viewed.{Over}
 use Rattle.gq_workers.specs.declared.found.MatchBuffer.{MatchBuffer}
 use Rattle.gq_workers.specs.declared.run.BlockProgress.{BlockProgress}
-use Rattle.gq_workers.specs.declared.work.Work.{Work}
-use Rattle.gq_workers.specs.declared.work.ChunkOutput.{ChunkOutput}
-use Rattle.gq_workers.specs.declared.work.WorkerOutput.{WorkerOutput}
-use Rattle.gq_workers.specs.declared.work.RoundOutput.{RoundOutput}
+use Rattle.gq_workers.specs.declared.rounds.Work.{Work}
+use Rattle.gq_workers.specs.declared.rounds.ChunkOutput.{ChunkOutput}
+use Rattle.gq_workers.specs.declared.rounds.WorkerOutput.{WorkerOutput}
+use Rattle.gq_workers.specs.declared.rounds.RoundOutput.{RoundOutput}
 use Rattle.gq_workers.specs.Running.{come, matches_by, sources_of, targets_of, Wait, FedFrom, IsAtEnd, Cover, CoverWhole, Mark, AreMarked, IsEmpty, IsOpened, IsShaped, Came, GoneThrough, HasRun}
 use Rattle.gq_workers.specs.Rounds.{IsLeft, Only, IsPart, LeavesChunk, Fits, AllFit, Joins, MarksPart, AreLefts, MarksParts, StandsIn, InRound, Feeds, FeedsLeft, FeedsParts, IsAhead, StandsOr, FeedsRound, GoesOn}
 use Rattle.gq_workers.proofs.FoundLemmas.{shaped_still}

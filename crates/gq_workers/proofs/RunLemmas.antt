@@ -33,7 +33,7 @@ use Rattle.gq_exec_feed.proofs.PlaceLemmas.{same_some, none_apart}
 use Rattle.gq_workers.specs.declared.block.Ran.TheVariants as ran
 use Rattle.gq_workers.specs.declared.found.MatchBuffer.{MatchBuffer}
 use Rattle.gq_workers.specs.declared.run.BlockProgress.{BlockProgress}
-use Rattle.gq_workers.specs.declared.work.Work.{Work}
+use Rattle.gq_workers.specs.declared.rounds.Work.{Work}
 use Rattle.gq_exec_contribute.specs.Aliases.{bound_to}
 use Rattle.gq_exec_contribute.specs.declared.candidate.Stop.{Stop}
 use Rattle.gq_exec_contribute.specs.declared.candidate.Stop.TheVariants as stop

@@ -1,3 +1,5 @@
 pub mod Running
 pub mod Rounds
 pub mod Results
+pub mod Working
+pub mod JobLaws

@@ -24,7 +24,7 @@ use Rattle.gq_workers.specs.declared.block.Ran.{Ran}
 use Rattle.gq_workers.specs.declared.block.Ran.TheVariants as ran
 use Rattle.gq_workers.specs.declared.found.MatchBuffer.{MatchBuffer}
 use Rattle.gq_workers.specs.declared.run.BlockProgress.{BlockProgress}
-use Rattle.gq_workers.specs.declared.work.Work.{Work}
+use Rattle.gq_workers.specs.declared.rounds.Work.{Work}
 use Rattle.gq_exec_contribute.specs.declared.candidate.Stop.{Stop}
 use Rattle.gq_exec_contribute.specs.declared.candidate.Stop.TheVariants as stop
 use Rattle.gq_workers.specs.Running.{AreFedTo, HasRun, IsShort, IsWork, stopped_at, sources_of, targets_of}

@@ -8,11 +8,11 @@ use Rattle.gq_rules_meaning.specs.Blocks.{Match}
 use Rattle.gq_rules_meaning.specs.Calendars.{Calendar}
 use Rattle.gq_eval_context.specs.Viewed.{Over, GoTogether}
 use Rattle.gq_workers.specs.declared.found.MatchBuffer.{MatchBuffer}
-use Rattle.gq_workers.specs.declared.work.Work.{Work}
-use Rattle.gq_workers.specs.declared.work.ChunkOutput.{ChunkOutput}
-use Rattle.gq_workers.specs.declared.work.WorkerOutput.{WorkerOutput}
-use Rattle.gq_workers.specs.declared.work.Round.{Round}
-use Rattle.gq_workers.specs.declared.work.RoundOutput.{RoundOutput}
+use Rattle.gq_workers.specs.declared.rounds.Work.{Work}
+use Rattle.gq_workers.specs.declared.rounds.ChunkOutput.{ChunkOutput}
+use Rattle.gq_workers.specs.declared.rounds.WorkerOutput.{WorkerOutput}
+use Rattle.gq_workers.specs.declared.rounds.Round.{Round}
+use Rattle.gq_workers.specs.declared.rounds.RoundOutput.{RoundOutput}
 use Rattle.gq_workers.specs.declared.run.BlockProgress.{BlockProgress}
 use Rattle.gq_workers.specs.Running.{come, matches_by, stopped_at, sources_of, targets_of, MatchesTo, AreFedTo, Came, Cover, CoverWhole, HasRun, Mark, IsAtEnd, IsEmpty, IsShaped, IsWork}
 

@@ -30,7 +30,7 @@ use Rattle.gq_exec_contribute.specs.declared.candidate.Outcome.{Outcome}
 use Rattle.gq_exec_contribute.specs.declared.candidate.Stop.{Stop}
 use Rattle.gq_exec_contribute.specs.declared.candidate.Stop.TheVariants as stop
 use Rattle.gq_workers.specs.declared.found.MatchBuffer.{MatchBuffer}
-use Rattle.gq_workers.specs.declared.work.Work.{Work}
+use Rattle.gq_workers.specs.declared.rounds.Work.{Work}
 use Rattle.gq_workers.specs.declared.run.BlockProgress.{BlockProgress}
 use Rattle.gq_exec_contribute.specs.Scalars.{as_inputs}
 use Rattle.gq_exec_contribute.specs.Aliases.{bound_to}

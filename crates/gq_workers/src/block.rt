@@ -7,9 +7,9 @@ ghost use Rattle.gq_workers.specs.Results.{Answers, IsWorkOf, Leaves, RanTo, sto
 ghost use Rattle.gq_workers.specs.Running.{IsWork, HasRun, Steps};
 
 use crate::chunk::try_chunk;
+use crate::rounds::Work;
 use crate::run::{BlockProgress, feed, judged};
 use crate::wanted::wanted_by;
-use crate::work::Work;
 use crate::workers::try_rounds;
 use gq_base::OutOfMemory;
 use gq_eval_context::{After, BlockContext, BlockFault};

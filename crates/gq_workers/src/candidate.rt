@@ -13,7 +13,7 @@ ghost use Rattle.gq_exec_contribute.specs.Prepared.{AreFound, sees};
 ghost use Rattle.gq_workers.specs.Running.{ComesUnder, Done, IsResolved, IsShaped, Tried, come, comes, marks_end};
 
 use crate::found::MatchBuffer;
-use crate::work::Work;
+use crate::rounds::Work;
 use gq_base::{List, OutOfMemory};
 use gq_core::Batches;
 use gq_eval_context::BlockContext;
@@ -165,7 +165,7 @@ fn try_candidate(
 }
 
 /// Evaluates a candidate: it sees its aliases, and the accumulators of the frame.
-fn outcome_of(
+pub(crate) fn outcome_of(
     alloc: Global,
     block: &Block,
     over: &BlockContext<'_>,

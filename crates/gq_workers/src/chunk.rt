@@ -6,7 +6,7 @@ ghost use Rattle.gq_workers.specs.Running.{GoneThrough, IsEmpty, IsShaped, IsWor
 use crate::ahead::read_ahead;
 use crate::candidate::try_one;
 use crate::found::MatchBuffer;
-use crate::work::Work;
+use crate::rounds::Work;
 use gq_base::{List, OutOfMemory};
 use gq_eval_context::BlockContext;
 use gq_exec_contribute::Stop;

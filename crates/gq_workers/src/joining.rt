@@ -4,8 +4,8 @@ ghost use Rattle.gq_workers.specs.Rounds.{AllFit, FeedsLeft, FeedsParts, FeedsRo
 
 use crate::found::MatchBuffer;
 use crate::order::{Spot, in_order, left_at};
+use crate::rounds::{ChunkOutput, RoundOutput, WorkerOutput};
 use crate::run::{BlockProgress, feed};
-use crate::work::{ChunkOutput, RoundOutput, WorkerOutput};
 use gq_base::{List, OutOfMemory};
 use gq_exec_contribute::Stop;
 use std::alloc::Global;

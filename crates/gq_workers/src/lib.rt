@@ -16,10 +16,16 @@ mod candidate;
 mod chunk;
 mod found;
 mod joining;
+mod laws;
 mod order;
+mod rounds;
 mod run;
+mod seats;
+mod tables;
 mod wanted;
-mod work;
 mod workers;
 
 pub use block::run_block;
+pub use laws::chunks_make_the_block;
+pub use seats::work;
+pub use tables::{Tables, open_tables};

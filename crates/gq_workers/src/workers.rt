@@ -7,8 +7,8 @@ ghost use Rattle.gq_workers.specs.Rounds.{CanWork, FeedsRound, GoesOn, IsAhead, 
 use crate::chunk::try_chunk;
 use crate::found::MatchBuffer;
 use crate::joining::feed_round;
+use crate::rounds::{ChunkOutput, Round, RoundOutput, Turn, Work, WorkerOutput};
 use crate::run::BlockProgress;
-use crate::work::{ChunkOutput, Round, RoundOutput, Turn, Work, WorkerOutput};
 use gq_base::{List, OutOfMemory};
 use gq_core::Batches;
 use gq_eval_context::BlockContext;
