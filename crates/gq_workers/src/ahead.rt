@@ -4,7 +4,7 @@
 // so the processor waits for many at once, and has them in the cache when the candidates are tried. Sources come in
 // order, so theirs are near each other.
 use crate::wanted::Wanted;
-use crate::work::Work;
+use crate::rounds::Work;
 use gq_base::{List, OutOfMemory};
 use gq_edge::Edges;
 use gq_eval_context::BlockContext;
