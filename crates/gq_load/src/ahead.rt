@@ -40,7 +40,7 @@ pub(crate) fn look_ahead(
     routes: &[Route],
     batch: &[ReadRecord<'_>],
     store: &Store,
-    places: &mut Vec<u32>,
+    places: &mut [u32],
     found: &mut List<FoundEnds>,
 ) -> Result<(), OutOfMemory>
     requires there { All (IsThere catalog.now) routes.now }
@@ -51,7 +51,7 @@ pub(crate) fn look_ahead(
     for place in 0..routes.len() {
         match routes[place].target {
             Target::Vertex(kind) => {
-                list_ids(kind, place, batch, store, places)?;
+                list_ids(kind, place, batch, store, places);
                 touch_vertices(store, places);
                 list_no_ends(batch, found)?;
             }
@@ -68,7 +68,7 @@ fn edges_ahead(
     place: usize,
     batch: &[ReadRecord<'_>],
     store: &Store,
-    places: &mut Vec<u32>,
+    places: &mut [u32],
     found: &mut List<FoundEnds>,
 ) -> Result<(), OutOfMemory>
     requires { kind < length catalog.now.edge_types }
@@ -82,27 +82,26 @@ fn edges_ahead(
     let edge = edge_at(catalog, kind);
     let first = found.len();
     find_ends(edge.from, edge.to, place, batch, store, found)?;
-    list_edges(kind, edge.directed, found, first, store, places)?;
+    list_edges(
+        kind,
+        edge.directed,
+        &found.as_slice()[first..],
+        store,
+        places,
+    );
+    touch_edges(store, places);
+    // (more than one edge may begin there)
     touch_edges(store, places);
     Ok(())
 }
 
 /// Lists where the lookups of the vertices of a route begin.
-fn list_ids(
-    kind: u32,
-    place: usize,
-    batch: &[ReadRecord<'_>],
-    store: &Store,
-    places: &mut Vec<u32>,
-) -> Result<(), OutOfMemory> {
-    places.clear();
-    for record in batch {
-        match record.drafts.get(place) {
-            Some(draft) => places.push(store.vertices.first(kind, draft.from.as_str()))?,
-            None => {}
+fn list_ids(kind: u32, place: usize, batch: &[ReadRecord<'_>], store: &Store, places: &mut [u32]) {
+    for (at, record) in places.iter_mut().zip(batch) {
+        if let Some(draft) = record.drafts.get(place) {
+            *at = store.vertices.first(kind, draft.from.as_str());
         }
     }
-    Ok(())
 }
 
 /// Lists no ends, once for each record.
@@ -137,23 +136,13 @@ fn find_ends(
     Ok(())
 }
 
-/// Lists where the lookups begin for the edges whose ends exist, among the ends found from `first` on.
-fn list_edges(
-    kind: u32,
-    directed: bool,
-    found: &List<FoundEnds>,
-    first: usize,
-    store: &Store,
-    places: &mut Vec<u32>,
-) -> Result<(), OutOfMemory> {
-    places.clear();
-    for at in first..found.len() {
-        let ends = found.at(at);
+/// Lists where the lookups begin for the edges whose ends exist.
+fn list_edges(kind: u32, directed: bool, found: &[FoundEnds], store: &Store, places: &mut [u32]) {
+    for (at, ends) in places.iter_mut().zip(found) {
         if let (Some(from), Some(to)) = (ends.from, ends.to) {
-            places.push(store.edges.first(kind, directed, from, to))?;
+            *at = store.edges.first(kind, directed, from, to);
         }
     }
-    Ok(())
 }
 
 /// Returns the ends of the edge that a record has along a route.

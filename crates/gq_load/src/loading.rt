@@ -105,7 +105,7 @@ fn load_records(
     };
     let straight = are_rising(routes);
     let mut row = Record::new(alloc);
-    let mut places = Vec::new(alloc);
+    let mut places = [0; AHEAD];
     let mut found = List::new(alloc);
     let mut report = Report::none();
     'reading: loop {
