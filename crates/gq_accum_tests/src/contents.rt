@@ -33,7 +33,7 @@ fn sums_by_text(alloc: Global, inputs: &[(&str, i64)]) -> Result<Content, OutOfM
 // The sum under a key.
 fn sum_under(alloc: Global, map: &Content, key: &str) -> Result<Option<i128>, OutOfMemory> {
     match map.get(&row_of(alloc, key)?) {
-        Some(Content::Scalar(Scalar::SumInt(sum))) => Ok(Some(*sum)),
+        Some(Content::Scalar(Scalar::SumInt(sum))) => Ok(Some(sum.get())),
         _ => Ok(None),
     }
 }
@@ -79,7 +79,7 @@ fn part_under(
     at: u32,
 ) -> Result<Option<i128>, OutOfMemory> {
     match groups.part(&number_row(alloc, parity)?, at) {
-        Some(Content::Scalar(Scalar::SumInt(total))) => Ok(Some(*total)),
+        Some(Content::Scalar(Scalar::SumInt(total))) => Ok(Some(total.get())),
         Some(Content::Scalar(Scalar::MaxInt(oldest))) => Ok(Some(i128::from(*oldest))),
         _ => Ok(None),
     }
@@ -125,7 +125,7 @@ fn lowest(alloc: Global, content: &Content, key: i64) -> Result<Option<i128>, Ou
         }
     }
     match level {
-        Content::Scalar(Scalar::SumInt(sum)) => Ok(Some(*sum)),
+        Content::Scalar(Scalar::SumInt(sum)) => Ok(Some(sum.get())),
         _ => Ok(None),
     }
 }

@@ -149,9 +149,9 @@ bit_or_holds c s x e is = record { each = read_scalar c s (Is INT (Int x)) e (su
 pub bit_and_holds : (c : Content) (s : Scalar) (x : ℤ) → c ≡ made.Scalar s → s ≡ BitAnd x → HoldsInt c x
 bit_and_holds c s x e is = record { each = read_scalar c s (Is INT (Int x)) e (subst (λ (s : Scalar). read (kind_of s) (view (kind_of s) (Content-F.Scalar s)) ≡ Is INT (Int x)) (sym is) refl) }
 
-pub sum_holds : (c : Content) (s : Scalar) (x : ℤ) (r : Option ℤ) → c ≡ made.Scalar s → s ≡ SumInt x → IfSome r (λ y. y ≡ x) → IfSome r (HoldsInt c)
-sum_holds c s x None e is h = tt
-sum_holds c s x (Some y) e is h = subst (HoldsInt c) (sym h) (record { each = read_scalar c s (Is INT (Int x)) e (subst (λ (s : Scalar). read (kind_of s) (view (kind_of s) (Content-F.Scalar s)) ≡ Is INT (Int x)) (sym is) refl) })
+pub sum_holds : (c : Content) (s : Scalar) (a : Sum) (x : ℤ) (r : Option ℤ) → c ≡ made.Scalar s → s ≡ SumInt a → x ≡ sum_of a → IfSome r (λ y. y ≡ x) → IfSome r (HoldsInt c)
+sum_holds c s a x None e is z h = tt
+sum_holds c s a x (Some y) e is z h = subst (HoldsInt c) (sym (h ∙ z)) (record { each = read_scalar c s (Is INT (Int (sum_of a))) e (subst (λ (s : Scalar). read (kind_of s) (view (kind_of s) (Content-F.Scalar s)) ≡ Is INT (Int (sum_of a))) (sym is) refl) })
 
 pub ruleset int_laws = (min_holds, max_holds, bit_or_holds, bit_and_holds, sum_holds)
 

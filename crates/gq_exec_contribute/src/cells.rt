@@ -116,7 +116,7 @@ pub(crate) fn int_in(content: &Content) -> Option<i64>
             Scalar::MaxInt(x) => Some(*x),
             Scalar::BitOr(x) => Some(*x),
             Scalar::BitAnd(x) => Some(*x),
-            Scalar::SumInt(sum) => int_of(*sum),
+            Scalar::SumInt(sum) => int_of(sum.get()),
             _ => None,
         },
         _ => None,

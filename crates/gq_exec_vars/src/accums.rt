@@ -112,10 +112,8 @@ fn fill(
     requires { CanOpen (accum_of kind.now) first.now }
     ensures { OnOk result (AddsContents (accum_of kind.now) (opens_with (accum_of kind.now) first.now) count contents.old contents.new) }
 {
-    for _target in 0..count {
-        contents.push(alloc, content(alloc, kind, first)?)?;
-    }
-    Ok(())
+    let content = content(alloc, kind, first)?;
+    contents.fill(alloc, &content, count)
 }
 
 /// A content initialized like this.

@@ -10,7 +10,10 @@ use Rattle.gq_accum.specs.declared.scalar.Mean.{Mean}
 use Rattle.gq_accum.specs.declared.scalar.Scalar.{Scalar}
 use Rattle.gq_accum.specs.declared.scalar.Scalar.TheVariants.{SumInt, MinInt, MaxInt, BitOr, BitAnd, Avg}
 use Rattle.gq_accum.specs.Scalars.{kind_of, IsFar}
-use Rattle.gq_accum.proofs.SumSteps.{near, widened, count_room}
+use Rattle.gq_accum.specs.Wide.{count_of, sum_of}
+use Rattle.gq_accum.specs.declared.wide.Count.{Count}
+use Rattle.gq_accum.specs.declared.wide.Sum.{Sum}
+use Rattle.gq_accum.proofs.SumSteps.{near, widened, fed_is, count_is, count_room}
 use Rattle.gq_accum.proofs.NumberSteps.{min_is, max_is, either_is, both_is}
 use Rattle.gq_nest.specs.declared.content.Content.{Content, Content-F, out-Content}
 use Rattle.gq_nest.specs.declared.content.Content.TheVariants as made
@@ -25,25 +28,9 @@ use Rattle.gq_frame.specs.Ints.{AddsInt}
 of_scalar : (s t r : Scalar) (x : ℤ) → s ≡ t → AddsInt t x r → AddsInt s x r
 of_scalar s t r x e h = subst (λ (u : Scalar). AddsInt u x r) (sym e) h
 
--- a sum with room and one number more
-sum_more : (a y x r : ℤ) → FitsSigned w64 x → y ≡ x → (IsFar a → IsFar y → r ≡ a +ℤ y) → IsFar a → r ≡ a +ℤ (x +ℤ pos 0)
-sum_more a y x r h e t far = t far (subst IsFar (sym e) (near x h)) ∙ last a y x e
-  where
-    last : (a y x : ℤ) → y ≡ x → a +ℤ y ≡ a +ℤ (x +ℤ pos 0)
-    last a y x e = omega (arith, ints, e)
-
-one_more : (n m f : ℕ) → (n + 1 < 2 ^ 128 → m ≡ n + 1) → f < 2 ^ 62 → n ≤ f * 2 ^ 63 → m ≡ n + 1
-one_more n m f h l k = h (let r = count_room n f l k in omega (arith, r))
-
--- what a sum in memory holds is the sum
-in_memory : (a y r : ℤ) → FitsSigned w128 a → FitsSigned w128 y → FitsSigned w128 r → (IsFar (to_z w128 (of_z w128 a)) → IsFar (to_z w128 (of_z w128 y)) → r ≡ to_z w128 (of_z w128 a) +ℤ to_z w128 (of_z w128 y))
-    → IsFar a → IsFar y → to_z w128 (of_z w128 r) ≡ a +ℤ y
-in_memory a y r f g k t far near = to_z-of_z w128 r k ∙ t (subst IsFar (sym (to_z-of_z w128 a f)) far) (subst IsFar (sym (to_z-of_z w128 y g)) near)
-    ∙ ap₂ (λ (u v : ℤ). u +ℤ v) (to_z-of_z w128 a f) (to_z-of_z w128 y g)
-
-pub adds_sum : (s : Scalar) (a y x r : ℤ) → FitsSigned w128 a → FitsSigned w128 y → FitsSigned w128 r → FitsSigned w64 x → y ≡ to_z w64 (of_z w64 x)
-    → (IsFar (to_z w128 (of_z w128 a)) → IsFar (to_z w128 (of_z w128 y)) → r ≡ to_z w128 (of_z w128 a) +ℤ to_z w128 (of_z w128 y)) → s ≡ SumInt a → AddsInt s x (SumInt (to_z w128 (of_z w128 r)))
-adds_sum s a y x r f g k h e t is = of_scalar s _ _ x is (record { kept = refl; fed = λ suit room. sum_more a y x _ h (widened x y h e) (in_memory a y r f g k t) room })
+pub adds_sum : (s : Scalar) (a n : Sum) (p y x r : ℤ) → FitsSigned w64 x → y ≡ to_z w64 (of_z w64 x) → p ≡ sum_of a → sum_of n ≡ to_z w128 (of_z w128 r)
+    → (IsFar (to_z w128 (of_z w128 p)) → IsFar (to_z w128 (of_z w128 y)) → r ≡ to_z w128 (of_z w128 p) +ℤ to_z w128 (of_z w128 y)) → s ≡ SumInt a → AddsInt s x (SumInt n)
+adds_sum s a n p y x r h e pa nr t is = of_scalar s _ _ x is (record { kept = refl; fed = λ suit room. fed_is (sum_of a) p y x r (sum_of n) pa nr t room (near x h) (widened x y h e) })
 
 pub adds_min : (s : Scalar) (a x r : ℤ) → FitsSigned w64 x → FitsSigned w64 a → FitsSigned w64 r → r ≡ int_min (to_z w64 (of_z w64 x)) (to_z w64 (of_z w64 a)) → s ≡ MinInt a → AddsInt s x (MinInt (to_z w64 (of_z w64 r)))
 adds_min s a x r f g h e is = of_scalar s _ _ x is (record { kept = refl; fed = λ suit room. min_is x a r f g h e })
@@ -57,12 +44,13 @@ adds_either s a x f g is = of_scalar s _ _ x is (record { kept = refl; fed = λ 
 pub adds_both : (s : Scalar) (a x : ℤ) → FitsSigned w64 x → FitsSigned w64 a → s ≡ BitAnd a → AddsInt s x (BitAnd (to_z w64 (bit_and (of_z w64 x) (of_z w64 a))))
 adds_both s a x f g is = of_scalar s _ _ x is (record { kept = refl; fed = λ suit room. both_is x a f g })
 
-pub adds_mean : (s : Scalar) (m : Mean) (y x r : ℤ) (n : ℕ) → FitsSigned w128 m.sum → FitsSigned w128 y → FitsSigned w128 r → FitsSigned w64 x → y ≡ to_z w64 (of_z w64 x)
-    → (IsFar (to_z w128 (of_z w128 m.sum)) → IsFar (to_z w128 (of_z w128 y)) → r ≡ to_z w128 (of_z w128 m.sum) +ℤ to_z w128 (of_z w128 y)) → (m.count + 1 < 2 ^ 128 → n ≡ m.count + 1) → s ≡ Avg m
-    → AddsInt s x (Avg (record { sum = to_z w128 (of_z w128 r); count = n }))
-adds_mean s m y x r n f g k h e t u is = of_scalar s _ _ x is (record {
+pub adds_mean : (s : Scalar) (m : Mean) (d : Sum) (n : Count) (p y x r : ℤ) (q k : ℕ) → FitsSigned w64 x → y ≡ to_z w64 (of_z w64 x) → p ≡ sum_of m.sum → sum_of d ≡ to_z w128 (of_z w128 r)
+    → (IsFar (to_z w128 (of_z w128 p)) → IsFar (to_z w128 (of_z w128 y)) → r ≡ to_z w128 (of_z w128 p) +ℤ to_z w128 (of_z w128 y)) → q ≡ count_of m.count → count_of n ≡ k → (q + 1 < 2 ^ 128 → k ≡ q + 1)
+    → s ≡ Avg m → AddsInt s x (Avg (record { sum = d; count = n }))
+adds_mean s m d n p y x r q k h e pm dr t qm nk u is = of_scalar s _ _ x is (record {
   kept = refl;
-  fed = λ suit room. ap₂ (λ (a : ℤ) (c : ℕ). (a, c)) (sum_more m.sum y x _ h (widened x y h e) (in_memory m.sum y r f g k t) (room.0, room.1, room.2.0)) (one_more m.count n room.0 u room.1 room.2.1);
+  fed = λ suit room. ap₂ (λ (a : ℤ) (c : ℕ). (a, c)) (fed_is (sum_of m.sum) p y x r (sum_of d) pm dr t (room.0, room.1, room.2.0) (near x h) (widened x y h e))
+      (count_is (count_of m.count) 1 q 1 k (count_of n) qm refl nk u (count_room (count_of m.count) room.0 room.1 room.2.1));
 })
 
 -- ---- and in its content

@@ -69,4 +69,4 @@ fn opened(alloc: Global, slots: &Slots) -> Result<Pages, OutOfMemory>
 }
 
 // A million vertices have a million contents of each attached accumulator.
-const _: () = prove!(size_of::<Content>() <= 64);
+const _: () = prove!(size_of::<Content>() <= 48);

@@ -6,7 +6,7 @@ ghost use Rattle.gq_nest.specs.declared.content.Content.{out-Content};
 ghost use Rattle.gq_nest.specs.Forms.{Feeds};
 ghost use Rattle.gq_frame.specs.Ints.{AddsInt};
 
-use gq_accum::{Scalar, count, total};
+use gq_accum::{Count, Scalar, Sum, count, total};
 use gq_base::OutOfMemory;
 use gq_nest::Content;
 use gq_value::{Input, Value};
@@ -30,14 +30,14 @@ fn add(scalar: &mut Scalar, x: i64)
     ensures { AddsInt scalar.old x scalar.new }
 {
     match scalar {
-        Scalar::SumInt(sum) => *sum = total(*sum, i128::from(x)),
+        Scalar::SumInt(sum) => *sum = Sum::of(total(sum.get(), i128::from(x))),
         Scalar::MinInt(least) => *least = x.min(*least),
         Scalar::MaxInt(most) => *most = x.max(*most),
         Scalar::BitOr(bits) => *bits = x | *bits,
         Scalar::BitAnd(bits) => *bits = x & *bits,
         Scalar::Avg(mean) => {
-            mean.sum = total(mean.sum, i128::from(x));
-            mean.count = count(mean.count, 1);
+            mean.sum = Sum::of(total(mean.sum.get(), i128::from(x)));
+            mean.count = Count::of(count(mean.count.get(), 1));
         }
         Scalar::SumUInt(_)
         | Scalar::MinUInt(_)

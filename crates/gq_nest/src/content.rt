@@ -32,7 +32,7 @@ pub enum Content {
     /// The initial content of a new key, and the content of each key.
     Map(Boxed<Content>, SortedMap<Value, Content>),
     /// The initial parts of a new key row, and the parts of each key row.
-    Group(Parts, SortedMap<Vec<Value>, Parts>),
+    Group(Boxed<Parts>, SortedMap<Vec<Value>, Parts>),
     /// A content that ran out of memory; what it held is lost.
     Spoiled,
 }
@@ -45,7 +45,7 @@ pub type Parts = List<Content>;
 #[derive(Drop)]
 pub struct Heap {
     pub(crate) capacity: u32,
-    pub(crate) order: List<(u32, bool)>,
+    pub(crate) order: Boxed<List<(u32, bool)>>,
     pub(crate) tuples: List<Value>,
 }
 

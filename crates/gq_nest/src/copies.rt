@@ -27,7 +27,7 @@ pub(crate) fn duplicate(alloc: Global, content: &Content) -> Result<Content, Out
         Content::List(items) => Ok(Content::List(duplicate_row(alloc, items.as_slice())?)),
         Content::Heap(heap) => Ok(Content::Heap(Heap {
             capacity: heap.capacity,
-            order: List::from_slice(alloc, heap.order.as_slice())?,
+            order: Boxed::new(alloc, List::from_slice(alloc, heap.order.get().as_slice())?)?,
             tuples: duplicate_row(alloc, heap.tuples.as_slice())?,
         })),
         Content::Map(opening, _) => {
@@ -36,9 +36,9 @@ pub(crate) fn duplicate(alloc: Global, content: &Content) -> Result<Content, Out
             Ok(Content::Map(Boxed::new(alloc, opening)?, copy))
         }
         Content::Group(openings, _) => {
-            let openings = duplicate_parts(alloc, openings.as_slice())?;
+            let openings = duplicate_parts(alloc, openings.get().as_slice())?;
             let copy = duplicate_groups(alloc, content)?;
-            Ok(Content::Group(openings, copy))
+            Ok(Content::Group(Boxed::new(alloc, openings)?, copy))
         }
         Content::Spoiled => Err(OutOfMemory),
     }

@@ -37,7 +37,7 @@ pub(crate) fn feed(alloc: Global, content: &mut Content, input: &Input) -> Resul
                 feed_group(
                     alloc,
                     inputs.as_slice(),
-                    openings.as_slice(),
+                    openings.get().as_slice(),
                     groups,
                     row.as_slice(),
                 )

@@ -164,6 +164,10 @@ fn insert_at<K: Drop, V: Drop>(
     ensures put { OnOk result (entries.new.items ≡ insert entries.old.items at (key, value)) }
     ensures same { OnErr result (entries.new.items ≡ entries.old.items) }
 {
+    if entries.len() == entries.capacity() {
+        // Most maps and sets stay very small, and there are many of them. So room is doubled from the first entry on.
+        entries.reserve_exact(entries.len().max(1))?;
+    }
     match entries.insert(at, (key, value)) {
         Ok(_) => Ok(()),
         Err(_) => Err(OutOfMemory),

@@ -32,17 +32,17 @@ pub(crate) fn fresh(alloc: Global, kind: &Kind) -> Result<Content, OutOfMemory>
         Kind::List(_) => Ok(Content::List(List::new(alloc))),
         Kind::Heap(shape) => Ok(Content::Heap(Heap {
             capacity: shape.capacity,
-            order: List::from_slice(alloc, shape.order.as_slice())?,
+            order: Boxed::new(alloc, List::from_slice(alloc, shape.order.as_slice())?)?,
             tuples: List::new(alloc),
         })),
         Kind::Map(_, values) => {
             let opening = fresh(alloc, values.get())?;
             Ok(Content::Map(Boxed::new(alloc, opening)?, SortedMap::new(alloc)))
         }
-        Kind::Group(shape) => Ok(Content::Group(
-            fresh_parts(alloc, shape.parts.as_slice())?,
-            SortedMap::new(alloc),
-        )),
+        Kind::Group(shape) => {
+            let openings = fresh_parts(alloc, shape.parts.as_slice())?;
+            Ok(Content::Group(Boxed::new(alloc, openings)?, SortedMap::new(alloc)))
+        }
     }
 }
 

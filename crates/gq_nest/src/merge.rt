@@ -27,7 +27,9 @@ pub(crate) fn merge(
 {
     match content {
         Content::Map(opening, entries) => merge_entries(alloc, opening.get(), entries, other),
-        Content::Group(openings, groups) => merge_groups(alloc, openings.as_slice(), groups, other),
+        Content::Group(openings, groups) => {
+            merge_groups(alloc, openings.get().as_slice(), groups, other)
+        },
         _ => merge_flat(alloc, content, other),
     }
 }

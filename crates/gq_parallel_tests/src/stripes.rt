@@ -73,7 +73,7 @@ pub(crate) fn sum_at(partials: &Partials, target: u64) -> Option<i128>
     requires { (content : _) × (content_at partials.now target ≡ Some content) }
 {
     match partials.at(target) {
-        Content::Scalar(Scalar::SumInt(sum)) => Some(*sum),
+        Content::Scalar(Scalar::SumInt(sum)) => Some(sum.get()),
         _ => None,
     }
 }

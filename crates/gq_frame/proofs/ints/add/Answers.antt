@@ -3,7 +3,7 @@ use Rattle.gq_frame.proofs.IntLemmas.{adds_sum, adds_min, adds_max, adds_either,
 use Rattle.gq_frame.proofs.ints.add.Goals as goal
 
 pub returns-in-SumInt : goal.returns-in-SumInt
-returns-in-SumInt c = adds_sum _ _ _ _ _ (search rules) (search rules) (search rules) (search rules) c.from.ensures c.total.ensures c.in-SumInt.is
+returns-in-SumInt c = adds_sum _ _ _ _ _ _ _ (search rules) c.from.ensures c.get.ensures c.of.ensures c.total.ensures c.in-SumInt.is
 
 pub returns-in-MinInt : goal.returns-in-MinInt
 returns-in-MinInt c = adds_min _ _ _ _ (search rules) (search rules) (search rules) c.min.ensures.value c.in-MinInt.is
@@ -18,4 +18,4 @@ pub returns-in-BitAnd : goal.returns-in-BitAnd
 returns-in-BitAnd c = adds_both _ _ _ (search rules) (search rules) c.in-BitAnd.is
 
 pub returns-in-Avg : goal.returns-in-Avg
-returns-in-Avg c = adds_mean _ _ _ _ _ _ (search rules) (search rules) (search rules) (search rules) c.from-in-Avg.ensures c.total-mean.ensures c.count-mean.ensures c.in-Avg.is
+returns-in-Avg c = adds_mean _ _ _ _ _ _ _ _ _ _ (search rules) c.from-in-Avg.ensures c.get-mean.ensures c.of-mean.ensures c.total-mean.ensures c.get-mean-2.ensures c.of-mean-2.ensures c.count-mean.ensures c.in-Avg.is

@@ -31,8 +31,8 @@ duplicate_entries-returns t c = copying_all key_row _ _ _ _ (rest_all deref_pair
 pub duplicate_parts-loop-part-preserved : goal.duplicate_parts-loop-part-preserved
 duplicate_parts-loop-part-preserved t c = pairs_next (λ x y. Copies (out-Content x) (out-Content y)) _ _ _ _ _ _ (search rules) c.part-item.is c.in_ok-duplicate.ensures c.in_ok-push.ensures.ok c.loop-part.invariant
 
-pub duplicate-returns-in_ok-copy-in-Group : goal.duplicate-returns-in_ok-copy-in-Group
-duplicate-returns-in_ok-copy-in-Group t c = rw (c.in-Group.is, opened-Group c.in-Group.openings c.in-Group.field-1) (copies_group _ _ _ _ (rw c.as_slice-in-Group.ensures at c.in_ok-openings-in-Group.ensures) (rw (c.in-Group.is, opened-Group c.in-Group.openings c.in-Group.field-1) at c.in_ok-copy-in-Group.ensures))
+pub duplicate-returns-in_ok-new-in-Group : goal.duplicate-returns-in_ok-new-in-Group
+duplicate-returns-in_ok-new-in-Group t c = rw (c.in-Group.is, opened-Group c.in-Group.openings c.in-Group.field-1) (copies_group _ _ _ _ (rw (← c.in_ok-new-in-Group.ensures, c.as_slice-in-Group.ensures, c.get-in-Group.ensures) at c.in_ok-openings-in-Group.ensures) (rw (c.in-Group.is, opened-Group c.in-Group.openings c.in-Group.field-1) at c.in_ok-copy-in-Group.ensures))
 
 pub duplicate_groups-loop-row-init : goal.duplicate_groups-loop-row-init
 duplicate_groups-loop-row-init t c = rw (c.in-Group.is, opened-Group c.in-Group.field-0 c.in-Group.groups) (let e = c.into_iter-row-iterator.ensures.into_iter_gives in copying_first group_row _ _ _ _ c.in_ok-copy-in-Group.ensures e.0 (group_rising _ e.1))

@@ -60,7 +60,7 @@ feed_entry-returns-in_ok-duplicate-in-None t c = on_ok _ (rw c.get_mut.follows.h
 
 pub feed-returns-in-Group-clause-fed : goal.feed-returns-in-Group-clause-fed
 feed-returns-in-Group-clause-fed t c = rw (c.in-Group.is, opened-Group c.in-Group.openings c.in-Group.groups, c.in-Keyed.is, given-Keyed c.in-Keyed.row c.in-Keyed.inputs)
-    (on_ok _ (rw (c.as_slice-in-Group.ensures, c.as_slice-in-Group-2.ensures, c.as_slice-in-Group-3.ensures, c.in-Group.openings-is, c.in-Group.groups-is) at c.feed_group.ensures) (feed_group _ _ _ _ _))
+    (on_ok _ (rw (c.as_slice-in-Group.ensures, c.as_slice-in-Group-2.ensures, c.get-in-Group.ensures, c.as_slice-in-Group-3.ensures, c.in-Group.openings-is, c.in-Group.groups-is) at c.feed_group.ensures) (feed_group _ _ _ _ _))
 
 pub feed_group-returns-in-Some : goal.feed_group-returns-in-Some
 feed_group-returns-in-Some t c = on_ok _ c.feed_parts.ensures (group_there _ _ _ _ _ _ _ c.in-Some.ensures.value (c.get_mut.follows.holds c.feed_parts.new.parts).0)

@@ -19,14 +19,14 @@ fresh-returns-in-Bag t c = fresh_bag _ _ _ c.in-Bag.is c.new-in-Bag.ensures
 pub fresh-returns-in-List : goal.fresh-returns-in-List
 fresh-returns-in-List t c = fresh_list _ _ _ c.in-List.is c.new-in-List.ensures
 
-pub fresh-returns-in_ok-from_slice-in-Heap : goal.fresh-returns-in_ok-from_slice-in-Heap
-fresh-returns-in_ok-from_slice-in-Heap t c = fresh_heap _ _ _ c.in-Heap.is refl (c.in_ok-from_slice-in-Heap.ensures ∙ c.as_slice.ensures) c.new-in-Heap.ensures
+pub fresh-returns-in_ok-new-in-Heap : goal.fresh-returns-in_ok-new-in-Heap
+fresh-returns-in_ok-new-in-Heap t c = fresh_heap _ _ _ c.in-Heap.is refl (c.in_ok-new-in-Heap.ensures ∙ c.in_ok-from_slice-in-Heap.ensures ∙ c.as_slice.ensures) c.new-in-Heap-2.ensures
 
 pub fresh-returns-in_ok-new-in-Map : goal.fresh-returns-in_ok-new-in-Map
 fresh-returns-in_ok-new-in-Map t c = fresh_map _ _ _ _ _ c.in-Map.is (rw (← c.in_ok-new-in-Map.ensures, c.get.ensures) at c.in_ok-opening-in-Map.ensures) c.new-in-Map-2.ensures.empty
 
-pub fresh-returns-in_ok-fresh_parts-in-Group : goal.fresh-returns-in_ok-fresh_parts-in-Group
-fresh-returns-in_ok-fresh_parts-in-Group t c = fresh_group _ _ _ _ c.in-Group.is (rw c.as_slice-in-Group.ensures at c.in_ok-fresh_parts-in-Group.ensures) c.new-in-Group.ensures.empty
+pub fresh-returns-in_ok-new-in-Group : goal.fresh-returns-in_ok-new-in-Group
+fresh-returns-in_ok-new-in-Group t c = fresh_group _ _ _ _ c.in-Group.is (rw (← c.in_ok-new-in-Group.ensures, c.as_slice-in-Group.ensures) at c.in_ok-openings-in-Group.ensures) c.new-in-Group-2.ensures.empty
 
 pub fresh_parts-loop-kind-preserved : goal.fresh_parts-loop-kind-preserved
 fresh_parts-loop-kind-preserved t c = pairs_next (λ p x. Shows (accum_of p.1) x (fresh (accum_of p.1))) _ _ _ _ _ _ (search rules) c.loop-kind-item.is c.in_ok-fresh.ensures c.in_ok-push.ensures.ok c.loop-kind.invariant

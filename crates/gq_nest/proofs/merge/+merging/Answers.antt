@@ -33,7 +33,7 @@ pub merge_entries-returns-in-None : goal.merge_entries-returns-in-None
 merge_entries-returns-in-None t c = uniting_all _ _ _ _ _ (rest_all deref_pair _ _ _ c.in-None.is c.next.ensures.steps) c.loop-key.invariant
 
 pub merge-returns-in-Group-clause-merged : goal.merge-returns-in-Group-clause-merged
-merge-returns-in-Group-clause-merged t c = rw (c.in-Group.is, opened-Group c.in-Group.openings c.in-Group.groups) (on_ok _ (rw (c.as_slice.ensures, c.in-Group.openings-is, c.in-Group.groups-is) at c.merge_groups.ensures) (merge_group _ _ _ _))
+merge-returns-in-Group-clause-merged t c = rw (c.in-Group.is, opened-Group c.in-Group.openings c.in-Group.groups) (on_ok _ (rw (c.as_slice.ensures, c.get-in-Group.ensures, c.in-Group.openings-is, c.in-Group.groups-is) at c.merge_groups.ensures) (merge_group _ _ _ _))
 
 pub merge_group-returns-in-Some : goal.merge_group-returns-in-Some
 merge_group-returns-in-Some t c = on_ok _ c.merge_parts.ensures (group_there _ _ _ _ _ _ _ c.in-Some.ensures.value (c.get_mut.follows.holds c.merge_parts.new.mine).0)
