@@ -17,7 +17,7 @@ pub duplicate-returns-in_ok-add_keys-in-Set : goal.duplicate-returns-in_ok-add_k
 duplicate-returns-in_ok-add_keys-in-Set t c = rw (c.in-Set.is, opened-Set c.in-Set.keys) (copies_set _ _ _ c.in_ok-copy-in-Set.ensures c.in_ok-add_keys-in-Set.ensures)
 
 pub duplicate-returns-in_ok-new-in-Map : goal.duplicate-returns-in_ok-new-in-Map
-duplicate-returns-in_ok-new-in-Map t c = rw (c.in-Map.is, opened-Map c.in-Map.opening c.in-Map.field-1) (copies_map _ _ _ _ ((rw (← c.in_ok-new-in-Map.ensures, c.get.ensures) at c.in_ok-opening-in-Map.ensures)) (rw (c.in-Map.is, opened-Map c.in-Map.opening c.in-Map.field-1) at c.in_ok-copy-in-Map.ensures))
+duplicate-returns-in_ok-new-in-Map t c = rw (c.in-Map.is, opened-Map c.in-Map.opening c.in-Map.field-1) (copies_map _ _ _ _ ((rw (← c.in_ok-new-in-Map.ensures, c.get-in-Map.ensures) at c.in_ok-opening-in-Map.ensures)) (rw (c.in-Map.is, opened-Map c.in-Map.opening c.in-Map.field-1) at c.in_ok-copy-in-Map.ensures))
 
 pub duplicate_entries-loop-key-init : goal.duplicate_entries-loop-key-init
 duplicate_entries-loop-key-init t c = rw (c.in-Map.is, opened-Map c.in-Map.field-0 c.in-Map.entries) (let e = c.into_iter-key-iterator.ensures.into_iter_gives in copying_first key_row _ _ _ _ c.in_ok-copy-in-Map.ensures e.0 (value_rising _ e.1))

@@ -1,10 +1,10 @@
 -- How a `SortedMap` stores its values, so that a type may hold itself through one. Its shape is what a vector or a tree has
 -- besides the values, and what it holds is the values, in the order of their keys.
 use Rattle.std.specs.Prelude.{◌≡◌, List, [], ◌∷◌}
-use mathlib.Core.Path.{refl, sym, ap, subst}
+use mathlib.Core.Path.{refl, sym, subst}
 use mathlib.Core.Logic.{◌⊎◌, inl, inr}
 use mathlib.Core.Former.{Former, this, const, pair, or, via, children}
-use base.Stored.{gnil, gcons}
+use base.Stored.{gnil}
 use base.Fml.{ftrue}
 use denote.RattleType.{RattleType}
 use denote.Memory.{part_of}
