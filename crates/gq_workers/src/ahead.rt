@@ -70,7 +70,11 @@ fn list(
     let mut cursor = Cursor::new();
     for place in start..end.min(candidates.count()) {
         let candidate = candidates.near(place, &mut cursor, &mut Steps::new());
-        let number = if are_targets { candidate.target } else { candidate.edge };
+        let number = if are_targets {
+            candidate.target
+        } else {
+            candidate.edge
+        };
         match number {
             Some(number) => room.push(number)?,
             None => {}
