@@ -18,4 +18,4 @@ pub returns-in-BitAnd : goal.returns-in-BitAnd
 returns-in-BitAnd c = adds_both _ _ _ (search rules) (search rules) c.in-BitAnd.is
 
 pub returns-in-Avg : goal.returns-in-Avg
-returns-in-Avg c = adds_mean _ _ _ _ _ _ _ _ _ _ (search rules) c.from-in-Avg.ensures c.get-mean.ensures c.of-mean.ensures c.total-mean.ensures c.get-mean-2.ensures c.of-mean-2.ensures c.count-mean.ensures c.in-Avg.is
+returns-in-Avg c = adds_mean _ _ _ _ _ _ _ _ _ _ (search rules) c.from-in-Avg.ensures c.get-in-Avg.ensures c.of-mean.ensures c.total-in-Avg.ensures c.get-in-Avg-2.ensures c.of-mean-in-Avg.ensures c.count.ensures c.in-Avg.is
