@@ -10,7 +10,9 @@ use Rattle.gq_value.specs.declared.kind.Slot as code_slot
 use Rattle.gq_value.specs.declared.value.Value.TheVariants as value
 use Rattle.gq_accum.specs.declared.scalar.Scalar.{Scalar}
 use Rattle.gq_accum.specs.declared.scalar.Scalar.TheVariants.{SumInt, MinInt, MaxInt, Or, And, BitOr, BitAnd}
+use Rattle.gq_accum.specs.declared.wide.Sum.{Sum}
 use Rattle.gq_accum.specs.Scalars.{kind_of}
+use Rattle.gq_accum.specs.Wide.{sum_of}
 use Rattle.gq_nest.specs.declared.content.Content.{Content, Content-F, out-Content}
 use Rattle.gq_nest.specs.declared.content.Content.TheVariants as made
 use Rattle.gq_nest.specs.Forms.{view, IsOf, HasForm}

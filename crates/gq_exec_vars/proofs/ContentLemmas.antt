@@ -1,7 +1,6 @@
 -- ContentLemmas: initial contents: none is spoiled, values have their types, and sums are in range.
 use Rattle.std.proofs.Common.{◌≡◌, ℕ, ◌+◌, ◌^◌, ◌<◌, true, false, List, [], ◌∷◌, ◌++◌, length, Option, Some, None, refl, sym, ap, ◌∙◌, subst, arith}
 use Rattle.std.proofs.lemmas.Bool.Decides.{nat_tests}
-use Rattle.std.proofs.lemmas.List.{append_assoc, append-nil}
 use Rattle.gq_value.specs.declared.kind.Number.TheVariants as number
 use Rattle.gq_value.specs.declared.value.Value.{Value}
 use Rattle.gq_value.specs.Accums as kinds
@@ -15,9 +14,11 @@ use Rattle.gq_accum_laws.specs.After.{fresh, fresh_each}
 use Rattle.gq_accum_laws.specs.Fits.{fits}
 use Rattle.gq_accum_laws.specs.Reads.{set_to}
 use Rattle.gq_nest.specs.declared.content.Content.{Content}
-use Rattle.gq_nest.specs.Shows.{Shows}
+use Rattle.gq_nest.specs.Entries.{every}
+use Rattle.gq_nest.specs.Shows.{Shows, ShowsTheSame}
 use Rattle.gq_nest.specs.Tells.{CanBeSet, IsSet, is_settable}
 use Rattle.gq_eval_operand.specs.Sound.{HoldsForms, HoldForms, IsSound}
+use Rattle.gq_frame.specs.Pages.{Fills}
 use Rattle.gq_exec_feed.proofs.SlotLemmas.{Every}
 use Rattle.gq_exec_vars.specs.Begun.{AddsContents, CanOpen, opens_with}
 
@@ -141,26 +142,11 @@ shows_own k first c is s = subst (λ (o : Option Value). Shows k c (opens_with k
 
 pub ruleset content_laws = (may_be_set, shows_set, shows_own)
 
--- ---- one after the other
+-- ---- many that are alike
 
-every_more : {A : Type 0} (P : A → Type 0) (xs : List A) (x : A) → Every P xs → P x → Every P (xs ++ x ∷ [])
-every_more P [] x h p = (p, tt)
-every_more P (y ∷ xs) x h p = (h.0, every_more P xs x h.1 p)
+all_show : (k : Accum) (h : Holds k) (c : Content) → Shows k c h → (xs : List Content) → every (ShowsTheSame c) xs → Every (λ d. Shows k d h) xs
+all_show k h c s [] like = tt
+all_show k h c s (x ∷ xs) like = (like.0.each k h s, all_show k h c s xs like.1)
 
-length_one : {A : Type 0} (xs : List A) (x : A) → length (xs ++ x ∷ []) ≡ length xs + 1
-length_one [] x = refl
-length_one (y ∷ xs) x = let e = length_one xs x in omega (arith, e)
-
-pub adds_none : (k : Accum) (h : Holds k) (old : List Content) → AddsContents k h 0 old old
-adds_none k h old = record { more = []; added = sym (append-nil old); many = refl; shows = tt }
-
-pub adds_one : (k : Accum) (h : Holds k) (n : ℕ) (old now new : List Content) (c : Content) → AddsContents k h n old now → new ≡ now ++ c ∷ [] → Shows k c h → AddsContents k h (n + 1) old new
-adds_one k h n old now new c a e s = record {
-  more = a.more ++ c ∷ [];
-  added = e ∙ ap (λ l. l ++ c ∷ []) a.added ∙ append_assoc old a.more (c ∷ []);
-  many = length_one a.more c ∙ ap (λ (i : ℕ). i + 1) a.many;
-  shows = every_more (λ d. Shows k d h) a.more c a.shows s;
-}
-
-pub adds_all : (k : Accum) (h : Holds k) (n m : ℕ) (old new : List Content) → n ≡ m → AddsContents k h n old new → AddsContents k h m old new
-adds_all k h n m old new e a = subst (λ (i : ℕ). AddsContents k h i old new) e a
+pub adds_alike : (k : Accum) (h : Holds k) (c : Content) (n : ℕ) (old new : List Content) → Shows k c h → Fills c n old new → AddsContents k h n old new
+adds_alike k h c n old new s f = record { more = f.more; added = f.added; many = f.many; shows = all_show k h c s f.more f.like }

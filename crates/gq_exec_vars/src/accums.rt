@@ -112,8 +112,8 @@ fn fill(
     requires { CanOpen (accum_of kind.now) first.now }
     ensures { OnOk result (AddsContents (accum_of kind.now) (opens_with (accum_of kind.now) first.now) count contents.old contents.new) }
 {
-    let content = content(alloc, kind, first)?;
-    contents.fill(alloc, &content, count)
+    let opening = content(alloc, kind, first)?;
+    contents.fill(alloc, &opening, count)
 }
 
 /// A content initialized like this.
