@@ -9,4 +9,4 @@ pub loop-place-preserved : goal.loop-place-preserved
 loop-place-preserved c =
     let n : c.loop-place.place < length c.args.attributes.now = omega arith in
     attribute_next (world_over gregorian c.args.over.now) c.args.attributes.now (vertex_at c.args.vertices.now c.args.vertex).attributes _ c.loop-place.members _ c.loop-place.place _ c.value-value.result.now c.loop-place.invariant n
-    c.index-attributes-place.is c.attr-value.ensures c.in_ok-put_value.ensures
+    c.index-attributes-place.is c.value-value.ensures c.in_ok-put_value.ensures
