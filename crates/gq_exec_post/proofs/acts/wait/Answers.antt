@@ -9,6 +9,6 @@ pub returns-in-Err-clause-told : goal.returns-in-Err-clause-told
 returns-in-Err-clause-told c =
     wait_stops gregorian c.args.over.now (map alias_of c.args.aliases.now) c.args.to.0 c.args.to.1 (view_change c.args.change.now) c.args.writing.now c.in-Err.halt c.fault_at.result c.in-Err.ensures c.fault_at.ensures
 
-pub returns-in-Ok-push-clause-told : goal.returns-in-Ok-clause-told
+pub returns-in-Ok-push-clause-told : goal.returns-in-Ok-push-clause-told
 returns-in-Ok-push-clause-told c =
     wait_more gregorian c.args.over.now (map alias_of c.args.aliases.now) c.args.to.0 c.args.to.1 (view_change c.args.change.now) c.args.writing.now c.in-Ok.input c.push.new.self c.in-Ok.ensures c.in-Ok-push.ensures
