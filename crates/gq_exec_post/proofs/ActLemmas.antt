@@ -29,7 +29,8 @@ use Rattle.gq_eval_context.specs.declared.after.BlockFault as code
 use Rattle.gq_eval_context.specs.Answered.{Answered, EndsAs}
 use Rattle.gq_exec_post.specs.declared.writing.Writing.{Writing}
 use Rattle.gq_eval_context.specs.Faults.{fault_at}
-use Rattle.gq_exec_post.specs.Sights.{DoesSo, SeesSo, look_now}
+use Rattle.gq_exec_contribute.specs.declared.leaves.Leaves.{Leaves}
+use Rattle.gq_exec_post.specs.Sights.{DoesSo, ReadsAt, SeesSo, look_now}
 use Rattle.gq_exec_post.specs.Writing.{KeepsTo, written}
 use Rattle.gq_eval_context.proofs.FaultLemmas.{ends_with, stops_at}
 use Rattle.gq_exec_post.proofs.Steps.{at_place}
@@ -161,4 +162,20 @@ choice_next clock o aliases v bs others before i b q inv n is t e = record {
 pub none_chosen : (w : Writing) → AreSound w.accums → KeepsTo w.accums w.accums
 none_chosen w s = keeps_itself w.accums s
 
-pub ruleset act_laws = (choice_begin, none_chosen)
+-- before the branches of an IF, of which none is chosen yet, nothing is written
+pub record Unwritten (clock : Calendar) (o : Over) (aliases : List (ℕ × Placed)) (v : ℕ) (l : Leaves) (bs : List (Expr × List Act)) (others : Option (List Act)) (old now : Writing) (i : ℕ) : Type 0 where
+  pub same : now ≡ old
+  pub sound : AreSound now.accums
+  pub reads : ReadsAt l aliases v now.accums
+  pub chosen : ChosenTo clock o aliases v bs others now i
+
+pub unwritten : (clock : Calendar) (o : Over) (aliases : List (ℕ × Placed)) (v : ℕ) (l : Leaves) (bs : List (Expr × List Act)) (others : Option (List Act)) (w : Writing) → AreSound w.accums → ReadsAt l aliases v w.accums → Unwritten clock o aliases v l bs others w w 0
+unwritten clock o aliases v l bs others w s r = record { same = refl; sound = s; reads = r; chosen = choice_begin clock o aliases v bs others w }
+
+pub unwritten_sound : (clock : Calendar) (o : Over) (aliases : List (ℕ × Placed)) (v : ℕ) (l : Leaves) (bs : List (Expr × List Act)) (others : Option (List Act)) (old now : Writing) (i : ℕ) → Unwritten clock o aliases v l bs others old now i → AreSound now.accums
+unwritten_sound clock o aliases v l bs others old now i u = u.sound
+
+pub unwritten_reads : (clock : Calendar) (o : Over) (aliases : List (ℕ × Placed)) (v : ℕ) (l : Leaves) (bs : List (Expr × List Act)) (others : Option (List Act)) (old now : Writing) (i : ℕ) → Unwritten clock o aliases v l bs others old now i → ReadsAt l aliases v now.accums
+unwritten_reads clock o aliases v l bs others old now i u = u.reads
+
+pub ruleset act_laws = (unwritten, unwritten_sound, unwritten_reads, none_chosen)

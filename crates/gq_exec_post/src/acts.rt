@@ -258,9 +258,10 @@ fn wait(
         Ok(input) => {
             let one = Waiting { slot: to.0, input };
             match writing.waiting.push(one) {
-                Ok(()) => Ok(()),
-                Err(_) => Err(BlockFault::OutOfMemory),
+                Ok(()) => {}
+                Err(_) => return Err(BlockFault::OutOfMemory),
             }
+            Ok(())
         }
     }
 }

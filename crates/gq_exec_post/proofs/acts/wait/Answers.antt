@@ -11,4 +11,4 @@ returns-in-Err-clause-told c =
 
 pub returns-in-Ok-push-clause-told : goal.returns-in-Ok-push-clause-told
 returns-in-Ok-push-clause-told c =
-    wait_more gregorian c.args.over.now (map alias_of c.args.aliases.now) c.args.to.0 c.args.to.1 (view_change c.args.change.now) c.args.writing.now c.in-Ok.input c.push.new.self c.in-Ok.ensures c.in-Ok-push.ensures
+    wait_more gregorian c.args.over.now (map alias_of c.args.aliases.now) c.args.to.0 c.args.to.1 (view_change c.args.change.now) c.args.writing.now c.in-Ok.input c.push.new.self c.in-Ok.ensures c.in-Ok-push.ensures.items
