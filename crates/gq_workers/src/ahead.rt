@@ -3,8 +3,8 @@
 // Rows, ids and contents of targets are scattered in memory. These loops only read them, and do nothing else meanwhile:
 // so the processor waits for many at once, and has them in the cache when the candidates are tried. Sources come in
 // order, so theirs are near each other.
-use crate::wanted::Wanted;
 use crate::rounds::Work;
+use crate::wanted::Wanted;
 use gq_base::{List, OutOfMemory};
 use gq_edge::Edges;
 use gq_eval_context::BlockContext;
