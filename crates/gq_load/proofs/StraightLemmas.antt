@@ -1,7 +1,6 @@
 -- Rows read straight from a line: a record that has all of its values isn't short, and values that are overwritten.
-use Rattle.std.proofs.Common.{◌≡◌, ℕ, ℤ, zero, suc, ◌+◌, ◌-◌, ◌<◌, ◌≤◌, List, [], ◌∷◌, ◌++◌, length, take, Option, Some, None, Bool, true, false, refl, sym, ap, subst, ◌∙◌, arith, get_or, map}
+use Rattle.std.proofs.Common.{◌≡◌, ℕ, ℤ, zero, suc, ◌+◌, ◌-◌, ◌<◌, ◌≤◌, List, [], ◌∷◌, ◌++◌, length, take, Option, Some, None, Bool, true, false, refl, sym, ap, ◌∙◌, arith, map}
 use Rattle.std.specs.Prelude.{nat_le, nat_lt, ◌||◌, option_and_then, All, IfSome, if◌then◌else◌}
-use Rattle.std.specs.Option.{option_map}
 use Rattle.std.proofs.lemmas.Bool.Decides.{nat_tests}
 use Rattle.std.proofs.lemmas.List.{length-map, length-append}
 use Rattle.gq_load.proofs.ListLemmas.{take_all}
@@ -15,7 +14,7 @@ use Rattle.gq_index.specs.Steps.{Step}
 use Rattle.gq_load_check.specs.declared.job.Target.{Target}
 use Rattle.gq_load_check.specs.declared.job.Target.TheVariants as target
 use Rattle.gq_load_check.specs.declared.job.LoadInto.{LoadInto}
-use Rattle.gq_load_check.specs.Targets.{value_count, attributes_of, vertex_type_at, edge_type_at}
+use Rattle.gq_load_check.specs.Targets.{value_count, vertex_type_at, edge_type_at}
 use Rattle.gq_load_check.specs.Fits.{IntoFits}
 use Rattle.gq_load_csv.specs.Fields.{field_value, key_value, id_in}
 use Rattle.gq_load.specs.declared.route.Route.{Route}

@@ -34,7 +34,8 @@ const NO_ENDS: FoundEnds = FoundEnds {
 /// each route, in order of record.
 ///
 /// The lookups of one record wait for memory several times in a row. Here the processor waits for those of many records
-/// at once: each loop is short, and none of its reads depends on the result of another one. `places` is a buffer.
+/// at once: each loop is short, and none of its reads depends on the result of another one. `places` is a buffer with
+/// room for each record.
 pub(crate) fn look_ahead(
     catalog: &Catalog,
     routes: &[Route],
@@ -62,6 +63,7 @@ pub(crate) fn look_ahead(
 }
 
 /// The same for edges. Their ends are needed to find them; the searches for these overlap without a loop of their own.
+/// Edges are listed in a loop of their own: within that of the searches few of their reads would overlap.
 fn edges_ahead(
     catalog: &Catalog,
     kind: u32,
@@ -90,7 +92,7 @@ fn edges_ahead(
         places,
     );
     touch_edges(store, places);
-    // (more than one edge may begin there)
+    // Once more, since what was read says what follows in the same bucket.
     touch_edges(store, places);
     Ok(())
 }

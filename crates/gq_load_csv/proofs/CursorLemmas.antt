@@ -1,6 +1,6 @@
 -- Cursors: what a field leaves of its line.
-use Rattle.std.proofs.Common.{◌≡◌, ℕ, zero, suc, ◌+◌, ◌<◌, ◌≤◌, List, [], ◌∷◌, ◌++◌, length, Option, Some, None, Bool, true, false, inl, inr, ◌⊎◌, refl, sym, ap, ap₂, subst, ◌∙◌, arith, take, drop, get_or, add-one, ◌-◌, ◌*◌, ◌^◌, ℤ, pos, Bor}
-use Rattle.std.specs.Prelude.{if◌then◌else◌, ◌&&◌, ◌==◌, not}
+use Rattle.std.proofs.Common.{◌≡◌, ℕ, zero, suc, ◌+◌, ◌<◌, ◌≤◌, List, [], ◌∷◌, ◌++◌, length, Option, Some, None, Bool, true, false, refl, sym, ap, subst, ◌∙◌, arith, take, drop, get_or, add-one, ◌-◌, ◌*◌, ◌^◌, ℤ, pos, Bor}
+use Rattle.std.specs.Prelude.{if◌then◌else◌, ◌==◌}
 use Rattle.std.specs.List.{list_all}
 use Rattle.std.specs.Str.Parse.{AllDigits}
 use Rattle.std.specs.Char.{digit_value}
@@ -11,10 +11,9 @@ use Rattle.std.specs.Prelude.{IsAscii, IfSome, option_and_then}
 use Rattle.std.proofs.lemmas.Str.{digit_value_digit}
 use Rattle.std.proofs.lemmas.Bool.{ltb-true}
 use Rattle.gq_graph.specs.declared.types.IdKind.TheVariants as id
-use Rattle.gq_load_csv.specs.Digits.{IsShort, IsOwn}
+use Rattle.gq_load_csv.specs.Digits.{IsOwn}
 use Rattle.gq_load_csv.specs.Fields.{id_in, field_value, key_value}
 use Rattle.gq_load_csv.specs.Texts.{int_in, uint_in}
-use Rattle.gq_load_csv.specs.declared.cursor.Run.{Run}
 use Rattle.std.proofs.lemmas.List.{append_assoc, append-nil, drop_all, take_all, take_more, length-take-le, get_or-take}
 use Rattle.std.proofs.lemmas.Str.Parse.{digit_from_value}
 use Rattle.std.proofs.lemmas.Bool.Decides.{nat_tests}

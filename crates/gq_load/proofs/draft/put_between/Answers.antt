@@ -1,4 +1,4 @@
-use Rattle.std.proofs.Common.{ℕ, ap, refl, sym, Err}
+use Rattle.std.proofs.Common.{ℕ, ap, refl, Err}
 use Rattle.gq_index.specs.Steps.{name_of}
 use Rattle.gq_index.proofs.StepLemmas.{err_more, done_more, edge_ok, edge_err, end_there}
 use Rattle.gq_index.proofs.NamingLemmas.{named_after}

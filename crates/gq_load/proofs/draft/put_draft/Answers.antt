@@ -4,7 +4,6 @@ use Rattle.gq_graph.specs.declared.rows.Naming.{Naming}
 use Rattle.gq_graph.specs.declared.rows.VertexRow.{VertexRow}
 use Rattle.gq_graph.specs.Edges.{naming_with}
 use Rattle.gq_index.specs.Ends.{edge_steps}
-use Rattle.gq_index.specs.Namings.{naming_in}
 use Rattle.gq_index.specs.Steps.{Puts}
 use Rattle.gq_load_check.specs.Targets.{edge_type_at}
 use Rattle.gq_load.specs.Found.{EndsAreFound}

@@ -1,4 +1,4 @@
-use Rattle.std.proofs.Common.{◌≡◌, ◌∷◌, List, Some, ap, sym, ◌∙◌}
+use Rattle.std.proofs.Common.{◌≡◌, ◌∷◌, Some, ap, sym, ◌∙◌}
 use Rattle.gq_load_csv.specs.Next.{NextRecord}
 use Rattle.gq_load.specs.Rows.{steps_of}
 use Rattle.gq_load.specs.Drafts.{all_drafted}

@@ -1,4 +1,4 @@
-use Rattle.std.proofs.Common.{◌≡◌, ℤ, arith, rules, Some, ap, sym, ◌∙◌, ◌+◌, ◌++◌, ◌∷◌, [], List, Option, FitsSigned, w64, take}
+use Rattle.std.proofs.Common.{◌≡◌, ℤ, arith, rules, Some, ap, sym, ◌∙◌, ◌+◌, ◌++◌, ◌∷◌, [], List, FitsSigned, w64, take}
 use Rattle.std.proofs.lemmas.Int.{to_z-of_z}
 use Rattle.std.specs.Prelude.{slice_get, nat_lt}
 use Rattle.gq_value.specs.declared.value.Value.{Value}
