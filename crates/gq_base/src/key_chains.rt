@@ -129,7 +129,8 @@ pub(crate) fn drop_last(heads: &mut [u32], entries: &mut Vec<Entry>)
     }
 }
 
-fn put(entries: &mut Vec<Entry>, entry: Entry)
+/// Appends an entry, for which there is room.
+pub(crate) fn put(entries: &mut Vec<Entry>, entry: Entry)
     requires { vec_len entries.old < vec_capacity entries.old }
     ensures { entries.new.items ≡ entries.old.items ++ entry ∷ [] }
 {

@@ -17,6 +17,8 @@ mod hash;
 mod key;
 mod key_chains;
 mod key_index;
+mod key_slots;
+mod key_table;
 mod list;
 mod memory;
 
@@ -24,5 +26,6 @@ pub use boxed::Boxed;
 pub use hash::{mixed, text_hash, wide_hash};
 pub use key::Key;
 pub use key_index::KeyIndex;
+pub use key_table::KeyTable;
 pub use list::List;
 pub use memory::{OutOfMemory, narrow, within};
