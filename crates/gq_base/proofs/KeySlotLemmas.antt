@@ -23,7 +23,7 @@ none_has n slots keys numbers places key p held passed free k low at =
       | inr after ↦ let none = free (omega (arith, is.within, after)) in elim (eqb_tells q p) [
         | inl h ↦ let taken : 0 < get_or places p 0 = subst (λ x. 0 < get_or places x 0) h.1 is.taken in absurd (omega (arith, taken, none.1))
         | inr h ↦
-          let taken = (is.way p (subst (λ x. home_of x slots ≤ p) (sym at) none.0) (omega (arith, after, h.1))).0 in absurd (omega (arith, taken, none.1))
+            let taken = (is.way p (subst (λ x. home_of x slots ≤ p) (sym at) none.0) (omega (arith, after, h.1))).0 in absurd (omega (arith, taken, none.1))
       ]
     ]
 
@@ -33,11 +33,11 @@ pub end_is : (n slots : ℕ) (keys numbers places : List ℕ) (key p : ℕ) → 
 end_is n slots keys numbers places key p held end = elim (cases_lt 0 (get_or places p 0)) [
   | inl taken ↦ subst (λ x. IsLatest keys x n (get_or places p 0)) (end.found taken) (held.latest p end.within taken)
   | inr free ↦ let is : get_or places p 0 ≡ 0 = omega (arith, free) in
-    record {
-      low = omega (arith, is);
-      same = λ some. absurd (omega (arith, is, some));
-      past = λ k over low. none_has n slots keys numbers places key p held end.passed (λ _. (end.from, is)) k low;
-    }
+      record {
+        low = omega (arith, is);
+        same = λ some. absurd (omega (arith, is, some));
+        past = λ k over low. none_has n slots keys numbers places key p held end.passed (λ _. (end.from, is)) k low;
+      }
 ]
 
 pub end_none : (n slots : ℕ) (keys numbers places : List ℕ) (key : ℕ) → IsHeld n slots keys numbers places → IsPassed slots key slots numbers places
@@ -69,8 +69,8 @@ apart : (n slots : ℕ) (keys numbers places : List ℕ) (key p : ℕ) → IsHel
 apart n slots keys numbers places key p held end q not low some at = elim (cases_lt 0 (get_or places p 0)) [
   | inl taken ↦ not (held.alone q p low end.within some taken (at ∙ sym (end.found taken)))
   | inr free ↦
-    let is : get_or places p 0 ≡ 0 = omega (arith, free) in let latest = held.latest q low some in
-    none_has n slots keys numbers places key p held end.passed (λ _. (end.from, is)) (get_or places q 0 - 1) (omega (arith, some, latest.low)) (latest.same some ∙ at)
+      let is : get_or places p 0 ≡ 0 = omega (arith, free) in let latest = held.latest q low some in
+      none_has n slots keys numbers places key p held end.passed (λ _. (end.from, is)) (get_or places q 0 - 1) (omega (arith, some, latest.low)) (latest.same some ∙ at)
 ]
 
 -- a taken slot stays taken, with its number
@@ -79,9 +79,9 @@ stays : (n slots : ℕ) (numbers places numbers2 places2 : List ℕ) (key p : �
     → (q : ℕ) → 0 < get_or places q 0 → (0 < get_or places2 q 0) × (get_or numbers2 q 0 ≡ get_or numbers q 0)
 stays n slots numbers places numbers2 places2 key p end wrote q some = elim (eqb_tells q p) [
   | inl h ↦
-    let place : get_or places2 q 0 ≡ n + 1 = ap (λ x. get_or places2 x 0) h.1 ∙ wrote.place in
-    let found : get_or numbers p 0 ≡ key = end.found (subst (λ x. 0 < get_or places x 0) h.1 some) in
-    (omega (arith, place), ap (λ x. get_or numbers2 x 0) h.1 ∙ wrote.number ∙ sym found ∙ sym (ap (λ x. get_or numbers x 0) h.1))
+      let place : get_or places2 q 0 ≡ n + 1 = ap (λ x. get_or places2 x 0) h.1 ∙ wrote.place in
+      let found : get_or numbers p 0 ≡ key = end.found (subst (λ x. 0 < get_or places x 0) h.1 some) in
+      (omega (arith, place), ap (λ x. get_or numbers2 x 0) h.1 ∙ wrote.number ∙ sym found ∙ sym (ap (λ x. get_or numbers x 0) h.1))
   | inr h ↦ (subst (λ x. 0 < x) (sym (wrote.other_places q h.1)) some, wrote.other_numbers q h.1)
 ]
 
@@ -115,8 +115,7 @@ one_more n slots keys numbers places numbers2 places2 p held end wrote =
               same = t.1 ∙ is.same;
               way = λ q from under. let w = is.way q from under in let s = taken q w.0 in (s.0, (w.1.0, w.1.1, w.1.2 ∙ sym s.1));
             },
-          ))
-          (
+          )) (
             p,
             record {
               within = end.within;
@@ -130,17 +129,17 @@ one_more n slots keys numbers places numbers2 places2 p held end wrote =
           );
       latest = λ q low some. elim (eqb_tells q p) [
         | inl h ↦ moved keys (n + 1) key (get_or numbers2 q 0) (n + 1) (get_or places2 q 0) (sym (ap (λ x. get_or numbers2 x 0) h.1 ∙ wrote.number))
-          (sym (ap (λ x. get_or places2 x 0) h.1 ∙ wrote.place)) newest
+            (sym (ap (λ x. get_or places2 x 0) h.1 ∙ wrote.place)) newest
         | inr h ↦ let was = before q h.1 some in let latest = held.latest q low was in
-          moved keys (n + 1) (get_or numbers q 0) (get_or numbers2 q 0) (get_or places q 0) (get_or places2 q 0) (sym (wrote.other_numbers q h.1)) (sym (wrote.other_places q h.1))
-          (record {
-            low = omega (arith, latest.low);
-            same = latest.same;
-            past = λ k over under. elim (cases_lt k n) [
-              | inl less ↦ latest.past k over less
-              | inr more ↦ λ at. other q h.1 low was (sym at ∙ ap (λ j. get_or keys j 0) (let e : k ≡ n = omega (arith, more, under) in e))
-            ];
-          })
+            moved keys (n + 1) (get_or numbers q 0) (get_or numbers2 q 0) (get_or places q 0) (get_or places2 q 0) (sym (wrote.other_numbers q h.1)) (sym (wrote.other_places q h.1))
+            (record {
+              low = omega (arith, latest.low);
+              same = latest.same;
+              past = λ k over under. elim (cases_lt k n) [
+                | inl less ↦ latest.past k over less
+                | inr more ↦ λ at. other q h.1 low was (sym at ∙ ap (λ j. get_or keys j 0) (let e : k ≡ n = omega (arith, more, under) in e))
+              ];
+            })
       ];
       alone = λ a b first second one two same. elim (eqb_tells a p) [
         | inl h ↦ elim (eqb_tells b p) [
@@ -184,18 +183,18 @@ one_less n slots keys numbers places places2 p b held within taken same latest h
       );
       latest = λ q low some. elim (eqb_tells q p) [
         | inl h ↦ moved keys n (get_or keys n 0) (get_or numbers q 0) b (get_or places2 q 0) (sym (ap (λ x. get_or numbers x 0) h.1 ∙ same))
-          (sym (ap (λ x. get_or places2 x 0) h.1 ∙ here)) latest
+            (sym (ap (λ x. get_or places2 x 0) h.1 ∙ here)) latest
         | inr h ↦ let old = held.latest q low (was q some) in
-          moved keys n (get_or numbers q 0) (get_or numbers q 0) (get_or places q 0) (get_or places2 q 0) refl (sym (others q h.1))
-          (record {
-            low = elim (cases_lt n (get_or places q 0)) [
-              | inl full ↦ absurd (h.1 (held.alone q p low within (was q some) taken
-                (sym (old.same (was q some)) ∙ ap (λ j. get_or keys j 0) (let e : get_or places q 0 - 1 ≡ n = omega (arith, full, old.low) in e) ∙ sym same)))
-              | inr few ↦ few
-            ];
-            same = old.same;
-            past = λ k over under. old.past k over (omega (arith, under));
-          })
+            moved keys n (get_or numbers q 0) (get_or numbers q 0) (get_or places q 0) (get_or places2 q 0) refl (sym (others q h.1))
+            (record {
+              low = elim (cases_lt n (get_or places q 0)) [
+                | inl full ↦ absurd (h.1 (held.alone q p low within (was q some) taken
+                    (sym (old.same (was q some)) ∙ ap (λ j. get_or keys j 0) (let e : get_or places q 0 - 1 ≡ n = omega (arith, full, old.low) in e) ∙ sym same)))
+                | inr few ↦ few
+              ];
+              same = old.same;
+              past = λ k over under. old.past k over (omega (arith, under));
+            })
       ];
       alone = λ x y first second one two at. held.alone x y first second (was x one) (was y two) at;
     }
@@ -305,7 +304,7 @@ row_taken : (n slots : ℕ) (keys numbers places : List ℕ) (key p : ℕ) → I
 row_taken n slots keys numbers places key p held end at = elim (cases_lt 0 (get_or places p 0)) [
   | inl taken ↦ taken
   | inr free ↦ let is : get_or places p 0 ≡ 0 = omega (arith, free) in
-    absurd (none_has (n + 1) slots keys numbers places key p held end.passed (λ _. (end.from, is)) n (omega arith) at)
+      absurd (none_has (n + 1) slots keys numbers places key p held end.passed (λ _. (end.from, is)) n (omega arith) at)
 ]
 
 -- one entry less: its slot goes to the row before it of the same key

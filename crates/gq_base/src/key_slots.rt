@@ -5,7 +5,7 @@ ghost use Rattle.gq_base.specs.KeySlots.{home_of, Ends, Holds, IsTable};
 ghost use Rattle.gq_base.specs.Last.{IsLast};
 
 use crate::key::{Key, bucket, is_same};
-use crate::key_chains::{Entry, key_of, put};
+use crate::key_chains::{Entry, is_long, key_of, put};
 use crate::memory::OutOfMemory;
 
 /// How many slots follow those where searches begin, and the number of taken slots from which a place counts as crowded:
@@ -67,22 +67,17 @@ pub(crate) fn before_in(slots: &[Entry], entries: &[Entry], number: u32) -> Opti
     row_at(entries[number as usize].before)
 }
 
-/// Whether the `SPARE` slots from a key's home on are taken.
-pub(crate) fn is_crowded(slots: &[Entry], key: Key) -> bool
+/// Whether a search for a key passes `SPARE` slots, or too many rows have the key.
+pub(crate) fn is_crowded(slots: &[Entry], entries: &[Entry], key: Key) -> bool
     requires { length slots.now ≤ 4294967296 }
 {
-    let home = home(key, slots.len());
-    for step in 0..SPARE {
-        match slots.get(home.wrapping_add(step)) {
-            Some(slot) => {
-                if slot.before == 0 {
-                    return false;
-                }
-            }
-            None => return false,
+    match seek(slots, key) {
+        Some(place) => {
+            place.saturating_sub(home(key, slots.len())) >= SPARE
+                || is_long(entries, slots[place].before)
         }
+        None => !slots.is_empty(),
     }
-    true
 }
 
 /// Puts all rows into free slots. OutOfMemory if too many keys have one home.

@@ -88,10 +88,10 @@ impl KeyTable {
         before_in(&self.slots, &self.entries, number)
     }
 
-    /// Whether so many slots are taken where a key would go that keys must have been chosen to collide. A performance
+    /// Whether so many rows have a key, or slots near its own, that keys must have been chosen to collide. A performance
     /// hint: nothing is guaranteed about it.
     pub fn is_crowded(&self, key: Key) -> bool {
-        is_crowded(&self.slots, key)
+        is_crowded(&self.slots, &self.entries, key)
     }
 
     /// Appends the key of a new row. Unchanged after OutOfMemory.

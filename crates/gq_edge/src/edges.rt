@@ -3,7 +3,7 @@ ghost use Rattle.std.specs.Prelude.{ℕ, ◌≡◌, ◌<◌, ◌≤◌, ◌↔�
 ghost use Rattle.std.specs.Option.{unwrap_or};
 ghost use Rattle.gq_base.specs.Keys.{number_of};
 ghost use Rattle.gq_graph.specs.Edges.{Agrees, edge_with, naming_with, edge_number, upsert_edge, edge_at, noted, naming_of, most_edges};
-ghost use Rattle.gq_edge.specs.Keyed.{edge_key};
+ghost use Rattle.gq_edge.specs.Keyed.{edge_key, HasEnds};
 ghost use Rattle.gq_edge.specs.Named.{AreNamed};
 ghost use Rattle.gq_edge.specs.Sorted.{AreSorted, row_name};
 
@@ -204,6 +204,7 @@ fn add(
     requires agrees { Agrees namings.old.items naming }
     requires within { naming.key ≤ length attributes.old }
     requires keyed { number_of key ≡ edge_key naming (edge_with naming.kind from to attributes.old) }
+    requires ends { HasEnds (edge_with naming.kind from to attributes.old) }
     requires new { edge_number rows.old naming (edge_with naming.kind from to attributes.old) ≡ None }
     requires room { length rows.old < most_edges }
     ensures named { AreNamed rows.new namings.new.items index.new }

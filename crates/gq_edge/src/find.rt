@@ -2,7 +2,7 @@
 ghost use Rattle.std.specs.Prelude.{◌≡◌, ◌≤◌, length, take};
 ghost use Rattle.gq_graph.specs.Edges as edges;
 ghost use Rattle.gq_base.specs.Keys.{number_of};
-ghost use Rattle.gq_edge.specs.Keyed.{edge_key, edge_tag};
+ghost use Rattle.gq_edge.specs.Keyed.{edge_key, edge_tag, HasEnds};
 ghost use Rattle.gq_edge.specs.Named.{IsFindable};
 ghost use Rattle.gq_edge.specs.Flat.{edge_of};
 ghost use Rattle.gq_edge.specs.Sorted.{IsSorted};
@@ -27,6 +27,7 @@ pub(crate) fn find(
 ) -> Option<u32>
     requires keyed { number_of key ≡ edge_key naming (edge_of edge) }
     requires tagged { key.tag ≡ edge_tag naming (edge_of edge) }
+    requires ends { HasEnds (edge_of edge) }
     requires within { naming.key ≤ length edge.attributes.now }
     requires findable { IsFindable naming (edge_of edge) rows.now index.now }
     requires sorted { IsSorted naming (edge_of edge) rows.now names.now }
@@ -50,6 +51,7 @@ fn find_by_key(
 ) -> Option<u32>
     requires keyed { number_of key ≡ edge_key naming (edge_of edge) }
     requires tagged { key.tag ≡ edge_tag naming (edge_of edge) }
+    requires ends { HasEnds (edge_of edge) }
     requires within { naming.key ≤ length edge.attributes.now }
     requires findable { IsFindable naming (edge_of edge) rows.now index.now }
     ensures { result ≡ edges.edge_number rows.now naming (edge_of edge.entry) }

@@ -1,5 +1,5 @@
 // Keys of vertices.
-ghost use Rattle.std.specs.Prelude.{◌≡◌, ◌+◌, ◌*◌, ◌<◌, ◌≤◌, ◌↔◌, IsTrue, length, slice_index};
+ghost use Rattle.std.specs.Prelude.{◌≡◌, ◌+◌, ◌<◌, ◌≤◌, ◌↔◌, IsTrue, length};
 ghost use Rattle.gq_base.specs.Keys.{number_of};
 ghost use Rattle.gq_vertex.specs.Keyed as spec;
 
@@ -62,7 +62,7 @@ fn packed_each(id: &[u8]) -> u64
 /// Four bytes as the digits of a number.
 fn four(id: &[u8], at: usize) -> u64
     requires { at + 4 ≤ length id.now }
-    ensures exact { result ≡ ((slice_index id.now at * 256 + slice_index id.now (at + 1)) * 256 + slice_index id.now (at + 2)) * 256 + slice_index id.now (at + 3) }
+    ensures exact { result ≡ spec.four id.now at }
     ensures small { result < 4294967296 }
 {
     u32::from_be_bytes([id[at], id[at + 1], id[at + 2], id[at + 3]]) as u64

@@ -1,5 +1,5 @@
-use Rattle.std.proofs.Common.{◌≡◌, ◌∙◌, ◌+◌, length, get_or, sym, ap, arith}
-use Rattle.gq_base.specs.Keys.{number_of, number_in, links_of}
+use Rattle.std.proofs.Common.{◌≡◌, ◌∙◌, ◌+◌, length, sym, ap}
+use Rattle.gq_base.specs.Keys.{number_of, number_in}
 use Rattle.gq_base.specs.declared.key_chains.Entry.{Entry}
 use Rattle.gq_base.proofs.KeyChainLemmas.{link_at, no_entry}
 use Rattle.gq_base.proofs.KeySlotLemmas.{table_more}

@@ -1,4 +1,4 @@
-use Rattle.std.proofs.Common.{ℕ, ◌<◌, ◌+◌, length, get_or, sym, ap, ◌∙◌, refl, subst, arith}
+use Rattle.std.proofs.Common.{◌<◌, ◌+◌, length, get_or, sym, ap, ◌∙◌, refl, subst, arith}
 use Rattle.gq_base.specs.Keys.{number_of, numbers_of, links_of}
 use Rattle.gq_base.specs.KeySlots.{IsEnd}
 use Rattle.gq_base.proofs.KeyChainLemmas.{number_at, no_entry}

@@ -1,4 +1,3 @@
-use Rattle.std.proofs.Common.{◌≡◌, length}
 use Rattle.gq_base.specs.Keys.{numbers_of}
 use Rattle.gq_base.specs.KeySlots.{Holds}
 use Rattle.gq_base.proofs.key_slots.place_all.Given as goal
