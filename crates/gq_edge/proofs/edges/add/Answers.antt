@@ -1,9 +1,8 @@
-use Rattle.std.proofs.Common.{◌≡◌, ◌∙◌, ◌<◌, ◌++◌, ◌∷◌, [], List, map, refl, ap, sym, subst, length, arith}
+use Rattle.std.proofs.Common.{◌≡◌, ◌∙◌, ◌++◌, ◌∷◌, [], List, map, refl, ap, sym, subst}
 use Rattle.gq_base.specs.Keys.{number_of}
 use Rattle.gq_graph.specs.declared.rows.EdgeRow.{EdgeRow}
 use Rattle.gq_graph.specs.Edges.{noted, edge_with}
 use Rattle.gq_value.specs.Val.{Val}
-use Rattle.gq_edge.specs.Keyed.{edge_key}
 use Rattle.gq_edge.specs.Sorted.{AreSorted, name_row, row_name}
 use Rattle.gq_edge.proofs.TableLemmas.{named_added, known_added}
 use Rattle.gq_edge.proofs.edges.add.Goals as goal
