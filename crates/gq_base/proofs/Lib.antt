@@ -1,3 +1,4 @@
 pub mod KeyChainLemmas
 pub mod KeyLemmas
+pub mod KeySlotLemmas
 pub mod Seeks

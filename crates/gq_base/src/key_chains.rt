@@ -69,7 +69,12 @@ pub(crate) fn is_crowded(heads: &[u32], entries: &[Entry], key: Key) -> bool
     if heads.is_empty() {
         return false;
     }
-    let mut place = heads[bucket(key, heads.len())];
+    is_long(entries, heads[bucket(key, heads.len())])
+}
+
+/// Whether `MOST_SHARED` rows or more are linked from a place on.
+pub(crate) fn is_long(entries: &[Entry], place: u32) -> bool {
+    let mut place = place;
     for _ in 0..MOST_SHARED {
         match entries.get((place as usize).wrapping_sub(1)) {
             Some(entry) => place = entry.before,
@@ -129,7 +134,8 @@ pub(crate) fn drop_last(heads: &mut [u32], entries: &mut Vec<Entry>)
     }
 }
 
-fn put(entries: &mut Vec<Entry>, entry: Entry)
+/// Appends an entry, for which there is room.
+pub(crate) fn put(entries: &mut Vec<Entry>, entry: Entry)
     requires { vec_len entries.old < vec_capacity entries.old }
     ensures { entries.new.items ≡ entries.old.items ++ entry ∷ [] }
 {

@@ -1,8 +1,8 @@
 -- JoinLemmas: rows as edges without attributes, with their attributes in a second list.
-use Rattle.std.proofs.Common.{ℕ, zero, suc, ◌+◌, ◌<◌, ◌≡◌, List, [], ◌∷◌, ◌++◌, length, get_or, set, map, refl, ap, sym, ◌∙◌, subst, arith}
-use Rattle.std.specs.Prelude.{Bool, true, false, Result, Ok, Err, OnOk, OnErr, is_ok}
+use Rattle.std.proofs.Common.{ℕ, zero, suc, ◌<◌, ◌≡◌, List, [], ◌∷◌, ◌++◌, length, get_or, set, refl, ap, sym, ◌∙◌, arith}
+use Rattle.std.specs.Prelude.{true, false, Result, Ok, Err, OnOk, OnErr, is_ok}
 use Rattle.gq_graph.specs.declared.rows.EdgeRow.{EdgeRow}
-use Rattle.gq_graph.specs.Edges.{edge_at, no_edge}
+use Rattle.gq_graph.specs.Edges.{edge_at}
 use Rattle.gq_value.specs.declared.value.Value.{Value}
 use Rattle.gq_edge.specs.Joined.{joined}
 

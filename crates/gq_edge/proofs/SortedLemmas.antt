@@ -1,25 +1,24 @@
 -- The tree of names: what it finds, and its contents after a row is added.
-use Rattle.std.proofs.Common.{ℕ, zero, suc, ◌+◌, ◌<◌, ◌≡◌, ◌==◌, Bool, true, false, cond, List, [], ◌∷◌, ◌++◌, length, take, set, get_or, map, Option, Some, None, Ordering, Less, Equal, Greater, OnOk, Result, Ok, Err, refl, ap, sym, ◌∙◌, subst, arith}
+use Rattle.std.proofs.Common.{ℕ, zero, suc, ◌+◌, ◌<◌, ◌≡◌, Bool, true, false, cond, List, [], ◌∷◌, ◌++◌, length, take, get_or, map, Option, Some, None, Ordering, Less, Equal, Greater, OnOk, Result, Ok, Err, refl, ap, sym, ◌∙◌, subst, arith}
 use Rattle.std.specs.Option.{option_or}
 use Rattle.std.specs.List.{position, position_from, find}
 use Rattle.std.specs.Map.{lookup}
 use Rattle.std.specs.BTreeMap.{get, is_at, Updates, IsEmpty}
 use Rattle.std.specs.Global.{Vec}
-use Rattle.std.specs.Ordering.{is_eq, on, ordering_then}
+use Rattle.std.specs.Ordering.{is_eq, ordering_then}
 use Rattle.std.specs.Cmp.Lexicographic.{slice_cmp}
 use Rattle.std.specs.Cmp.Derive.Mapped.{lex_map}
 use Rattle.std.proofs.lemmas.Iterator.Adapters.{position_from-zero}
-use Rattle.std.proofs.lemmas.List.{take_more, get_or-take, get_or-map, get_or_read, length-take-le, length-map}
+use Rattle.std.proofs.lemmas.List.{take_more, get_or-take, length-take-le}
 use Rattle.gq_base.proofs.Seeks.{seek_none}
 use Rattle.gq_value.specs.declared.value.Value.{Value}
 use Rattle.gq_value.specs.Val.{Val, Vertex, UInt}
 use Rattle.gq_value.specs.Views.{val}
 use Rattle.gq_value.specs.Order.{place}
 use Rattle.gq_value.specs.OrderLaws.{place_same}
-use Rattle.gq_graph.specs.declared.rows.EdgeRow.{EdgeRow}
 use Rattle.gq_graph.specs.declared.rows.Naming.{Naming}
-use Rattle.gq_edge.specs.Sorted.{Names, name_row, name_cmp, is_name, AreSorted}
-use Rattle.gq_edge.proofs.EdgeNames.{EdgeName, name_of, name_same, place_own}
+use Rattle.gq_edge.specs.Sorted.{Names, name_cmp, is_name, AreSorted}
+use Rattle.gq_edge.proofs.EdgeNames.{EdgeName, name_same, place_own}
 
 missed : (b : Bool) → (b ≡ true → ⊥) → b ≡ false
 missed true not = absurd (not refl)

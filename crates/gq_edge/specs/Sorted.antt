@@ -1,5 +1,5 @@
 -- Sorted: the tree of names, which a table of edges adds to the keys once they seem chosen to share a bucket.
-use Rattle.std.specs.Prelude.{ℕ, ◌≡◌, Bool, List, [], ◌∷◌, map, take, Option, Some, None, position}
+use Rattle.std.specs.Prelude.{ℕ, ◌≡◌, Bool, List, ◌∷◌, map, take, Option, Some, None, position}
 use Rattle.std.specs.declared.cmp.Ordering.{Ordering}
 use Rattle.std.specs.Ordering.{is_eq, on}
 use Rattle.std.specs.Cmp.Lexicographic.{slice_cmp}

@@ -3,6 +3,7 @@ ghost use Rattle.std.specs.Prelude.{ℕ, ◌≡◌, ◌<◌, ◌≤◌, ◌↔�
 ghost use Rattle.std.specs.Option.{unwrap_or};
 ghost use Rattle.gq_base.specs.Keys.{number_of};
 ghost use Rattle.gq_graph.specs.Edges.{Agrees, edge_with, naming_with, edge_number, upsert_edge, edge_at, noted, naming_of, most_edges};
+ghost use Rattle.gq_edge.specs.Keyed.{edge_key, HasEnds};
 ghost use Rattle.gq_edge.specs.Named.{AreNamed};
 ghost use Rattle.gq_edge.specs.Sorted.{AreSorted, row_name};
 
@@ -118,13 +119,16 @@ impl Edges {
             key,
         };
         let alloc = self.rows.allocator();
+        let edge = lent(kind, from, to, attributes);
+        let key = edge_key(naming, edge);
         match find(
             &self.rows,
             &self.index,
             &self.names,
             alloc,
             naming,
-            lent(kind, from, to, attributes),
+            key,
+            edge,
         ) {
             Some(number) => {
                 if !replace(&mut self.rows, number, attributes) {
@@ -142,6 +146,7 @@ impl Edges {
                     &mut self.index,
                     &mut self.names,
                     naming,
+                    key,
                     from,
                     to,
                     attributes,
@@ -189,6 +194,7 @@ fn add(
     index: &mut KeyIndex,
     names: &mut Option<Names>,
     naming: Naming,
+    key: Key,
     from: u32,
     to: u32,
     attributes: &mut Row,
@@ -197,6 +203,8 @@ fn add(
     requires sorted { AreSorted (map (row_name namings.old.items) rows.old) names.old }
     requires agrees { Agrees namings.old.items naming }
     requires within { naming.key ≤ length attributes.old }
+    requires keyed { number_of key ≡ edge_key naming (edge_with naming.kind from to attributes.old) }
+    requires ends { HasEnds (edge_with naming.kind from to attributes.old) }
     requires new { edge_number rows.old naming (edge_with naming.kind from to attributes.old) ≡ None }
     requires room { length rows.old < most_edges }
     ensures named { AreNamed rows.new namings.new.items index.new }
@@ -206,7 +214,6 @@ fn add(
         (λ _. (rows.new ≡ rows.old) × (namings.new.items ≡ namings.old.items)) }
 {
     let number = rows.len() as u32;
-    let key = edge_key(naming, lent(naming.kind, from, to, attributes));
     namings.reserve(1)?;
     insert(
         names,
@@ -215,6 +222,7 @@ fn add(
         namings,
         index,
         naming,
+        key,
         lent(naming.kind, from, to, attributes),
     )?;
     push(rows, index, names, key, naming.kind, from, to, attributes)?;

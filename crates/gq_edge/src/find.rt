@@ -1,14 +1,16 @@
 // Lookup of edges by name.
 ghost use Rattle.std.specs.Prelude.{◌≡◌, ◌≤◌, length, take};
 ghost use Rattle.gq_graph.specs.Edges as edges;
+ghost use Rattle.gq_base.specs.Keys.{number_of};
+ghost use Rattle.gq_edge.specs.Keyed.{edge_key, edge_tag, HasEnds};
 ghost use Rattle.gq_edge.specs.Named.{IsFindable};
 ghost use Rattle.gq_edge.specs.Flat.{edge_of};
 ghost use Rattle.gq_edge.specs.Sorted.{IsSorted};
 
-use crate::key::{HASHED, edge_key};
+use crate::key::HASHED;
 use crate::names::{Names, name_of};
 use crate::rows::{EdgeRef, EdgeRows};
-use gq_base::KeyIndex;
+use gq_base::{Key, KeyIndex};
 use gq_graph::Naming;
 use std::alloc::Global;
 
@@ -20,8 +22,12 @@ pub(crate) fn find(
     names: &Option<Names>,
     alloc: Global,
     naming: Naming,
+    key: Key,
     edge: EdgeRef<'_>,
 ) -> Option<u32>
+    requires keyed { number_of key ≡ edge_key naming (edge_of edge) }
+    requires tagged { key.tag ≡ edge_tag naming (edge_of edge) }
+    requires ends { HasEnds (edge_of edge) }
     requires within { naming.key ≤ length edge.attributes.now }
     requires findable { IsFindable naming (edge_of edge) rows.now index.now }
     requires sorted { IsSorted naming (edge_of edge) rows.now names.now }
@@ -32,16 +38,24 @@ pub(crate) fn find(
             return tree.get(&name).copied();
         }
     }
-    find_by_key(rows, index, naming, edge)
+    find_by_key(rows, index, naming, key, edge)
 }
 
 /// The same by the keys of the rows. If the key is the whole name, no row is read.
-fn find_by_key(rows: &EdgeRows, index: &KeyIndex, naming: Naming, edge: EdgeRef<'_>) -> Option<u32>
+fn find_by_key(
+    rows: &EdgeRows,
+    index: &KeyIndex,
+    naming: Naming,
+    key: Key,
+    edge: EdgeRef<'_>,
+) -> Option<u32>
+    requires keyed { number_of key ≡ edge_key naming (edge_of edge) }
+    requires tagged { key.tag ≡ edge_tag naming (edge_of edge) }
+    requires ends { HasEnds (edge_of edge) }
     requires within { naming.key ≤ length edge.attributes.now }
     requires findable { IsFindable naming (edge_of edge) rows.now index.now }
     ensures { result ≡ edges.edge_number rows.now naming (edge_of edge.entry) }
 {
-    let key = edge_key(naming, edge);
     let mut next = index.last(key);
     if key.tag < HASHED {
         return next;

@@ -8,7 +8,6 @@ ghost use Rattle.gq_edge.specs.Flat.{edge_of};
 ghost use Rattle.gq_edge.specs.Named as named;
 ghost use Rattle.gq_edge.specs.Sorted as spec;
 
-use crate::key::edge_key;
 use crate::rows::{EdgeRef, EdgeRows};
 use gq_base::{Key, KeyIndex, OutOfMemory};
 use gq_graph::Naming;
@@ -81,6 +80,7 @@ pub(crate) fn insert(
     namings: &[Naming],
     keys: &KeyIndex,
     naming: Naming,
+    key: Key,
     edge: EdgeRef<'_>,
 ) -> Result<(), OutOfMemory>
     requires named { named.AreNamed rows.now namings.now keys.now }
@@ -93,7 +93,7 @@ pub(crate) fn insert(
     ensures put { OnOk result (spec.AreSorted (map (spec.row_name namings.now) rows.now ++ spec.name_row naming (edge_of edge.entry) ∷ []) names.new) }
     ensures stays { OnErr result (spec.AreSorted (map (spec.row_name namings.now) rows.now) names.new) }
 {
-    make_if_crowded(names, alloc, rows, namings, keys, edge_key(naming, edge))?;
+    make_if_crowded(names, alloc, rows, namings, keys, key)?;
     match names {
         Some(tree) => put(tree, name_of(alloc, naming, edge)?, rows.len() as u32),
         None => Ok(()),

@@ -1,2 +1,3 @@
 pub mod CandidateExamples
+pub mod EvenLemmas
 pub mod SpanLemmas

@@ -1,6 +1,6 @@
 -- SpanLemmas: rows as parts of a list, when rows are added and written over.
-use Rattle.std.proofs.Common.{inl, inr, ℕ, zero, suc, ◌+◌, ◌-◌, ◌<◌, ◌≤◌, ◌≡◌, ◌≢◌, List, [], ◌∷◌, ◌++◌, length, get_or, set, take, drop, map, Option, Some, None, refl, ap, sym, ◌∙◌, subst, arith, length-set, length-append}
-use Rattle.std.specs.Prelude.{slice_get, ◌⊎◌}
+use Rattle.std.proofs.Common.{inl, inr, ℕ, suc, ◌+◌, ◌-◌, ◌<◌, ◌≤◌, ◌≡◌, ◌≢◌, List, [], ◌∷◌, ◌++◌, length, get_or, set, take, drop, map, refl, ap, sym, ◌∙◌, subst, arith, length-set, length-append}
+use Rattle.std.specs.Prelude.{◌⊎◌}
 use Rattle.std.proofs.lemmas.Bool.{cases_lt, cases_eq}
 use Rattle.std.proofs.lemmas.List.{append_assoc, length-map, length-take, length-take-le, length-drop, get_or-take, take-map, get_or-map, get_or-drop, get_or_append_left, get_or_push, get_or-set_same, get_or-set_other, length_push, drop-drop, drop-set-lt, drop_at, drop-append-le, take_at, take-append-le, take-append-drop, take_all, take_more, map_push, map-set, same_lists}
 use Rattle.std.proofs.lemmas.List.Edits.{length-paste, drop-paste, paste_all}

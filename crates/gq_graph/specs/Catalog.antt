@@ -1,7 +1,7 @@
 -- Catalog: vertex types, edge types and graphs, as lists: look-ups by name, and what a declaration appends. The number of
 -- each is its place in its list. Here a name is searched for from the first entry on. The code searches a tree
 -- of names.
-use Rattle.std.specs.Prelude.{ℕ, ◌+◌, Bool, List, [], ◌∷◌, ◌++◌, length, map, Option, Some, None, is_some, unwrap_or, ◌||◌, bytes_eq, position, slice_index_or}
+use Rattle.std.specs.Prelude.{ℕ, ◌+◌, Bool, List, [], ◌∷◌, ◌++◌, length, map, Option, Some, None, is_some, unwrap_or, bytes_eq, position}
 use Rattle.gq_graph.specs.declared.types.VertexType.{VertexType}
 use Rattle.gq_graph.specs.declared.types.EdgeType.{EdgeType}
 use Rattle.gq_graph.specs.declared.types.GraphType.{GraphType}

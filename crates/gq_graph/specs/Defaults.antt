@@ -1,11 +1,11 @@
 -- Defaults: which defaults an attribute may have, and how they are stored: a number is converted to the type.
-use Rattle.std.specs.Prelude.{ℕ, ℤ, pos, negsuc, Bool, true, false, ◌&&◌, nat_lt, List, Option, Some, None, ◌≡◌}
+use Rattle.std.specs.Prelude.{ℕ, ℤ, pos, negsuc, Bool, true, false, nat_lt}
 use Rattle.std.specs.Option.{option_map, option_map_or}
 use Rattle.gq_value.specs.declared.kind.BaseType.{BaseType, BaseType-F, fold-BaseType}
 use Rattle.gq_graph.specs.declared.types.Attribute.{Attribute}
 use Rattle.gq_value.specs.declared.value.Value.{Value}
 use Rattle.gq_value.specs.declared.value.Value.TheVariants as value
-use Rattle.gq_value.specs.Val.{Val, Int, UInt, Truth, Text, Vertex, Tuple, Fraction}
+use Rattle.gq_value.specs.Val.{Val, Int, UInt, Truth, Text}
 use Rattle.gq_value.specs.Views.{val}
 
 -- the types that an attribute may have, and one for all others

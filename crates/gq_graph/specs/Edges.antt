@@ -1,6 +1,6 @@
 -- Edges: the edges of a store, as a list of rows: how edges are named, and what an upsert does. An edge's number is its
 -- place. Here an edge is searched for from the first row on. The code follows chains of rows whose names have one hash.
-use Rattle.std.specs.Prelude.{ℕ, ◌≡◌, ◌==◌, ◌&&◌, ◌||◌, not, if◌then◌else◌, Bool, true, false, is_some, List, [], ◌∷◌, ◌++◌, take, find, Option, Some, None, position, slice_index_or, slice_set}
+use Rattle.std.specs.Prelude.{ℕ, ◌≡◌, ◌==◌, ◌&&◌, ◌||◌, not, if◌then◌else◌, Bool, is_some, List, [], ◌∷◌, ◌++◌, take, find, Option, Some, None, position, slice_index_or, slice_set}
 use Rattle.std.specs.Ordering.{is_eq}
 use Rattle.std.specs.Cmp.Lexicographic.{pointwise}
 use Rattle.gq_graph.specs.declared.rows.EdgeRow.{EdgeRow}

@@ -1,5 +1,5 @@
 -- Spans: parts of a list, when they are apart, and a list with some items written over others.
-use Rattle.std.specs.Prelude.{ℕ, ◌+◌, ◌<◌, ◌≤◌, ◌++◌, ◌⊎◌, List, length, map, take, drop, slice_index_or}
+use Rattle.std.specs.Prelude.{ℕ, zero, suc, ◌+◌, ◌*◌, ◌<◌, ◌≤◌, ◌++◌, ◌∷◌, ◌⊎◌, List, [], length, map, take, drop, slice_index_or}
 use Rattle.gq_graph.specs.declared.row_values.Span.{Span}
 use Rattle.gq_value.specs.declared.value.Value.{Value}
 
@@ -18,6 +18,11 @@ no_span = record { start = 0; len = 0 }
 -- a part, by its number
 abbrev pub span_at : List Span → ℕ → Span
 span_at spans n = slice_index_or spans n no_span
+
+-- parts of one width, one after the other from the first item on
+abbrev pub even_spans : ℕ → ℕ → List Span
+even_spans zero width = []
+even_spans (suc n) width = even_spans n width ++ record { start = n * width; len = width } ∷ []
 
 -- one part ends before the other begins
 abbrev pub IsBefore : Span → Span → Type 0

@@ -1,7 +1,7 @@
 -- Vertices: the vertices of a store, as a list of rows: a vertex's number by its name, and what an upsert does. A vertex's
 -- number is its place. Here a vertex is searched for from the first row on. The code follows chains of rows whose names
 -- have one hash.
-use Rattle.std.specs.Prelude.{ℕ, ◌<◌, ◌≡◌, ◌≢◌, ◌==◌, ◌&&◌, Bool, List, [], ◌∷◌, ◌++◌, length, take, Option, Some, None, bytes_eq, position, slice_index_or, slice_set}
+use Rattle.std.specs.Prelude.{ℕ, ◌<◌, ◌≡◌, ◌≢◌, ◌==◌, ◌&&◌, Bool, List, [], ◌∷◌, ◌++◌, length, Option, Some, None, bytes_eq, position, slice_index_or, slice_set}
 use Rattle.gq_graph.specs.declared.rows.VertexRow.{VertexRow}
 
 -- whether a row is the vertex of that type and id

@@ -12,12 +12,14 @@
 //! `Rows` stores the attributes of many rows in one list, and where each row begins in it, so that a row needs no
 //! allocation. A row that replaces one with the same number of values is written in its place; one with another
 //! number is appended, and the space of the old one stays unused. Read `specs/Spans.antt` for it
-//! (what parts of a list are, and when they are apart); the list is in `src/row_list.rt`.
+//! (what parts of a list are, and when they are apart); the list is in `src/row_list.rt`. Where each row begins takes no
+//! memory as long as all rows have the same number of values (`src/spans.rt`).
 #![tactic(auto)]
 
 mod row_list;
 mod row_values;
 mod rows;
+mod spans;
 mod steps;
 mod types;
 

@@ -1,7 +1,8 @@
 // Rows of values.
 ghost use Rattle.std.specs.Prelude.{◌≡◌, ◌<◌, ◌++◌, [], ◌∷◌, length, slice_index_or, slice_set, take, vec_len, vec_capacity, IfOk, OnOk, OnErr};
 
-use crate::row_values::{Span, append, write};
+use crate::row_values::{append, write};
+use crate::spans::Spans;
 use gq_base::OutOfMemory;
 use gq_value::{Row, Value};
 use std::alloc::Global;
@@ -10,7 +11,7 @@ use std::marker::Model;
 /// Rows of values, by number. Contracts see them as a list of rows.
 #[derive(Drop)]
 pub struct Rows {
-    spans: Vec<Span>,
+    spans: Spans,
     values: Vec<Value>,
 }
 
@@ -25,9 +26,9 @@ impl Model for Rows {
 
     ghost coded = { Prim.hlevel (codes, value.the_row.coded) };
 
-    ghost view = { λ r. rows_of r.spans.items r.values.items };
+    ghost view = { λ r. rows_of r.spans r.values.items };
 
-    ghost invariant = { λ r. AreApart r.spans.items (length r.values.items) };
+    ghost invariant = { λ r. AreApart r.spans (length r.values.items) };
 }
 
 impl Rows {
@@ -36,7 +37,7 @@ impl Rows {
         ensures { result ≡ [] }
     {
         Rows {
-            spans: Vec::new(alloc),
+            spans: Spans::new(alloc),
             values: Vec::new(alloc),
         }
     }
@@ -46,7 +47,7 @@ impl Rows {
         requires { number < length self.now }
         ensures { result.now ≡ slice_index_or self.now number [] }
     {
-        let span = self.spans[number as usize];
+        let span = self.spans.at(number as usize);
         let start = span.start as usize;
         &self.values[start..start + span.len as usize]
     }
@@ -56,10 +57,15 @@ impl Rows {
         ensures ok { OnOk result (self.new ≡ self.old ++ row.old ∷ []) }
         ensures err { OnErr result (self.new ≡ self.old) }
     {
-        self.spans.reserve(1)?;
+        let start = self.values.len();
         let span = append(&mut self.values, row)?;
-        put(&mut self.spans, span);
-        Ok(())
+        match self.spans.push(span) {
+            Ok(()) => Ok(()),
+            Err(OutOfMemory) => {
+                self.values.truncate(start);
+                Err(OutOfMemory)
+            }
+        }
     }
 
     /// Replaces a row; the values of the new one are moved. It takes no memory if both have as many values. Unchanged
@@ -69,14 +75,20 @@ impl Rows {
         ensures ok { OnOk result (self.new ≡ slice_set self.old number row.old) }
         ensures err { OnErr result (self.new ≡ self.old) }
     {
-        let span = self.spans[number as usize];
+        let span = self.spans.at(number as usize);
         if span.len as usize == row.len() {
             write(&mut self.values, span.start as usize, row);
             return Ok(());
         }
+        let start = self.values.len();
         let span = append(&mut self.values, row)?;
-        self.spans[number as usize] = span;
-        Ok(())
+        match self.spans.set(number as usize, span) {
+            Ok(()) => Ok(()),
+            Err(OutOfMemory) => {
+                self.values.truncate(start);
+                Err(OutOfMemory)
+            }
+        }
     }
 
     /// Keeps the first `len` rows, or all if there are fewer. The memory of the removed values isn't reused.
@@ -91,7 +103,7 @@ impl Rows {
         ensures { IfOk result (λ copy. copy ≡ self.now) }
     {
         Ok(Rows {
-            spans: Vec::from_slice(alloc, &self.spans)?,
+            spans: self.spans.duplicate(alloc)?,
             values: copied(alloc, &self.values)?,
         })
     }
@@ -105,15 +117,4 @@ fn copied(alloc: Global, values: &[Value]) -> Result<Vec<Value>, OutOfMemory>
         copy.push(value.duplicate(alloc)?)?;
     }
     Ok(copy)
-}
-
-/// Appends a span, for which there is room.
-fn put(spans: &mut Vec<Span>, span: Span)
-    requires { vec_len spans.old < vec_capacity spans.old }
-    ensures { spans.new.items ≡ spans.old.items ++ span ∷ [] }
-{
-    match spans.push(span) {
-        Ok(()) => {}
-        Err(_) => unreachable!(),
-    }
 }

@@ -1,11 +1,11 @@
 -- JoinLemmas: rows as vertices without attributes, with their attributes in a second list.
-use Rattle.std.proofs.Common.{ℕ, zero, suc, ◌+◌, ◌<◌, ◌≤◌, ◌≡◌, ◌==◌, ◌&&◌, Bool, true, false, cond, List, [], ◌∷◌, ◌++◌, length, get_or, set, take, map, Option, Some, None, refl, ap, sym, ◌∙◌, subst, arith}
+use Rattle.std.proofs.Common.{ℕ, zero, suc, ◌+◌, ◌<◌, ◌≡◌, true, false, cond, List, [], ◌∷◌, ◌++◌, length, get_or, set, take, Some, None, refl, ap, sym, ◌∙◌, arith}
 use Rattle.std.specs.Prelude.{Result, Ok, Err, OnOk, OnErr, is_ok}
 use Rattle.std.specs.Option.{unwrap_or}
 use Rattle.std.specs.List.{position_from}
 use Rattle.std.proofs.lemmas.Iterator.Adapters.{position_from-zero}
 use Rattle.gq_graph.specs.declared.rows.VertexRow.{VertexRow}
-use Rattle.gq_graph.specs.Vertices.{is_vertex, vertex_number, vertex_put, upsert_vertex, vertex_at, no_vertex}
+use Rattle.gq_graph.specs.Vertices.{is_vertex, vertex_number, vertex_put, upsert_vertex, vertex_at}
 use Rattle.gq_value.specs.declared.value.Value.{Value}
 use Rattle.gq_vertex.specs.Joined.{joined, head_of}
 use Rattle.gq_vertex.proofs.VertexLemmas.{number_low}

@@ -1,5 +1,5 @@
 -- The tree of names: the effect of a change, and what it finds after a row is added or removed.
-use Rattle.std.proofs.Common.{ℕ, ◌+◌, ◌<◌, ◌≡◌, ◌==◌, ◌&&◌, Bool, true, false, cond, List, [], ◌∷◌, ◌++◌, length, take, set, get_or, Option, Some, None, OnOk, Result, Ok, Err, refl, ap, sym, ◌∙◌, subst, arith, length-set, eq-eqb}
+use Rattle.std.proofs.Common.{ℕ, ◌+◌, ◌<◌, ◌≡◌, ◌==◌, ◌&&◌, Bool, true, false, cond, List, [], ◌∷◌, ◌++◌, length, take, set, get_or, Option, Some, None, OnOk, Result, Ok, Err, refl, ap, sym, ◌∙◌, subst, arith, length-set}
 use Rattle.std.specs.Str.{bytes_eq}
 use Rattle.std.specs.Option.{option_or}
 use Rattle.std.specs.List.{position, position_from, position_or_len}

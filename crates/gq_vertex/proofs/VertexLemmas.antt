@@ -1,25 +1,20 @@
 -- Rows of vertices by their names.
-use Rattle.std.proofs.Common.{inl, inr, ℕ, ◌+◌, ◌<◌, ◌≤◌, ◌≡◌, ◌≢◌, ◌==◌, ◌&&◌, Bool, true, false, List, [], ◌∷◌, ◌++◌, length, get_or, set, take, map, Option, Some, None, refl, ap, sym, ◌∙◌, subst, arith, eq-eqb}
+use Rattle.std.proofs.Common.{inl, inr, ℕ, ◌+◌, ◌<◌, ◌≤◌, ◌≡◌, ◌≢◌, ◌==◌, ◌&&◌, Bool, true, false, List, [], ◌∷◌, ◌++◌, length, get_or, take, map, Option, Some, None, refl, ap, sym, ◌∙◌, subst, arith, eq-eqb}
 use Rattle.std.specs.Str.{bytes_eq}
 use Rattle.std.proofs.lemmas.Bool.Decides.{nat_tests}
 use Rattle.std.proofs.lemmas.Slice.Eq.{bytes_eq-Decides}
-use Rattle.std.proofs.lemmas.List.{length-map, get_or-map, get_or_read, get_or_append_left, get_or_push, get_or-take, length-take-le, length_push, get_or-set_same, get_or-set_other, length-set}
+use Rattle.std.proofs.lemmas.List.{length-map, get_or-map, get_or_read, get_or_append_left, get_or_push, get_or-take, length-take-le, length_push}
 use Rattle.std.proofs.lemmas.List.Quantifiers.{position-Some}
 use Rattle.std.proofs.lemmas.Bool.{cases_lt}
-use Rattle.std.proofs.lemmas.Bool.Decides.{eqb_tells}
-use Rattle.std.proofs.Math.Seq.{map-set_same}
-use Rattle.std.specs.Option.{unwrap_or}
-use Rattle.gq_value.specs.declared.value.Value.{Value}
 use Rattle.gq_graph.specs.declared.rows.VertexRow.{VertexRow}
-use Rattle.gq_graph.specs.Vertices.{is_vertex, vertex_number, vertex_put, upsert_vertex, no_vertex, vertex_at, VerticesApart, most_vertices}
+use Rattle.gq_graph.specs.Vertices.{is_vertex, vertex_number, no_vertex, vertex_at, VerticesApart, most_vertices}
 use Rattle.gq_base.specs.Last.{IsLast}
 use Rattle.gq_base.proofs.Seeks.{Seeks, Hits, seek_starts, seek_goes, seek_none, seek_found, nowhere}
 use Rattle.gq_base.proofs.Seeks.{seek_exact}
 use Rattle.gq_vertex.specs.Keyed.{word, vertex_key, IsBytes}
 use Rattle.gq_vertex.specs.declared.index.Index.{Index}
-use Rattle.gq_vertex.specs.declared.index.Index.TheVariants.{Hashed, Sorted}
+use Rattle.gq_vertex.specs.declared.index.Index.TheVariants.{Hashed}
 use Rattle.gq_vertex.specs.Named.{row_key, Finds, AreNamed}
-use Rattle.gq_vertex.proofs.SortedLemmas.{position_set}
 use Rattle.gq_vertex.proofs.KeyedLemmas.{exact_same}
 
 and_true : (a b : Bool) → a && b ≡ true → (a ≡ true) × (b ≡ true)

@@ -14,6 +14,10 @@ packed_with word byte = (word * 256 + byte) % 72057594037927936
 abbrev pub packed : List ℕ → ℕ
 packed id = fold packed_with 0 id
 
+-- four bytes as the digits of a number
+abbrev pub four : List ℕ → ℕ → ℕ
+four id at = ((slice_index id at * 256 + slice_index id (at + 1)) * 256 + slice_index id (at + 2)) * 256 + slice_index id (at + 3)
+
 -- a hash with one more byte mixed in
 unfoldable pub mixed_with : ℕ → ℕ → ℕ
 mixed_with word byte = (word * 11400714819323198485 % 18446744073709551616 + byte) % 18446744073709551616

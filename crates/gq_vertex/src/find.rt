@@ -8,7 +8,7 @@ use crate::heads::VertexHead;
 use crate::index::Index;
 use crate::key::{is_exact, vertex_key};
 use crate::names::number_of;
-use gq_base::KeyIndex;
+use gq_base::KeyTable;
 
 /// Finds the number of the vertex of a type and an id.
 pub(crate) fn find(rows: &[VertexHead], index: &Index, kind: u32, id: &str) -> Option<u32>
@@ -22,7 +22,7 @@ pub(crate) fn find(rows: &[VertexHead], index: &Index, kind: u32, id: &str) -> O
 }
 
 /// The same by the keys of the rows. If the key is the whole name, no row is read.
-fn find_by_key(rows: &[VertexHead], keys: &KeyIndex, kind: u32, id: &str) -> Option<u32>
+fn find_by_key(rows: &[VertexHead], keys: &KeyTable, kind: u32, id: &str) -> Option<u32>
     requires { spec.AreNamed rows.now (Hashed keys.now) }
     ensures { result ≡ vertex_number rows.now kind id.now }
 {

@@ -6,7 +6,7 @@ ghost use Rattle.gq_vertex.specs.Named.{Finds, IsSorted, AreNamed};
 use crate::heads::VertexHead;
 use crate::key::vertex_key;
 use crate::names::{Names, put, take_out};
-use gq_base::{Key, KeyIndex, OutOfMemory};
+use gq_base::{Key, KeyTable, OutOfMemory};
 use std::alloc::Global;
 use std::collections::BTreeMap;
 
@@ -14,7 +14,7 @@ use std::collections::BTreeMap;
 /// chosen for it; from then on a tree, whose lookups are logarithmic.
 #[derive(Drop)]
 pub(crate) enum Index {
-    Hashed(KeyIndex),
+    Hashed(KeyTable),
     Sorted(Names),
 }
 

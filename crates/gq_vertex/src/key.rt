@@ -1,5 +1,5 @@
 // Keys of vertices.
-ghost use Rattle.std.specs.Prelude.{◌≡◌, ◌<◌, ◌↔◌, IsTrue};
+ghost use Rattle.std.specs.Prelude.{◌≡◌, ◌+◌, ◌<◌, ◌≤◌, ◌↔◌, IsTrue, length};
 ghost use Rattle.gq_base.specs.Keys.{number_of};
 ghost use Rattle.gq_vertex.specs.Keyed as spec;
 
@@ -35,8 +35,20 @@ fn word(id: &[u8]) -> u64
     }
 }
 
-/// The bytes of a short id as the digits of a number.
+/// The bytes of a short id as the digits of a number. Four to seven bytes take two reads: of the first four and of the
+/// last four, some of which may be the same.
 fn packed(id: &[u8]) -> u64
+    ensures exact { result ≡ spec.packed id.now }
+    ensures small { result < 72057594037927936 }
+{
+    if id.len() < 4 || id.len() > 7 {
+        return packed_each(id);
+    }
+    (four(id, 0) >> (64 - 8 * id.len())) * 4_294_967_296 + four(id, id.len() - 4)
+}
+
+/// The same by single bytes.
+fn packed_each(id: &[u8]) -> u64
     ensures exact { result ≡ spec.packed id.now }
     ensures small { result < 72057594037927936 }
 {
@@ -45,6 +57,15 @@ fn packed(id: &[u8]) -> u64
         word = (word * 256 + *byte as u64) % 0x0100_0000_0000_0000;
     }
     word
+}
+
+/// Four bytes as the digits of a number.
+fn four(id: &[u8], at: usize) -> u64
+    requires { at + 4 ≤ length id.now }
+    ensures exact { result ≡ spec.four id.now at }
+    ensures small { result < 4294967296 }
+{
+    u32::from_be_bytes([id[at], id[at + 1], id[at + 2], id[at + 3]]) as u64
 }
 
 /// A hash of a longer id.

@@ -9,7 +9,7 @@ use crate::find::find;
 use crate::heads::VertexHead;
 use crate::index::{Index, cut, duplicate, first, insert, touch};
 use crate::key::vertex_key;
-use gq_base::{KeyIndex, OutOfMemory};
+use gq_base::{KeyTable, OutOfMemory};
 use gq_graph::{Rows, StoreFault};
 use gq_value::{Row, Txt, Value};
 use std::alloc::Global;
@@ -54,7 +54,7 @@ impl Vertices {
         Vertices {
             heads: Vec::new(alloc),
             attributes: Rows::new(alloc),
-            index: Index::Hashed(KeyIndex::new(alloc)),
+            index: Index::Hashed(KeyTable::new(alloc)),
         }
     }
 

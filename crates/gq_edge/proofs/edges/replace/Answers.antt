@@ -1,4 +1,4 @@
-use Rattle.std.proofs.Common.{◌≡◌, ◌∙◌, sym}
+use Rattle.std.proofs.Common.{◌∙◌, sym}
 use Rattle.gq_edge.proofs.JoinLemmas.{when_ok, when_err}
 use Rattle.gq_edge.proofs.edges.replace.Goals as goal
 

@@ -6,13 +6,13 @@ use Rattle.gq_edge.proofs.find.find_by_key.Goals as goal
 
 pub loop-next-init : goal.loop-next-init
 loop-next-init c =
-    edge_starts c.args.naming (edge_of c.args.edge) c.args.rows.now c.args.index.now _ c.last-next.result c.requires.findable c.edge_key-key.ensures.number c.last-next.ensures
+    edge_starts c.args.naming (edge_of c.args.edge) c.args.rows.now c.args.index.now _ c.last-next.result c.requires.findable c.requires.keyed c.last-next.ensures
 
 pub returns-then-key-lt-HASHED : goal.returns-then-key-lt-HASHED
 returns-then-key-lt-HASHED c =
-    let low : edge_tag c.args.naming (edge_of c.args.edge) < 2147483648 = omega (arith, c.edge_key-key.ensures.tag, c.if-key-lt-HASHED.true) in
-    edge_exact c.args.naming (edge_of c.args.edge) c.args.rows.now c.args.index.now _ c.last-next.result c.requires.findable c.edge_key-key.ensures.ends low
-    c.edge_key-key.ensures.number c.last-next.ensures
+    let low : edge_tag c.args.naming (edge_of c.args.edge) < 2147483648 = omega (arith, c.requires.tagged, c.if-key-lt-HASHED.true) in
+    edge_exact c.args.naming (edge_of c.args.edge) c.args.rows.now c.args.index.now _ c.last-next.result c.requires.findable c.requires.ends low
+    c.requires.keyed c.last-next.ensures
 
 pub loop-next-preserved : goal.loop-next-preserved
 loop-next-preserved c =

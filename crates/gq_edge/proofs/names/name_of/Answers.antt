@@ -1,5 +1,5 @@
-use Rattle.std.proofs.Common.{map, ap, ◌∙◌, refl}
-use Rattle.gq_value.specs.Val.{Vertex, UInt}
+use Rattle.std.proofs.Common.{map, ap, ◌∙◌}
+use Rattle.gq_value.specs.Val.{Vertex}
 use Rattle.gq_value.specs.Views.{val}
 use Rattle.gq_value.specs.ViewLaws.{val-Vertex, val-UInt}
 use Rattle.gq_edge.proofs.SortedLemmas.{built}

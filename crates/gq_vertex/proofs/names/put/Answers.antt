@@ -1,4 +1,4 @@
-use Rattle.std.proofs.Common.{Some, rules}
+use Rattle.std.proofs.Common.{rules}
 use Rattle.gq_vertex.proofs.SortedLemmas.{put_there, put_first, on_ok}
 use Rattle.gq_vertex.proofs.names.put.Goals as goal
 

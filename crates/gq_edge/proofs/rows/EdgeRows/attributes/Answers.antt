@@ -1,4 +1,4 @@
-use Rattle.std.proofs.Common.{◌≡◌, ◌∙◌, ap, arith}
+use Rattle.std.proofs.Common.{◌∙◌, ap, arith}
 use Rattle.gq_graph.specs.declared.rows.EdgeRow.{EdgeRow}
 use Rattle.gq_edge.proofs.JoinLemmas.{view_long, view_at}
 use Rattle.gq_edge.proofs.rows.EdgeRows.attributes.Goals as goal

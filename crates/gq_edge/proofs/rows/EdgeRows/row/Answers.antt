@@ -1,9 +1,7 @@
-use Rattle.std.proofs.Common.{◌≡◌, ◌<◌, ◌∙◌, ℕ, List, length, ap, sym, arith}
+use Rattle.std.proofs.Common.{◌<◌, ◌∙◌, length, arith}
 use Rattle.std.proofs.lemmas.List.{get_or_read}
-use Rattle.gq_graph.specs.declared.rows.EdgeRow.{EdgeRow}
 use Rattle.gq_graph.specs.Edges.{edge_at, no_edge}
-use Rattle.gq_value.specs.declared.value.Value.{Value}
-use Rattle.gq_edge.proofs.JoinLemmas.{view_long, view_at, with, built}
+use Rattle.gq_edge.proofs.JoinLemmas.{view_long, view_at, built}
 use Rattle.gq_edge.proofs.rows.EdgeRows.row.Goals as goal
 
 pub index-ends-requires : goal.index-ends-requires

@@ -1,4 +1,4 @@
-use Rattle.std.proofs.Common.{◌≤◌, ◌≡◌, ◌∙◌, ap, sym, length, take, arith, length-take}
+use Rattle.std.proofs.Common.{◌≤◌, ◌∙◌, ap, length, arith, length-take}
 use Rattle.gq_vertex.proofs.VertexLemmas.{named_cut}
 use Rattle.gq_vertex.proofs.JoinLemmas.{view_long, cut_is}
 use Rattle.gq_vertex.proofs.vertices.Vertices.cut.Goals as goal

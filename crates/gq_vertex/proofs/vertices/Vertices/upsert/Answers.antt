@@ -1,6 +1,4 @@
-use Rattle.std.proofs.Common.{◌≡◌, ◌∙◌, ap, sym, Some, List, length, arith, length-set}
-use Rattle.gq_graph.specs.declared.rows.VertexRow.{VertexRow}
-use Rattle.gq_graph.specs.Vertices.{vertex_number}
+use Rattle.std.proofs.Common.{◌∙◌, sym, arith}
 use Rattle.gq_vertex.proofs.VertexLemmas.{number_low}
 use Rattle.gq_vertex.proofs.JoinLemmas.{view_long, view_number, replaced_is, added_is}
 use Rattle.gq_vertex.proofs.vertices.Vertices.upsert.Goals as goal

@@ -1,7 +1,6 @@
-use Rattle.std.proofs.Common.{◌≡◌, ◌∙◌, ap, sym, subst, length, List, Some, arith}
+use Rattle.std.proofs.Common.{◌∙◌, ap, sym, length, List, arith}
 use Rattle.std.specs.Prelude.{slice_get}
 use Rattle.gq_graph.specs.declared.rows.VertexRow.{VertexRow}
-use Rattle.gq_graph.specs.Vertices.{vertex_at}
 use Rattle.gq_value.specs.declared.value.Value.{Value}
 use Rattle.gq_vertex.proofs.JoinLemmas.{view_long, view_at}
 use Rattle.gq_vertex.proofs.vertices.Vertices.value.Goals as goal
