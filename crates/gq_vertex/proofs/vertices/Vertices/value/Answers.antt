@@ -4,7 +4,7 @@ use Rattle.gq_graph.specs.declared.rows.VertexRow.{VertexRow}
 use Rattle.gq_graph.specs.Vertices.{vertex_at}
 use Rattle.gq_value.specs.declared.value.Value.{Value}
 use Rattle.gq_vertex.proofs.JoinLemmas.{view_long, view_at}
-use Rattle.gq_vertex.proofs.vertices.Vertices.attr.Goals as goal
+use Rattle.gq_vertex.proofs.vertices.Vertices.value.Goals as goal
 
 pub at-requires : goal.at-requires
 at-requires c = omega (arith, c.requires.there, c.self.invariant.long, view_long c.self.inside.heads.items c.self.inside.attributes c.args.self.now c.self.view_is c.self.invariant.long)
