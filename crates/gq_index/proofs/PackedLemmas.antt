@@ -3,7 +3,7 @@ use Rattle.std.proofs.Common.{inl, inr, ℕ, ◌+◌, ◌-◌, ◌<◌, ◌≤�
 use Rattle.std.specs.List.{insert}
 use Rattle.std.specs.List.Sorted.{IsPartitionPoint, IsPartitionedBy}
 use Rattle.std.specs.Prelude.{true, false, leb, min}
-use Rattle.std.proofs.lemmas.List.{ext_get_or, get_or-take, get_or-drop, get_or-map, get_or-set_same, get_or-set_other, get_or_append_left, get_or-append_right, get_or_past, length-take, length-drop, length-map, map-set, take_more, take_all, drop_all}
+use Rattle.std.proofs.lemmas.List.{ext_get_or, get_or-take, get_or-drop, get_or-map, get_or-set_same, get_or-set_other, get_or_append_left, get_or-append_right, get_or_past, length-take, length-drop, length-map, map-set, map_push, take_more, take_all, drop_all}
 use Rattle.std.proofs.lemmas.Bool.{cases_eq}
 use Rattle.gq_index.specs.declared.packed.Span.{Span}
 use Rattle.gq_index.specs.declared.walks.Neighbor.{Neighbor}
@@ -13,10 +13,10 @@ use Rattle.gq_index.specs.Walks.{walked, ways_at, way_of, taken_from, AreListed}
 use Rattle.gq_index.proofs.ListLemmas.{inserted, listed_more}
 use Rattle.gq_index.proofs.WalkLemmas.{lt_or_le}
 
-no_way : Neighbor
+abbrev pub no_way : Neighbor
 no_way = record { kind = 0; row = 0; target = 0 }
 
-no_span : Span
+abbrev pub no_span : Span
 no_span = record { start = 0; stop = 0 }
 
 -- ---- one list
@@ -137,7 +137,7 @@ module _ (spans : List Span) (ways : List Neighbor) (v : ℕ) (w : Neighbor) (ap
           let ne : b ≢ v = λ e. absurd (omega (arith, e, same)) in
           subst (λ (a : ℕ). (span_at (set spans v wider) a).stop ≤ (span_at (set spans v wider) b).start) (sym same)
           (subst (λ (s : Span). s.stop ≤ (span_at (set spans v wider) b).start) (sym at_same)
-          (subst (λ (s : Span). span.stop + 1 ≤ s.start) (sym (at_other b ne)) (room.before b (omega (arith, same)) (low b h))))
+          (subst (λ (s : Span). span.stop + 1 ≤ s.start) (sym (at_other b ne)) (omega (arith, room.before b (omega (arith, same)) (low b h)))))
       | inr ne ↦
           subst (λ (s : Span). s.stop ≤ (span_at (set spans v wider) b).start) (sym (at_other a ne)) (behind a b less h)
     ];
@@ -206,6 +206,9 @@ apart_push spans place size le before = record {
 pub part_none : (ways : List Neighbor) (place : ℕ) → part ways (record { start = place; stop = place }) ≡ []
 part_none ways place = let none : place - place ≡ 0 = omega arith in ap (λ n. take n (drop place ways)) none
 
+both : (a b n : ℕ) → n ≤ a → n ≤ b → min n a ≡ min n b
+both a b n ha hb = grind (arith)
+
 -- more room doesn't change the lists
 pub parts_roomy : (spans : List Span) (ways new : List Neighbor) → AreApart spans (length ways) → length ways ≤ length new
     → ((i : ℕ) → i < length ways → get_or new i no_way ≡ get_or ways i no_way) → parts spans new ≡ parts spans ways
@@ -225,5 +228,8 @@ parts_roomy spans ways new apart more same =
         ∙ same (s.start + j) (omega arith)
         ∙ sym (get_or-take n (drop s.start ways) j no_way low ∙ get_or-drop s.start ways j no_way))
 
-    both : (a b n : ℕ) → n ≤ a → n ≤ b → min n a ≡ min n b
-    both a b n ha hb = grind (arith)
+-- one more list is copied
+pub copied_more : {V : Type 0} (f : V → List Neighbor) (lists : List (List Neighbor)) (vs : List V) (i : ℕ) (v : V) → i < length lists
+    → map f vs ≡ take i lists → f v ≡ ways_at lists i → map f (vs ++ v ∷ []) ≡ take (i + 1) lists
+copied_more f lists vs i v low all e =
+    map_push f vs v ∙ ap₂ (λ (xs : List (List Neighbor)) (x : List Neighbor). xs ++ x ∷ []) all e ∙ sym (take_more lists i [] low)

@@ -111,6 +111,7 @@ fn ways_in(lists: &[Vec<Neighbor>], vertex: usize) -> &[Neighbor]
 }
 
 /// Adds a walk to lists that are together, if they have room for it; false, and nothing has changed, if not.
+#[inline(always)]
 fn fits(lists: &mut Lists, walk: Traversal) -> bool
     ensures put { result ≡ true → (n count : ℕ) (walks : List Traversal) → walk.kind < count
         → AreListed n count (lists_of lists.old) walks → AreListed n count (lists_of lists.new) (walks ++ walk ∷ []) }
@@ -126,9 +127,10 @@ fn fits(lists: &mut Lists, walk: Traversal) -> bool
 fn copied(alloc: Global, lists: &Lists) -> Result<Vec<Vec<Neighbor>>, OutOfMemory>
     ensures { IfOk result (λ apart. map (λ list. list.items) apart.items ≡ lists_of lists.now) }
 {
+    let count = lists.len();
     let mut apart = Vec::new(alloc);
-    apart.reserve(lists.len())?;
-    for vertex in 0..lists.len() {
+    apart.reserve(count)?;
+    for vertex in 0..count {
         let list = Vec::from_slice(alloc, lists.ways(vertex))?;
         apart.push(list)?;
     }
@@ -158,7 +160,19 @@ fn put_separated(lists: &mut Lists, walk: Traversal) -> Result<(), OutOfMemory>
     }
 }
 
+/// Adds a walk to the list of its source vertex, if that exists, and separates the lists before if they are together.
+#[cold]
+#[inline(never)]
+fn put_anyway(lists: &mut Lists, walk: Traversal) -> Result<(), OutOfMemory>
+    ensures { IfOk result (λ _. (n count : ℕ) (walks : List Traversal) → walk.kind < count
+        → AreListed n count (lists_of lists.old) walks → AreListed n count (lists_of lists.new) (walks ++ walk ∷ [])) }
+{
+    separate(lists)?;
+    put_separated(lists, walk)
+}
+
 /// Adds a walk to the list of its source vertex, if that exists. Separates the lists if that list has no room.
+#[inline(always)]
 pub fn put(lists: &mut Lists, walk: Traversal) -> Result<(), OutOfMemory>
     ensures { IfOk result (λ _. (n count : ℕ) (walks : List Traversal) → walk.kind < count
         → AreListed n count (lists_of lists.old) walks → AreListed n count (lists_of lists.new) (walks ++ walk ∷ [])) }
@@ -166,8 +180,7 @@ pub fn put(lists: &mut Lists, walk: Traversal) -> Result<(), OutOfMemory>
     if fits(lists, walk) {
         return Ok(());
     }
-    separate(lists)?;
-    put_separated(lists, walk)
+    put_anyway(lists, walk)
 }
 
 /// Counts a way from a vertex, if it is one of the new ones.

@@ -1,5 +1,5 @@
 // Lists of ways that lie one after another in one list.
-ghost use Rattle.std.specs.Prelude.{◌≡◌, ℕ, ◌+◌, ◌<◌, ◌≤◌, ◌++◌, [], ◌∷◌, List, length, true, false, IfOk, replicate, slice_set};
+ghost use Rattle.std.specs.Prelude.{◌≡◌, ℕ, ◌+◌, ◌<◌, ◌≤◌, ◌^◌, ◌++◌, [], ◌∷◌, List, length, true, false, IfOk, replicate, slice_set};
 ghost use Rattle.gq_index.specs.declared.walks.Neighbor.{Neighbor};
 ghost use Rattle.gq_index.specs.declared.walks.Traversal.{Traversal};
 ghost use Rattle.gq_index.specs.Packed.{AreApart, HasRoom, part, parts, span_at};
@@ -41,6 +41,7 @@ fn write(spans: &mut [Span], ways: &mut [Neighbor], vertex: usize, way: Neighbor
     requires room { HasRoom spans.old (length ways.old) vertex }
     requires short { length ways.old < 2 ^ 32 }
     ensures apart { AreApart spans.new (length ways.new) }
+    ensures long { length ways.new ≡ length ways.old }
     ensures put { parts spans.new ways.new ≡ slice_set (parts spans.old ways.old) vertex (part ways.old (span_at spans.old vertex) ++ way ∷ []) }
 {
     let span = spans[vertex];
@@ -60,7 +61,8 @@ fn sum(room: &[u32]) -> usize {
     all
 }
 
-/// Appends empty lists, with room for that many ways behind each, at most up to a limit.
+/// Appends empty lists, with room for that many ways behind each, at most up to a limit. After `OutOfMemory` some of
+/// them may be there.
 fn append(
     spans: &mut Vec<Span>,
     first: u32,
@@ -69,7 +71,7 @@ fn append(
 ) -> Result<(), OutOfMemory>
     requires apart { AreApart spans.old.items first }
     requires within { first ≤ limit }
-    ensures apart { IfOk result (λ _. AreApart spans.new.items limit) }
+    ensures apart { AreApart spans.new.items limit }
     ensures lists { IfOk result (λ _. (ways : List Neighbor) → parts spans.new.items ways ≡ parts spans.old.items ways ++ replicate (length room.now) []) }
 {
     spans.reserve(room.len())?;
@@ -92,7 +94,7 @@ pub struct Packed {
 }
 
 impl Model for Packed {
-    ghost use Rattle.std.specs.Prelude.{List, length};
+    ghost use Rattle.std.specs.Prelude.{◌<◌, ◌^◌, List, length};
     ghost use Rattle.gq_index.specs.declared.walks.Neighbor.{Neighbor};
     ghost use Rattle.gq_index.specs.Packed.{AreApart, parts};
 
@@ -100,7 +102,10 @@ impl Model for Packed {
 
     ghost view = { λ p. parts p.spans.items p.ways.items };
 
-    ghost invariant = { λ p. AreApart p.spans.items (length p.ways.items) };
+    ghost invariant = { λ p. record {
+      apart : AreApart p.spans.items (length p.ways.items);
+      short : length p.ways.items < 2 ^ 32;
+    } };
 }
 
 impl Packed {
@@ -157,6 +162,7 @@ impl Packed {
 
     /// Adds a walk behind those from its source vertex, if that exists; false, and nothing has changed, if there is no
     /// room, or if walks of higher types are there.
+    #[inline(always)]
     pub fn put(&mut self, walk: Traversal) -> bool
         ensures put { result ≡ true → (n count : ℕ) (walks : List Traversal) → walk.kind < count
             → AreListed n count self.old walks → AreListed n count self.new (walks ++ walk ∷ []) }
