@@ -2,7 +2,7 @@ use Rattle.std.proofs.Common.{arith}
 use Rattle.std.proofs.lemmas.Result.{IfOk-weaker}
 use Rattle.gq_index.specs.Walks.{taken_from}
 use Rattle.gq_index.proofs.ListLemmas.{put_more, put_past}
-use Rattle.gq_index.proofs.lists.put.Goals as goal
+use Rattle.gq_index.proofs.lists.put_apart.Goals as goal
 
 pub returns-then-walk-len : goal.returns-then-walk-len
 returns-then-walk-len c = λ n count walks low are.

@@ -1,0 +1,21 @@
+use Rattle.std.proofs.Common.{rules, ℕ, ◌≡◌, ◌<◌, ◌++◌, [], ◌∷◌, List, length, leb, true, false, ap, sym, subst, ◌∙◌, arith}
+use Rattle.std.specs.List.Sorted.{IsPartitionPoint, IsPartitionedBy}
+use Rattle.gq_index.specs.declared.walks.Neighbor.{Neighbor}
+use Rattle.gq_index.specs.declared.walks.Traversal.{Traversal}
+use Rattle.gq_index.specs.Packed.{part, parts, span_at}
+use Rattle.gq_index.specs.Walks.{AreListed, way_of, ways_at}
+use Rattle.gq_index.proofs.PackedLemmas.{part_at, walk_put}
+use Rattle.gq_index.proofs.packed.Packed.put.Goals as goal
+
+pub write-requires-clause-short : goal.write-requires-clause-short
+write-requires-clause-short c = omega (arith, c.self.invariant.short, ap length c.deref_mut-2.ensures.value)
+
+pub returns-clause-put : goal.returns-clause-put
+returns-clause-put c = λ _ n count walks low are.
+    let spans = c.self.inside.spans.items in let ways = c.self.inside.ways.items in let w = c.args.walk in let v = w.source in
+    let there : v < length spans = omega (arith, c.len.ensures, c.self.inside.spans.ok.0, c.if-vertex-len.false) in
+    let list : c.ways.result.now ≡ part ways (span_at spans v) = c.ways.ensures ∙ ap (λ l. ways_at l v) (sym c.self.view_is) ∙ part_at spans ways v there in
+    let point = subst (λ (l : List Neighbor). IsPartitionedBy (λ (y : Neighbor). leb y.kind w.kind) l
+    → IsPartitionPoint (λ (y : Neighbor). leb y.kind w.kind ≡ true) (λ (y : Neighbor). leb y.kind w.kind ≡ false) l (length l)) list (c.is_last.ensures (search rules)) in
+    subst (λ l. AreListed n count l (walks ++ w ∷ [])) (sym (rw (c.deref_mut.ensures.value, c.deref_mut-2.ensures.value) at c.write.ensures.put))
+    (walk_put n count spans ways walks w there point low (subst (λ l. AreListed n count l walks) (sym c.self.view_is) are))
