@@ -1,4 +1,5 @@
-use Rattle.std.proofs.Common.{rules, ℕ, ◌≡◌, ◌<◌, ◌++◌, [], ◌∷◌, List, length, leb, true, false, ap, sym, subst, ◌∙◌, arith}
+use Rattle.std.proofs.Common.{rules, ℕ, ◌≡◌, ◌<◌, ◌++◌, [], ◌∷◌, List, length, leb, true, false, ap, ap₂, sym, subst, ◌∙◌, arith}
+use Rattle.std.proofs.lemmas.List.{with_items_is}
 use Rattle.std.specs.List.Sorted.{IsPartitionPoint, IsPartitionedBy}
 use Rattle.gq_index.specs.declared.walks.Neighbor.{Neighbor}
 use Rattle.gq_index.specs.declared.walks.Traversal.{Traversal}
@@ -17,5 +18,9 @@ returns-clause-put c = λ _ n count walks low are.
     let list : c.ways.result.now ≡ part ways (span_at spans v) = c.ways.ensures ∙ ap (λ l. ways_at l v) (sym c.self.view_is) ∙ part_at spans ways v there in
     let point = subst (λ (l : List Neighbor). IsPartitionedBy (λ (y : Neighbor). leb y.kind w.kind) l
     → IsPartitionPoint (λ (y : Neighbor). leb y.kind w.kind ≡ true) (λ (y : Neighbor). leb y.kind w.kind ≡ false) l (length l)) list (c.is_last.ensures (search rules)) in
-    subst (λ l. AreListed n count l (walks ++ w ∷ [])) (sym (rw (c.deref_mut.ensures.value, c.deref_mut-2.ensures.value) at c.write.ensures.put))
+    let put = rw (c.deref_mut.ensures.value, c.deref_mut-2.ensures.value) at c.write.ensures.put in
+    let spans_size : length c.write.new.spans ≡ c.self.inside.spans.len = omega (arith, c.write.auto.spans, c.deref_mut.ensures.len) in
+    let ways_size : length c.write.new.ways ≡ c.self.inside.ways.len = omega (arith, c.write.auto.ways, c.deref_mut-2.ensures.len) in
+    let same = ap₂ parts (with_items_is c.self.inside.spans c.write.new.spans spans_size) (with_items_is c.self.inside.ways c.write.new.ways ways_size) in
+    subst (λ l. AreListed n count l (walks ++ w ∷ [])) (sym (same ∙ put))
     (walk_put n count spans ways walks w there point low (subst (λ l. AreListed n count l walks) (sym c.self.view_is) are))
