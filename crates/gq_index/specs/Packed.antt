@@ -1,5 +1,5 @@
 -- Packed: lists one after another in one list, each with room behind it.
-use Rattle.std.specs.Prelude.{ℕ, ◌+◌, ◌-◌, ◌<◌, ◌≤◌, List, length, map, take, drop, slice_index_or}
+use Rattle.std.specs.Prelude.{ℕ, ◌-◌, ◌<◌, ◌≤◌, List, length, map, take, drop, slice_index_or}
 use Rattle.gq_index.specs.declared.packed.Span.{Span}
 use Rattle.gq_index.specs.declared.walks.Neighbor.{Neighbor}
 

@@ -226,7 +226,11 @@ pub fn room_for(
 }
 
 /// Appends empty lists, each with a capacity from `room`.
-fn widen_apart(alloc: Global, lists: &mut Vec<Vec<Neighbor>>, room: &[u32]) -> Result<(), OutOfMemory>
+fn widen_apart(
+    alloc: Global,
+    lists: &mut Vec<Vec<Neighbor>>,
+    room: &[u32],
+) -> Result<(), OutOfMemory>
     ensures { IfOk result (λ _. map (λ list. list.items) lists.new.items ≡ map (λ list. list.items) lists.old.items ++ replicate (length room.now) []) }
 {
     lists.reserve(room.len())?;

@@ -63,12 +63,7 @@ fn sum(room: &[u32]) -> usize {
 
 /// Appends empty lists, with room for that many ways behind each, at most up to a limit. After `OutOfMemory` some of
 /// them may be there.
-fn append(
-    spans: &mut Vec<Span>,
-    first: u32,
-    limit: u32,
-    room: &[u32],
-) -> Result<(), OutOfMemory>
+fn append(spans: &mut Vec<Span>, first: u32, limit: u32, room: &[u32]) -> Result<(), OutOfMemory>
     requires apart { AreApart spans.old.items first }
     requires within { first ≤ limit }
     ensures apart { AreApart spans.new.items limit }

@@ -1,10 +1,9 @@
-use Rattle.std.proofs.Common.{rules, ℕ, ◌≡◌, ◌<◌, ◌++◌, [], ◌∷◌, List, length, leb, true, false, ap, ap₂, sym, subst, ◌∙◌, arith}
+use Rattle.std.proofs.Common.{rules, ◌≡◌, ◌<◌, ◌++◌, [], ◌∷◌, List, length, leb, true, false, ap, ap₂, sym, subst, ◌∙◌, arith}
 use Rattle.std.proofs.lemmas.List.{with_items_is}
 use Rattle.std.specs.List.Sorted.{IsPartitionPoint, IsPartitionedBy}
 use Rattle.gq_index.specs.declared.walks.Neighbor.{Neighbor}
-use Rattle.gq_index.specs.declared.walks.Traversal.{Traversal}
 use Rattle.gq_index.specs.Packed.{part, parts, span_at}
-use Rattle.gq_index.specs.Walks.{AreListed, way_of, ways_at}
+use Rattle.gq_index.specs.Walks.{AreListed, ways_at}
 use Rattle.gq_index.proofs.PackedLemmas.{part_at, walk_put}
 use Rattle.gq_index.proofs.packed.Packed.put.Goals as goal
 
