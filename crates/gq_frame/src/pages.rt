@@ -8,6 +8,7 @@ ghost use Rattle.gq_frame.specs.Pages.{AllFit, AllowsAt, AddsCopy, ArePages, Cha
 
 use crate::page;
 use crate::page::{PAGE_SIZE, Page};
+use crate::single::Single;
 use gq_base::{List, OutOfMemory, within};
 use gq_nest::Content;
 use gq_value::{Input, Value};
@@ -63,7 +64,7 @@ impl Pages {
         requires { at < length self.now }
         ensures { slice_get self.now at ≡ Some result.now }
     {
-        &page::items(self.pages.at(at / PAGE_SIZE))[at % PAGE_SIZE]
+        page::content(self.pages.at(at / PAGE_SIZE), at % PAGE_SIZE)
     }
 
     /// The content at an index, if there is one. Doesn't allocate.
@@ -180,7 +181,8 @@ fn push_last(alloc: Global, pages: &mut List<Page>, content: Content) -> Result<
     push_new(alloc, pages, content)
 }
 
-/// Appends a page with one content. Pages after the first are allocated in full; few accumulators need less.
+/// Appends a page with one content, whose contents are shared one by one, since few of them may change, and each may hold
+/// much. Pages after the first are allocated in full; few accumulators need less.
 fn push_new(alloc: Global, pages: &mut List<Page>, content: Content) -> Result<(), OutOfMemory>
     requires pages { ArePages pages.old }
     requires full { IsFull pages.old }
@@ -190,8 +192,8 @@ fn push_new(alloc: Global, pages: &mut List<Page>, content: Content) -> Result<(
 {
     let room = if pages.len() == 0 { 1 } else { PAGE_SIZE };
     let mut items = List::from_vec(Vec::with_capacity(alloc, room)?);
-    items.push(content)?;
-    pages.push(Page::Own(items))
+    items.push(Single::Own(content))?;
+    pages.push(Page::Loose(items))
 }
 
 /// Whether the last page has room for one more content.
