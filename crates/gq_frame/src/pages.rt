@@ -17,8 +17,9 @@ use std::marker::Model;
 
 /// The contents of all targets in order of their numbers. Contracts see their list.
 ///
-/// They are stored in pages. A copy shares the full pages whose contents fit, and a shared page is copied only when a
-/// content in it changes. So a copy costs what is changed in it.
+/// They are stored in pages. A copy shares the full pages of alike contents as wholes, and other contents one by one, if
+/// they fit. What is shared is copied only when it changes, a page with all its contents. So a copy costs what is changed
+/// in it.
 #[derive(Drop)]
 pub struct Pages {
     pages: List<Page>,
@@ -139,7 +140,7 @@ impl Pages {
         )
     }
 
-    /// Copies the contents; sealed pages are shared. Returns `OutOfMemory` if a content is spoiled, too.
+    /// Copies the contents; what is sealed is shared. Returns `OutOfMemory` if a content is spoiled, too.
     pub fn share(&self, alloc: Global) -> Result<Pages, OutOfMemory>
         ensures { IfOk result (ShowTheSame self.now) }
     {
@@ -149,14 +150,15 @@ impl Pages {
         })
     }
 
-    /// Lets copies share each full page whose contents fit. If there is no memory, a page stays unshared.
+    /// Lets copies share each full page whose contents fit, and contents that fit one by one. If there is no memory, they
+    /// stay unshared.
     pub fn seal(&mut self, alloc: Global)
         ensures { self.new ≡ self.old }
     {
         seal_all(alloc, &mut self.pages);
     }
 
-    /// Whether each content fits. Those of sealed pages do, and aren't looked at. Doesn't allocate.
+    /// Whether each content fits. What is sealed does, and isn't looked at. Doesn't allocate.
     pub fn fit(&self) -> bool
         ensures { result ≡ true → AllFit self.now }
     {
@@ -181,8 +183,8 @@ fn push_last(alloc: Global, pages: &mut List<Page>, content: Content) -> Result<
     push_new(alloc, pages, content)
 }
 
-/// Appends a page with one content, whose contents are shared one by one, since few of them may change, and each may hold
-/// much. Pages after the first are allocated in full; few accumulators need less.
+/// Appends a page with one content. Copies share the contents of such a page one by one: those of global accumulators are
+/// among them, which may hold much. Pages after the first are allocated in full; few accumulators need less.
 fn push_new(alloc: Global, pages: &mut List<Page>, content: Content) -> Result<(), OutOfMemory>
     requires pages { ArePages pages.old }
     requires full { IsFull pages.old }
