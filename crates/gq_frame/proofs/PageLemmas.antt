@@ -14,6 +14,7 @@ use Rattle.gq_nest.specs.Tells.{CanBeSet, Tells}
 use Rattle.gq_frame.specs.declared.page.Page.{Page}
 use Rattle.gq_frame.specs.declared.page.Page.TheVariants as page
 use Rattle.gq_frame.specs.declared.single.Single.{Single}
+use Rattle.gq_frame.specs.declared.single.Single.TheVariants as single
 use Rattle.gq_frame.specs.Targets.{ShowTheSame}
 use Rattle.gq_frame.specs.Pages.{AllFit, AllowsAt, ArePages, Becomes, ChangesAt, IsApart, IsFilled, IsFull, IsHeld, IsKept, IsOwnCopy, Keeps, SealEach, Seals, ShareEach, Shares, SharesContents, contents_of, content_of, each_of, items_of, page_size}
 use Rattle.gq_frame.proofs.OpenSteps.{shows_itself, same_length}
@@ -361,6 +362,11 @@ new_either ps qs q x (Ok u) a full kept is ok err = let t = new_last ps q a full
   subst ArePages (sym ok) t.1,
 )
 new_either ps qs q x (Err u) a full kept is ok err = (tt, subst ArePages (sym err) a)
+
+-- after a push of a new page with one content by itself
+pub new_single : {E : Type 0} (ps qs : List Page) (ss : List Single) (x : Content) (r : Result (Unit {0}) E) → ArePages ps → IsFull ps → ss ≡ single.Own x ∷ [] → OnOk r (qs ≡ ps ++ page.Loose ss ∷ []) → OnErr r (qs ≡ ps)
+    → OnOk r (contents_of qs ≡ contents_of ps ++ x ∷ []) × ArePages qs
+new_single ps qs ss x r a full is ok err = new_either ps qs (page.Loose ss) x r a full (subst (every IsHeld) (sym is) (tt, tt)) (ap each_of is) ok err
 
 -- ---- pages that copies share
 
