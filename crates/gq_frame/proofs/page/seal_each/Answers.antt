@@ -1,4 +1,4 @@
-use Rattle.std.proofs.Common.{arith, length}
+use Rattle.std.proofs.Common.{arith}
 use Rattle.gq_frame.proofs.SingleLemmas.{sealed_length, sealed_more, sealed_none}
 use Rattle.gq_frame.proofs.page.seal_each.Goals as goal
 
