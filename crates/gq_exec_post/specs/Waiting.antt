@@ -1,6 +1,11 @@
 -- Waiting: the inputs that wait for the end of a phase, and the contributions that they represent.
-use Rattle.std.specs.Prelude.{◌≡◌, ℕ, ◌<◌, List, [], ◌∷◌, ◌++◌, map, get_or, Some, slice_get}
+use Rattle.std.specs.Prelude.{◌≡◌, ℕ, ℤ, ◌<◌, Bool, true, List, [], ◌∷◌, ◌++◌, map, take, drop, get_or, Some, slice_get}
+use Rattle.std.specs.List.{All}
+use Rattle.std.specs.Int.{w64}
+use Rattle.std.specs.Int.RustNames.{FitsSigned}
 use Rattle.gq_value.specs.declared.kind.Input.{Input}
+use Rattle.gq_value.specs.declared.kind.Input.TheVariants as input
+use Rattle.gq_value.specs.declared.value.Value.TheVariants as value
 use Rattle.gq_value.specs.AccumViews.{given}
 use Rattle.gq_value.specs.Accums.{Accum}
 use Rattle.gq_value.specs.Typed.{suits}
@@ -13,7 +18,7 @@ use Rattle.gq_exec_contribute.specs.declared.cells.Cells.{Cells}
 use Rattle.gq_exec_contribute.specs.declared.cells.Taken.{Taken}
 use Rattle.gq_exec_contribute.specs.declared.scalars.ScalarInput.{ScalarInput}
 use Rattle.gq_exec_contribute.specs.Prepared.{Takes}
-use Rattle.gq_exec_contribute.specs.Scalars.{as_inputs, made_of}
+use Rattle.gq_exec_contribute.specs.Scalars.{as_inputs, made_of, one_int}
 use Rattle.gq_exec_post.specs.declared.waiting.Waiting.{Waiting}
 
 -- all inputs that wait, in order, each with the number of its target
@@ -46,9 +51,23 @@ pub record IsQueued (slots : Slots) (n : ℕ) (x : Input) (old new : Waiting) : 
 
 -- ---- inputs that were read
 
+-- a truth, a tuple of INTs, and INTs of which the first n are keys and the others parts
+abbrev pub one_truth : Bool → Input
+one_truth b = input.One (value.Bool b)
+
+abbrev pub tuple_of : List ℤ → Input
+tuple_of xs = input.One (value.Tuple (map value.Int xs))
+
+abbrev pub keyed_of : ℕ → List ℤ → Input
+keyed_of n xs = input.Keyed (map value.Int (take n xs)) (map one_int (drop n xs))
+
 -- each kind that takes such inputs takes this one
-pub record TakesMade (takes : Taken) (x : ScalarInput) : Type 0 where
-  pub each : (k : Accum) → Takes k takes → suits k (given (made_of x)) ≡ true
+pub record TakesEach (takes : Taken) (x : Input) : Type 0 where
+  pub each : (k : Accum) → Takes k takes → suits k (given x) ≡ true
+
+-- numbers of 64 bits
+pub record AllFit (xs : List ℤ) : Type 0 where
+  pub all : All (FitsSigned w64) xs
 
 -- the first target of a slot exists, and takes an input
 pub record MayWait (all : List Cells) (n : ℕ) (x : ScalarInput) (target : ℕ) : Type 0 where
@@ -56,4 +75,4 @@ pub record MayWait (all : List Cells) (n : ℕ) (x : ScalarInput) (target : ℕ)
   pub there : slice_get all n ≡ Some cells
   pub some : 0 < cells.targets
   pub first : target ≡ cells.first
-  pub takes : TakesMade cells.takes x
+  pub takes : TakesEach cells.takes (made_of x)

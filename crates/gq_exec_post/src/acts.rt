@@ -245,7 +245,7 @@ fn put_in(
 // ---- waiting inputs
 
 /// Queues the input of a `+=` to the global accumulator of a slot: it is read if possible, else evaluated.
-#[tactic(auto, using(crate::proofs::WaitLemmas::wait_laws))]
+#[tactic(auto, using(crate::proofs::WaitLemmas::wait_laws, crate::proofs::ReadLemmas::input_laws))]
 fn wait(
     change: &Change,
     alloc: Global,

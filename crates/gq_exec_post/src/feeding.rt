@@ -41,7 +41,8 @@ fn feed_waiting(alloc: Global, accums: &mut Accums, waiting: &Waiting) -> Result
     within(waiting.ints.len(), MOST_WAITING)?;
     within(waiting.others.len(), MOST_WAITING)?;
     feed_scalars(alloc, accums, &waiting.ints)?;
-    feed_all(alloc, accums, waiting.others.as_slice())
+    feed_all(alloc, accums, waiting.others.as_slice())?;
+    Ok(())
 }
 
 /// The accumulators, if all contents fit.

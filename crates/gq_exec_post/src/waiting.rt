@@ -1,11 +1,11 @@
 // Queues inputs to global accumulators.
 ghost use Rattle.std.specs.Prelude.{◌≡◌, [], true, IfSome, OnOk};
 ghost use Rattle.gq_exec_contribute.specs.Prepared.{AreAllCells};
-ghost use Rattle.gq_exec_contribute.specs.Scalars.{made_of};
-ghost use Rattle.gq_exec_post.specs.Waiting.{IsQueued, MayWait, TakesMade, batch_of};
+ghost use Rattle.gq_exec_contribute.specs.Scalars.{made_of, one_int};
+ghost use Rattle.gq_exec_post.specs.Waiting.{AllFit, IsQueued, MayWait, TakesEach, batch_of, keyed_of, one_truth, tuple_of};
 
 use gq_base::{List, OutOfMemory};
-use gq_exec_contribute::{Cells, Ints, ScalarInput, Taken, WaitingInputs, input_of};
+use gq_exec_contribute::{Cells, ScalarInput, Taken, WaitingInputs, input_of};
 use gq_exec_feed::place;
 use gq_frame::Slots;
 use gq_value::Input;
@@ -43,7 +43,10 @@ pub(crate) fn queue_read(
 {
     if waiting.others.len() == 0 {
         match target_of(cells, slot, x) {
-            Some(target) => return waiting.ints.push(target, x),
+            Some(target) => {
+                waiting.ints.push(target, x)?;
+                return Ok(());
+            }
             None => {}
         }
     }
@@ -63,7 +66,8 @@ pub(crate) fn queue(
     ensures { OnOk result (IsQueued slots.now slot input waiting.old waiting.new) }
 {
     let target = place(slots, slot, 0, &input)?;
-    waiting.others.push((target, input))
+    waiting.others.push((target, input))?;
+    Ok(())
 }
 
 /// The number of the first target of a slot, if it takes the input.
@@ -84,33 +88,73 @@ fn target_of(cells: &List<Cells>, slot: u32, x: &ScalarInput) -> Option<u64>
 
 /// Whether each kind that takes such inputs takes this one.
 fn takes(taken: Taken, x: &ScalarInput) -> bool
-    ensures { result ≡ true → TakesMade taken x.now }
+    ensures { result ≡ true → TakesEach taken (made_of x.now) }
 {
     match x {
-        ScalarInput::Int(_) | ScalarInput::Element(_) => match taken {
-            Taken::Int | Taken::Element => true,
-            Taken::Truth | Taken::Tuple(_) | Taken::Keyed(_, _) | Taken::Other => false,
-        },
-        ScalarInput::Truth(_) => match taken {
-            Taken::Truth => true,
-            Taken::Int | Taken::Element | Taken::Tuple(_) => false,
-            Taken::Keyed(_, _) | Taken::Other => false,
-        },
-        ScalarInput::Tuple(fields) => match taken {
-            Taken::Tuple(count) => fields.as_slice().len() == count,
-            Taken::Int | Taken::Element | Taken::Truth => false,
-            Taken::Keyed(_, _) | Taken::Other => false,
-        },
-        ScalarInput::Keyed(count, ints) => match taken {
-            Taken::Keyed(keys, parts) => *count == keys && are_both(ints, keys, parts),
-            Taken::Int | Taken::Element | Taken::Truth => false,
-            Taken::Tuple(_) | Taken::Other => false,
-        },
+        ScalarInput::Int(x) => takes_int(taken, *x),
+        ScalarInput::Truth(x) => takes_truth(taken, *x),
+        ScalarInput::Element(x) => takes_int(taken, *x),
+        ScalarInput::Tuple(fields) => takes_tuple(taken, fields.as_slice()),
+        ScalarInput::Keyed(count, ints) => takes_keyed(taken, *count, ints.as_slice()),
     }
 }
 
-/// Whether a row has as many INTs as keys and parts together.
-fn are_both(ints: &Ints, keys: usize, parts: usize) -> bool {
-    let len = ints.as_slice().len();
-    len >= keys && len - keys == parts
+/// Whether each kind that takes such inputs takes an INT.
+#[tactic(auto, using(crate::proofs::TakenLemmas::one_laws))]
+fn takes_int(taken: Taken, x: i64) -> bool
+    ensures { result ≡ true → TakesEach taken (one_int x) }
+{
+    match taken {
+        Taken::Int | Taken::Element => true,
+        Taken::Truth | Taken::Tuple(_) | Taken::Keyed(_, _) | Taken::Other => false,
+    }
+}
+
+/// Whether each kind that takes such inputs takes a truth.
+#[tactic(auto, using(crate::proofs::TakenLemmas::one_laws))]
+fn takes_truth(taken: Taken, x: bool) -> bool
+    ensures { result ≡ true → TakesEach taken (one_truth x) }
+{
+    match taken {
+        Taken::Truth => true,
+        Taken::Int | Taken::Element | Taken::Tuple(_) => false,
+        Taken::Keyed(_, _) | Taken::Other => false,
+    }
+}
+
+/// Whether each kind that takes such inputs takes a tuple of these INTs.
+fn takes_tuple(taken: Taken, fields: &[i64]) -> bool
+    ensures { result ≡ true → TakesEach taken (tuple_of fields.now) }
+{
+    match taken {
+        Taken::Tuple(count) => fields.len() == count && all_fit(fields),
+        Taken::Int | Taken::Truth | Taken::Element => false,
+        Taken::Keyed(_, _) | Taken::Other => false,
+    }
+}
+
+/// Whether each kind that takes such inputs takes so many keys, with the other INTs as parts.
+fn takes_keyed(taken: Taken, count: usize, ints: &[i64]) -> bool
+    ensures { result ≡ true → TakesEach taken (keyed_of count ints.now) }
+{
+    match taken {
+        Taken::Keyed(keys, parts) => {
+            count == keys && count <= ints.len() && ints.len() - count == parts && all_fit(ints)
+        }
+        Taken::Int | Taken::Truth | Taken::Element => false,
+        Taken::Tuple(_) | Taken::Other => false,
+    }
+}
+
+/// Whether each INT has 64 bits. It has: the loop shows that to the prover, and the compiler leaves it out.
+#[tactic(auto, using(crate::proofs::TakenLemmas::fit_laws))]
+fn all_fit(ints: &[i64]) -> bool
+    ensures { result ≡ true → AllFit ints.now }
+{
+    for x in ints {
+        if *x < i64::MIN {
+            return false;
+        }
+    }
+    true
 }
