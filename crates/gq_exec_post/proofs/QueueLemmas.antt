@@ -1,23 +1,18 @@
 -- QueueLemmas: inputs to global accumulators that are appended to those that wait.
-use Rattle.std.proofs.Common.{◌≡◌, ℕ, ◌+◌, ◌-◌, ◌<◌, ◌≤◌, List, [], ◌∷◌, ◌++◌, take, drop, map, length, get_or, Some, None, slice_get, refl, sym, ap, subst, ◌∙◌, arith}
-use Rattle.std.specs.Prelude.{ℤ}
+use Rattle.std.proofs.Common.{◌≡◌, ℕ, ◌<◌, List, [], ◌∷◌, ◌++◌, map, length, Some, slice_get, refl, sym, ap, subst, ◌∙◌, arith}
 use Rattle.std.specs.List.{All}
 use Rattle.std.specs.Option.{option_map}
-use Rattle.std.specs.Int.{w64}
-use Rattle.std.specs.Int.RustNames.{FitsSigned}
 use Rattle.std.proofs.lemmas.List.{append-nil, append_assoc, map-append}
 use Rattle.std.proofs.lemmas.List.Elements.{All-nil, All-cons, All-append}
 use Rattle.std.proofs.lemmas.Option.{get_or_from_slice_get, slice_get-map}
 use Rattle.gq_value.specs.declared.kind.Input.{Input}
 use Rattle.gq_value.specs.declared.kind.Slot.{Slot}
-use Rattle.gq_value.specs.Accums.{Given}
 use Rattle.gq_value.specs.AccumViews.{accum_of, given}
-use Rattle.gq_value.specs.Typed.{suits}
 use Rattle.gq_accum_laws.specs.Targets.{targets}
 use Rattle.gq_accum_laws.proofs.TargetLaws.{target_law}
 use Rattle.gq_rules_meaning.specs.Blocks.{Contribution}
 use Rattle.gq_frame.specs.declared.slots.Slots.{Slots}
-use Rattle.gq_frame.specs.Targets.{attached_in, number_of, targets_of}
+use Rattle.gq_frame.specs.Targets.{attached_in, number_of}
 use Rattle.gq_exec_feed.specs.Taking.{MayTake}
 use Rattle.gq_exec_contribute.specs.declared.cells.Cells.{Cells}
 use Rattle.gq_exec_contribute.specs.declared.scalars.ScalarInput.{ScalarInput}

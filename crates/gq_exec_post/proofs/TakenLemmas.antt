@@ -1,5 +1,5 @@
 -- TakenLemmas: inputs that were read, and the kinds that take them.
-use Rattle.std.proofs.Common.{◌≡◌, ℕ, ◌+◌, ◌-◌, ◌<◌, ◌≤◌, Bool, true, List, [], ◌∷◌, map, take, drop, length, get_or, refl, sym, ap, ap₂, subst, ◌∙◌}
+use Rattle.std.proofs.Common.{◌≡◌, ℕ, ◌+◌, ◌-◌, ◌<◌, ◌≤◌, Bool, List, [], ◌∷◌, map, take, drop, length, get_or, refl, sym, ap, ap₂, subst, ◌∙◌}
 use Rattle.std.specs.Prelude.{ℤ}
 use Rattle.std.specs.List.{All}
 use Rattle.std.specs.Int.{w64}
@@ -12,7 +12,6 @@ use Rattle.gq_value.specs.ViewLaws.{val-Int, val-Bool, val-Tuple}
 use Rattle.gq_value.specs.Accums.{One, Keyed, given_and}
 use Rattle.gq_value.specs.AccumViews.{given, givens}
 use Rattle.gq_value.specs.Typed.{suits}
-use Rattle.gq_value.specs.declared.kind.Input.TheVariants as input
 use Rattle.gq_value.specs.declared.value.Value.TheVariants as value
 use Rattle.gq_value.proofs.AccumLemmas.{given-One, given-Keyed}
 use Rattle.gq_exec_contribute.specs.declared.cells.Taken.{Taken}
