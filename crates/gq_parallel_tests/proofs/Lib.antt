@@ -1,3 +1,4 @@
 mod SumFits
 mod SetFits
 mod SendLemmas
+mod BlockLemmas
