@@ -49,6 +49,7 @@ pub fn open_tables(
     ensures tables { IfOk result (λ t. (clock : Calendar) (block : Block) (ends : Ends) (edge : Option ℕ) →
         AreTables (job_of clock over.now block ends edge candidates.now shape.now) (stripes.plan_of t.book) (marked.openings_of t.words)) }
     ensures seat { IfOk result (λ t. stripes.IsIdle t.book t.seat × (stripes.view_of t.seat ≡ first (stripes.plan_of t.book))) }
+    ensures seats { IfOk result (λ t. (stripes.plan_of t.book).seats ≡ seats) }
     ensures word_seat { IfOk result (λ t. marked.IsSeatOf t.words t.word_seat × (marked.view_of t.word_seat ≡ view 1 (seats - 1) [])) }
 {
     let layout = layout_of(alloc, &over.frame.accums.slots)?;
