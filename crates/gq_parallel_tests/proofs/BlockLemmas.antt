@@ -1,5 +1,5 @@
 -- BlockLemmas: what a plan with one sum defines, the layout of its targets, and the seats that a thread returns.
-use Rattle.std.proofs.Common.{◌≡◌, ℕ, List, [], ◌∷◌, true, replicate, refl, sym, ap, subst, ◌∙◌}
+use Rattle.std.proofs.Common.{◌≡◌, ℕ, List, [], ◌∷◌, true, Result, Ok, Err, IfOk, sym, ap, subst, ◌∙◌}
 use Rattle.std.specs.List.{All}
 use Rattle.std.proofs.lemmas.List.Elements.{All-nil, All-cons}
 use Rattle.gq_value.specs.declared.kind.Kind.{Kind}
@@ -26,8 +26,9 @@ use Rattle.gq_parallel_tests.specs.Blocks.{AreSums, HasSums}
 -- ---- the plan
 
 -- one accumulator, in slot 0
-pub one_numbered : (definitions : List Definition) (accums : List Accum) (accum : Accum) (k : Kind) → definitions ≡ definition.Accums k accums ∷ [] → accums ≡ accum ∷ [] → accum.slot ≡ 0 → AreNumbered definitions
-one_numbered definitions accums accum k all one slot = subst AreNumbered (sym (all ∙ ap (λ as. definition.Accums k as ∷ []) one)) ((slot, tt), tt)
+pub one_numbered : {E : Type 0} (r : Result (List Definition) E) (accums : List Accum) (accum : Accum) (k : Kind) → IfOk r (λ definitions. definitions ≡ definition.Accums k accums ∷ []) → accums ≡ accum ∷ [] → accum.slot ≡ 0 → IfOk r AreNumbered
+one_numbered (Ok definitions) accums accum k all one slot = subst AreNumbered (sym (all ∙ ap (λ (xs : List Accum). definition.Accums k xs ∷ []) one)) ((slot, tt), tt)
+one_numbered (Err e) accums accum k all one slot = tt
 
 -- ---- the sums
 

@@ -2,3 +2,4 @@ mod SumFits
 mod SetFits
 mod SendLemmas
 mod BlockLemmas
+mod BlockSend

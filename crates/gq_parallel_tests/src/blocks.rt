@@ -2,16 +2,20 @@
 //
 // `SumAccum<INT> @n = 1; S = {person.*}; T = SELECT t FROM S:s -(knows:e)-> person:t ACCUM t.@n += s.@n + 1;` over three
 // persons: the first one knows both others, and the second one the third.
-ghost use Rattle.std.specs.Prelude.{◌≡◌, ◌≤◌, ◌<◌, [], ◌∷◌, true, All, IfOk, length};
+ghost use Rattle.std.specs.Prelude.{◌≡◌, ◌≤◌, ◌<◌, [], ◌∷◌, true, All, IfOk, Some, length};
 ghost use Rattle.gq_value.specs.declared.kind.Kind.TheVariants.{Sum};
 ghost use Rattle.gq_value.specs.declared.kind.Number.TheVariants.{Int};
 ghost use Rattle.gq_graph.specs.Catalog.{most_types};
 ghost use Rattle.gq_graph.specs.Defaults.{is_plain};
 ghost use Rattle.gq_index.specs.Sights.{sight_of};
 ghost use Rattle.gq_index.specs.Walks.{adjacency};
+ghost use Rattle.gq_frame.specs.Slots.{AreSound};
 ghost use Rattle.gq_insert.specs.Fits.{IsSound};
 ghost use Rattle.gq_load.specs.Keeping.{StoreFits};
+ghost use Rattle.gq_plan_ir.specs.BlockView.{view_walk};
 ghost use Rattle.gq_plan_ir.specs.Numbered.{AreNumbered};
+ghost use Rattle.gq_plan_ir.specs.Reference.{Place};
+ghost use Rattle.gq_rules_typing.specs.Patterns.{edge_alias};
 ghost use Rattle.gq_stripe.specs.Seats as stripes;
 ghost use Rattle.gq_words.specs.Seats as marked;
 ghost use Rattle.gq_parallel_tests.specs.Blocks.{AreSums, CanWork, HasSums, IsPart};
@@ -21,7 +25,7 @@ use gq_base::{Boxed, List, OutOfMemory};
 use gq_edge::Edges;
 use gq_eval_context::BlockContext;
 use gq_exec_source::{Ends, candidates_of, ends_of};
-use gq_exec_vars::open;
+use gq_exec_vars::{Opened, open};
 use gq_frame::{Live, Slots, Thing};
 use gq_graph::{Attribute, Attributes, IdKind, IdShape};
 use gq_index::{Candidates, Graph, Index, Store, VertexList};
@@ -32,7 +36,7 @@ use gq_plan_ir::{
     Accum, Act, Behind, Block, Change, Definition, Expr, Feed, Hop, Plan, SelectSource, Types, Walk,
 };
 use gq_schema::Catalog;
-use gq_stripe::{Book, Seat};
+use gq_stripe::{Book, CloseFault, Seat};
 use gq_tree::{AddSign, InsertTree, Literal};
 use gq_value::{BaseType, Kind, Number, Slot, Txt};
 use gq_vertex::Vertices;
@@ -91,21 +95,15 @@ fn types(alloc: Global) -> Result<Catalog, Fail>
         kind: IdKind::Text,
         shown: false,
     };
-    match catalog.add_vertex_type("person", &id, &number(alloc, "age")?) {
+    let age = number(alloc, "age")?;
+    let w = number(alloc, "w")?;
+    let none = List::new(alloc);
+    match catalog.add_vertex_type("person", &id, &age) {
         Ok(_) => {}
         Err(fault) => return Err(Fail::from(fault)),
     }
     let back = Some("known_by");
-    let none = List::new(alloc);
-    match catalog.add_edge_type(
-        "knows",
-        true,
-        "person",
-        "person",
-        back,
-        &none,
-        &number(alloc, "w")?,
-    ) {
+    match catalog.add_edge_type("knows", true, "person", "person", back, &none, &w) {
         Ok(_) => Ok(catalog),
         Err(fault) => Err(Fail::from(fault)),
     }
@@ -163,10 +161,7 @@ fn definitions(alloc: Global) -> Result<List<Definition>, OutOfMemory>
     ensures { IfOk result AreNumbered }
 {
     let accums = one(alloc, counter(alloc)?)?;
-    one(
-        alloc,
-        Definition::Accums(Kind::Sum(Number::Int), accums),
-    )
+    one(alloc, Definition::Accums(Kind::Sum(Number::Int), accums))
 }
 
 // A plan with the accumulator and no statement. `knows` is edge type 0, its reverse type is edge type 1.
@@ -197,7 +192,9 @@ fn one_more(alloc: Global) -> Result<Expr, OutOfMemory> {
 }
 
 // `-(knows:e)-> person:t`
-fn hop(alloc: Global) -> Result<Walk, OutOfMemory> {
+fn hop(alloc: Global) -> Result<Walk, OutOfMemory>
+    ensures { IfOk result (λ walk. edge_alias (view_walk walk) ≡ Some (Place 2)) }
+{
     let edges = one(alloc, 0u32)?;
     let targets = one(alloc, 0u32)?;
     Ok(Walk::Hop(Hop {
@@ -209,7 +206,9 @@ fn hop(alloc: Global) -> Result<Walk, OutOfMemory> {
 }
 
 // `SELECT t FROM S:s -(knows:e)-> person:t ACCUM t.@n += s.@n + 1`
-fn block(alloc: Global) -> Result<Block, OutOfMemory> {
+fn block(alloc: Global) -> Result<Block, OutOfMemory>
+    ensures { IfOk result (λ block. edge_alias (view_walk block.walk) ≡ Some (Place 2)) }
+{
     let walk = hop(alloc)?;
     let change = Change::Feed(Feed::One(one_more(alloc)?));
     let accum = one(alloc, Act::Attached(TARGET, 0, change))?;
@@ -227,17 +226,38 @@ fn block(alloc: Global) -> Result<Block, OutOfMemory> {
     })
 }
 
-// Declares `S = {person.*}`.
-fn declare(alloc: Global, live: &mut Live) -> Result<(), OutOfMemory>
-    ensures { live.new.frame.accums ≡ live.old.frame.accums }
-{
+// `{person.*}`
+fn everyone(alloc: Global) -> Result<VertexList, OutOfMemory> {
     let mut all = VertexList::new(alloc);
     for vertex in 0..3 {
         if !all.contains(vertex) {
             all.push(vertex)?;
         }
     }
-    live.declare(SET, Thing::Set(one(alloc, 0)?, all))
+    Ok(all)
+}
+
+// `S = {person.*};`
+fn assign(alloc: Global, live: &mut Live) -> Result<(), OutOfMemory>
+    ensures { live.new.frame.accums ≡ live.old.frame.accums }
+{
+    let types = one(alloc, 0u32)?;
+    let all = everyone(alloc)?;
+    live.declare(SET, Thing::Set(types, all))
+}
+
+// Opens the plan over a graph.
+fn begun(alloc: Global, graph: Graph<'_>, plan: &Plan) -> Result<Opened, Fail>
+    requires indexed { graph.index.now ≡ adjacency (sight_of graph.catalog.now graph.store.now.vertices graph.store.now.edges) }
+    requires store { StoreFits graph.catalog.now graph.store.now }
+    requires few { length plan.now.edges ≤ most_types }
+    requires numbered { AreNumbered plan.now.definitions }
+    ensures { IfOk result (λ opened. AreSound opened.live.frame.accums) }
+{
+    rows_are_whole();
+    let mut opened = open(alloc, graph, plan, &List::new(alloc))?;
+    assign(alloc, &mut opened.live)?;
+    Ok(opened)
 }
 
 // Whether the accumulators are a sum of INTs for each of three vertices.
@@ -349,6 +369,14 @@ struct Held {
     words: Vec<u64>,
 }
 
+fn sums_in(book: Book, seat: Seat) -> Result<[Option<i128>; 3], CloseFault>
+    requires own { stripes.IsSeatOf book seat }
+    requires sums { HasSums (stripes.plan_of book) }
+{
+    let partials = book.close(seat)?;
+    Ok(three_sums(&partials))
+}
+
 // Two threads do the block's work through these tables, which are closed then.
 fn closed<R: Threads + Wait + Sync>(
     rt: &R,
@@ -371,16 +399,23 @@ fn closed<R: Threads + Wait + Sync>(
         mut word_seat,
     } = tables;
     let other = (book.split(&mut seat), words.split(&mut word_seat));
-    let (one, other) = by_two(rt, alloc, task, over, &book, &words, (seat, word_seat), other);
+    let (one, other) = by_two(
+        rt,
+        alloc,
+        task,
+        over,
+        &book,
+        &words,
+        (seat, word_seat),
+        other,
+    );
     let (mut seat, mut word_seat) = one?;
     let (other, other_words) = other?;
     book.join(&mut seat, other);
     words.join(&mut word_seat, other_words);
-    let partials = book.close(seat)?;
-    Ok(Held {
-        sums: three_sums(&partials),
-        words: words.close(word_seat)?,
-    })
+    let sums = sums_in(book, seat)?;
+    let words = words.close(word_seat)?;
+    Ok(Held { sums, words })
 }
 
 // What the tables of the block hold at the end, over this context.
@@ -397,9 +432,6 @@ fn held_over<R: Threads + Wait + Sync>(
     let ends = ends_of(alloc, &block, over.graph.catalog, over.plan, things)?;
     let candidates = candidates_of(alloc, &block, over, &ends)?;
     let tables = open_tables(alloc, over, &candidates, &SHAPE, 2)?;
-    if tables.seat.spare() < 1 {
-        return Err(Fail::new("no seat is left for the other thread"));
-    }
     let task = Task {
         block: &block,
         ends: &ends,
@@ -409,7 +441,7 @@ fn held_over<R: Threads + Wait + Sync>(
     closed(rt, alloc, &task, over, tables)
 }
 
-// Opens the plan over a graph, and does the block's work.
+// What the tables of the block hold at the end, over a graph.
 fn held_in<R: Threads + Wait + Sync>(
     rt: &R,
     alloc: Global,
@@ -422,8 +454,7 @@ fn held_in<R: Threads + Wait + Sync>(
     requires numbered { AreNumbered plan.now.definitions }
 {
     rows_are_whole();
-    let mut opened = open(alloc, graph, plan, &List::new(alloc))?;
-    declare(alloc, &mut opened.live)?;
+    let opened = begun(alloc, graph, plan)?;
     let over = BlockContext {
         graph,
         plan,
