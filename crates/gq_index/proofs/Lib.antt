@@ -1,6 +1,7 @@
 pub mod PlaceLemmas
 pub mod WalkLemmas
 pub mod ListLemmas
+pub mod PackedLemmas
 pub mod IndexLemmas
 pub mod DegreeLemmas
 pub mod SightLemmas

@@ -224,6 +224,11 @@ type_more types edges tail starts order part t e first placed cut is parted =
     ∙ ap (λ u. all ++ type_walks_behind u e first edges) is
     ∙ sym (flat_map_below (λ e. type_walks_behind (type_at types e) e first edges) e)
 
+pub type_behind_is : (t : EdgeType) (e first : ℕ) (edges : List EdgeRow)
+    → flat_map (λ r. both_ways t e (first + r) (edge_at edges (first + r))) (below (length edges - first)) ≡ type_walks_behind t e first edges
+unfolding type_walks_behind
+type_behind_is t e first edges = refl
+
 pub flat_map_to : (types : List EdgeType) (edges : List EdgeRow) (first n : ℕ) → n ≡ length types
     → flat_map (λ e. type_walks_behind (type_at types e) e first edges) (below n) ≡ walks_behind types first edges
 unfolding walks_behind

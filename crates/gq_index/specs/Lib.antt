@@ -1,6 +1,8 @@
 pub mod Places
 pub mod Sights
 pub mod Walks
+pub mod Packed
+pub mod Lists
 pub mod Runs
 pub mod Stretches
 pub mod Segments

@@ -11,7 +11,6 @@
 //! `src/put.rt`: `specs/Steps.antt` defines a row as a list of upserts, and a store as a fold of them.
 #![tactic(auto)]
 
-mod ahead;
 mod candidates;
 mod chunks;
 mod index;
@@ -19,6 +18,7 @@ mod kept;
 mod listing;
 mod lists;
 mod marks;
+mod packed;
 mod places;
 mod put;
 mod runs;

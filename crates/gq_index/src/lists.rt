@@ -1,10 +1,12 @@
-// Lists of ways, one for each vertex.
+// Lists of ways, one for each vertex, together in one list or each by itself.
 ghost use Rattle.std.specs.Prelude.{◌≡◌, ℕ, ◌+◌, ◌-◌, ◌<◌, ◌≤◌, ◌++◌, [], ◌∷◌, List, length, map, nat_le, true, false, IfOk, replicate};
 ghost use Rattle.std.specs.List.Sorted.{IsPartitionedBy, IsPartitionPoint};
 ghost use Rattle.gq_index.specs.declared.walks.Neighbor.{Neighbor};
 ghost use Rattle.gq_index.specs.declared.walks.Traversal.{Traversal};
-ghost use Rattle.gq_index.specs.Walks.{AreListed, by_type, walked};
+ghost use Rattle.gq_index.specs.Lists.{lists_of};
+ghost use Rattle.gq_index.specs.Walks.{AreListed, by_type, walked, ways_at};
 
+use crate::packed::Packed;
 use crate::walks::{Neighbor, Traversal};
 use gq_base::OutOfMemory;
 use gq_edge::EdgeEnds;
@@ -37,8 +39,16 @@ fn insert(list: &mut Vec<Neighbor>, way: Neighbor) -> Result<(), OutOfMemory>
     Ok(())
 }
 
+/// Whether a way of this type is inserted at the end.
+pub fn is_last(list: &[Neighbor], kind: u32) -> bool
+    ensures { result ≡ true → (IsPartitionedBy (λ (other : Neighbor). nat_le other.kind kind) list.now
+        → IsPartitionPoint (λ (other : Neighbor). nat_le other.kind kind ≡ true) (λ (other : Neighbor). nat_le other.kind kind ≡ false) list.now (length list.now)) }
+{
+    place_for(list, kind) == list.len()
+}
+
 /// Adds a walk to the list of its source vertex, if that exists.
-pub fn put(lists: &mut Vec<Vec<Neighbor>>, walk: Traversal) -> Result<(), OutOfMemory>
+fn put_apart(lists: &mut Vec<Vec<Neighbor>>, walk: Traversal) -> Result<(), OutOfMemory>
     ensures { IfOk result (λ _. (n count : ℕ) (walks : List Traversal) → walk.kind < count
         → AreListed n count (map (λ list. list.items) lists.old.items) walks
         → AreListed n count (map (λ list. list.items) lists.new.items) (walks ++ walk ∷ [])) }
@@ -52,6 +62,125 @@ pub fn put(lists: &mut Vec<Vec<Neighbor>>, walk: Traversal) -> Result<(), OutOfM
         target: walk.target,
     };
     insert(&mut lists[walk.source as usize], way)
+}
+
+/// A list of ways for each vertex: together, where a list can't grow past the room behind it, or apart.
+#[derive(Drop)]
+pub enum Lists {
+    Together(Packed),
+    Apart(Vec<Vec<Neighbor>>),
+}
+
+impl Lists {
+    /// Returns no lists; allocates nothing.
+    pub fn new(alloc: Global) -> Lists
+        ensures { lists_of result ≡ [] }
+    {
+        Lists::Together(Packed::new(alloc))
+    }
+
+    /// The number of lists.
+    pub fn len(&self) -> usize
+        ensures { result ≡ length (lists_of self.now) }
+    {
+        match self {
+            Lists::Together(packed) => packed.len(),
+            Lists::Apart(lists) => lists.len(),
+        }
+    }
+
+    /// The list of a vertex; empty if there is none.
+    pub fn ways(&self, vertex: usize) -> &[Neighbor]
+        ensures { result.now ≡ ways_at (lists_of self.now) vertex }
+    {
+        match self {
+            Lists::Together(packed) => packed.ways(vertex),
+            Lists::Apart(lists) => ways_in(lists, vertex),
+        }
+    }
+}
+
+/// The list of a vertex among lists apart; empty if there is none.
+fn ways_in(lists: &[Vec<Neighbor>], vertex: usize) -> &[Neighbor]
+    ensures { result.now ≡ ways_at (map (λ list. list.items) lists.now) vertex }
+{
+    if vertex >= lists.len() {
+        return &[];
+    }
+    lists[vertex].as_slice()
+}
+
+/// Adds a walk to lists that are together, if they have room for it; false, and nothing has changed, if not.
+#[inline(always)]
+fn fits(lists: &mut Lists, walk: Traversal) -> bool
+    ensures put { result ≡ true → (n count : ℕ) (walks : List Traversal) → walk.kind < count
+        → AreListed n count (lists_of lists.old) walks → AreListed n count (lists_of lists.new) (walks ++ walk ∷ []) }
+    ensures same { result ≡ false → lists_of lists.new ≡ lists_of lists.old }
+{
+    match lists {
+        Lists::Together(packed) => packed.put(walk),
+        Lists::Apart(_) => false,
+    }
+}
+
+/// Copies the lists, each by itself.
+fn copied(alloc: Global, lists: &Lists) -> Result<Vec<Vec<Neighbor>>, OutOfMemory>
+    ensures { IfOk result (λ apart. map (λ list. list.items) apart.items ≡ lists_of lists.now) }
+{
+    let count = lists.len();
+    let mut apart = Vec::new(alloc);
+    apart.reserve(count)?;
+    for vertex in 0..count {
+        let list = Vec::from_slice(alloc, lists.ways(vertex))?;
+        apart.push(list)?;
+    }
+    Ok(apart)
+}
+
+/// Separates the lists if they are together.
+fn separate(lists: &mut Lists) -> Result<(), OutOfMemory>
+    ensures { IfOk result (λ _. lists_of lists.new ≡ lists_of lists.old) }
+{
+    let alloc = match lists {
+        Lists::Together(packed) => packed.allocator(),
+        Lists::Apart(_) => return Ok(()),
+    };
+    *lists = Lists::Apart(copied(alloc, lists)?);
+    Ok(())
+}
+
+/// Adds a walk to lists that are apart.
+fn put_separated(lists: &mut Lists, walk: Traversal) -> Result<(), OutOfMemory>
+    ensures { IfOk result (λ _. (n count : ℕ) (walks : List Traversal) → walk.kind < count
+        → AreListed n count (lists_of lists.old) walks → AreListed n count (lists_of lists.new) (walks ++ walk ∷ [])) }
+{
+    match lists {
+        Lists::Together(_) => Err(OutOfMemory),
+        Lists::Apart(apart) => put_apart(apart, walk),
+    }
+}
+
+/// Adds a walk to the list of its source vertex, if that exists, and separates the lists before if they are together.
+#[cold]
+#[inline(never)]
+fn put_anyway(lists: &mut Lists, walk: Traversal) -> Result<(), OutOfMemory>
+    ensures { IfOk result (λ _. (n count : ℕ) (walks : List Traversal) → walk.kind < count
+        → AreListed n count (lists_of lists.old) walks → AreListed n count (lists_of lists.new) (walks ++ walk ∷ [])) }
+{
+    separate(lists)?;
+    put_separated(lists, walk)
+}
+
+/// Adds a walk to the list of its source vertex, if that exists. Separates the lists if that list has no room.
+#[inline(always)]
+pub fn put(lists: &mut Lists, walk: Traversal) -> Result<(), OutOfMemory>
+    ensures { IfOk result (λ _. (n count : ℕ) (walks : List Traversal) → walk.kind < count
+        → AreListed n count (lists_of lists.old) walks → AreListed n count (lists_of lists.new) (walks ++ walk ∷ [])) }
+{
+    if fits(lists, walk) {
+        return Ok(());
+    }
+    put_anyway(lists, walk)
 }
 
 /// Counts a way from a vertex, if it is one of the new ones.
@@ -97,7 +226,11 @@ pub fn room_for(
 }
 
 /// Appends empty lists, each with a capacity from `room`.
-pub fn widen(alloc: Global, lists: &mut Vec<Vec<Neighbor>>, room: &[u32]) -> Result<(), OutOfMemory>
+fn widen_apart(
+    alloc: Global,
+    lists: &mut Vec<Vec<Neighbor>>,
+    room: &[u32],
+) -> Result<(), OutOfMemory>
     ensures { IfOk result (λ _. map (λ list. list.items) lists.new.items ≡ map (λ list. list.items) lists.old.items ++ replicate (length room.now) []) }
 {
     lists.reserve(room.len())?;
@@ -106,4 +239,14 @@ pub fn widen(alloc: Global, lists: &mut Vec<Vec<Neighbor>>, room: &[u32]) -> Res
         lists.push(empty)?;
     }
     Ok(())
+}
+
+/// Appends empty lists, each with room for that many ways.
+pub fn widen(alloc: Global, lists: &mut Lists, room: &[u32]) -> Result<(), OutOfMemory>
+    ensures { IfOk result (λ _. lists_of lists.new ≡ lists_of lists.old ++ replicate (length room.now) []) }
+{
+    match lists {
+        Lists::Together(packed) => packed.widen(room),
+        Lists::Apart(apart) => widen_apart(alloc, apart, room),
+    }
 }

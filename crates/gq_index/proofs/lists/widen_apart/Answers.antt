@@ -1,6 +1,6 @@
 use Rattle.std.proofs.Common.{◌≡◌, ◌++◌, [], map, replicate, sym, ap, ◌∙◌, arith, append-nil, length}
 use Rattle.gq_index.proofs.ListLemmas.{widened_more}
-use Rattle.gq_index.proofs.lists.widen.Goals as goal
+use Rattle.gq_index.proofs.lists.widen_apart.Goals as goal
 
 pub loop-ways-init : goal.loop-ways-init
 loop-ways-init c = ap (map (λ list. list.items)) c.in_ok-reserve.ensures.items ∙ sym (append-nil (map (λ list. list.items) c.args.lists.now.items))
