@@ -123,52 +123,37 @@ fn fits(lists: &mut Lists, walk: Traversal) -> bool
     }
 }
 
-/// Copies the lists, each by itself.
-fn copied(alloc: Global, lists: &Lists) -> Result<Vec<Vec<Neighbor>>, OutOfMemory>
-    ensures { IfOk result (λ apart. map (λ list. list.items) apart.items ≡ lists_of lists.now) }
+/// Copies lists that are together, each by itself.
+fn separated(packed: &Packed) -> Result<Vec<Vec<Neighbor>>, OutOfMemory>
+    ensures { IfOk result (λ apart. map (λ list. list.items) apart.items ≡ packed.now) }
 {
-    let count = lists.len();
+    let alloc = packed.allocator();
+    let count = packed.len();
     let mut apart = Vec::new(alloc);
     apart.reserve(count)?;
     for vertex in 0..count {
-        let list = Vec::from_slice(alloc, lists.ways(vertex))?;
+        let list = Vec::from_slice(alloc, packed.ways(vertex))?;
         apart.push(list)?;
     }
     Ok(apart)
 }
 
-/// Separates the lists if they are together.
-fn separate(lists: &mut Lists) -> Result<(), OutOfMemory>
-    ensures { IfOk result (λ _. lists_of lists.new ≡ lists_of lists.old) }
-{
-    let alloc = match lists {
-        Lists::Together(packed) => packed.allocator(),
-        Lists::Apart(_) => return Ok(()),
-    };
-    *lists = Lists::Apart(copied(alloc, lists)?);
-    Ok(())
-}
-
-/// Adds a walk to lists that are apart.
-fn put_separated(lists: &mut Lists, walk: Traversal) -> Result<(), OutOfMemory>
-    ensures { IfOk result (λ _. (n count : ℕ) (walks : List Traversal) → walk.kind < count
-        → AreListed n count (lists_of lists.old) walks → AreListed n count (lists_of lists.new) (walks ++ walk ∷ [])) }
-{
-    match lists {
-        Lists::Together(_) => Err(OutOfMemory),
-        Lists::Apart(apart) => put_apart(apart, walk),
-    }
-}
-
-/// Adds a walk to the list of its source vertex, if that exists, and separates the lists before if they are together.
+/// Adds a walk to the list of its source vertex, if that exists. Lists that are together are separated before.
 #[cold]
 #[inline(never)]
 fn put_anyway(lists: &mut Lists, walk: Traversal) -> Result<(), OutOfMemory>
     ensures { IfOk result (λ _. (n count : ℕ) (walks : List Traversal) → walk.kind < count
         → AreListed n count (lists_of lists.old) walks → AreListed n count (lists_of lists.new) (walks ++ walk ∷ [])) }
 {
-    separate(lists)?;
-    put_separated(lists, walk)
+    match lists {
+        Lists::Together(packed) => {
+            let mut apart = separated(packed)?;
+            put_apart(&mut apart, walk)?;
+            *lists = Lists::Apart(apart);
+            Ok(())
+        }
+        Lists::Apart(apart) => put_apart(apart, walk),
+    }
 }
 
 /// Adds a walk to the list of its source vertex, if that exists. Separates the lists if that list has no room.

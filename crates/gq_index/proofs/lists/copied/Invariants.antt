@@ -1,6 +1,0 @@
-use Rattle.std.proofs.Common.{◌≡◌, map, take}
-use Rattle.gq_index.specs.Lists.{lists_of}
-use Rattle.gq_index.proofs.lists.copied.Given as goal
-
-abbrev pub invariant-loop-vertex : goal.invariant-loop-vertex
-invariant-loop-vertex l = map (λ list. list.items) l.apart.items ≡ take l.vertex (lists_of l.lists)
