@@ -1,9 +1,14 @@
--- Blocks: what two threads need that work on one block through a book and words, and what each of them leaves.
-use Rattle.std.specs.Prelude.{◌≡◌, ℕ, ◌<◌, List, [], ◌∷◌, Option, true, replicate}
+-- Blocks: what two threads need that work on one block through a book and words, and what each of them leaves; and the
+-- rows of the graph that they read.
+use Rattle.std.specs.Prelude.{◌≡◌, ◌≢◌, ℕ, ◌<◌, List, [], ◌∷◌, Option, true, replicate}
 use Rattle.gq_value.specs.declared.kind.Kind.TheVariants.{Sum}
 use Rattle.gq_value.specs.declared.kind.Number.TheVariants.{Int}
 use Rattle.gq_frame.specs.declared.slots.Slots.{Slots}
 use Rattle.gq_graph.specs.declared.rows.Candidate.{Candidate}
+use Rattle.gq_graph.specs.declared.rows.EdgeRow.{EdgeRow}
+use Rattle.gq_graph.specs.declared.rows.VertexRow.{VertexRow}
+use Rattle.gq_graph.specs.declared.types.IdKind.TheVariants.{Text}
+use Rattle.gq_graph.specs.declared.types.VertexType.{VertexType}
 use Rattle.gq_io.specs.declared.shape.Shape.{Shape}
 use Rattle.gq_plan_ir.specs.declared.block.Block.{Block}
 use Rattle.gq_rules_calendar.specs.Gregorian.{gregorian}
@@ -20,6 +25,24 @@ use Rattle.gq_words.specs.declared.seat.WordSeat.{WordSeat}
 use Rattle.gq_words.specs.Seats as marked
 use Rattle.gq_workers.specs.Working.{AreTables, IsEdgePlace, Job, Works, job_of}
 
+-- ---- the graph
+
+-- a vertex type without attributes, whose ids are texts
+pub record IsBare (t : VertexType) : Type 0 where
+  pub id : t.id.kind ≡ Text
+  pub attributes : t.attributes ≡ []
+
+-- a vertex with an id
+abbrev pub IsPerson : VertexRow → Type 0
+IsPerson row = row.id ≢ []
+
+-- both ends of an edge are below a number
+pub record IsAmong (count : ℕ) (edge : EdgeRow) : Type 0 where
+  pub from : edge.from < count
+  pub to : edge.to < count
+
+-- ---- the block
+
 -- the block as a job for workers, with the alias of its edge at a place
 abbrev pub job_at : Over → Block → Ends → List Candidate → Shape → Option ℕ → Job
 job_at o block ends cs shape edge = job_of gregorian o block ends edge cs shape
@@ -34,11 +57,10 @@ pub record CanWork (o : Over) (block : Block) (ends : Ends) (cs : List Candidate
   pub tables : (edge : Option ℕ) → IsEdgePlace block edge → AreTables (job_at o block ends cs shape edge) (stripes.plan_of book) (marked.openings_of words)
 
 -- a thread returns the seats that it was given, and did the block's work through them until no chunk was left
-pub record IsPart (o : Over) (block : Block) (ends : Ends) (cs : List Candidate) (shape : Shape) (book : Book) (words : Words) (seat : Seat) (word_seat : WordSeat) (r : Seat × WordSeat) : Type 0 where
-  pub free : stripes.IsFree book r.0
-  pub own : marked.IsSeatOf words r.1
-  pub works : (edge : Option ℕ) → IsEdgePlace block edge
-      → Works (job_at o block ends cs shape edge) (stripes.view_of seat) (stripes.view_of r.0) (marked.view_of word_seat) (marked.view_of r.1)
+abbrev pub IsPart : Over → Block → Ends → List Candidate → Shape → Book → Words → Seat → WordSeat → Seat × WordSeat → Type 0
+IsPart o block ends cs shape book words seat word_seat r = stripes.IsFree book r.0 × marked.IsSeatOf words r.1
+    × ((edge : Option ℕ) → IsEdgePlace block edge
+    → Works (job_at o block ends cs shape edge) (stripes.view_of seat) (stripes.view_of r.0) (marked.view_of word_seat) (marked.view_of r.1))
 
 -- a sum of INTs for each of three vertices, and no other accumulator
 abbrev pub AreSums : Slots → Type 0

@@ -2,43 +2,39 @@
 //
 // `SumAccum<INT> @n = 1; S = {person.*}; T = SELECT t FROM S:s -(knows:e)-> person:t ACCUM t.@n += s.@n + 1;` over three
 // persons: the first one knows both others, and the second one the third.
-ghost use Rattle.std.specs.Prelude.{◌≡◌, ◌≤◌, ◌<◌, [], ◌∷◌, true, All, IfOk, Some, length};
-ghost use Rattle.gq_value.specs.declared.kind.Kind.TheVariants.{Sum};
+ghost use Rattle.std.specs.Prelude.{◌≡◌, ◌≢◌, ◌≤◌, ◌<◌, [], ◌∷◌, true, All, IfOk, Some, length};
+ghost use Rattle.gq_value.specs.Accums.{SumAccum};
 ghost use Rattle.gq_value.specs.declared.kind.Number.TheVariants.{Int};
 ghost use Rattle.gq_graph.specs.Catalog.{most_types};
 ghost use Rattle.gq_graph.specs.Defaults.{is_plain};
-ghost use Rattle.gq_index.specs.Sights.{sight_of};
-ghost use Rattle.gq_index.specs.Walks.{adjacency};
-ghost use Rattle.gq_frame.specs.Slots.{AreSound};
-ghost use Rattle.gq_insert.specs.Fits.{IsSound};
-ghost use Rattle.gq_load.specs.Keeping.{StoreFits};
-ghost use Rattle.gq_plan_ir.specs.BlockView.{view_walk};
-ghost use Rattle.gq_plan_ir.specs.Numbered.{AreNumbered};
-ghost use Rattle.gq_plan_ir.specs.Reference.{Place};
+ghost use Rattle.gq_graph.specs.Edges.{Agrees, naming_with};
+ghost use Rattle.gq_index.specs.Rows.{HaveEnds};
 ghost use Rattle.gq_rules_typing.specs.Patterns.{edge_alias};
+ghost use Rattle.gq_plan_ir.specs.BlockView.{view_walk};
+ghost use Rattle.gq_plan_ir.specs.Reference.{Place};
+ghost use Rattle.gq_eval_operand.specs.Sound.{IsSound};
+ghost use Rattle.gq_frame.specs.Slots.{AreSound};
+ghost use Rattle.gq_exec_source.specs.Ends.{HasEnds};
 ghost use Rattle.gq_stripe.specs.Seats as stripes;
 ghost use Rattle.gq_words.specs.Seats as marked;
-ghost use Rattle.gq_parallel_tests.specs.Blocks.{AreSums, CanWork, HasSums, IsPart};
+ghost use Rattle.gq_parallel_tests.specs.Blocks.{AreSums, CanWork, HasSums, IsAmong, IsBare, IsPart, IsPerson};
 
 use crate::threads::three_sums;
+use gq_accum::{Scalar, Sum};
 use gq_base::{Boxed, List, OutOfMemory};
 use gq_edge::Edges;
 use gq_eval_context::BlockContext;
 use gq_exec_source::{Ends, candidates_of, ends_of};
-use gq_exec_vars::{Opened, open};
-use gq_frame::{Live, Slots, Thing};
-use gq_graph::{Attribute, Attributes, IdKind, IdShape};
+use gq_frame::{Accums, Frame, Pages, Slots, Thing};
+use gq_graph::{Attributes, IdKind, IdShape, StoreFault};
 use gq_index::{Candidates, Graph, Index, Store, VertexList};
-use gq_insert::{catalogs_are_sound, insert_row};
 use gq_io::{OpenGate, Shape};
-use gq_load::{rows_are_whole, stores_stay_fit};
-use gq_plan_ir::{
-    Accum, Act, Behind, Block, Change, Definition, Expr, Feed, Hop, Plan, SelectSource, Types, Walk,
-};
+use gq_nest::Content;
+use gq_plan_ir::{Act, Behind, Block, Change, Expr, Feed, Hop, Plan, SelectSource, Types, Walk};
 use gq_schema::Catalog;
 use gq_stripe::{Book, CloseFault, Seat};
-use gq_tree::{AddSign, InsertTree, Literal};
-use gq_value::{BaseType, Kind, Number, Slot, Txt};
+use gq_tree::AddSign;
+use gq_value::{Kind, Number, Slot, Txt};
 use gq_vertex::Vertices;
 use gq_words::{WordSeat, Words};
 use gq_workers::{Tables, open_tables, work};
@@ -70,117 +66,140 @@ fn one<T: Drop>(alloc: Global, item: T) -> Result<List<T>, OutOfMemory>
     Ok(items)
 }
 
-// An INT attribute.
-fn number(alloc: Global, name: &str) -> Result<Attributes, OutOfMemory>
-    ensures { IfOk result (All (λ a. is_plain a ≡ true)) }
+fn no_attributes(alloc: Global) -> Attributes
+    ensures none { result ≡ [] }
+    ensures plain { All (λ a. is_plain a ≡ true) result }
 {
-    one(
-        alloc,
-        Attribute {
-            name: Txt::of(alloc, name)?,
-            kind: BaseType::Int,
-            default: None,
-        },
-    )
+    List::new(alloc)
 }
 
 // Persons, and edges from one to another.
 fn types(alloc: Global) -> Result<Catalog, Fail>
-    ensures { IfOk result IsSound }
+    ensures { IfOk result (λ catalog. All IsBare catalog.vertex_types) }
 {
-    catalogs_are_sound();
     let mut catalog = Catalog::new(alloc);
     let id = IdShape {
         name: Txt::of(alloc, "id")?,
         kind: IdKind::Text,
         shown: false,
     };
-    let age = number(alloc, "age")?;
-    let w = number(alloc, "w")?;
-    let none = List::new(alloc);
-    match catalog.add_vertex_type("person", &id, &age) {
-        Ok(_) => {}
-        Err(fault) => return Err(Fail::from(fault)),
-    }
+    let none = no_attributes(alloc);
     let back = Some("known_by");
-    match catalog.add_edge_type("knows", true, "person", "person", back, &none, &w) {
-        Ok(_) => Ok(catalog),
-        Err(fault) => Err(Fail::from(fault)),
+    catalog.add_vertex_type("person", &id, &none)?;
+    catalog.add_edge_type("knows", true, "person", "person", back, &none, &none)?;
+    Ok(catalog)
+}
+
+fn add(vertices: &mut Vertices, alloc: Global, id: &str) -> Result<(), StoreFault>
+    requires id { id.now ≢ [] }
+    requires persons { All IsPerson vertices.old }
+    ensures { All IsPerson vertices.new }
+{
+    match vertices.upsert(0, id, &mut List::new(alloc)) {
+        Ok(_) => Ok(()),
+        Err(fault) => Err(fault),
     }
 }
 
-// `INSERT INTO person VALUES (id, age)`
-fn person(alloc: Global, id: &str, age: u64) -> Result<InsertTree, OutOfMemory> {
-    let name = Txt::of(alloc, "person")?;
-    let mut values = one(alloc, Some(Literal::Text(Txt::of(alloc, id)?)))?;
-    values.push(Some(Literal::Number(false, age)))?;
-    Ok(InsertTree { name, values })
-}
-
-// `INSERT INTO knows VALUES (from, to, w)`
-fn knows(alloc: Global, from: &str, to: &str, w: u64) -> Result<InsertTree, OutOfMemory> {
-    let name = Txt::of(alloc, "knows")?;
-    let mut values = one(alloc, Some(Literal::Text(Txt::of(alloc, from)?)))?;
-    values.push(Some(Literal::Text(Txt::of(alloc, to)?)))?;
-    values.push(Some(Literal::Number(false, w)))?;
-    Ok(InsertTree { name, values })
-}
-
-fn persons(alloc: Global, catalog: &Catalog) -> Result<Store, Fail>
-    requires { IsSound catalog.now }
-    ensures { IfOk result (StoreFits catalog.now) }
+fn persons(alloc: Global) -> Result<Vertices, StoreFault>
+    ensures { IfOk result (All IsPerson) }
 {
-    stores_stay_fit();
-    let mut store = Store {
-        vertices: Vertices::new(alloc),
-        edges: Edges::new(alloc),
-    };
-    for (id, age) in [("a", 1), ("b", 2), ("c", 3)] {
-        insert_row(alloc, catalog, &mut store, &person(alloc, id, age)?)?;
+    let mut vertices = Vertices::new(alloc);
+    add(&mut vertices, alloc, "a")?;
+    add(&mut vertices, alloc, "b")?;
+    add(&mut vertices, alloc, "c")?;
+    Ok(vertices)
+}
+
+fn relate(edges: &mut Edges, alloc: Global, from: u32, to: u32) -> Result<(), StoreFault>
+    requires from { from < 3 }
+    requires to { to < 3 }
+    requires agrees { Agrees edges.old.namings (naming_with 0 true 0) }
+    requires within { All (IsAmong 3) edges.old.rows }
+    ensures agrees { Agrees edges.new.namings (naming_with 0 true 0) }
+    ensures within { All (IsAmong 3) edges.new.rows }
+{
+    match edges.upsert(0, true, from, to, 0, &mut List::new(alloc)) {
+        Ok(_) => Ok(()),
+        Err(fault) => Err(fault),
     }
-    for (from, to, w) in [("a", "b", 10), ("a", "c", 20), ("b", "c", 30)] {
-        insert_row(alloc, catalog, &mut store, &knows(alloc, from, to, w)?)?;
+}
+
+fn knows(alloc: Global) -> Result<Edges, StoreFault>
+    ensures { IfOk result (λ edges. All (IsAmong 3) edges.rows) }
+{
+    let mut edges = Edges::new(alloc);
+    relate(&mut edges, alloc, 0, 1)?;
+    relate(&mut edges, alloc, 0, 2)?;
+    relate(&mut edges, alloc, 1, 2)?;
+    Ok(edges)
+}
+
+fn store(alloc: Global) -> Result<Store, Fail>
+    ensures persons { IfOk result (λ store. All IsPerson store.vertices) }
+    ensures ends { IfOk result (λ store. HaveEnds store.vertices store.edges.rows) }
+{
+    let vertices = persons(alloc)?;
+    if vertices.len() < 3 {
+        return Err(Fail::new("a person is missing"));
     }
-    Ok(store)
+    let edges = knows(alloc)?;
+    Ok(Store { vertices, edges })
 }
 
-// `@n = 1`
-fn counter(alloc: Global) -> Result<Accum, OutOfMemory>
-    ensures { IfOk result (λ accum. accum.slot ≡ 0) }
-{
-    Ok(Accum {
-        attached: true,
-        slot: 0,
-        name: Txt::of(alloc, "@n")?,
-        opening: Some(Expr::Number(1)),
-    })
-}
-
-// `SumAccum<INT> @n = 1;`
-fn definitions(alloc: Global) -> Result<List<Definition>, OutOfMemory>
-    ensures { IfOk result AreNumbered }
-{
-    let accums = one(alloc, counter(alloc)?)?;
-    one(alloc, Definition::Accums(Kind::Sum(Number::Int), accums))
-}
-
-// A plan with the accumulator and no statement. `knows` is edge type 0, its reverse type is edge type 1.
+// A plan of no statement, over a graph of these types. `knows` is edge type 0, its reverse type is edge type 1.
 fn plan(alloc: Global) -> Result<Plan, OutOfMemory>
-    ensures numbered { IfOk result (λ plan. AreNumbered plan.definitions) }
-    ensures few { IfOk result (λ plan. length plan.edges ≤ most_types) }
+    ensures { IfOk result (λ plan. length plan.edges ≤ most_types) }
 {
-    let definitions = definitions(alloc)?;
     let vertices = one(alloc, 0u32)?;
     let mut edges = one(alloc, 0u32)?;
     edges.push(1)?;
     Ok(Plan {
         parameters: List::new(alloc),
         with_paths: false,
-        definitions,
+        definitions: List::new(alloc),
         steps: List::new(alloc),
         vertices,
         edges,
     })
+}
+
+// Appends a sum of 1.
+fn push_one(alloc: Global, sums: &mut Pages) -> Result<(), OutOfMemory>
+    requires { All (IsSound (SumAccum Int)) sums.old }
+    ensures { All (IsSound (SumAccum Int)) sums.new }
+{
+    sums.push(alloc, Content::Scalar(Scalar::SumInt(Sum::of(1))))
+}
+
+fn three_ones(alloc: Global) -> Result<Pages, OutOfMemory>
+    ensures { IfOk result (All (IsSound (SumAccum Int))) }
+{
+    let mut sums = Pages::new(alloc);
+    push_one(alloc, &mut sums)?;
+    push_one(alloc, &mut sums)?;
+    push_one(alloc, &mut sums)?;
+    Ok(sums)
+}
+
+// `SumAccum<INT> @n = 1;`
+fn accums(alloc: Global) -> Result<Accums, OutOfMemory>
+    ensures slots { IfOk result (λ accums. AreSums accums.slots) }
+    ensures sound { IfOk result AreSound }
+{
+    let contents = three_ones(alloc)?;
+    let declared = one(
+        alloc,
+        Slot {
+            kind: Kind::Sum(Number::Int),
+            attached: true,
+        },
+    )?;
+    let slots = Slots {
+        declared,
+        vertices: 3,
+    };
+    Ok(Accums { slots, contents })
 }
 
 // `s.@n + 1`
@@ -238,45 +257,15 @@ fn everyone(alloc: Global) -> Result<VertexList, OutOfMemory> {
 }
 
 // `S = {person.*};`
-fn assign(alloc: Global, live: &mut Live) -> Result<(), OutOfMemory>
-    ensures { live.new.frame.accums ≡ live.old.frame.accums }
+fn frame(alloc: Global) -> Result<Frame, OutOfMemory>
+    ensures slots { IfOk result (λ frame. AreSums frame.accums.slots) }
+    ensures sound { IfOk result (λ frame. AreSound frame.accums) }
 {
+    let accums = accums(alloc)?;
     let types = one(alloc, 0u32)?;
     let all = everyone(alloc)?;
-    live.declare(SET, Thing::Set(types, all))
-}
-
-// Opens the plan over a graph.
-fn begun(alloc: Global, graph: Graph<'_>, plan: &Plan) -> Result<Opened, Fail>
-    requires indexed { graph.index.now ≡ adjacency (sight_of graph.catalog.now graph.store.now.vertices graph.store.now.edges) }
-    requires store { StoreFits graph.catalog.now graph.store.now }
-    requires few { length plan.now.edges ≤ most_types }
-    requires numbered { AreNumbered plan.now.definitions }
-    ensures { IfOk result (λ opened. AreSound opened.live.frame.accums) }
-{
-    rows_are_whole();
-    let mut opened = open(alloc, graph, plan, &List::new(alloc))?;
-    assign(alloc, &mut opened.live)?;
-    Ok(opened)
-}
-
-// Whether the accumulators are a sum of INTs for each of three vertices.
-fn are_sums(slots: &Slots) -> bool
-    ensures { result ≡ true → AreSums slots.now }
-{
-    match slots.declared.as_slice() {
-        [slot] => slots.vertices == 3 && is_attached_sum(slot),
-        [] | [_, _, ..] => false,
-    }
-}
-
-fn is_attached_sum(slot: &Slot) -> bool
-    ensures { result ≡ true → slot.now ≡ record { kind = Sum Int; attached = true } }
-{
-    match slot.kind {
-        Kind::Sum(Number::Int) => slot.attached,
-        _ => false,
-    }
+    let things = one(alloc, Some(Thing::Set(types, all)))?;
+    Ok(Frame { things, accums })
 }
 
 // What both threads work with, beside what the block reads.
@@ -418,18 +407,23 @@ fn closed<R: Threads + Wait + Sync>(
     Ok(Held { sums, words })
 }
 
+fn ends_over(alloc: Global, block: &Block, over: &BlockContext<'_>) -> Result<Ends, OutOfMemory>
+    ensures { IfOk result (HasEnds over.now.schema over.now.plan over.now.frame.things block.now) }
+{
+    let things = over.frame.things.as_slice();
+    ends_of(alloc, block, over.graph.catalog, over.plan, things)
+}
+
 // What the tables of the block hold at the end, over this context.
 fn held_over<R: Threads + Wait + Sync>(
     rt: &R,
     alloc: Global,
     over: &BlockContext<'_>,
-) -> Result<Held, Fail> {
-    if !are_sums(&over.frame.accums.slots) {
-        return Err(Fail::new("the accumulators aren't those of the block"));
-    }
+) -> Result<Held, Fail>
+    requires { AreSums over.now.frame.accums.slots }
+{
     let block = block(alloc)?;
-    let things = over.frame.things.as_slice();
-    let ends = ends_of(alloc, &block, over.graph.catalog, over.plan, things)?;
+    let ends = ends_over(alloc, &block, over)?;
     let candidates = candidates_of(alloc, &block, over, &ends)?;
     let tables = open_tables(alloc, over, &candidates, &SHAPE, 2)?;
     let task = Task {
@@ -441,39 +435,38 @@ fn held_over<R: Threads + Wait + Sync>(
     closed(rt, alloc, &task, over, tables)
 }
 
-// What the tables of the block hold at the end, over a graph.
+// What they hold, over a graph.
+#[tactic(auto, using(crate::proofs::RowLemmas::persons_whole))]
 fn held_in<R: Threads + Wait + Sync>(
     rt: &R,
     alloc: Global,
-    graph: Graph<'_>,
-    plan: &Plan,
+    catalog: &Catalog,
+    store: &Store,
 ) -> Result<Held, Fail>
-    requires indexed { graph.index.now ≡ adjacency (sight_of graph.catalog.now graph.store.now.vertices graph.store.now.edges) }
-    requires store { StoreFits graph.catalog.now graph.store.now }
-    requires few { length plan.now.edges ≤ most_types }
-    requires numbered { AreNumbered plan.now.definitions }
+    requires types { All IsBare catalog.now.vertex_types }
+    requires persons { All IsPerson store.now.vertices }
+    requires ends { HaveEnds store.now.vertices store.now.edges.rows }
 {
-    rows_are_whole();
-    let opened = begun(alloc, graph, plan)?;
+    let index = Index::build(alloc, catalog, store)?;
+    let plan = plan(alloc)?;
+    let frame = frame(alloc)?;
     let over = BlockContext {
-        graph,
-        plan,
-        tuples: opened.tuples.as_slice(),
-        frame: &opened.live.frame,
+        graph: Graph {
+            catalog,
+            store,
+            index: &index,
+        },
+        plan: &plan,
+        tuples: &[],
+        frame: &frame,
     };
     held_over(rt, alloc, &over)
 }
 
 fn held<R: Threads + Wait + Sync>(rt: &R, alloc: Global) -> Result<Held, Fail> {
     let catalog = types(alloc)?;
-    let store = persons(alloc, &catalog)?;
-    let index = Index::build(alloc, &catalog, &store)?;
-    let graph = Graph {
-        catalog: &catalog,
-        store: &store,
-        index: &index,
-    };
-    held_in(rt, alloc, graph, &plan(alloc)?)
+    let store = store(alloc)?;
+    held_in(rt, alloc, &catalog, &store)
 }
 
 #[test]
