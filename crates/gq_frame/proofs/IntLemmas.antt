@@ -1,7 +1,6 @@
 -- IntLemmas: one more INT, in a scalar and in its content.
-use Rattle.std.proofs.Common.{◌≡◌, ℕ, ◌+◌, ◌*◌, ◌^◌, ◌<◌, ◌≤◌, ℤ, pos, ◌+ℤ◌, [], ◌∷◌, refl, sym, ap, ap₂, ◌∙◌, subst, arith, FitsSigned, bit_and, bit_or, w64, to_z, of_z}
+use Rattle.std.proofs.Common.{◌≡◌, ℕ, ◌+◌, ◌^◌, ◌<◌, ℤ, ◌+ℤ◌, [], ◌∷◌, refl, sym, ap, ap₂, ◌∙◌, subst, FitsSigned, bit_and, bit_or, w64, to_z, of_z}
 use Rattle.std.specs.Int.{w128, int_min, int_max}
-use Rattle.std.proofs.lemmas.Int.{ints, to_z-of_z}
 use Rattle.gq_value.specs.Val.{Int}
 use Rattle.gq_value.specs.Accums.{Given, One}
 use Rattle.gq_accum_laws.specs.After.{after}

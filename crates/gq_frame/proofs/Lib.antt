@@ -1,5 +1,6 @@
 pub mod TargetLemmas
 pub mod OpenSteps
+pub mod SingleLemmas
 pub mod PageLemmas
 pub mod FillLemmas
 pub mod IntLemmas

@@ -83,7 +83,7 @@ shows_itself c d e = record { each = λ k h s. subst (λ x. Shows k x h) e s }
 pub same_first : (cs : List Content) → cs ≡ [] → ShowTheSame [] cs
 same_first cs e = subst (ShowTheSame []) (sym e) tt
 
-same_last : (xs ys : List Content) (x y : Content) → ShowsTheSame x y → ShowTheSame xs ys → ShowTheSame (xs ++ x ∷ []) (ys ++ y ∷ [])
+pub same_last : (xs ys : List Content) (x y : Content) → ShowsTheSame x y → ShowTheSame xs ys → ShowTheSame (xs ++ x ∷ []) (ys ++ y ∷ [])
 same_last [] [] x y h s = (h, tt)
 same_last [] (d ∷ ys) x y h s = absurd s
 same_last (c ∷ xs) [] x y h s = absurd s

@@ -13,9 +13,12 @@ use Rattle.gq_nest.specs.Shows.{ShowsTheSame}
 use Rattle.gq_nest.specs.Tells.{CanBeSet, Tells}
 use Rattle.gq_frame.specs.declared.page.Page.{Page}
 use Rattle.gq_frame.specs.declared.page.Page.TheVariants as page
+use Rattle.gq_frame.specs.declared.single.Single.{Single}
+use Rattle.gq_frame.specs.declared.single.Single.TheVariants as single
 use Rattle.gq_frame.specs.Targets.{ShowTheSame}
-use Rattle.gq_frame.specs.Pages.{AllFit, AllowsAt, ArePages, ChangesAt, IsFilled, IsFull, IsKept, IsOwnCopy, Keeps, SealEach, Seals, ShareEach, Shares, contents_of, items_of, page_size}
+use Rattle.gq_frame.specs.Pages.{AllFit, AllowsAt, ArePages, Becomes, ChangesAt, IsApart, IsFilled, IsFull, IsHeld, IsKept, IsOwnCopy, Keeps, SealEach, Seals, ShareEach, Shares, SharesContents, contents_of, content_of, each_of, items_of, page_size}
 use Rattle.gq_frame.proofs.OpenSteps.{shows_itself, same_length}
+use Rattle.gq_frame.proofs.SingleLemmas.{each_get, each_length, each_set, held_set, same_put}
 use Rattle.gq_frame.proofs.TargetLemmas.{get_below, take_more}
 
 some_is : {A : Type 0} {a b : A} → Some a ≡ Some b → a ≡ b
@@ -93,13 +96,20 @@ length_set [] i w = refl
 length_set (x ∷ xs) zero w = refl
 length_set (x ∷ xs) (suc i) w = ap suc (length_set xs i w)
 
+get_set : (xs : List Content) (i : ℕ) (w : Content) → i < length xs → slice_get (slice_set xs i w) i ≡ Some w
+get_set [] i w l = absurd (omega (arith, l))
+get_set (x ∷ xs) zero w l = refl
+get_set (x ∷ xs) (suc i) w l = get_set xs i w (omega (arith, l))
+
+set_twice : (xs : List Content) (i : ℕ) (v w : Content) → slice_set (slice_set xs i v) i w ≡ slice_set xs i w
+set_twice [] i v w = refl
+set_twice (x ∷ xs) zero v w = refl
+set_twice (x ∷ xs) (suc i) v w = ap (λ t. x ∷ t) (set_twice xs i v w)
+
 -- ---- one page
 
-own_is : {xs ys : List Content} → page.Own xs ≡ page.Own ys → xs ≡ ys
-own_is h = cc
-
 pub own_items : (p q : Page) (xs : List Content) → IsOwnCopy p q → q ≡ page.Own xs → ShowTheSame (items_of p) xs
-own_items p q xs h e = subst (ShowTheSame (items_of p)) (own_is (sym h.owned ∙ e)) h.same
+own_items p q xs h e = subst (λ (x : Page). ShowTheSame (items_of p) (items_of x)) e h.same
 
 pub own_bound : (p q : Page) (xs : List Content) (at : ℕ) → IsOwnCopy p q → q ≡ page.Own xs → at < length (items_of p) → at < length xs
 own_bound p q xs at h e l = let n = same_length (items_of p) xs (own_items p q xs h e) in omega (arith, n, l)
@@ -114,13 +124,26 @@ allows_own p q xs at v c h e allows g =
     record { kind = can.kind; holds = can.holds; shows = b.2.each can.kind can.holds can.shows; settable = can.settable; takes = can.takes }
 
 pub own_self : (p : Page) (xs : List Content) → p ≡ page.Own xs → IsOwnCopy p p
-own_self p xs e = record { items = xs; owned = e; same = subst (λ (q : Page). ShowTheSame (items_of q) xs) (sym e) (same_refl xs) }
+own_self p xs e = record { apart = subst IsApart (sym e) tt; same = same_refl (items_of p); kept = λ k. k }
+
+pub loose_self : (p : Page) (ss : List Single) → p ≡ page.Loose ss → IsOwnCopy p p
+loose_self p ss e = record { apart = subst IsApart (sym e) tt; same = same_refl (items_of p); kept = λ k. k }
 
 pub own_as : (p : Page) (xs : List Content) → p ≡ page.Own xs → IsOwnCopy p (page.Own xs)
-own_as p xs e = record { items = xs; owned = refl; same = subst (λ (q : Page). ShowTheSame (items_of q) xs) (sym e) (same_refl xs) }
+own_as p xs e = record { apart = tt; same = subst (λ (q : Page). ShowTheSame (items_of q) xs) (sym e) (same_refl xs); kept = λ k. tt }
+
+pub loose_as : (p : Page) (ss : List Single) → p ≡ page.Loose ss → IsOwnCopy p (page.Loose ss)
+loose_as p ss e = record { apart = tt; same = subst (λ (q : Page). ShowTheSame (items_of q) (each_of ss)) (sym e) (same_refl (each_of ss)); kept = λ k. subst IsKept e k }
 
 pub own_last : (p : Page) (s : Arc (List Content) Global) (xs : List Content) → p ≡ page.Shared s → xs ≡ arc_value s → IsOwnCopy p (page.Own xs)
-own_last p s xs e f = record { items = xs; owned = refl; same = subst (λ (q : Page). ShowTheSame (items_of q) xs) (sym e) (subst (ShowTheSame (arc_value s)) (sym f) (same_refl (arc_value s))) }
+own_last p s xs e f = record { apart = tt; same = subst (λ (q : Page). ShowTheSame (items_of q) xs) (sym e) (subst (ShowTheSame (arc_value s)) (sym f) (same_refl (arc_value s))); kept = λ k. tt }
+
+pub own_copy : (p : Page) (s : Arc (List Content) Global) (xs : List Content) → p ≡ page.Shared s → ShowTheSame (arc_value s) xs → IsOwnCopy p (page.Own xs)
+own_copy p s xs e h = record { apart = tt; same = subst (λ (q : Page). ShowTheSame (items_of q) xs) (sym e) h; kept = λ k. tt }
+
+-- such a page isn't shared
+pub never_shared : {P : Type 0} (p q : Page) (s : Arc (List Content) Global) → IsOwnCopy p q → q ≡ page.Shared s → P
+never_shared p q s h e = absurd (subst IsApart e h.apart)
 
 pub shares_shared : (p : Page) (s t : Arc (List Content) Global) → p ≡ page.Shared s → arc_value t ≡ arc_value s → Shares p (page.Shared t)
 shares_shared p s t e f = subst (λ (q : Page). Shares q (page.Shared t)) (sym e) (record {
@@ -128,7 +151,42 @@ shares_shared p s t e f = subst (λ (q : Page). Shares q (page.Shared t)) (sym e
   kept = λ k. subst (λ xs. (length xs ≡ page_size) × AllFit xs) (sym f) k;
 })
 
-pub ruleset own_laws = (own_bound, keeps_own, allows_own, own_self, own_as, own_last, shares_shared)
+pub ruleset own_laws = (own_bound, keeps_own, allows_own, own_self, own_as, own_last, own_copy, loose_self, loose_as, shares_shared)
+
+-- ---- a page of contents one by one
+
+pub shares_loose : (p : Page) (ss ts : List Single) → p ≡ page.Loose ss → SharesContents ss ts → Shares p (page.Loose ts)
+shares_loose p ss ts e h = subst (λ (q : Page). Shares q (page.Loose ts)) (sym e) (record { same = h.same; kept = h.held })
+
+loose_items : (p q : Page) (ss : List Single) → IsOwnCopy p q → q ≡ page.Loose ss → ShowTheSame (items_of p) (each_of ss)
+loose_items p q ss h e = subst (λ (x : Page). ShowTheSame (items_of p) (items_of x)) e h.same
+
+pub loose_bound : (p q : Page) (ss : List Single) (at : ℕ) → IsOwnCopy p q → q ≡ page.Loose ss → at < length (items_of p) → at < length ss
+loose_bound p q ss at h e l = let n = same_length (items_of p) (each_of ss) (loose_items p q ss h e) in let m = each_length ss in omega (arith, n, m, l)
+
+pub keeps_loose : (p q : Page) (ss : List Single) (at : ℕ) (s t : Single) → IsOwnCopy p q → q ≡ page.Loose ss → slice_get ss at ≡ Some s → (IsHeld s → IsHeld t) → Keeps p (page.Loose (slice_set ss at t))
+keeps_loose p q ss at s t h e g held = record {
+  count = ap length (each_set ss at t) ∙ length_set (each_of ss) at (content_of t) ∙ same_length (items_of p) (each_of ss) (loose_items p q ss h e);
+  kept = λ k. held_set ss at s t g held (subst IsKept e (h.kept k));
+}
+
+pub allows_loose : (p q : Page) (ss : List Single) (at : ℕ) (v : Val) (s : Single) → IsOwnCopy p q → q ≡ page.Loose ss → AllowsAt v at (items_of p) → slice_get ss at ≡ Some s → CanBeSet (content_of s) v
+allows_loose p q ss at v s h e allows g =
+    let b = same_before (items_of p) (each_of ss) (loose_items p q ss h e) at (content_of s) (each_get ss at s g) in
+    let can = allows b.0 b.1 in
+    record { kind = can.kind; holds = can.holds; shows = b.2.each can.kind can.holds can.shows; settable = can.settable; takes = can.takes }
+
+pub changes_loose : (R : Content → Content → Type 0) (p q : Page) (ss : List Single) (at : ℕ) (s t : Single) → IsOwnCopy p q → q ≡ page.Loose ss → at < length (items_of p) → slice_get ss at ≡ Some s → Becomes R s t
+    → ChangesAt R at (items_of p) (items_of (page.Loose (slice_set ss at t)))
+changes_loose R p q ss at s t h e l g b = record {
+  middle = slice_set (each_of ss) at b.was;
+  same = same_put (items_of p) (each_of ss) at (content_of s) b.was (loose_items p q ss h e) (each_get ss at s g) b.same;
+  was = b.was;
+  now = content_of t;
+  stood = get_set (each_of ss) at b.was (let n = each_length ss in let m = loose_bound p q ss at h e l in omega (arith, n, m));
+  becomes = b.becomes;
+  contents = each_set ss at t ∙ sym (set_twice (each_of ss) at b.was (content_of t));
+}
 
 -- ---- where a content is stored
 
@@ -304,6 +362,11 @@ new_either ps qs q x (Ok u) a full kept is ok err = let t = new_last ps q a full
   subst ArePages (sym ok) t.1,
 )
 new_either ps qs q x (Err u) a full kept is ok err = (tt, subst ArePages (sym err) a)
+
+-- after a push of a new page with one content by itself
+pub new_single : {E : Type 0} (ps qs : List Page) (ss : List Single) (x : Content) (r : Result (Unit {0}) E) → ArePages ps → IsFull ps → ss ≡ single.Own x ∷ [] → OnOk r (qs ≡ ps ++ page.Loose ss ∷ []) → OnErr r (qs ≡ ps)
+    → OnOk r (contents_of qs ≡ contents_of ps ++ x ∷ []) × ArePages qs
+new_single ps qs ss x r a full is ok err = new_either ps qs (page.Loose ss) x r a full (subst (every IsHeld) (sym is) (tt, tt)) (ap each_of is) ok err
 
 -- ---- pages that copies share
 

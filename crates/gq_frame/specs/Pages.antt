@@ -1,6 +1,6 @@
 -- Pages: the contents of all targets in pages, which copies share.
--- Every page is full but the last one. Every content of a shared page fits, so such a page is never judged again.
-use Rattle.std.specs.Prelude.{◌≡◌, ◌≤◌, ℕ, ◌-◌, ℤ, Bool, true, false, List, [], ◌∷◌, ◌++◌, length, slice_get, slice_set, Some}
+-- Every page is full but the last one. What is shared, a page or a content by itself, fits, so it is never judged again.
+use Rattle.std.specs.Prelude.{◌≡◌, ◌≤◌, ℕ, ◌-◌, ℤ, Bool, true, false, List, [], ◌∷◌, ◌++◌, map, length, slice_get, slice_set, Some}
 use Rattle.std.specs.Arc.{arc_value}
 use Rattle.gq_value.specs.Val.{Val, Int}
 use Rattle.gq_value.specs.Accums.{Given, One}
@@ -12,7 +12,55 @@ use Rattle.gq_nest.specs.Shows.{ShowsTheSame, TakesInput}
 use Rattle.gq_nest.specs.Tells.{CanBeSet, IsSet, Tells}
 use Rattle.gq_frame.specs.declared.page.Page.{Page}
 use Rattle.gq_frame.specs.declared.page.Page.TheVariants as page
+use Rattle.gq_frame.specs.declared.single.Single.{Single}
+use Rattle.gq_frame.specs.declared.single.Single.TheVariants as single
 use Rattle.gq_frame.specs.Targets.{ShowTheSame}
+
+-- ---- a content by itself
+
+abbrev pub content_of : Single → Content
+content_of (single.Own content) = content
+content_of (single.Shared shared) = arc_value shared
+
+-- a shared content fits
+abbrev pub IsHeld : Single → Type 0
+IsHeld (single.Own content) = Unit {0}
+IsHeld (single.Shared shared) = Tells (arc_value shared) true fits
+
+-- a content that shows the same, which may be shared if the old one could be
+pub record SharesContent (old new : Single) : Type 0 where
+  pub same : ShowsTheSame (content_of old) (content_of new)
+  pub held : IsHeld old → IsHeld new
+
+-- a content that shows the same, and that nothing else refers to
+pub record IsOwnContent (old new : Single) : Type 0 where
+  pub content : Content
+  pub owned : new ≡ single.Own content
+  pub same : ShowsTheSame (content_of old) content
+
+-- the content becomes one that is related in this way to one that shows the same
+pub record Becomes (related : Content → Content → Type 0) (old new : Single) : Type 0 where
+  pub was : Content
+  pub same : ShowsTheSame (content_of old) was
+  pub becomes : related was (content_of new)
+
+-- ---- contents one by one
+
+abbrev pub each_of : List Single → List Content
+each_of singles = map content_of singles
+
+abbrev pub AreHeld : List Single → Type 0
+AreHeld = every IsHeld
+
+-- contents that show the same, which may be shared if the old ones could be
+pub record SharesContents (old new : List Single) : Type 0 where
+  pub same : ShowTheSame (each_of old) (each_of new)
+  pub held : AreHeld old → AreHeld new
+
+-- the same contents, which may now be shared
+pub record SealsContents (old new : List Single) : Type 0 where
+  pub same : each_of new ≡ each_of old
+  pub held : AreHeld old → AreHeld new
 
 -- ---- one page
 
@@ -22,15 +70,17 @@ page_size = 128
 abbrev pub items_of : Page → List Content
 items_of (page.Own items) = items
 items_of (page.Shared shared) = arc_value shared
+items_of (page.Loose singles) = each_of singles
 
 -- each content fits
 abbrev pub AllFit : List Content → Type 0
 AllFit = every (λ c. Tells c true fits)
 
--- a shared page is full, and each of its contents fits
+-- a shared page is full, and each content that is shared fits
 abbrev pub IsKept : Page → Type 0
 IsKept (page.Own items) = Unit {0}
 IsKept (page.Shared shared) = (length (arc_value shared) ≡ page_size) × AllFit (arc_value shared)
+IsKept (page.Loose singles) = AreHeld singles
 
 -- a page with as many contents, which may be shared if the old one could be
 pub record Keeps (old new : Page) : Type 0 where
@@ -42,11 +92,17 @@ pub record Shares (old new : Page) : Type 0 where
   pub same : ShowTheSame (items_of old) (items_of new)
   pub kept : IsKept old → IsKept new
 
--- the same, as a page that nothing else refers to
+-- a page that isn't shared as a whole
+abbrev pub IsApart : Page → Type 0
+IsApart (page.Own items) = Unit {0}
+IsApart (page.Shared shared) = ⊥
+IsApart (page.Loose singles) = Unit {0}
+
+-- the same, as a page that isn't shared as a whole
 pub record IsOwnCopy (old new : Page) : Type 0 where
-  pub items : List Content
-  pub owned : new ≡ page.Own items
-  pub same : ShowTheSame (items_of old) items
+  pub apart : IsApart new
+  pub same : ShowTheSame (items_of old) (items_of new)
+  pub kept : IsKept old → IsKept new
 
 -- a page with the same contents, which may now be shared
 pub record Seals (old new : Page) : Type 0 where

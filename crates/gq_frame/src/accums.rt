@@ -42,8 +42,8 @@ impl Accums {
         self.contents.at(target as usize)
     }
 
-    /// Copies the accumulators. Sealed pages are shared, at one step a page; the rest is copied. Returns `OutOfMemory` if a
-    /// content is spoiled, too.
+    /// Copies the accumulators. What is sealed is shared, a page or a content at one step; the rest is copied. Returns
+    /// `OutOfMemory` if a content is spoiled, too.
     pub fn share(&self, alloc: Global) -> Result<Accums, OutOfMemory>
         ensures slots { IfOk result (λ copy. copy.slots ≡ self.now.slots) }
         ensures same { IfOk result (λ copy. ShowTheSame self.now.contents copy.contents) }

@@ -5,6 +5,7 @@ ghost use Rattle.gq_frame.specs.Pages.{Fills, IsFullOf};
 use crate::page;
 use crate::page::{PAGE_SIZE, Page};
 use crate::pages::Pages;
+use crate::single::copy_of;
 use gq_base::OutOfMemory;
 use gq_nest::Content;
 use std::alloc::Global;
@@ -40,7 +41,7 @@ fn fill_by(
         if contents.push_page(alloc, page)? {
             left -= PAGE_SIZE;
         } else {
-            contents.push(alloc, page::copy_of(alloc, content)?)?;
+            contents.push(alloc, copy_of(alloc, content)?)?;
             left -= 1;
         }
     }
@@ -57,7 +58,7 @@ fn fill_each(
     ensures { OnOk result (Fills content.now count contents.old contents.new) }
 {
     for _copy in 0..count {
-        contents.push(alloc, page::copy_of(alloc, content)?)?;
+        contents.push(alloc, copy_of(alloc, content)?)?;
     }
     Ok(())
 }

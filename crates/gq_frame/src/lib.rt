@@ -17,6 +17,7 @@ mod live;
 mod names;
 mod page;
 mod pages;
+mod single;
 mod slot_places;
 mod slots;
 

@@ -1,12 +1,14 @@
 // One page of contents.
-ghost use Rattle.std.specs.Prelude.{◌≡◌, ◌<◌, ◌++◌, [], ◌∷◌, ◌≤◌, IfOk, OnOk, OnErr, length, true, false};
+ghost use Rattle.std.specs.Prelude.{◌≡◌, ◌<◌, ◌++◌, [], ◌∷◌, ◌≤◌, IfOk, OnOk, OnErr, length, slice_get, Some, true, false};
 ghost use Rattle.gq_value.specs.AccumViews.{given};
 ghost use Rattle.gq_value.specs.Views.{val};
 ghost use Rattle.gq_nest.specs.Shows.{ShowsTheSame};
 ghost use Rattle.gq_frame.specs.Targets.{ShowTheSame};
-ghost use Rattle.gq_frame.specs.Pages.{AllFit, AllowsAt, ChangesAt, IsFullOf, IsKept, IsOwnCopy, Keeps, Shares, Takes, TakesInt, SetsTo, items_of, page_size};
+ghost use Rattle.gq_frame.specs.Pages.{AllFit, AllowsAt, AreHeld, ChangesAt, IsFullOf, IsKept, IsOwnCopy, Keeps, SealsContents, Shares, SharesContents, Takes, TakesInt, SetsTo, each_of, items_of, page_size};
 
 use crate::ints::feed_content;
+use crate::single;
+use crate::single::{Single, copy_of};
 use gq_base::{List, OutOfMemory};
 use gq_nest::Content;
 use gq_value::{Input, Value};
@@ -25,15 +27,31 @@ pub(crate) enum Page {
 
     /// Contents that copies share. The page is full, and each content fits.
     Shared(Arc<List<Content>>),
+
+    /// Contents that copies share one by one.
+    Loose(List<Single>),
 }
 
-/// The contents of a page. Doesn't allocate.
-pub(crate) fn items(page: &Page) -> &[Content]
-    ensures { result.now ≡ items_of page.now }
+/// The content of a page at an index. Doesn't allocate.
+pub(crate) fn content(page: &Page, at: usize) -> &Content
+    requires { at < length (items_of page.now) }
+    ensures { slice_get (items_of page.now) at ≡ Some result.now }
 {
     match page {
-        Page::Own(items) => items.as_slice(),
-        Page::Shared(items) => items.as_slice(),
+        Page::Own(items) => items.at(at),
+        Page::Shared(items) => items.at(at),
+        Page::Loose(singles) => single::content(singles.at(at)),
+    }
+}
+
+/// The number of contents of a page.
+fn count(page: &Page) -> usize
+    ensures { result ≡ length (items_of page.now) }
+{
+    match page {
+        Page::Own(items) => items.len(),
+        Page::Shared(items) => items.len(),
+        Page::Loose(singles) => singles.len(),
     }
 }
 
@@ -42,10 +60,10 @@ pub(crate) fn has_room(page: &Page) -> bool
     ensures room { result ≡ true → length (items_of page.now) < page_size }
     ensures full { result ≡ false → page_size ≤ length (items_of page.now) }
 {
-    items(page).len() < PAGE_SIZE
+    count(page) < PAGE_SIZE
 }
 
-/// Copies a page. The copy of a shared page shares its contents.
+/// Copies a page. What is shared, the page or a content by itself, is shared by the copy, too.
 #[tactic(auto, using(crate::proofs::PageLemmas::own_laws))]
 pub(crate) fn share(alloc: Global, page: &Page) -> Result<Page, OutOfMemory>
     ensures { IfOk result (Shares page.now) }
@@ -53,10 +71,23 @@ pub(crate) fn share(alloc: Global, page: &Page) -> Result<Page, OutOfMemory>
     match page {
         Page::Own(items) => Ok(Page::Own(copied(alloc, items.as_slice())?)),
         Page::Shared(items) => Ok(Page::Shared(Arc::try_clone(items)?)),
+        Page::Loose(singles) => Ok(Page::Loose(share_each(alloc, singles.as_slice())?)),
     }
 }
 
-/// Lets copies share a page, if it is full and each content fits. If there is no memory, it stays unshared.
+/// Copies contents one by one.
+fn share_each(alloc: Global, singles: &[Single]) -> Result<List<Single>, OutOfMemory>
+    ensures { IfOk result (SharesContents singles.now) }
+{
+    let mut copy = List::from_vec(Vec::with_capacity(alloc, singles.len())?);
+    for single in singles {
+        copy.push(single::share(alloc, single)?)?;
+    }
+    Ok(copy)
+}
+
+/// Lets copies share a page, if it is full and each content fits, or its contents one by one. If there is no memory, it
+/// stays unshared.
 pub(crate) fn seal(alloc: Global, page: &mut Page)
     ensures same { items_of page.new ≡ items_of page.old }
     ensures kept { IsKept page.old → IsKept page.new }
@@ -64,8 +95,21 @@ pub(crate) fn seal(alloc: Global, page: &mut Page)
     let sealed = match replace(page, Page::Own(List::new(alloc))) {
         Page::Own(items) => sealed(alloc, items),
         Page::Shared(items) => Page::Shared(items),
+        Page::Loose(mut singles) => {
+            seal_each(alloc, &mut singles);
+            Page::Loose(singles)
+        }
     };
     *page = sealed;
+}
+
+/// Lets copies share contents one by one.
+fn seal_each(alloc: Global, singles: &mut List<Single>)
+    ensures { SealsContents singles.old singles.new }
+{
+    for at in 0..singles.len() {
+        single::seal(alloc, singles.at_mut(at));
+    }
 }
 
 /// A page with these contents, shared if it is full and each of them fits.
@@ -82,14 +126,27 @@ fn sealed(alloc: Global, items: List<Content>) -> Page
     }
 }
 
-/// Whether each content of a page fits. Those of a shared page do.
+/// Whether each content of a page fits. What is shared does.
 pub(crate) fn fits(page: &Page) -> bool
     ensures { IsKept page.now → result ≡ true → AllFit (items_of page.now) }
 {
     match page {
         Page::Own(items) => all_fit(items.as_slice()),
         Page::Shared(_) => true,
+        Page::Loose(singles) => each_fits(singles.as_slice()),
     }
+}
+
+/// Whether each content fits. Shared ones do.
+fn each_fits(singles: &[Single]) -> bool
+    ensures { AreHeld singles.now → result ≡ true → AllFit (each_of singles.now) }
+{
+    for single in singles {
+        if !single::fits(single) {
+            return false;
+        }
+    }
+    true
 }
 
 /// Whether each content fits.
@@ -126,6 +183,7 @@ pub(crate) fn push(page: &mut Page, content: Content) -> Result<(), OutOfMemory>
     match page {
         Page::Own(items) => items.push(content),
         Page::Shared(_) => unreachable!(),
+        Page::Loose(singles) => singles.push(Single::Own(content)),
     }
 }
 
@@ -148,6 +206,7 @@ pub(crate) fn feed(
             Ok(())
         }
         Page::Shared(_) => unreachable!(),
+        Page::Loose(singles) => single::feed(alloc, singles.at_mut(at), input),
     }
 }
 
@@ -162,6 +221,7 @@ pub(crate) fn feed_int(alloc: Global, page: &mut Page, at: usize, x: i64) -> Res
     match page {
         Page::Own(items) => feed_content(alloc, items.at_mut(at), x),
         Page::Shared(_) => unreachable!(),
+        Page::Loose(singles) => single::feed_int(alloc, singles.at_mut(at), x),
     }
 }
 
@@ -185,17 +245,18 @@ pub(crate) fn set(
             Ok(())
         }
         Page::Shared(_) => unreachable!(),
+        Page::Loose(singles) => single::set(alloc, singles.at_mut(at), value),
     }
 }
 
-/// Makes sure that nothing else refers to a page. A shared page is copied, unless this is its last owner.
+/// Makes sure that a page isn't shared as a whole. A shared page is copied, unless this is its last owner.
 #[tactic(auto, using(crate::proofs::PageLemmas::own_laws))]
 fn own(alloc: Global, page: &mut Page) -> Result<(), OutOfMemory>
     ensures ok { OnOk result (IsOwnCopy page.old page.new) }
     ensures err { OnErr result (page.new ≡ page.old) }
 {
     match page {
-        Page::Own(_) => Ok(()),
+        Page::Own(_) | Page::Loose(_) => Ok(()),
         Page::Shared(_) => take_over(alloc, page),
     }
 }
@@ -209,6 +270,10 @@ fn take_over(alloc: Global, page: &mut Page) -> Result<(), OutOfMemory>
     match replace(page, Page::Own(List::new(alloc))) {
         Page::Own(items) => {
             *page = Page::Own(items);
+            Ok(())
+        }
+        Page::Loose(singles) => {
+            *page = Page::Loose(singles);
             Ok(())
         }
         Page::Shared(items) => match Arc::try_unwrap(items) {
@@ -239,15 +304,4 @@ fn copied(alloc: Global, contents: &[Content]) -> Result<List<Content>, OutOfMem
         copy.push(copy_of(alloc, content)?)?;
     }
     Ok(copy)
-}
-
-/// Copies a content. Most are one number or truth value, and these are copied without a call.
-#[tactic(auto, using(crate::proofs::OpenSteps::shows_itself))]
-pub(crate) fn copy_of(alloc: Global, content: &Content) -> Result<Content, OutOfMemory>
-    ensures { IfOk result (ShowsTheSame content.now) }
-{
-    match content {
-        Content::Scalar(scalar) => Ok(Content::Scalar(*scalar)),
-        _ => content.duplicate(alloc),
-    }
 }

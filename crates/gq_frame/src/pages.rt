@@ -8,6 +8,7 @@ ghost use Rattle.gq_frame.specs.Pages.{AllFit, AllowsAt, AddsCopy, ArePages, Cha
 
 use crate::page;
 use crate::page::{PAGE_SIZE, Page};
+use crate::single::Single;
 use gq_base::{List, OutOfMemory, within};
 use gq_nest::Content;
 use gq_value::{Input, Value};
@@ -16,8 +17,9 @@ use std::marker::Model;
 
 /// The contents of all targets in order of their numbers. Contracts see their list.
 ///
-/// They are stored in pages. A copy shares the full pages whose contents fit, and a shared page is copied only when a
-/// content in it changes. So a copy costs what is changed in it.
+/// They are stored in pages. A copy shares the full pages of alike contents as wholes, and other contents one by one, if
+/// they fit. What is shared is copied only when it changes, a page with all its contents. So a copy costs what is changed
+/// in it.
 #[derive(Drop)]
 pub struct Pages {
     pages: List<Page>,
@@ -63,7 +65,7 @@ impl Pages {
         requires { at < length self.now }
         ensures { slice_get self.now at ≡ Some result.now }
     {
-        &page::items(self.pages.at(at / PAGE_SIZE))[at % PAGE_SIZE]
+        page::content(self.pages.at(at / PAGE_SIZE), at % PAGE_SIZE)
     }
 
     /// The content at an index, if there is one. Doesn't allocate.
@@ -138,7 +140,7 @@ impl Pages {
         )
     }
 
-    /// Copies the contents; sealed pages are shared. Returns `OutOfMemory` if a content is spoiled, too.
+    /// Copies the contents; what is sealed is shared. Returns `OutOfMemory` if a content is spoiled, too.
     pub fn share(&self, alloc: Global) -> Result<Pages, OutOfMemory>
         ensures { IfOk result (ShowTheSame self.now) }
     {
@@ -148,14 +150,15 @@ impl Pages {
         })
     }
 
-    /// Lets copies share each full page whose contents fit. If there is no memory, a page stays unshared.
+    /// Lets copies share each full page whose contents fit, and contents that fit one by one. If there is no memory, they
+    /// stay unshared.
     pub fn seal(&mut self, alloc: Global)
         ensures { self.new ≡ self.old }
     {
         seal_all(alloc, &mut self.pages);
     }
 
-    /// Whether each content fits. Those of sealed pages do, and aren't looked at. Doesn't allocate.
+    /// Whether each content fits. What is sealed does, and isn't looked at. Doesn't allocate.
     pub fn fit(&self) -> bool
         ensures { result ≡ true → AllFit self.now }
     {
@@ -180,7 +183,8 @@ fn push_last(alloc: Global, pages: &mut List<Page>, content: Content) -> Result<
     push_new(alloc, pages, content)
 }
 
-/// Appends a page with one content. Pages after the first are allocated in full; few accumulators need less.
+/// Appends a page with one content. Copies share the contents of such a page one by one: those of global accumulators are
+/// among them, which may hold much. Pages after the first are allocated in full; few accumulators need less.
 fn push_new(alloc: Global, pages: &mut List<Page>, content: Content) -> Result<(), OutOfMemory>
     requires pages { ArePages pages.old }
     requires full { IsFull pages.old }
@@ -190,8 +194,8 @@ fn push_new(alloc: Global, pages: &mut List<Page>, content: Content) -> Result<(
 {
     let room = if pages.len() == 0 { 1 } else { PAGE_SIZE };
     let mut items = List::from_vec(Vec::with_capacity(alloc, room)?);
-    items.push(content)?;
-    pages.push(Page::Own(items))
+    items.push(Single::Own(content))?;
+    pages.push(Page::Loose(items))
 }
 
 /// Whether the last page has room for one more content.

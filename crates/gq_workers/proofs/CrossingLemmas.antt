@@ -32,6 +32,7 @@ use Rattle.gq_nest.specs.contracts.content.Content as content
 use Rattle.gq_nest.proofs.content.Content.TheLaws.TheKnot as content_knot
 use Rattle.gq_frame.specs.contracts.slots.Slots as slots
 use Rattle.gq_frame.specs.contracts.page.Page as page
+use Rattle.gq_frame.specs.contracts.single.Single as single
 use Rattle.gq_frame.specs.contracts.pages.Pages as pages
 use Rattle.gq_frame.specs.contracts.accums.Accums as accums
 use Rattle.gq_core.specs.contracts.batches.Batches as batches
@@ -100,8 +101,11 @@ content_sync = search (value_sync, list_crosses.the_sync, boxed_crosses.the_sync
 content_send : IsSend content.the_row
 content_send = search (value_send, scalar_crosses.the_field_send, list_crosses.the_send, boxed_crosses.the_send, map_crosses.the_send, set_crosses.the_send, maps.crosses, crosses, content_knot.crosses, sendable) depth 30 fits 50000
 
+single_sync : IsSync single.the_row
+single_sync = search (content_sync, content_send, crosses, sendable) depth 30 fits 50000
+
 page_sync : IsSync page.the_row
-page_sync = search (content_sync, content_send, list_crosses.the_sync, list_crosses.the_send, crosses, sendable) depth 30 fits 50000
+page_sync = search (single_sync, content_sync, content_send, list_crosses.the_sync, list_crosses.the_send, crosses, sendable) depth 30 fits 50000
 
 pages_field : IsSync (pages.the_field).row
 pages_field = search (page_sync, list_crosses.the_sync, crosses, sendable) depth 30 fits 50000

@@ -1,11 +1,21 @@
-use Rattle.gq_frame.proofs.PageLemmas.{keeps_own, own_bound}
+use Rattle.gq_nest.proofs.FeedSteps.{on_ok}
+use Rattle.gq_frame.proofs.PageLemmas.{changes_loose, keeps_loose, keeps_own, loose_bound, own_bound}
 use Rattle.gq_frame.proofs.page.feed.Goals as goal
 
 pub at_mut-requires : goal.at_mut-requires
 at_mut-requires c = own_bound _ _ _ _ c.in_ok-own.ensures.ok c.in-Own.is c.requires
 
+pub at_mut-requires-in-Loose : goal.at_mut-requires-in-Loose
+at_mut-requires-in-Loose c = loose_bound _ _ _ _ c.in_ok-own.ensures.ok c.in-Loose.is c.requires
+
 pub returns-in_err-feed-in-Own-clause-keeps : goal.returns-in_err-feed-in-Own-clause-keeps
 returns-in_err-feed-in-Own-clause-keeps c = keeps_own _ _ _ _ _ c.in_ok-own.ensures.ok c.in-Own.is
 
-pub returns-clause-keeps : goal.returns-clause-keeps
-returns-clause-keeps c = keeps_own _ _ _ _ _ c.in_ok-own.ensures.ok c.in-Own.is
+pub returns-in_ok-feed-in-Own-clause-keeps : goal.returns-in_ok-feed-in-Own-clause-keeps
+returns-in_ok-feed-in-Own-clause-keeps c = keeps_own _ _ _ _ _ c.in_ok-own.ensures.ok c.in-Own.is
+
+pub returns-in-Loose-clause-takes : goal.returns-in-Loose-clause-takes
+returns-in-Loose-clause-takes c = on_ok _ c.feed-in-Loose.ensures.takes (changes_loose _ _ _ _ _ _ _ c.in_ok-own.ensures.ok c.in-Loose.is c.requires c.at_mut-in-Loose.ensures.value)
+
+pub returns-in-Loose-clause-keeps : goal.returns-in-Loose-clause-keeps
+returns-in-Loose-clause-keeps c = keeps_loose _ _ _ _ _ _ c.in_ok-own.ensures.ok c.in-Loose.is c.at_mut-in-Loose.ensures.value c.feed-in-Loose.ensures.held

@@ -1,4 +1,4 @@
-use Rattle.std.proofs.Common.{arith, length}
+use Rattle.std.proofs.Common.{arith}
 use Rattle.gq_frame.proofs.PageLemmas.{seal_length, seal_more, seal_none}
 use Rattle.gq_frame.proofs.pages.seal_all.Goals as goal
 

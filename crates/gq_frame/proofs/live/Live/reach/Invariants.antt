@@ -1,4 +1,4 @@
-use Rattle.std.proofs.Common.{◌≡◌, List, length}
+use Rattle.std.proofs.Common.{◌≡◌, length}
 use Rattle.gq_rules_meaning.specs.States.{State}
 use Rattle.gq_plan_ir.specs.Reference.{Reference}
 use Rattle.gq_frame.specs.Lives.{Lives}
