@@ -1,20 +1,16 @@
 -- RowLemmas: persons and the edges between them: the rows stay well-formed when one is put.
-use Rattle.std.proofs.Common.{◌≡◌, ◌≢◌, ℕ, zero, suc, ◌<◌, ◌≤◌, List, [], ◌∷◌, length, map, slice_get, get_or, Option, Some, None, sym, ap, subst, ◌∙◌, arith}
+use Rattle.std.proofs.Common.{◌≡◌, ℕ, zero, suc, ◌<◌, ◌≤◌, List, [], ◌∷◌, ◌++◌, length, slice_get, get_or, Option, Some, None, sym, ap, subst, ◌∙◌, arith}
 use Rattle.std.specs.List.{All}
 use Rattle.std.specs.Option.{unwrap_or}
 use Rattle.std.proofs.lemmas.List.Elements.{All-nil, All-cons, All-head, All-tail, All-append, All-set}
 use Rattle.std.proofs.lemmas.Option.{get_or_from_slice_get, slice_get_within}
-use Rattle.gq_graph.specs.Catalog.{Schema, settled, with_edge_types, with_vertex_type}
+use Rattle.gq_graph.specs.Catalog.{Schema}
 use Rattle.gq_graph.specs.Edges.{EdgeTable, Agrees, edge_at, edge_number, edge_put, edge_with, naming_of, naming_with, no_edge, upsert_edge}
-use Rattle.gq_graph.specs.Vertices.{no_vertex, upsert_vertex, vertex_at, vertex_number, vertex_put}
+use Rattle.gq_graph.specs.Vertices.{no_vertex, vertex_at}
 use Rattle.gq_graph.specs.declared.rows.EdgeRow.{EdgeRow}
 use Rattle.gq_graph.specs.declared.rows.Naming.{Naming}
 use Rattle.gq_graph.specs.declared.rows.VertexRow.{VertexRow}
-use Rattle.gq_graph.specs.declared.types.Attribute.{Attribute}
-use Rattle.gq_graph.specs.declared.types.EdgeType.{EdgeType}
-use Rattle.gq_graph.specs.declared.types.IdShape.{IdShape}
 use Rattle.gq_graph.specs.declared.types.IdKind.{IdKind}
-use Rattle.gq_graph.specs.declared.types.IdKind.TheVariants.{Text}
 use Rattle.gq_graph.specs.declared.types.VertexType.{VertexType}
 use Rattle.gq_edge.proofs.TableLemmas.{noted_own}
 use Rattle.gq_index.specs.Rows.{IsId, HaveAttributes, HaveEnds}
@@ -33,23 +29,7 @@ module _ {A : Type 0} (P : A → Type 0) where
   pub all_more : (xs : List A) (x : A) → All P xs → P x → All P (xs ++ x ∷ [])
   all_more xs x all own = All-append P xs (x ∷ []) all (All-cons P x [] own (All-nil P))
 
--- ---- types
-
-pub types_bare : (a b c : Schema) (name : List ℕ) (id : IdShape) (attributes : List Attribute) (types : List EdgeType) → a.vertex_types ≡ [] → id.kind ≡ Text → attributes ≡ []
-    → b ≡ with_vertex_type a name id attributes → c ≡ with_edge_types b types → All IsBare c.vertex_types
-types_bare a b c name id attributes types empty text none first then =
-    let t : VertexType = record { name = name; id = id; attributes = map settled attributes } in
-    subst (λ (s : Schema). All IsBare s.vertex_types) (sym (then ∙ ap (λ (s : Schema). with_edge_types s types) first))
-    (all_more IsBare a.vertex_types t (subst (All IsBare) (sym empty) (All-nil IsBare)) (record { id = text; attributes = ap (map settled) none }))
-
 -- ---- vertices
-
-put_person : (rows : List VertexRow) (row : VertexRow) (n : Option ℕ) → All IsPerson rows → IsPerson row → All IsPerson (vertex_put rows row n)
-put_person rows row (Some n) all own = All-set IsPerson rows n row own all
-put_person rows row None all own = all_more IsPerson rows row all own
-
-pub person_put : (rows : List VertexRow) (row : VertexRow) → All IsPerson rows → IsPerson row → All IsPerson (upsert_vertex rows row)
-person_put rows row all own = put_person rows row (vertex_number rows row.kind row.id) all own
 
 pub persons_whole : (schema : Schema) (rows : List VertexRow) → All IsBare schema.vertex_types → All IsPerson rows → HaveAttributes schema rows
 persons_whole schema rows bare persons = record {
