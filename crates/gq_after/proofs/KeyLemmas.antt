@@ -58,7 +58,7 @@ pub ruleset key_laws = (key_first, key_stops, key_next, key_all)
 
 -- ---- vertices with their keys
 
-at_default : (vs : List ℕ) (i v : ℕ) → i < length vs → v ≡ get_or vs i 0 → v ≡ get_or vs i v
+pub at_default : (vs : List ℕ) (i v : ℕ) → i < length vs → v ≡ get_or vs i 0 → v ≡ get_or vs i v
 at_default [] i v n is = let no : ⊥ = omega arith in absurd no
 at_default (x ∷ xs) zero v n is = is
 at_default (x ∷ xs) (suc i) v n is = at_default xs i v (omega arith) is

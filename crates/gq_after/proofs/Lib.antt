@@ -1,7 +1,9 @@
 pub mod OrderSteps
 pub mod SortSteps
 pub mod EachSteps
+pub mod BeforeLemmas
 pub mod PassLemmas
 pub mod KeyLemmas
+pub mod HavingLemmas
 pub mod LimitLemmas
 pub mod TailLemmas

@@ -1,7 +1,6 @@
 -- PassLemmas: HAVING, one vertex after the other.
-use Rattle.std.proofs.Common.{if◌then◌else◌, ◌≡◌, ℕ, suc, ◌+◌, ◌<◌, ◌≤◌, Bool, true, false, List, [], ◌∷◌, ◌++◌, drop, length, get_or, Option, refl, sym, ap, subst, ◌∙◌, arith}
+use Rattle.std.proofs.Common.{if◌then◌else◌, ◌≡◌, ℕ, ◌+◌, ◌<◌, ◌≤◌, Bool, true, false, List, [], ◌∷◌, ◌++◌, drop, length, get_or, Option, None, refl, sym, ap, subst, ◌∙◌}
 use Rattle.gq_tree.specs.Tree.{Tree}
-use Rattle.gq_value.specs.declared.value.Wrong.{Wrong}
 use Rattle.gq_rules_meaning.specs.Answers.{Answer, Gives, Faults, Stuck, ◌>>=◌, blaming}
 use Rattle.gq_rules_meaning.specs.Blocks.{BlockFault, AtPlace, passes}
 use Rattle.gq_rules_meaning.specs.Expressions.{Look}
@@ -57,4 +56,12 @@ module _ {N : Type 0} (look : ℕ → Look N) (t : Option (Tree N)) where
   pub pass_all : (vs : List ℕ) (i : ℕ) (kept : List ℕ) → PassAt vs i kept → length vs ≤ i → passing look t vs ≡ Gives kept
   pass_all vs i kept h l = nothing_left (passing look t) vs i kept refl h l
 
-pub ruleset pass_laws = (pass_first, pass_dropped, pass_kept, pass_stops, pass_all)
+-- without HAVING all vertices pass
+none_pass : {N : Type 0} (look : ℕ → Look N) (vs : List ℕ) → passing look None vs ≡ Gives vs
+none_pass look [] = refl
+none_pass look (v ∷ vs) = ap (λ o. o >>= λ rest. Gives (v ∷ rest)) (none_pass look vs)
+
+pub all_pass : {N : Type 0} (look : ℕ → Look N) (vs all : List ℕ) → all ≡ vs → passing look None vs ≡ Gives all
+all_pass look vs all e = none_pass look vs ∙ ap (λ vs. Gives vs) (sym e)
+
+pub ruleset none_laws = (all_pass)

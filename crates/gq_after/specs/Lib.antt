@@ -1,2 +1,3 @@
+pub mod Before
 pub mod Ranks
 pub mod Sights

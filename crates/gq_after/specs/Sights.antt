@@ -1,9 +1,8 @@
 -- Sights: what the expressions of a tail see, as the code iterates over the vertices.
-use Rattle.std.specs.Prelude.{ℕ, ℤ, pos, negsuc, List, [], ◌∷◌, map, take, Option, Some, None}
-use Rattle.gq_value.specs.declared.value.Wrong.{Wrong}
+use Rattle.std.specs.Prelude.{◌≡◌, ℕ, List, [], ◌∷◌, map, take, Option, Some, None}
 use Rattle.gq_accum_laws.specs.Gather.{sorted}
 use Rattle.gq_rules_typing.specs.Selecting.{Select}
-use Rattle.gq_rules_meaning.specs.Answers.{Answer, Gives, ◌>>=◌, each}
+use Rattle.gq_rules_meaning.specs.Answers.{Answer, ◌>>=◌, each}
 use Rattle.gq_rules_meaning.specs.Blocks.{BlockFault}
 use Rattle.gq_rules_meaning.specs.Calendars.{Calendar}
 use Rattle.gq_rules_meaning.specs.Expressions.{World, Look}
@@ -15,6 +14,8 @@ use Rattle.gq_eval_context.specs.Viewed.{Over, viewed}
 use Rattle.gq_eval_context.specs.Looks.{look_of}
 use Rattle.gq_exec_source.specs.declared.ends.End.{End}
 use Rattle.gq_exec_source.specs.Ends.{end_things}
+use Rattle.gq_exec_contribute.specs.Prepared.{AreAllCells}
+use Rattle.gq_exec_contribute.specs.declared.leaves.Leaves.{Leaves}
 
 -- with no alias
 abbrev pub plain_look : Calendar → Over → Accums → Look Reference
@@ -39,3 +40,9 @@ tail_of world look plain q vertices =
 abbrev pub first_of : Option ℕ → List ℕ → List ℕ
 first_of None vs = vs
 first_of (Some n) vs = take n vs
+
+-- the leaves of a tail have the bindings of an end alone, and the slots of the accumulators
+pub record ReadsEnd (l : Leaves) (end : End) (accums : Accums) : Type 0 where
+  pub source : l.ends.now.source ≡ end
+  pub edge : l.edge ≡ None
+  pub cells : AreAllCells accums.slots l.cells

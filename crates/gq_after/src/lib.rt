@@ -4,10 +4,12 @@
 //! with equal keys are ordered by vertex number.
 //!
 //! Read `Tails.antt` of `gq_rules_meaning` first, then `specs/Ranks.antt` (the order in which rows of keys
-//! are compared, for rows of any length) and `specs/Sights.antt` (what the expressions see). The code begins
-//! in `src/tails.rt`; `src/having.rt`, `src/keys.rt`, `src/rows.rt` and `src/limit.rt` have one step each.
+//! are compared, for rows of any length), `specs/Sights.antt` (what the expressions see) and `specs/Before.antt`
+//! (whether a condition has a `v.@a'`). The code begins in `src/tails.rt`; `src/having.rt`, `src/keys.rt`,
+//! `src/rows.rt` and `src/limit.rt` have one step each.
 #![tactic(auto)]
 
+mod before;
 mod having;
 mod keys;
 mod limit;

@@ -31,7 +31,7 @@ use Rattle.gq_exec_post.specs.declared.writing.Writing.{Writing}
 use Rattle.gq_eval_context.specs.Faults.{fault_at}
 use Rattle.gq_exec_contribute.specs.declared.leaves.Leaves.{Leaves}
 use Rattle.gq_exec_post.specs.Sights.{DoesSo, ReadsAt, SeesSo, look_now}
-use Rattle.gq_exec_post.specs.Writing.{KeepsTo, written}
+use Rattle.gq_exec_post.specs.Writing.{AreTaken, KeepsTo, written}
 use Rattle.gq_eval_context.proofs.FaultLemmas.{ends_with, stops_at}
 use Rattle.gq_exec_post.proofs.Steps.{at_place}
 
@@ -47,10 +47,11 @@ keeps_on a b c h k = record { sound = k.sound; slots = k.slots ∙ h.slots }
 pub record ActsTo (clock : Calendar) (o : Over) (aliases : List (ℕ × Placed)) (v : ℕ) (acts : List Act) (before : Writing) (i : ℕ) (now : Writing) : Type 0 where
   pub each : (p : Post Reference) → SeesSo clock o aliases v p → post_acts p (view_acts acts) (written before) ≡ post_acts p (view_acts (drop i acts)) (written now)
   pub keeps : KeepsTo before.accums now.accums
+  pub taken : AreTaken now
 
 module _ (clock : Calendar) (o : Over) (aliases : List (ℕ × Placed)) (v : ℕ) (acts : List Act) where
-  pub acts_begin : (before : Writing) → AreSound before.accums → ActsTo clock o aliases v acts before 0 before
-  acts_begin before s = record { each = λ p h. refl; keeps = keeps_itself before.accums s }
+  pub acts_begin : (before : Writing) → AreSound before.accums → AreTaken before → ActsTo clock o aliases v acts before 0 before
+  acts_begin before s t = record { each = λ p h. refl; keeps = keeps_itself before.accums s; taken = t }
 
   act_here : (i : ℕ) (a : Act) (before now : Writing) → ActsTo clock o aliases v acts before i now → i < length acts → a ≡ get_or acts i a → (p : Post Reference) → SeesSo clock o aliases v p
       → post_acts p (view_acts acts) (written before) ≡ (post_act p (view_act a) (written now) >>= post_acts p (view_acts (drop (i + 1) acts)))
@@ -61,10 +62,11 @@ module _ (clock : Calendar) (o : Over) (aliases : List (ℕ × Placed)) (v : ℕ
   act_stops i a before now e inv n is d = record { each = λ p h. subst (λ o. EndsAs o e) (sym (act_here i a before now inv n is p h)) (ends_with (post_act p (view_act a) (written now)) (post_acts p (view_acts (drop (i + 1) acts))) e (d.each p h)) }
 
   pub act_next : (i : ℕ) (a : Act) (before now next : Writing) → ActsTo clock o aliases v acts before i now → i < length acts → a ≡ get_or acts i a
-      → DoesSo clock o aliases v (λ p. post_act p (view_act a)) now (Ok next) → KeepsTo now.accums next.accums → ActsTo clock o aliases v acts before (i + 1) next
-  act_next i a before now next inv n is d k = record {
+      → DoesSo clock o aliases v (λ p. post_act p (view_act a)) now (Ok next) → KeepsTo now.accums next.accums → AreTaken next → ActsTo clock o aliases v acts before (i + 1) next
+  act_next i a before now next inv n is d k t = record {
     each = λ p h. act_here i a before now inv n is p h ∙ ap (λ o. o >>= post_acts p (view_acts (drop (i + 1) acts))) (d.each p h);
     keeps = keeps_on before.accums now.accums next.accums inv.keeps k;
+    taken = t;
   }
 
   pub acts_end : (i : ℕ) (before now : Writing) → ActsTo clock o aliases v acts before i now → length acts ≤ i → DoesSo clock o aliases v (λ p. post_acts p (view_acts acts)) before (Ok now)
@@ -76,7 +78,10 @@ module _ (clock : Calendar) (o : Over) (aliases : List (ℕ × Placed)) (v : ℕ
   pub acts_keep : (i : ℕ) (before now : Writing) → ActsTo clock o aliases v acts before i now → KeepsTo before.accums now.accums
   acts_keep i before now inv = inv.keeps
 
-pub ruleset acts_laws = (acts_begin, acts_end, acts_sound, acts_keep)
+  pub acts_taken : (i : ℕ) (before now : Writing) → ActsTo clock o aliases v acts before i now → AreTaken now
+  acts_taken i before now inv = inv.taken
+
+pub ruleset acts_laws = (acts_begin, acts_end, acts_sound, acts_keep, acts_taken)
 
 -- ---- a change
 
@@ -166,16 +171,20 @@ none_chosen w s = keeps_itself w.accums s
 pub record Unwritten (clock : Calendar) (o : Over) (aliases : List (ℕ × Placed)) (v : ℕ) (l : Leaves) (bs : List (Expr × List Act)) (others : Option (List Act)) (old now : Writing) (i : ℕ) : Type 0 where
   pub same : now ≡ old
   pub sound : AreSound now.accums
+  pub taken : AreTaken now
   pub reads : ReadsAt l aliases v now.accums
   pub chosen : ChosenTo clock o aliases v bs others now i
 
-pub unwritten : (clock : Calendar) (o : Over) (aliases : List (ℕ × Placed)) (v : ℕ) (l : Leaves) (bs : List (Expr × List Act)) (others : Option (List Act)) (w : Writing) → AreSound w.accums → ReadsAt l aliases v w.accums → Unwritten clock o aliases v l bs others w w 0
-unwritten clock o aliases v l bs others w s r = record { same = refl; sound = s; reads = r; chosen = choice_begin clock o aliases v bs others w }
+pub unwritten : (clock : Calendar) (o : Over) (aliases : List (ℕ × Placed)) (v : ℕ) (l : Leaves) (bs : List (Expr × List Act)) (others : Option (List Act)) (w : Writing) → AreSound w.accums → AreTaken w → ReadsAt l aliases v w.accums → Unwritten clock o aliases v l bs others w w 0
+unwritten clock o aliases v l bs others w s t r = record { same = refl; sound = s; taken = t; reads = r; chosen = choice_begin clock o aliases v bs others w }
 
 pub unwritten_sound : (clock : Calendar) (o : Over) (aliases : List (ℕ × Placed)) (v : ℕ) (l : Leaves) (bs : List (Expr × List Act)) (others : Option (List Act)) (old now : Writing) (i : ℕ) → Unwritten clock o aliases v l bs others old now i → AreSound now.accums
 unwritten_sound clock o aliases v l bs others old now i u = u.sound
 
+pub unwritten_taken : (clock : Calendar) (o : Over) (aliases : List (ℕ × Placed)) (v : ℕ) (l : Leaves) (bs : List (Expr × List Act)) (others : Option (List Act)) (old now : Writing) (i : ℕ) → Unwritten clock o aliases v l bs others old now i → AreTaken now
+unwritten_taken clock o aliases v l bs others old now i u = u.taken
+
 pub unwritten_reads : (clock : Calendar) (o : Over) (aliases : List (ℕ × Placed)) (v : ℕ) (l : Leaves) (bs : List (Expr × List Act)) (others : Option (List Act)) (old now : Writing) (i : ℕ) → Unwritten clock o aliases v l bs others old now i → ReadsAt l aliases v now.accums
 unwritten_reads clock o aliases v l bs others old now i u = u.reads
 
-pub ruleset act_laws = (unwritten, unwritten_sound, unwritten_reads, none_chosen)
+pub ruleset act_laws = (unwritten, unwritten_sound, unwritten_taken, unwritten_reads, none_chosen)

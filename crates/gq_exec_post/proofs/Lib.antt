@@ -7,6 +7,8 @@ pub mod WriteLaws
 pub mod Steps
 pub mod ActLemmas
 pub mod WriteLemmas
+pub mod TakenLemmas
+pub mod QueueLemmas
 pub mod WaitLemmas
 pub mod ReadLemmas
 pub mod VertexLemmas

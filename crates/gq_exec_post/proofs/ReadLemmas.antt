@@ -53,11 +53,10 @@ module _ (clock : Calendar) (o : Over) (l : Leaves) (accums : Accums) (aliases :
       subst (λ (ch : plain.Change Reference). Tells making_of (made_at (look_now clock o aliases accums) accums.slots n ch) (Ok (made.Input i))) (sym h.adds)
       (made_there (look_now clock o aliases accums) accums n (plain.Adds h.feed) h.slot (Ok (made.Input i)) h.declared (feed_goes (look_now clock o aliases accums) (accum_of h.slot.kind) h.feed i (h.input ∙ ap (λ i. Gives (given i)) (sym e))))
 
-  pub input_read : (n : ℕ) (ch : plain.Change Reference) (x : ScalarInput) (i : Input) → IsAdded (sees_at clock o l accums v) accums.slots n ch x → i ≡ made_of x
-      → Tells (λ (input : Input). one_waiting n (given input)) (contributed (look_now clock o aliases accums) (slots_are accums) (Slot n) 0 ch) (Ok i)
-  input_read n ch x i is e = let h = added_now n ch x is in
-      subst (λ (ch : plain.Change Reference). Tells (λ (input : Input). one_waiting n (given input)) (contributed (look_now clock o aliases accums) (slots_are accums) (Slot n) 0 ch) (Ok i)) (sym h.adds)
-      (input_there (look_now clock o aliases accums) accums n h.feed refl h.slot (Ok i) h.declared (h.input ∙ ap (λ i. Gives (given i)) (sym e)))
+  pub input_read : (n : ℕ) (ch : plain.Change Reference) (x : ScalarInput) → IsAdded (sees_at clock o l accums v) accums.slots n ch x → contributed (look_now clock o aliases accums) (slots_are accums) (Slot n) 0 ch ≡ Gives (one_waiting n (given (made_of x)))
+  input_read n ch x is = let h = added_now n ch x is in
+      subst (λ (ch : plain.Change Reference). contributed (look_now clock o aliases accums) (slots_are accums) (Slot n) 0 ch ≡ Gives (one_waiting n (given (made_of x)))) (sym h.adds)
+      (input_there (look_now clock o aliases accums) accums n h.feed refl h.slot (Ok (made_of x)) h.declared h.input)
 
 pub ruleset holds_laws = (are_in)
 

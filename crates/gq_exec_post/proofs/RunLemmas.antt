@@ -1,6 +1,8 @@
 -- RunLemmas: one phase, and all of them.
 use Rattle.std.proofs.Common.{◌≡◌, ℕ, zero, suc, Bool, true, false, cond, List, [], ◌∷◌, take, drop, map, length, get_or, ◌-◌, ◌≤◌, Result, Ok, Err, refl, sym, ap, ap₂, subst, ◌∙◌}
+use Rattle.std.specs.List.{All}
 use Rattle.std.proofs.lemmas.List.{drop_more, take_rest}
+use Rattle.std.proofs.lemmas.List.Elements.{All-nil}
 use Rattle.gq_rules_typing.specs.Selecting.{Act, Acts, act_and}
 use Rattle.gq_rules_typing.specs.SelectViews.{acts_of}
 use Rattle.gq_rules_meaning.specs.Answers.{Answer, Gives, Faults, Stuck, ◌>>=◌, through}
@@ -24,7 +26,8 @@ use Rattle.gq_exec_source.specs.Ends.{end_at, end_things}
 use Rattle.gq_exec_post.specs.declared.writing.Writing.{Writing}
 use Rattle.gq_exec_post.specs.Phases.{KeepsAll, RunsAt, RunsPhase, RunsPhases, phase_of, phases_of, run_length, slots_at, to_target}
 use Rattle.gq_exec_post.specs.Sights.{GoesSo, SeesSo, one_alias}
-use Rattle.gq_exec_post.specs.Writing.{KeepsTo, waiting_are}
+use Rattle.gq_exec_post.specs.Waiting.{IsTaken, batch_of, contribution_of, waiting_are}
+use Rattle.gq_exec_post.specs.Writing.{AreTaken, KeepsTo, written}
 use Rattle.gq_eval_context.proofs.FaultLemmas.{ends_with}
 use Rattle.gq_exec_post.proofs.Steps.{goes_on}
 use Rattle.gq_exec_post.proofs.ActLemmas.{keeps_on}
@@ -32,17 +35,20 @@ use Rattle.gq_exec_post.proofs.PhaseLemmas.{phases_begin}
 
 -- ---- the vertices, and the waiting inputs
 
-module _ (clock : Calendar) (o : Over) (end : End) (acts : Acts Reference) (vs : List ℕ) (opened : Writing) (none : opened.waiting.items ≡ []) where
-  begins : (q : ℕ → Post Reference) → slots_at q acts vs (slots_are opened.accums) ≡ (through (λ w v. post_acts (q v) acts w) (record { slots = slots_are opened.accums; to_globals = waiting_are opened.waiting.items }) vs >>= λ w. fed_together w.to_globals w.slots)
-  begins q = ap (λ ws. through (λ w v. post_acts (q v) acts w) (record { slots = slots_are opened.accums; to_globals = waiting_are ws }) vs >>= λ w. fed_together w.to_globals w.slots) (sym none)
+module _ (clock : Calendar) (o : Over) (end : End) (acts : Acts Reference) (vs : List ℕ) (opened : Writing) (none : batch_of opened.waiting ≡ []) where
+  begins : (q : ℕ → Post Reference) → slots_at q acts vs (slots_are opened.accums) ≡ (through (λ w v. post_acts (q v) acts w) (written opened) vs >>= λ w. fed_together w.to_globals w.slots)
+  begins q = ap (λ xs. through (λ w v. post_acts (q v) acts w) (record { slots = slots_are opened.accums; to_globals = xs }) vs >>= λ w. fed_together w.to_globals w.slots) (sym (ap (map (contribution_of opened.accums.slots)) none))
 
   pub at_stops : (e : code.BlockFault) → GoesSo clock o end acts vs opened (Err e) → RunsAt clock o end acts vs opened.accums (Err e)
-  at_stops e g = record { each = λ q h. subst (λ o. EndsAs o e) (sym (begins q)) (ends_with (through (λ w v. post_acts (q v) acts w) (record { slots = slots_are opened.accums; to_globals = waiting_are opened.waiting.items }) vs) (λ w. fed_together w.to_globals w.slots) e (g.each q h)) }
+  at_stops e g = record { each = λ q h. subst (λ o. EndsAs o e) (sym (begins q)) (ends_with (through (λ w v. post_acts (q v) acts w) (written opened) vs) (λ w. fed_together w.to_globals w.slots) e (g.each q h)) }
 
-  pub at_ends : (w : Writing) (r : Result Accums code.BlockFault) → GoesSo clock o end acts vs opened (Ok w) → Answered slots_are (fed_together (waiting_are w.waiting.items) (slots_are w.accums)) r → RunsAt clock o end acts vs opened.accums r
+  pub at_ends : (w : Writing) (r : Result Accums code.BlockFault) → GoesSo clock o end acts vs opened (Ok w) → Answered slots_are (fed_together (waiting_are w.accums.slots w.waiting) (slots_are w.accums)) r → RunsAt clock o end acts vs opened.accums r
   at_ends w r g f = record { each = λ q h. subst (λ o. Answered slots_are o r) (sym (begins q ∙ ap (λ o. o >>= λ w. fed_together w.to_globals w.slots) (g.each q h))) f }
 
-pub ruleset at_laws = (at_stops, at_ends, keeps_on)
+pub opened_taken : (w : Writing) → batch_of w.waiting ≡ [] → AreTaken w
+opened_taken w e = record { each = subst (All (IsTaken w.accums.slots)) (sym e) (All-nil (IsTaken w.accums.slots)) }
+
+pub ruleset at_laws = (at_stops, at_ends, keeps_on, opened_taken)
 
 -- ---- a phase for an end
 

@@ -1,6 +1,5 @@
 -- WaitLemmas: an input to a global accumulator, which waits for the end of the phase.
-use Rattle.std.proofs.Common.{◌≡◌, ℕ, List, [], ◌∷◌, ◌++◌, Option, Some, None, Result, Ok, Err, slice_get, refl, sym, ap, subst, ◌∙◌}
-use Rattle.std.specs.Global.{Vec}
+use Rattle.std.proofs.Common.{◌≡◌, ℕ, List, ◌++◌, Option, Some, None, Result, Ok, Err, slice_get, sym, ap, subst, ◌∙◌}
 use Rattle.std.specs.Option.{option_map}
 use Rattle.gq_value.specs.declared.kind.Input.{Input}
 use Rattle.gq_value.specs.declared.kind.Slot.{Slot}
@@ -29,12 +28,16 @@ use Rattle.gq_frame.proofs.SlotLemmas.{number_there, named_some}
 use Rattle.gq_eval_context.specs.Viewed.{Over}
 use Rattle.gq_eval_context.specs.declared.after.BlockFault as code
 use Rattle.gq_eval_context.specs.Answered.{EndsAs}
-use Rattle.gq_exec_post.specs.declared.writing.Waiting.{Waiting}
+use Rattle.gq_eval_context.specs.declared.after.BlockFault.TheVariants as fault
+use Rattle.gq_exec_post.specs.declared.waiting.Waiting.{Waiting}
 use Rattle.gq_exec_post.specs.declared.writing.Writing.{Writing}
 use Rattle.gq_eval_context.specs.Faults.{fault_at}
 use Rattle.gq_exec_post.specs.Sights.{DoesSo, SeesSo, look_now, one_waiting}
-use Rattle.gq_exec_post.specs.Writing.{contribution_of, waiting_are, written}
+use Rattle.gq_exec_post.specs.Waiting.{IsQueued, waiting_are}
+use Rattle.gq_exec_post.specs.Writing.{AreTaken, written}
 use Rattle.gq_eval_context.proofs.FaultLemmas.{stops_at}
+use Rattle.gq_exec_post.proofs.ActLemmas.{keeps_itself}
+use Rattle.gq_exec_post.proofs.QueueLemmas.{all_taken, waiting_more}
 
 -- ---- the input
 
@@ -73,10 +76,6 @@ after_input v w o = blaming (AtPlace v) o >>= λ xs. Gives (record w { to_global
 abbrev gives_so : Written Reference → Answer BlockFault (Written Reference)
 gives_so w = Gives w
 
-waiting_more : (ws : List Waiting) (x : Waiting) → waiting_are (ws ++ x ∷ []) ≡ waiting_are ws ++ contribution_of x ∷ []
-waiting_more [] x = refl
-waiting_more (w ∷ ws) x = ap (λ xs. contribution_of w ∷ xs) (waiting_more ws x)
-
 module _ (clock : Calendar) (o : Over) (aliases : List (ℕ × Placed)) (n v : ℕ) (c : plain.Change Reference) (before : Writing) where
   feed_is : (p : Post Reference) → SeesSo clock o aliases v p → feed p (reference.Slot n) c (written before) ≡ after_input v (written before) (contributed (look_now clock o aliases before.accums) (slots_are before.accums) (reference.Slot n) 0 c)
   feed_is p h =
@@ -86,15 +85,21 @@ module _ (clock : Calendar) (o : Over) (aliases : List (ℕ × Placed)) (n v : �
   pub wait_stops : (h : Halt) (e : code.BlockFault) → Halts (contributed (look_now clock o aliases before.accums) (slots_are before.accums) (reference.Slot n) 0 c) h → e ≡ fault_at v h → DoesSo clock o aliases v (λ p. feed p (reference.Slot n) c) before (Err e)
   wait_stops h e s is = record {
     each = λ p sees. subst (λ e. EndsAs (feed p (reference.Slot n) c (written before)) e) (sym is)
-        (subst (λ o. EndsAs o (fault_at v h)) (sym (feed_is p sees)) (stops_at (contributed (look_now clock o aliases before.accums) (slots_are before.accums) (reference.Slot n) 0 c) (λ xs. Gives (record (written before) { to_globals = waiting_are before.waiting.items ++ xs })) v h s));
+        (subst (λ o. EndsAs o (fault_at v h)) (sym (feed_is p sees)) (stops_at (contributed (look_now clock o aliases before.accums) (slots_are before.accums) (reference.Slot n) 0 c) (λ xs. Gives (record (written before) { to_globals = waiting_are before.accums.slots before.waiting ++ xs })) v h s));
   }
 
-  pub wait_more : (x : Input) (ws : Vec Waiting) → contributed (look_now clock o aliases before.accums) (slots_are before.accums) (reference.Slot n) 0 c ≡ Gives (one_waiting n (given x)) → ws.items ≡ before.waiting.items ++ (record { slot = n; input = x }) ∷ []
+  pub wait_more : (x : Input) (ws : Waiting) → contributed (look_now clock o aliases before.accums) (slots_are before.accums) (reference.Slot n) 0 c ≡ Gives (one_waiting n (given x)) → IsQueued before.accums.slots n x before.waiting ws
       → DoesSo clock o aliases v (λ p. feed p (reference.Slot n) c) before (Ok (record { accums = before.accums; waiting = ws }))
-  wait_more x ws g e = record {
+  wait_more x ws g q = record {
     each = λ p h.
         feed_is p h ∙ ap (after_input v (written before)) g
-        ∙ ap (λ xs. gives_so (record { slots = slots_are before.accums; to_globals = xs })) (sym (waiting_more before.waiting.items (record { slot = n; input = x })) ∙ ap waiting_are (sym e));
+        ∙ ap (λ xs. gives_so (record { slots = slots_are before.accums; to_globals = xs })) (sym (waiting_more before.accums.slots n x before.waiting ws q));
   }
 
-pub ruleset wait_laws = (wait_stops, wait_more)
+  pub wait_taken : (x : Input) (ws : Waiting) → AreTaken before → IsQueued before.accums.slots n x before.waiting ws → AreTaken (record { accums = before.accums; waiting = ws })
+  wait_taken x ws t q = record { each = all_taken before.accums.slots n x before.waiting ws t.each q }
+
+pub wait_memory : (clock : Calendar) (o : Over) (aliases : List (ℕ × Placed)) (n v : ℕ) (c : plain.Change Reference) (before : Writing) → DoesSo clock o aliases v (λ p. feed p (reference.Slot n) c) before (Err fault.OutOfMemory)
+wait_memory clock o aliases n v c before = record { each = λ p h. tt }
+
+pub ruleset wait_laws = (wait_stops, wait_more, wait_taken, wait_memory, keeps_itself)

@@ -1,6 +1,7 @@
 -- WriteLemmas: a write at a vertex, seen and judged at once.
-use Rattle.std.proofs.Common.{◌≡◌, ℕ, Bool, true, false, List, Option, Some, None, Result, Ok, Err, slice_get, refl, sym, ap, subst, ◌∙◌}
+use Rattle.std.proofs.Common.{◌≡◌, ℕ, Bool, true, false, List, Option, Some, None, Result, Ok, Err, slice_get, refl, sym, ap, ap₂, subst, ◌∙◌}
 use Rattle.std.specs.Prelude.{OnOk}
+use Rattle.std.specs.List.{All}
 use Rattle.gq_value.specs.declared.kind.Slot.{Slot}
 use Rattle.gq_value.specs.declared.value.Wrong.{Wrong}
 use Rattle.gq_value.specs.AccumViews.{accum_of}
@@ -30,7 +31,10 @@ use Rattle.gq_exec_post.proofs.WriteLaws.{change_faults, change_made, change_sti
 use Rattle.gq_exec_post.specs.declared.writing.Writing.{Writing}
 use Rattle.gq_eval_context.specs.Faults.{fault_at}
 use Rattle.gq_exec_post.specs.Sights.{DoesSo, PutSo, SeesSo, look_now, made_at}
-use Rattle.gq_exec_post.specs.Writing.{KeepsTo, left, waiting_are, written}
+use Rattle.gq_exec_post.specs.declared.waiting.Waiting.{Waiting}
+use Rattle.gq_frame.specs.declared.slots.Slots.{Slots}
+use Rattle.gq_exec_post.specs.Waiting.{IsTaken, batch_of, waiting_are}
+use Rattle.gq_exec_post.specs.Writing.{AreTaken, KeepsTo, left, written}
 
 -- ---- what a change makes
 
@@ -88,7 +92,7 @@ module _ (clock : Calendar) (o : Over) (aliases : List (ℕ × Placed)) (n v : �
   write_made m (Ok w) g put = record {
     each = λ p h.
         write_is p h ∙ ap (after_write v (written before)) (made m w.accums true (slice_get before.accums.slots.declared n) refl g put.0)
-        ∙ ap (λ ws. given_so (record { slots = slots_are w.accums; to_globals = waiting_are ws })) (sym put.1);
+        ∙ ap₂ (λ slots ws. given_so (record { slots = slots_are w.accums; to_globals = waiting_are slots ws })) (sym put.0.slots) (sym put.1);
   }
   write_made m (Err (fault.SumRange k)) g put = record {
     each = λ p h.
@@ -103,4 +107,10 @@ pub put_keeps : {U : Type 0} (m : Made) (n v : ℕ) (before after : Writing) (r 
 put_keeps m n v before after (Ok u) put = record { sound = put.0.sound refl; slots = put.0.slots }
 put_keeps m n v before after (Err e) put = tt
 
-pub ruleset write_laws = (write_stops, write_made, put_keeps)
+pub put_taken : {U : Type 0} (m : Made) (n v : ℕ) (before after : Writing) (r : Result U code.BlockFault) → PutSo m n v before (left r after) → AreTaken before → OnOk r (AreTaken after)
+put_taken m n v before after (Ok u) put t = record {
+  each = subst (λ (ws : Waiting). All (IsTaken after.accums.slots) (batch_of ws)) (sym put.1) (subst (λ (slots : Slots). All (IsTaken slots) (batch_of before.waiting)) (sym put.0.slots) t.each);
+}
+put_taken m n v before after (Err e) put t = tt
+
+pub ruleset write_laws = (write_stops, write_made, put_keeps, put_taken)

@@ -2,6 +2,7 @@ pub mod Naming
 pub mod Making
 pub mod Judging
 pub mod Changing
+pub mod Waiting
 pub mod Writing
 pub mod Sights
 pub mod Feeding

@@ -76,13 +76,13 @@ pub record GoesSo (clock : Calendar) (o : Over) (end : End) (acts : Acts Referen
 abbrev pub made_at : Look Reference → Slots → ℕ → Change Reference → Answer Wrong Making
 made_at look slots n change = found (slice_get slots.declared n) >>= λ (s : Slot). made_by look (accum_of s.kind) change
 
--- an input that waits for the global accumulator of a slot
+-- an input to the global accumulator of a slot
 abbrev pub one_waiting : ℕ → Given → List Contribution
 one_waiting n x = record { slot = n; vertex = 0; input = x } ∷ []
 
 -- a change was applied, or the changed content doesn't fit
 abbrev pub PutSo : Made → ℕ → ℕ → Writing → Result Writing BlockFault → Type 0
-PutSo m n v before (Ok w) = Changed m before.accums w.accums n v true × (w.waiting.items ≡ before.waiting.items)
+PutSo m n v before (Ok w) = Changed m before.accums w.accums n v true × (w.waiting ≡ before.waiting)
 PutSo m n v before (Err (fault.SumRange k)) = (k ≡ n) × ((new : Accums) × Changed m before.accums new n v false)
 PutSo m n v before (Err (fault.Eval at w)) = ⊥
 PutSo m n v before (Err fault.Stuck) = ⊥

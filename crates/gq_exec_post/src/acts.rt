@@ -14,11 +14,12 @@ ghost use Rattle.gq_frame.specs.Names.{alias_of};
 ghost use Rattle.gq_frame.specs.Slots.{AreSound, slots_are};
 ghost use Rattle.gq_exec_post.specs.Making.{making_of};
 ghost use Rattle.gq_exec_post.specs.Sights.{DoesSo, PutSo, ReadsAt, look_now, made_at, one_waiting};
-ghost use Rattle.gq_exec_post.specs.Writing.{KeepsTo, left};
+ghost use Rattle.gq_exec_post.specs.Writing.{AreTaken, KeepsTo, left};
 
 use crate::changed::{ChangeFault, change_at};
 use crate::making::{Made, made_by};
-use crate::writing::{Waiting, Writing};
+use crate::waiting::{queue, queue_read};
+use crate::writing::Writing;
 use gq_eval::run_truth;
 use gq_eval_context::{BlockContext, BlockFault, fault_at};
 use gq_eval_operand::Halt;
@@ -41,9 +42,11 @@ pub(crate) fn run_acts(
     writing: &mut Writing,
 ) -> Result<(), BlockFault>
     requires sound { AreSound writing.old.accums }
+    requires taken { AreTaken writing.old }
     requires reads { ReadsAt leaves.now (map alias_of aliases.now) vertex writing.old.accums }
     ensures told { DoesSo gregorian over.now (map alias_of aliases.now) vertex (λ p. post_acts p (view_acts acts.now)) writing.old (left result writing.new) }
     ensures sound { OnOk result (KeepsTo writing.old.accums writing.new.accums) }
+    ensures taken { OnOk result (AreTaken writing.new) }
 {
     for act in acts {
         match run_act(act, alloc, over, aliases, leaves, vertex, writing) {
@@ -67,9 +70,11 @@ fn run_act(
     writing: &mut Writing,
 ) -> Result<(), BlockFault>
     requires sound { AreSound writing.old.accums }
+    requires taken { AreTaken writing.old }
     requires reads { ReadsAt leaves.now (map alias_of aliases.now) vertex writing.old.accums }
     ensures told { DoesSo gregorian over.now (map alias_of aliases.now) vertex (λ p. post_act p (view_act act.now)) writing.old (left result writing.new) }
     ensures sound { OnOk result (KeepsTo writing.old.accums writing.new.accums) }
+    ensures taken { OnOk result (AreTaken writing.new) }
 {
     match act {
         Act::Attached(_, slot, change) => {
@@ -160,9 +165,11 @@ fn write(
     writing: &mut Writing,
 ) -> Result<(), BlockFault>
     requires sound { AreSound writing.old.accums }
+    requires taken { AreTaken writing.old }
     requires reads { ReadsAt leaves.now (map alias_of aliases.now) to.1 writing.old.accums }
     ensures told { DoesSo gregorian over.now (map alias_of aliases.now) to.1 (λ p. write p (Slot to.0) (view_change change.now)) writing.old (left result writing.new) }
     ensures sound { OnOk result (KeepsTo writing.old.accums writing.new.accums) }
+    ensures taken { OnOk result (AreTaken writing.new) }
 {
     match made_at(change, alloc, over, aliases, leaves, to, &writing.accums) {
         Err(halt) => Err(fault_at(to.1, halt)),
@@ -237,8 +244,8 @@ fn put_in(
 
 // ---- waiting inputs
 
-/// Queues the input of a `+=` to the global accumulator of a slot.
-#[tactic(auto, using(crate::proofs::WaitLemmas::wait_laws))]
+/// Queues the input of a `+=` to the global accumulator of a slot: it is read if possible, else evaluated.
+#[tactic(auto, using(crate::proofs::WaitLemmas::wait_laws, crate::proofs::ReadLemmas::input_laws))]
 fn wait(
     change: &Change,
     alloc: Global,
@@ -249,44 +256,46 @@ fn wait(
     writing: &mut Writing,
 ) -> Result<(), BlockFault>
     requires sound { AreSound writing.old.accums }
+    requires taken { AreTaken writing.old }
     requires reads { ReadsAt leaves.now (map alias_of aliases.now) to.1 writing.old.accums }
     ensures told { DoesSo gregorian over.now (map alias_of aliases.now) to.1 (λ p. feed p (Slot to.0) (view_change change.now)) writing.old (left result writing.new) }
     ensures sound { OnOk result (KeepsTo writing.old.accums writing.new.accums) }
+    ensures taken { OnOk result (AreTaken writing.new) }
 {
-    match input_at(change, alloc, over, aliases, leaves, to, &writing.accums) {
-        Err(halt) => Err(fault_at(to.1, halt)),
-        Ok(input) => {
-            let one = Waiting { slot: to.0, input };
-            match writing.waiting.push(one) {
-                Ok(()) => {}
-                Err(_) => return Err(BlockFault::OutOfMemory),
+    match added_at(change, alloc, over, leaves, &writing.accums, to.1, to.0) {
+        Some(x) => {
+            let slots = &writing.accums.slots;
+            match queue_read(alloc, slots, &leaves.cells, to.0, &x, &mut writing.waiting) {
+                Ok(()) => Ok(()),
+                Err(_) => Err(BlockFault::OutOfMemory),
             }
-            Ok(())
         }
+        None => wait_evaluated(change, alloc, over, aliases, to, writing),
     }
 }
 
-/// The input of a `+=` to the global accumulator of a slot: it is read if possible, else evaluated.
-#[tactic(auto, using(crate::proofs::ReadLemmas::input_laws))]
-fn input_at(
+/// Evaluates the input of a `+=` to the global accumulator of a slot, and queues it.
+#[tactic(auto, using(crate::proofs::WaitLemmas::wait_laws))]
+fn wait_evaluated(
     change: &Change,
     alloc: Global,
     over: &BlockContext<'_>,
     aliases: &[Alias<'_>],
-    leaves: &Leaves<'_>,
     to: (u32, u32),
-    accums: &Accums,
-) -> Result<Input, Halt>
-    requires sound { AreSound accums.now }
-    requires reads { ReadsAt leaves.now (map alias_of aliases.now) to.1 accums.now }
-    ensures { Tells (λ input. one_waiting to.0 (given input)) (contributed (look_now gregorian over.now (map alias_of aliases.now) accums.now) (slots_are accums.now) (Slot to.0) 0 (view_change change.now)) result }
+    writing: &mut Writing,
+) -> Result<(), BlockFault>
+    requires sound { AreSound writing.old.accums }
+    requires taken { AreTaken writing.old }
+    ensures told { DoesSo gregorian over.now (map alias_of aliases.now) to.1 (λ p. feed p (Slot to.0) (view_change change.now)) writing.old (left result writing.new) }
+    ensures sound { OnOk result (KeepsTo writing.old.accums writing.new.accums) }
+    ensures taken { OnOk result (AreTaken writing.new) }
 {
-    match added_at(change, alloc, over, leaves, accums, to.1, to.0) {
-        Some(x) => {
-            let input = input_of(alloc, &x)?;
-            Ok(input)
-        }
-        None => evaluated_input(change, alloc, over, aliases, accums, to.0),
+    match evaluated_input(change, alloc, over, aliases, &writing.accums, to.0) {
+        Err(halt) => Err(fault_at(to.1, halt)),
+        Ok(input) => match queue(&writing.accums.slots, to.0, input, &mut writing.waiting) {
+            Ok(()) => Ok(()),
+            Err(_) => Err(BlockFault::OutOfMemory),
+        },
     }
 }
 

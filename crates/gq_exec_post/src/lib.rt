@@ -20,6 +20,7 @@ mod making;
 mod phases;
 mod post_accum;
 mod vertices;
+mod waiting;
 mod writing;
 
 pub use changed::{ChangeFault, change_at};

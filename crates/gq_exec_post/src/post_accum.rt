@@ -17,6 +17,7 @@ ghost use Rattle.gq_exec_post.specs.Writing.{KeepsTo};
 use crate::feeding::fed;
 use crate::phases::{for_target, run_of};
 use crate::vertices::run_vertices;
+use crate::waiting::none;
 use crate::writing::Writing;
 use gq_base::{List, OutOfMemory};
 use gq_eval_context::{After, BlockContext, BlockFault};
@@ -158,7 +159,7 @@ fn vertices_at(
 {
     let mut writing = Writing {
         accums,
-        waiting: Vec::new(alloc),
+        waiting: none(alloc),
     };
     match run_vertices(acts, alloc, over, end, leaves, vertices, &mut writing) {
         Err(fault) => Err(fault),

@@ -6,7 +6,7 @@ ghost use Rattle.gq_plan_ir.specs.BlockView.{view_acts};
 ghost use Rattle.gq_exec_source.specs.Ends.{end_things};
 ghost use Rattle.gq_frame.specs.Slots.{AreSound};
 ghost use Rattle.gq_exec_post.specs.Sights.{DoesSo, GoesSo, ReadsEnd, one_alias};
-ghost use Rattle.gq_exec_post.specs.Writing.{KeepsTo, left};
+ghost use Rattle.gq_exec_post.specs.Writing.{AreTaken, KeepsTo, left};
 
 use crate::acts::run_acts;
 use crate::writing::Writing;
@@ -28,9 +28,11 @@ pub(crate) fn run_vertices(
     writing: &mut Writing,
 ) -> Result<(), BlockFault>
     requires sound { AreSound writing.old.accums }
+    requires taken { AreTaken writing.old }
     requires reads { ReadsEnd leaves.now end.now writing.old.accums }
     ensures told { GoesSo gregorian over.now end.now (view_acts acts.now) vertices.now writing.old (left result writing.new) }
     ensures sound { OnOk result (KeepsTo writing.old.accums writing.new.accums) }
+    ensures taken { OnOk result (AreTaken writing.new) }
 {
     for vertex in vertices {
         match run_vertex(acts, alloc, over, end, leaves, *vertex, writing) {
@@ -52,9 +54,11 @@ fn run_vertex(
     writing: &mut Writing,
 ) -> Result<(), BlockFault>
     requires sound { AreSound writing.old.accums }
+    requires taken { AreTaken writing.old }
     requires reads { ReadsEnd leaves.now end.now writing.old.accums }
     ensures told { DoesSo gregorian over.now (one_alias (end_things end.now vertex)) vertex (λ p. post_acts p (view_acts acts.now)) writing.old (left result writing.new) }
     ensures sound { OnOk result (KeepsTo writing.old.accums writing.new.accums) }
+    ensures taken { OnOk result (AreTaken writing.new) }
 {
     match end.alias(vertex) {
         Some(alias) => run_acts(acts, alloc, over, &[alias], leaves, vertex, writing),

@@ -1,4 +1,4 @@
-use Rattle.std.proofs.Common.{◌≡◌, ◌≤◌, take, map}
+use Rattle.std.proofs.Common.{◌≡◌, take, map}
 use Rattle.gq_after.specs.declared.rows.Ranked.{Ranked}
 use Rattle.gq_after.proofs.limit.listed.Given as goal
 

@@ -18,7 +18,7 @@ run_acts-returns-in-Err-clause-told t c =
 
 pub run_acts-loop-act-preserved : goal.run_acts-loop-act-preserved
 run_acts-loop-act-preserved t c =
-    act_next gregorian c.args.over.now (map alias_of c.args.aliases.now) c.args.vertex c.args.acts.now c.loop-act.act-index c.act-item.result c.args.writing.now c.loop-act.writing c.run_act.new.writing c.loop-act.invariant c.loop-act-test.true c.act-item.is c.in-Ok.ensures.told c.in-Ok.ensures.sound
+    act_next gregorian c.args.over.now (map alias_of c.args.aliases.now) c.args.vertex c.args.acts.now c.loop-act.act-index c.act-item.result c.args.writing.now c.loop-act.writing c.run_act.new.writing c.loop-act.invariant c.loop-act-test.true c.act-item.is c.in-Ok.ensures.told c.in-Ok.ensures.sound c.in-Ok.ensures.taken
 
 -- ---- a change
 
@@ -52,6 +52,7 @@ pub run_act-loop-branch-preserved : goal.run_act-loop-branch-preserved
 run_act-loop-branch-preserved t c = record {
   same = c.loop-branch.invariant.same;
   sound = c.loop-branch.invariant.sound;
+  taken = c.loop-branch.invariant.taken;
   reads = c.loop-branch.invariant.reads;
   chosen = choice_next gregorian c.args.over.now (map alias_of c.args.aliases.now) c.args.vertex c.as_slice-branch-items.result.now c.in-If.others c.loop-branch.writing c.loop-branch.branch-index c.branch-item.result c.in-Ok-false.field-0
       c.loop-branch.invariant.chosen c.loop-branch-test.true c.branch-item.is c.in-Ok-false.ensures c.in-Ok-false.field-0-test;

@@ -10,4 +10,4 @@ returns-in-Err-clause-told c =
 
 pub loop-vertex-preserved : goal.loop-vertex-preserved
 loop-vertex-preserved c =
-    vertex_next gregorian c.args.over.now c.args.end.now (view_acts c.args.acts.now) c.args.vertices.now c.loop-vertex.vertex-index _ c.args.writing.now c.loop-vertex.writing c.run_vertex.new.writing c.loop-vertex.invariant c.loop-vertex-test.true refl c.in-Ok.ensures.told c.in-Ok.ensures.sound
+    vertex_next gregorian c.args.over.now c.args.end.now (view_acts c.args.acts.now) c.args.vertices.now c.loop-vertex.vertex-index _ c.args.writing.now c.loop-vertex.writing c.run_vertex.new.writing c.loop-vertex.invariant c.loop-vertex-test.true refl c.in-Ok.ensures.told c.in-Ok.ensures.sound c.in-Ok.ensures.taken

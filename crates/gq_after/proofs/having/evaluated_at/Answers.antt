@@ -7,7 +7,7 @@ use Rattle.gq_frame.specs.Names.{Placed}
 use Rattle.gq_eval_context.specs.Viewed.{viewed}
 use Rattle.gq_eval_context.specs.Looks.{look_of}
 use Rattle.gq_after.specs.Sights.{one_alias}
-use Rattle.gq_after.proofs.having.holds_at.Goals as goal
+use Rattle.gq_after.proofs.having.evaluated_at.Goals as goal
 
 pub returns-in-Some : goal.returns-in-Some
 returns-in-Some c =
