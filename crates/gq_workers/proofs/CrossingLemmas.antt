@@ -101,8 +101,11 @@ content_sync = search (value_sync, list_crosses.the_sync, boxed_crosses.the_sync
 content_send : IsSend content.the_row
 content_send = search (value_send, scalar_crosses.the_field_send, list_crosses.the_send, boxed_crosses.the_send, map_crosses.the_send, set_crosses.the_send, maps.crosses, crosses, content_knot.crosses, sendable) depth 30 fits 50000
 
+content_field : IsSync (content.the_field).row
+content_field = search (value_sync, list_crosses.the_sync, boxed_crosses.the_sync, maps.crosses, crosses, content_knot.crosses, sendable) depth 30 fits 50000
+
 single_sync : IsSync single.the_row
-single_sync = search (content_sync, content_send, crosses, sendable) depth 30 fits 50000
+single_sync = search (content_field, content_sync, content_send, crosses, sendable) depth 30 fits 50000
 
 page_sync : IsSync page.the_row
 page_sync = search (single_sync, content_sync, content_send, list_crosses.the_sync, list_crosses.the_send, crosses, sendable) depth 30 fits 50000
