@@ -56,11 +56,11 @@ pub record CanWork (o : Over) (block : Block) (ends : Ends) (cs : List Candidate
   pub is_place : IsEdgePlace block place
   pub tables : (edge : Option ℕ) → IsEdgePlace block edge → AreTables (job_at o block ends cs shape edge) (stripes.plan_of book) (marked.openings_of words)
 
--- a thread returns the seats that it was given, and did the block's work through them until no chunk was left
-abbrev pub IsPart : Over → Block → Ends → List Candidate → Shape → Book → Words → Seat → WordSeat → Seat × WordSeat → Type 0
-IsPart o block ends cs shape book words seat word_seat r = stripes.IsFree book r.0 × marked.IsSeatOf words r.1
+-- a thread did the block's work through its seats, until no chunk was left
+abbrev pub IsPart : Over → Block → Ends → List Candidate → Shape → Book → Words → Seat → WordSeat → Seat → WordSeat → Type 0
+IsPart o block ends cs shape book words seat word_seat after word_after = stripes.IsFree book after × marked.IsSeatOf words word_after
     × ((edge : Option ℕ) → IsEdgePlace block edge
-    → Works (job_at o block ends cs shape edge) (stripes.view_of seat) (stripes.view_of r.0) (marked.view_of word_seat) (marked.view_of r.1))
+      → Works (job_at o block ends cs shape edge) (stripes.view_of seat) (stripes.view_of after) (marked.view_of word_seat) (marked.view_of word_after))
 
 -- a sum of INTs for each of three vertices, and no other accumulator
 abbrev pub AreSums : Slots → Type 0

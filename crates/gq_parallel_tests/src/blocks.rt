@@ -2,7 +2,7 @@
 //
 // `SumAccum<INT> @n = 1; S = {person.*}; T = SELECT t FROM S:s -(knows:e)-> person:t ACCUM t.@n += s.@n + 1;` over three
 // persons: the first one knows both others, and the second one the third.
-ghost use Rattle.std.specs.Prelude.{◌≡◌, ◌≢◌, ◌≤◌, ◌<◌, [], ◌∷◌, true, All, IfOk, Some, length};
+ghost use Rattle.std.specs.Prelude.{◌≡◌, ◌≢◌, ◌≤◌, ◌<◌, [], ◌∷◌, true, All, IfOk, OnOk, Some, length};
 ghost use Rattle.gq_value.specs.Accums.{SumAccum};
 ghost use Rattle.gq_value.specs.declared.kind.Number.TheVariants.{Int};
 ghost use Rattle.gq_graph.specs.Catalog.{most_types};
@@ -41,7 +41,7 @@ use gq_workers::{Tables, open_tables, work};
 use std::alloc::Global;
 use std::sync::Wait;
 use std::test::Fail;
-use std::thread::{Threads, join};
+use std::thread::{Threads, join_mut};
 
 const SHAPE: Shape = Shape {
     workers: 2,
@@ -277,7 +277,7 @@ struct Task<'a> {
     shape: Shape,
 }
 
-// One thread's part: does the chunks that it draws, and returns its seats.
+// One thread's part: does the chunks that it draws.
 fn part<R: Wait>(
     rt: &R,
     alloc: Global,
@@ -285,18 +285,16 @@ fn part<R: Wait>(
     over: &BlockContext<'_>,
     worker: u32,
     book: &Book,
-    seat: Seat,
+    seat: &mut Seat,
     words: &Words,
-    word_seat: WordSeat,
-) -> Result<(Seat, WordSeat), OutOfMemory>
+    word_seat: &mut WordSeat,
+) -> Result<(), OutOfMemory>
     requires worker { worker < 64 }
     requires task { CanWork over.now task.now.block.now task.now.ends.now task.now.candidates.now task.now.shape book.now words.now }
-    requires seat { stripes.IsIdle book.now seat }
-    requires word_seat { marked.IsSeatOf words.now word_seat }
-    ensures { IfOk result (IsPart over.now task.now.block.now task.now.ends.now task.now.candidates.now task.now.shape book.now words.now seat word_seat) }
+    requires seat { stripes.IsIdle book.now seat.old }
+    requires word_seat { marked.IsSeatOf words.now word_seat.old }
+    ensures { OnOk result (IsPart over.now task.now.block.now task.now.ends.now task.now.candidates.now task.now.shape book.now words.now seat.old word_seat.old seat.new word_seat.new) }
 {
-    let mut seat = seat;
-    let mut word_seat = word_seat;
     work(
         rt,
         alloc,
@@ -307,12 +305,11 @@ fn part<R: Wait>(
         &task.shape,
         worker,
         book,
-        &mut seat,
+        seat,
         words,
-        &mut word_seat,
+        word_seat,
         &OpenGate,
-    )?;
-    Ok((seat, word_seat))
+    )
 }
 
 fn by_two<R: Threads + Wait + Sync>(
@@ -322,33 +319,26 @@ fn by_two<R: Threads + Wait + Sync>(
     over: &BlockContext<'_>,
     book: &Book,
     words: &Words,
-    one: (Seat, WordSeat),
-    other: (Seat, WordSeat),
-) -> (
-    Result<(Seat, WordSeat), OutOfMemory>,
-    Result<(Seat, WordSeat), OutOfMemory>,
-)
+    one: &mut Seat,
+    one_word: &mut WordSeat,
+    other: &mut Seat,
+    other_word: &mut WordSeat,
+) -> (Result<(), OutOfMemory>, Result<(), OutOfMemory>)
     requires task { CanWork over.now task.now.block.now task.now.ends.now task.now.candidates.now task.now.shape book.now words.now }
-    requires one { stripes.IsIdle book.now one.0 × marked.IsSeatOf words.now one.1 }
-    requires other { stripes.IsIdle book.now other.0 × marked.IsSeatOf words.now other.1 }
-    ensures one { IfOk result.0 (IsPart over.now task.now.block.now task.now.ends.now task.now.candidates.now task.now.shape book.now words.now one.0 one.1) }
-    ensures other { IfOk result.1 (IsPart over.now task.now.block.now task.now.ends.now task.now.candidates.now task.now.shape book.now words.now other.0 other.1) }
+    requires one { stripes.IsIdle book.now one.old × marked.IsSeatOf words.now one_word.old }
+    requires other { stripes.IsIdle book.now other.old × marked.IsSeatOf words.now other_word.old }
+    ensures one { OnOk result.0 (IsPart over.now task.now.block.now task.now.ends.now task.now.candidates.now task.now.shape book.now words.now one.old one_word.old one.new one_word.new) }
+    ensures other { OnOk result.1 (IsPart over.now task.now.block.now task.now.ends.now task.now.candidates.now task.now.shape book.now words.now other.old other_word.old other.new other_word.new) }
 {
-    let (seat, word_seat) = one;
-    let (other, other_words) = other;
-    join(
-        rt,
-        || -> Result<(Seat, WordSeat), OutOfMemory>
-            requires { CanWork over.now task.now.block.now task.now.ends.now task.now.candidates.now task.now.shape book.now words.now
-                × stripes.IsIdle book.now seat × marked.IsSeatOf words.now word_seat }
-            ensures { IfOk result (IsPart over.entry.now task.entry.now.block.now task.entry.now.ends.now task.entry.now.candidates.now task.entry.now.shape book.entry.now words.entry.now seat word_seat) }
-        { part(rt, alloc, task, over, 0, book, seat, words, word_seat) },
-        || -> Result<(Seat, WordSeat), OutOfMemory>
-            requires { CanWork over.now task.now.block.now task.now.ends.now task.now.candidates.now task.now.shape book.now words.now
-                × stripes.IsIdle book.now other × marked.IsSeatOf words.now other_words }
-            ensures { IfOk result (IsPart over.entry.now task.entry.now.block.now task.entry.now.ends.now task.entry.now.candidates.now task.entry.now.shape book.entry.now words.entry.now other other_words) }
-        { part(rt, alloc, task, over, 1, book, other, words, other_words) },
-    )
+    let mut first = || -> Result<(), OutOfMemory>
+        requires { CanWork over.now task.now.block.now task.now.ends.now task.now.candidates.now task.now.shape book.now words.now × stripes.IsIdle book.now one.now × marked.IsSeatOf words.now one_word.now }
+        ensures { OnOk result (IsPart over.entry.now task.entry.now.block.now task.entry.now.ends.now task.entry.now.candidates.now task.entry.now.shape book.entry.now words.entry.now one.entry.now one_word.entry.now one.exit.now one_word.exit.now) }
+    { part(rt, alloc, task, over, 0, book, one, words, one_word) };
+    let mut second = || -> Result<(), OutOfMemory>
+        requires { CanWork over.now task.now.block.now task.now.ends.now task.now.candidates.now task.now.shape book.now words.now × stripes.IsIdle book.now other.now × marked.IsSeatOf words.now other_word.now }
+        ensures { OnOk result (IsPart over.entry.now task.entry.now.block.now task.entry.now.ends.now task.entry.now.candidates.now task.entry.now.shape book.entry.now words.entry.now other.entry.now other_word.entry.now other.exit.now other_word.exit.now) }
+    { part(rt, alloc, task, over, 1, book, other, words, other_word) };
+    join_mut(rt, &mut first, &mut second)
 }
 
 // What the tables hold at the end: the sum at each target, and the words.
@@ -387,21 +377,24 @@ fn closed<R: Threads + Wait + Sync>(
         words,
         mut word_seat,
     } = tables;
-    let other = (book.split(&mut seat), words.split(&mut word_seat));
-    let (one, other) = by_two(
+    let mut other = book.split(&mut seat);
+    let mut other_word = words.split(&mut word_seat);
+    let (one, two) = by_two(
         rt,
         alloc,
         task,
         over,
         &book,
         &words,
-        (seat, word_seat),
-        other,
+        &mut seat,
+        &mut word_seat,
+        &mut other,
+        &mut other_word,
     );
-    let (mut seat, mut word_seat) = one?;
-    let (other, other_words) = other?;
+    one?;
+    two?;
     book.join(&mut seat, other);
-    words.join(&mut word_seat, other_words);
+    words.join(&mut word_seat, other_word);
     let sums = sums_in(book, seat)?;
     let words = words.close(word_seat)?;
     Ok(Held { sums, words })
