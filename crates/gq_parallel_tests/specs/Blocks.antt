@@ -60,7 +60,7 @@ pub record CanWork (o : Over) (block : Block) (ends : Ends) (cs : List Candidate
 abbrev pub IsPart : Over → Block → Ends → List Candidate → Shape → Book → Words → Seat → WordSeat → Seat → WordSeat → Type 0
 IsPart o block ends cs shape book words seat word_seat after word_after = stripes.IsFree book after × marked.IsSeatOf words word_after
     × ((edge : Option ℕ) → IsEdgePlace block edge
-      → Works (job_at o block ends cs shape edge) (stripes.view_of seat) (stripes.view_of after) (marked.view_of word_seat) (marked.view_of word_after))
+    → Works (job_at o block ends cs shape edge) (stripes.view_of seat) (stripes.view_of after) (marked.view_of word_seat) (marked.view_of word_after))
 
 -- a sum of INTs for each of three vertices, and no other accumulator
 abbrev pub AreSums : Slots → Type 0

@@ -15,6 +15,7 @@ ghost use Rattle.gq_plan_ir.specs.Reference.{Place};
 ghost use Rattle.gq_eval_operand.specs.Sound.{IsSound};
 ghost use Rattle.gq_frame.specs.Slots.{AreSound};
 ghost use Rattle.gq_exec_source.specs.Ends.{HasEnds};
+ghost use Rattle.gq_exec_source.specs.Starts.{AreCandidates};
 ghost use Rattle.gq_stripe.specs.Seats as stripes;
 ghost use Rattle.gq_words.specs.Seats as marked;
 ghost use Rattle.gq_parallel_tests.specs.Blocks.{AreSums, CanWork, HasSums, IsAmong, IsBare, IsPart, IsPerson};
@@ -343,7 +344,7 @@ fn by_two<R: Threads + Wait + Sync>(
 
 // What the tables hold at the end: the sum at each target, and the words.
 #[derive(Drop)]
-struct Held {
+struct Totals {
     sums: [Option<i128>; 3],
     words: Vec<u64>,
 }
@@ -363,7 +364,7 @@ fn closed<R: Threads + Wait + Sync>(
     task: &Task<'_>,
     over: &BlockContext<'_>,
     tables: Tables,
-) -> Result<Held, Fail>
+) -> Result<Totals, Fail>
     requires task { CanWork over.now task.now.block.now task.now.ends.now task.now.candidates.now task.now.shape tables.book tables.words }
     requires sums { HasSums (stripes.plan_of tables.book) }
     requires seat { stripes.IsIdle tables.book tables.seat }
@@ -397,7 +398,7 @@ fn closed<R: Threads + Wait + Sync>(
     words.join(&mut word_seat, other_word);
     let sums = sums_in(book, seat)?;
     let words = words.close(word_seat)?;
-    Ok(Held { sums, words })
+    Ok(Totals { sums, words })
 }
 
 fn ends_over(alloc: Global, block: &Block, over: &BlockContext<'_>) -> Result<Ends, OutOfMemory>
@@ -407,25 +408,42 @@ fn ends_over(alloc: Global, block: &Block, over: &BlockContext<'_>) -> Result<En
     ends_of(alloc, block, over.graph.catalog, over.plan, things)
 }
 
-// What the tables of the block hold at the end, over this context.
+// What the tables of the block hold at the end.
+fn held_among<R: Threads + Wait + Sync>(
+    rt: &R,
+    alloc: Global,
+    block: &Block,
+    over: &BlockContext<'_>,
+    ends: &Ends,
+    candidates: &Candidates<'_>,
+) -> Result<Totals, Fail>
+    requires sums { AreSums over.now.frame.accums.slots }
+    requires edge { edge_alias (view_walk block.now.walk) ≡ Some (Place 2) }
+    requires ends { HasEnds over.now.schema over.now.plan over.now.frame.things block.now ends.now }
+    requires candidates { AreCandidates over.now block.now candidates.now }
+{
+    let tables = open_tables(alloc, over, candidates, &SHAPE, 2)?;
+    let task = Task {
+        block,
+        ends,
+        candidates,
+        shape: SHAPE,
+    };
+    closed(rt, alloc, &task, over, tables)
+}
+
+// What they hold, over this context.
 fn held_over<R: Threads + Wait + Sync>(
     rt: &R,
     alloc: Global,
     over: &BlockContext<'_>,
-) -> Result<Held, Fail>
+) -> Result<Totals, Fail>
     requires { AreSums over.now.frame.accums.slots }
 {
     let block = block(alloc)?;
     let ends = ends_over(alloc, &block, over)?;
     let candidates = candidates_of(alloc, &block, over, &ends)?;
-    let tables = open_tables(alloc, over, &candidates, &SHAPE, 2)?;
-    let task = Task {
-        block: &block,
-        ends: &ends,
-        candidates: &candidates,
-        shape: SHAPE,
-    };
-    closed(rt, alloc, &task, over, tables)
+    held_among(rt, alloc, &block, over, &ends, &candidates)
 }
 
 // What they hold, over a graph.
@@ -435,7 +453,7 @@ fn held_in<R: Threads + Wait + Sync>(
     alloc: Global,
     catalog: &Catalog,
     store: &Store,
-) -> Result<Held, Fail>
+) -> Result<Totals, Fail>
     requires types { All IsBare catalog.now.vertex_types }
     requires persons { All IsPerson store.now.vertices }
     requires ends { HaveEnds store.now.vertices store.now.edges.rows }
@@ -456,7 +474,7 @@ fn held_in<R: Threads + Wait + Sync>(
     held_over(rt, alloc, &over)
 }
 
-fn held<R: Threads + Wait + Sync>(rt: &R, alloc: Global) -> Result<Held, Fail> {
+fn held<R: Threads + Wait + Sync>(rt: &R, alloc: Global) -> Result<Totals, Fail> {
     let catalog = types(alloc)?;
     let store = store(alloc)?;
     held_in(rt, alloc, &catalog, &store)

@@ -3,25 +3,25 @@ use Rattle.gq_rules_calendar.specs.Gregorian.{gregorian}
 use Rattle.gq_stripe.specs.Seats as stripes
 use Rattle.gq_words.specs.declared.view.View as words
 use Rattle.gq_parallel_tests.proofs.BlockLemmas.{one_spare, sums_flat, sums_layout}
-use Rattle.gq_parallel_tests.proofs.blocks.held_over.Goals as goal
+use Rattle.gq_parallel_tests.proofs.blocks.held_among.Goals as goal
 
 pub open_tables-requires-clause-flat : goal.open_tables-requires-clause-flat
-open_tables-requires-clause-flat g c = sums_flat c.args.over.now.frame.accums.slots c.requires
+open_tables-requires-clause-flat g c = sums_flat c.args.over.now.frame.accums.slots c.requires.sums
 
 pub closed-requires-clause-task : goal.closed-requires-clause-task
 closed-requires-clause-task g c = record {
-  ends_are = c.in_ok-ends.ensures;
-  candidates = c.in_ok-candidates.ensures.found;
+  ends_are = c.requires.ends;
+  candidates = c.requires.candidates;
   some = omega arith;
   place = Some 2;
-  is_place = sym c.in_ok-block.ensures;
-  tables = λ edge at. c.in_ok-tables.ensures.tables gregorian c.in_ok-block.block c.in_ok-ends.ends edge;
+  is_place = sym c.requires.edge;
+  tables = λ edge at. c.in_ok-tables.ensures.tables gregorian c.args.block.now c.args.ends.now edge;
 }
 
 pub closed-requires-clause-sums : goal.closed-requires-clause-sums
 closed-requires-clause-sums g c =
-    sums_layout (stripes.plan_of c.in_ok-tables.tables.book) c.args.over.now.frame.accums.slots c.requires
-    (c.in_ok-tables.ensures.tables gregorian c.in_ok-block.block c.in_ok-ends.ends None).layout
+    sums_layout (stripes.plan_of c.in_ok-tables.tables.book) c.args.over.now.frame.accums.slots c.requires.sums
+    (c.in_ok-tables.ensures.tables gregorian c.args.block.now c.args.ends.now None).layout
 
 pub closed-requires-clause-spare : goal.closed-requires-clause-spare
 closed-requires-clause-spare g c =
