@@ -6,16 +6,16 @@ use Rattle.gq_parallel_tests.proofs.BlockLemmas.{works_free}
 use Rattle.gq_parallel_tests.proofs.blocks.part.Goals as goal
 
 pub work-requires-clause-ends : goal.work-requires-clause-ends
-work-requires-clause-ends g c = c.requires.task.ends_are
+work-requires-clause-ends g c κs within = c.requires.task.ends_are
 
 pub work-requires-clause-candidates : goal.work-requires-clause-candidates
-work-requires-clause-candidates g c = c.requires.task.candidates
+work-requires-clause-candidates g c κs within = c.requires.task.candidates
 
 pub work-requires-clause-stripes : goal.work-requires-clause-stripes
-work-requires-clause-stripes g c = c.requires.task.some
+work-requires-clause-stripes g c κs within = c.requires.task.some
 
 pub work-requires-clause-tables : goal.work-requires-clause-tables
-work-requires-clause-tables g c = c.requires.task.tables
+work-requires-clause-tables g c κs within = c.requires.task.tables
 
 pub returns : goal.returns
 returns g c =
