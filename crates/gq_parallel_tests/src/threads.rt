@@ -66,7 +66,7 @@ fn fill_by_two<R: Threads + Wait + Sync>(
 }
 
 // Returns the three sums of a closed book.
-fn three_sums(partials: &Partials) -> [Option<i128>; 3]
+pub(crate) fn three_sums(partials: &Partials) -> [Option<i128>; 3]
     requires { (t : ℕ) → t < 3 → (content : _) × (content_at partials.now t ≡ Some content) }
 {
     [
