@@ -12,7 +12,7 @@ use Rattle.gq_plan_laws.specs.Planned.{DefinitionsPlanned}
 use Rattle.gq_plan_laws.specs.PlannedLaws.{ParametersPlanned}
 use Rattle.gq_plan.specs.Heading.{heads_of}
 use Rattle.gq_plan_expr.specs.declared.fault.PlanFault.TheVariants as fault
-use Rattle.gq_plan.specs.Unplanned.{NoDefinitions, NoPlan}
+use Rattle.gq_plan.specs.Unplanned.{NoDefinitions, NotTyped}
 use Rattle.gq_plan.proofs.PrintLaws.{plan_made, lacks_definitions, lacks_statements}
 use Rattle.gq_plan.proofs.plans.planned.Goals as goal
 
@@ -30,7 +30,7 @@ returns-clause-planned c =
 
 pub returns-in_err-definitions-clause-unknown : goal.returns-in_err-definitions-clause-unknown
 returns-in_err-definitions-clause-unknown c =
-    let never : c.in_err-definitions.field-0.0 ≢ fault.OutOfMemory → NoPlan (sorts_in c.args.scope.now) (view_query c.args.query.now) =
+    let never : c.in_err-definitions.field-0.0 ≢ fault.OutOfMemory → NotTyped (sorts_in c.args.scope.now) (view_query c.args.query.now) =
     λ other. lacks_definitions c.args.scope.now (view_query c.args.query.now) c.in_ok-parameters.parameters c.parameters.new.places c.new-tuples.result c.new-slots.result c.new-tuples.ensures c.new-slots.ensures
     (subst (λ (ps : List ParameterTree). ParametersPlanned (sorts_in c.args.scope.now) (map view_parameter ps) c.in_ok-parameters.parameters c.parameters.new.places) c.as_slice.ensures c.in_ok-parameters.ensures.planned)
     (subst (λ (ds : List DefinitionTree). NoDefinitions (sorts_in c.args.scope.now) c.parameters.new.places (heads_of c.new-tuples.result c.new-slots.result) (map view_definition ds)) c.as_slice-trees.ensures (c.in_err-definitions.ensures.unknown other)) in
@@ -39,7 +39,7 @@ returns-in_err-definitions-clause-unknown c =
 pub returns-in_err-steps-clause-unknown : goal.returns-in_err-steps-clause-unknown
 unfolding globals_in
 returns-in_err-steps-clause-unknown c =
-    let never : c.in_err-steps.field-0.0 ≢ fault.OutOfMemory → NoPlan (sorts_in c.args.scope.now) (view_query c.args.query.now) =
+    let never : c.in_err-steps.field-0.0 ≢ fault.OutOfMemory → NotTyped (sorts_in c.args.scope.now) (view_query c.args.query.now) =
     λ other. lacks_statements c.args.scope.now c.definitions.new.scope (view_query c.args.query.now) c.in_ok-parameters.parameters c.parameters.new.places c.in_ok-definitions.definitions c.new-tuples.result c.definitions.new.tuples c.new-slots.result c.definitions.new.slots
     c.new-tuples.ensures c.new-slots.ensures c.in_ok-definitions.ensures.scoped
     (subst (λ (ps : List ParameterTree). ParametersPlanned (sorts_in c.args.scope.now) (map view_parameter ps) c.in_ok-parameters.parameters c.parameters.new.places) c.as_slice.ensures c.in_ok-parameters.ensures.planned)
