@@ -17,7 +17,7 @@ use Rattle.gq_plan_expr.specs.Globals.{Globals, known_in}
 use Rattle.gq_plan_stmt.specs.Steps.{Behind, when_new}
 use Rattle.gq_plan_stmt.specs.Steps as steps
 use Rattle.gq_plan_laws.specs.Shown.{InView, IsShown, Shows}
-use Rattle.gq_plan_laws.proofs.HasLemmas.{Has}
+use Rattle.gq_plan_laws.proofs.HasLemmas.{Has, Goes}
 
 pub same_bytes : (a b : Bytes) → bytes_eq a b ≡ true → a ≡ b
 same_bytes a b h = (bytes_eq-Decides a b).0 h
@@ -177,6 +177,9 @@ module _ (g : Globals) (s : Scope Bytes) (n : Named) (shows : Shows g s n) where
         one_more (g.slot y) (bytes_eq x y) (s.setting.words.same x y) (sym (shows.words.same x y)) (record { place = n.next; marked = marked }) (seen_at n y) e (entry s y)
         (marked_shown (g.slot y) marked e n.next h) (shows.names y);
   }
+
+  pub name_goes : (x : Bytes) (e : Entry) (q : Bool) → Marks false e → new_name s x ≡ Ok q → Goes (Shows g (with_entry x e s)) (steps.new_name n x)
+  name_goes x e q mark h = record { behind = with_name n x false; planned = n.next; is = new_is x q h; after = shown_new x e false mark }
 
   -- if the same names are in view
   pub shows_same : (m : Named) → m.visible ≡ n.visible → Shows g s m
