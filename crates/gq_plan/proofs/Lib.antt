@@ -1,6 +1,5 @@
 pub mod PlaceLemmas
 pub mod ParameterLemmas
-pub mod FieldLemmas
 pub mod ScopeLemmas
 pub mod FailLemmas
 pub mod HeadLemmas
