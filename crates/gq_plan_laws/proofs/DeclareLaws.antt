@@ -31,14 +31,14 @@ use Rattle.gq_plan_expr.specs.Resolved.{resolved}
 use Rattle.gq_plan_select.specs.Resolved.{if_there, each_resolved}
 use Rattle.gq_plan_expr.specs.Globals.{Globals, known_in}
 use Rattle.gq_plan_stmt.specs.Parts.{resolved_base}
-use Rattle.gq_plan_expr.specs.Found.{TupleTypes, plain_fields, plain_tuples, globals_of}
+use Rattle.gq_plan_expr.specs.Found.{plain_fields, plain_tuples, globals_of}
 use Rattle.gq_plan_laws.specs.Planned.{Heads, setting_of, with_accum, with_tuple, AccumsPlanned, DefinitionsPlanned}
-use Rattle.gq_plan_laws.specs.Shown.{IsShown, FindsWords}
+use Rattle.gq_plan_laws.specs.Shown.{IsShown}
 use Rattle.gq_plan_laws.specs.Declares.{tuple_names, is_taken, Declares}
 use Rattle.gq_plan_laws.proofs.HasLemmas.{Has, has_one, has_then, converting_has}
-use Rattle.gq_plan_laws.proofs.ShownLemmas.{same_bytes, place_in, entry_none, new_seen, knows}
-use Rattle.gq_plan_laws.proofs.FoundLemmas.{words_found}
-use Rattle.gq_plan_laws.proofs.ParameterHas.{written_has}
+use Rattle.gq_plan_laws.proofs.ShownLemmas.{same_bytes, place_in, entry_none, written_has, new_seen, knows}
+use Rattle.gq_plan_laws.proofs.FoundLemmas.{words_in}
+use Rattle.gq_plan_laws.proofs.PlannedQueryLaws.{tuples_more}
 
 -- ---- one more name
 
@@ -95,7 +95,7 @@ module _ (sorts : Sorts) (n : Named) where
       record {
         setting = d.setting;
         shows = record {
-          words = subst (λ w. FindsWords (globals_of sorts h.tuples (with_name h.slots name attached)) w) (sym d.setting) (words_found sorts h.tuples (with_name h.slots name attached));
+          words = words_in sorts h.tuples (with_name h.slots name attached) s d.setting;
           names = λ x.
               slot_more (bytes_eq name x) (s.setting.words.same name x) (same x) (record { place = h.slots.next; marked = attached }) (seen_at n x) (seen_at h.slots x) kind attached (entry s x)
               (λ i. subst (λ y. seen_at n y ≡ None) (same_bytes name x i) seen) (d.shows.names x);
@@ -148,12 +148,8 @@ module _ (sorts : Sorts) (n : Named) where
       let u = then_ok (base_written s f.0) _ fields e in
       let v = then_ok (own_name most names f.1) _ fields u.2 in
       let w = then_ok (fields_written s most v.0 fs) _ fields v.2 in
-      has_then (field_found g f) (λ b. plans.◌>>=◌ (each_resolved (field_found g) fs) (λ bs. Some (b ∷ bs))) (has_one (resolved_base g f.0) (λ b. (b, f.1)) (written_has sorts h.tuples h.slots s z f.0 u.0 u.1))
+      has_then (field_found g f) (λ b. plans.◌>>=◌ (each_resolved (field_found g) fs) (λ bs. Some (b ∷ bs))) (has_one (resolved_base g f.0) (λ b. (b, f.1)) (written_has g s (words_in sorts h.tuples h.slots s z) f.0 u.0 u.1))
       (λ b i. has_one (each_resolved (field_found g) fs) (λ bs. b ∷ bs) (fields_have s h z most v.0 fs w.0 w.1))
-
-  tuples_more : (ts : TupleTypes) (t : Bytes × List (Bytes × BaseType)) → plain_tuples (ts ++ t ∷ []) ≡ plain_tuples ts ++ (t.0, plain_fields t.1) ∷ []
-  tuples_more [] t = refl
-  tuples_more (u ∷ ts) t = ap {A = List (Bytes × Fields)} {B = List (Bytes × Fields)} (λ l. (u.0, plain_fields u.1) ∷ l) (tuples_more ts t)
 
   tuple_declared : (s : Scope Bytes) (h : Heads) → Declares sorts n h s → (name : Bytes) (fields : Fields) (own : List (Bytes × BaseType)) → plain_fields own ≡ fields → (q : Bool) → new_name s name ≡ Ok q
       → Declares sorts n (with_tuple h name own) (typed.with_tuple name fields s)
@@ -162,7 +158,7 @@ module _ (sorts : Sorts) (n : Named) where
       let seen : seen_at n name ≡ None = new_seen g s n d.shows name q e in
       let same : (x : Bytes) → s.setting.words.same name x ≡ bytes_eq name x = λ x. ap (λ w. w.words.same name x) d.setting in
       let more : plain_tuples h.tuples ++ (name, fields) ∷ [] ≡ plain_tuples (h.tuples ++ (name, own) ∷ []) =
-      ap {A = Fields} {B = List (Bytes × Fields)} (λ f. plain_tuples h.tuples ++ (name, f) ∷ []) (sym is) ∙ sym (tuples_more h.tuples (name, own)) in
+      ap {A = Fields} {B = List (Bytes × Fields)} (λ f. plain_tuples h.tuples ++ (name, f) ∷ []) (sym is) ∙ sym (tuples_more h.tuples name own) in
       let setting : (typed.with_tuple name fields s).setting ≡ setting_of sorts (h.tuples ++ (name, own) ∷ []) =
       ap (λ (w : Setting Bytes). record w { tuples = w.tuples ++ (name, fields) ∷ [] }) d.setting ∙ ap {A = List (Bytes × Fields)} {B = Setting Bytes} (λ l. record { words = by_name sorts; sorts = sorts; tuples = l }) more in
       let names : (x : Bytes) → is_taken (tuple_names (h.tuples ++ (name, own) ∷ [])) x ≡ (is_taken (tuple_names h.tuples) x || (bytes_eq name x || false)) =
@@ -170,7 +166,7 @@ module _ (sorts : Sorts) (n : Named) where
       record {
         setting = setting;
         shows = record {
-          words = subst (λ w. FindsWords (globals_of sorts (h.tuples ++ (name, own) ∷ []) h.slots) w) (sym setting) (words_found sorts (h.tuples ++ (name, own) ∷ []) h.slots);
+          words = words_in sorts (h.tuples ++ (name, own) ∷ []) h.slots (typed.with_tuple name fields s) setting;
           names = λ x. name_more (s.setting.words.same name x) (place_in (seen_at h.slots x)) (seen_at n x) (entry s x) (λ i. subst (λ y. seen_at n y ≡ None) (same_bytes name x (sym (same x) ∙ i)) seen) (d.shows.names x);
         };
         free = λ x. still_free (s.setting.words.same name x) TupleName (entry s x) (seen_at h.slots x) (d.free x);

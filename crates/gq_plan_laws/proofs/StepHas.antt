@@ -5,7 +5,7 @@ use Rattle.gq_tree.specs.Tree.{Tree, Name}
 use Rattle.gq_tree.specs.declared.body.SetOp.{SetOp}
 use Rattle.gq_value.specs.Accums.{Base, Accum}
 use Rattle.gq_scope.specs.Named.{Named, found_in, seen_at, place_at, is_marked, with_name}
-use Rattle.gq_rules_typing.specs.Statements.{Bytes, BaseTree, Ints, UInts, Bools, Strings, AnyVertex, VertexOf, Seed, AllOf, AllVertices, OneVertex, ContentOf, SetTerm, SetNamed, Seeds, SetTypes, AnyType, TypeOf, Right, Selects, Sets, Expression, Item, Printed, Whole, Selection, Over, Elements, Range, Stmt, Local, Assign, ChangeGlobal, If, While, Foreach, Print, Stmts, no_stmt, stmt_and, Branches, else_, if_}
+use Rattle.gq_rules_typing.specs.Statements.{Bytes, Seed, AllOf, AllVertices, OneVertex, ContentOf, SetTerm, SetNamed, Seeds, SetTypes, AnyType, TypeOf, Right, Selects, Sets, Expression, Item, Printed, Whole, Selection, Over, Elements, Range, Stmt, Local, Assign, ChangeGlobal, If, While, Foreach, Print, Stmts, no_stmt, stmt_and, Branches, else_, if_}
 use Rattle.gq_rules_typing.specs.Selecting.{Change, Adds, Puts}
 use Rattle.gq_rules_typing.specs.Judging.{Typed, TypingFault, SetOf, Mismatch, NotAllowedHere, Judged, ◌>>=◌, ◌>>◌, unless, each_judged, through_judged}
 use Rattle.gq_rules_typing.specs.Types.{as_base, alone, printable}
@@ -17,7 +17,6 @@ use Rattle.gq_rules_typing.specs.SetTypes.{here, types_of, content_types, seed_t
 use Rattle.gq_rules_typing.specs.StatementTypes.{may_lack_value, typing_local, typing_change, element_of, variable_type, new_key, typing_whole, typing_item, typing_printed, typing_stmt, typing_stmts, typing_branches}
 use Rattle.gq_rules_meaning.proofs.AnswerLaws.{then_ok, after_ok, ok_inj}
 use Rattle.gq_plan_ir.specs.declared.block.Change.TheVariants as change
-use Rattle.gq_plan_ir.specs.declared.plan.Declared.TheVariants as declared
 use Rattle.gq_plan_ir.specs.declared.step.Seed.TheVariants as seed
 use Rattle.gq_plan_ir.specs.declared.step.SetTerm.TheVariants as term
 use Rattle.gq_plan_ir.specs.declared.step.SetTypes.TheVariants as set_type
@@ -36,7 +35,7 @@ use Rattle.gq_plan_stmt.specs.Steps.{Behind, ended, resolved_right, if_same, sam
 use Rattle.gq_plan_laws.specs.Shown.{InView, IsShown, Shows}
 use Rattle.gq_plan_laws.specs.Laws.{StatementsLaw}
 use Rattle.gq_plan_laws.proofs.HasLemmas.{Has, has_one, has_then, Goes, goes_now, has_goes, goes_then, goes_as, Same, each_has, through_has, tree_has, condition_has, number_has, converting_has, input_has, optional_has}
-use Rattle.gq_plan_laws.proofs.ShownLemmas.{in_view, set_is_marked, slot_has, place_has, knows, set_place, vertex_type_has, new_seen, shown_new, name_goes, shows_same}
+use Rattle.gq_plan_laws.proofs.ShownLemmas.{in_view, set_is_marked, slot_has, place_has, knows, set_place, vertex_type_has, written_has, new_seen, shown_new, name_goes, shows_same}
 use Rattle.gq_plan_laws.proofs.SelectHas.{select_has}
 
 -- ---- parts in which no name comes into view
@@ -44,14 +43,6 @@ use Rattle.gq_plan_laws.proofs.SelectHas.{select_has}
 module _ (g : Globals) (s : Scope Bytes) (n : Named) (shows : Shows g s n) where
   abbrev k : Known
   k = known_in g n
-
-  base_type_has : (b : BaseTree Bytes) (c : Base) → base_written s b ≡ Ok c → Has (resolved_base g b)
-  base_type_has Ints c h = (declared.Int, refl)
-  base_type_has UInts c h = (declared.UInt, refl)
-  base_type_has Bools c h = (declared.Bool, refl)
-  base_type_has Strings c h = (declared.Text, refl)
-  base_type_has AnyVertex c h = (declared.AnyVertex, refl)
-  base_type_has (VertexOf t) c h = let u = then_ok (vertex_type s t) _ c h in has_one (g.vertex_type t) declared.VertexOf (vertex_type_has g s n shows t u.0 u.1)
 
   -- a name alone that has a base type
   name_has : (x : Bytes) (b : Base) → base_type (here s) (Name x) ≡ Ok b → Has (place_at n x)
@@ -265,7 +256,7 @@ module _ (g : Globals) where
     stmt_has : (st : Stmt Bytes) (s t : Scope Bytes) (n : Named) → Shows g s n → typing_stmt s st ≡ Ok t → Goes (Shows g t) (resolved_stmt g n st)
     stmt_has (Local base xs) s t n shows h =
         let u = then_ok (base_written s base) _ t h in
-        has_goes (Shows g t) (resolved_base g base) _ (base_type_has g s n shows base u.0 u.1) (λ d. goes_as (Shows g t) (Shows g t) (resolved_locals g n xs) (step.Local d) (λ m i. i) (locals_have g u.0 xs s t n shows u.2))
+        has_goes (Shows g t) (resolved_base g base) _ (written_has g s shows.words base u.0 u.1) (λ d. goes_as (Shows g t) (Shows g t) (resolved_locals g n xs) (step.Local d) (λ m i. i) (locals_have g u.0 xs s t n shows u.2))
     stmt_has (Assign x types r) s t n shows h = assignment_has g s n shows x types r t h
     stmt_has (ChangeGlobal a c) s t n shows h =
         let u = then_ok (declared_kind s false a) _ t h in
