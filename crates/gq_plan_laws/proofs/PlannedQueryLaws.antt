@@ -30,14 +30,14 @@ use Rattle.gq_plan_ir.specs.StandsFor.{AllStand}
 use Rattle.gq_plan_ir.specs.Plans as stands
 use Rattle.gq_plan_ir.specs.Plans.{Declared, WithAccum, WithTuple, ParametersStand, parameters_view, AccumsStand, TupleStands, DefinitionsStand, QueryStands}
 use Rattle.gq_plan_expr.specs.Resolved.{◌>>=◌}
-use Rattle.gq_plan_expr.proofs.PlanLaws.{some_inj, Looks, looks_one}
-use Rattle.gq_plan_select.proofs.BlockLaws.{each_planned, if_planned}
+use Rattle.gq_plan_expr.proofs.PlanLaws.{then_some, some_inj}
+use Rattle.gq_plan_select.proofs.BlockLaws.{each_planned, found_is, if_planned}
 use Rattle.gq_plan_expr.specs.Globals.{known_in}
 use Rattle.gq_plan_stmt.specs.References.{view_of}
 use Rattle.gq_plan_stmt.specs.Parts.{resolved_base}
 use Rattle.gq_plan_stmt.specs.Steps.{Behind, when_new, new_name}
 use Rattle.gq_plan_stmt.specs.Laws.{IsBounded}
-use Rattle.gq_plan_stmt.proofs.StepLaws.{bounded_name, inside_is, is_new, base_planned, steps_law}
+use Rattle.gq_plan_stmt.proofs.StepLaws.{bounded_name, inside_is, is_new, steps_law}
 use Rattle.gq_plan_expr.specs.Found.{TupleTypes, plain_fields, plain_tuples, globals_of}
 use Rattle.gq_plan_laws.specs.Sides.{numbered}
 use Rattle.gq_plan_laws.specs.Declared.{ground_of, declared_of, SlotsAre}
@@ -88,8 +88,14 @@ module _ (g : Graph) (clock : Calendar) (accums : List Bytes) where
     pub count : length done ≡ h.slots.next
     pub are : accums ≡ done ++ more
 
-  base_is : (h : Heads) (b : BaseTree Bytes) → Looks view_declared (resolved_base (globals_of g.sorts h.tuples h.slots) b) (renamed_base (D h.tuples h.slots).vertex_type b)
-  base_is h b = base_planned g.sorts accums (globals_of g.sorts h.tuples h.slots) b
+  base_is : (h : Heads) (b : BaseTree Bytes) (d : declared.Declared) → resolved_base (globals_of g.sorts h.tuples h.slots) b ≡ Some d → view_declared d ≡ renamed_base (D h.tuples h.slots).vertex_type b
+  base_is h Ints d e = ap view_declared (sym (some_inj e))
+  base_is h UInts d e = ap view_declared (sym (some_inj e))
+  base_is h Bools d e = ap view_declared (sym (some_inj e))
+  base_is h Strings d e = ap view_declared (sym (some_inj e))
+  base_is h AnyVertex d e = ap view_declared (sym (some_inj e))
+  base_is h (VertexOf t) d e =
+      let u = then_some ((globals_of g.sorts h.tuples h.slots).vertex_type t) _ d e in ap view_declared (sym (some_inj u.2)) ∙ ap VertexOf (found_is VertexType ((globals_of g.sorts h.tuples h.slots).vertex_type t) u.0 u.1)
 
   -- ---- accumulators
 
@@ -110,7 +116,7 @@ module _ (g : Graph) (clock : Calendar) (accums : List Bytes) where
     accums_stand h (a ∷ rest) (b ∷ bs) j done more Then p at then =
         let named = subst (λ x. At h done (x ∷ (accum_names_of bs ++ more))) p.0.name at in
         let next = accum_at h done a.1 a.0 (accum_names_of bs ++ more) p.0.new named in (
-          (p.0.attached, (if_planned (known_in (globals_of g.sorts h.tuples h.slots) n) a.2).is b.opening p.0.opening ∙ ap (λ z. option_map (renamed z) a.2) (inside_is g.sorts accums (globals_of g.sorts h.tuples h.slots) n)),
+          (p.0.attached, if_planned (known_in (globals_of g.sorts h.tuples h.slots) n) a.2 b.opening p.0.opening ∙ ap (λ z. option_map (renamed z) a.2) (inside_is g.sorts accums (globals_of g.sorts h.tuples h.slots) n)),
           (
             D h.tuples (with_name h.slots a.1 a.0),
             (
@@ -138,7 +144,7 @@ module _ (g : Graph) (clock : Calendar) (accums : List Bytes) where
     definitions_stand h (TupleType fs x ∷ ds) (definition.Tuple gs m ∷ es) j done Then p at then =
         let t = p.1 in
         let fields = p.0 in (
-          (each_planned (λ (f : BaseTree Bytes × Bytes). resolved_base (globals_of g.sorts h.tuples h.slots) f.0 >>= λ b. Some (a_field b f.1)) (λ (f : declared.Declared × Bytes). a_view (view_declared f.0) f.1) (λ (f : BaseTree Bytes × Bytes). a_view (renamed_base (D h.tuples h.slots).vertex_type f.0) f.1) field_is fs).is gs t.fields,
+          each_planned (λ (f : BaseTree Bytes × Bytes). resolved_base (globals_of g.sorts h.tuples h.slots) f.0 >>= λ b. Some (a_field b f.1)) (λ (f : declared.Declared × Bytes). a_view (view_declared f.0) f.1) (λ (f : BaseTree Bytes × Bytes). a_view (renamed_base (D h.tuples h.slots).vertex_type f.0) f.1) field_is fs gs t.fields,
           (
             plain_fields fields,
             (
@@ -161,9 +167,10 @@ module _ (g : Graph) (clock : Calendar) (accums : List Bytes) where
         a_view : BaseTree Reference → Bytes → BaseTree Reference × Bytes
         a_view b name = (b, name)
 
-        field_is : (f : BaseTree Bytes × Bytes) → Looks (λ (d : declared.Declared × Bytes). a_view (view_declared d.0) d.1) (resolved_base (globals_of g.sorts h.tuples h.slots) f.0 >>= λ b. Some (a_field b f.1)) (a_view (renamed_base (D h.tuples h.slots).vertex_type f.0) f.1)
-        field_is f =
-            looks_one view_declared (λ (d : declared.Declared × Bytes). a_view (view_declared d.0) d.1) (resolved_base (globals_of g.sorts h.tuples h.slots) f.0) (λ b. a_field b f.1) (λ b. a_view b f.1) (renamed_base (D h.tuples h.slots).vertex_type f.0) (base_is h f.0) (λ b. refl)
+        field_is : (f : BaseTree Bytes × Bytes) (d : declared.Declared × Bytes) → (resolved_base (globals_of g.sorts h.tuples h.slots) f.0 >>= λ b. Some (a_field b f.1)) ≡ Some d → a_view (view_declared d.0) d.1 ≡ a_view (renamed_base (D h.tuples h.slots).vertex_type f.0) f.1
+        field_is f d e =
+            let u = then_some (resolved_base (globals_of g.sorts h.tuples h.slots) f.0) _ d e in
+            ap (λ (z : declared.Declared × Bytes). a_view (view_declared z.0) z.1) (sym (some_inj u.2)) ∙ ap (λ b. a_view b f.1) (base_is h f.0 u.0 u.1)
     definitions_stand h (Accums k as' ∷ ds) (definition.Accums kind bs ∷ es) j done Then p at then = (
       ap (judged {F = Wrong}) p.0,
       accums_stand h as' bs p.1.0 done (names_of_all es) (λ e. DefinitionsStand G kind_of (view_of n) e ds (map view_definition es) Then) p.1.1.0 at
@@ -188,7 +195,7 @@ module _ (g : Graph) (clock : Calendar) (accums : List Bytes) where
       let new = new_is m x.name n q.place p.1.1.1 in
       subst (ParametersAre (x ∷ ps) (q ∷ qs)) new.1
       (record {
-        stand = ((base_is no_heads x.base).is q.base p.0, i.stand);
+        stand = (base_is no_heads x.base q.base p.0, i.stand);
         view = ap (λ v. naming.with_name (stands.fixed_in G (D [] no_names)) v x.name (Place q.place) false) i.view ∙ ap (λ k. naming.with_name (stands.fixed_in G (D [] no_names)) (view_of m) x.name (Place k) false) (sym new.2);
         distinct = (is_new g.sorts accums (globals_of g.sorts [] no_names) m x.name i.bounded new.0, i.distinct);
         bounded = bounded_name m x.name false i.bounded;

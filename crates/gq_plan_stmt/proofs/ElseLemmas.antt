@@ -14,5 +14,3 @@ else_full n (s ∷ list) o h = refl
 pub else_empty : (n : Named) (list : List code.Stmt) (o : Option (Behind (List Step))) → length list ≤ 0 → else_of n (view_stmts list) o ≡ Some (n, None)
 else_empty n [] o h = refl
 else_empty n (s ∷ list) o h = absurd (omega (arith, h))
-
-pub ruleset else_laws = (else_full, else_empty)

@@ -44,19 +44,16 @@ use Rattle.gq_plan_ir.specs.StandsFor as stands
 use Rattle.gq_plan_ir.specs.StandsFor.{AliasIsNew, SelectStands, RightStands, TargetStands, with_target, LocalsStand, with_locals, behind, Stands, AllStand, BranchesStand, behind_all}
 use Rattle.gq_plan_expr.specs.Known.{Known, or_nothing, references}
 use Rattle.gq_plan_expr.specs.Resolved.{resolved}
-use Rattle.gq_plan_expr.proofs.PlanLaws.{then_some, some_inj, Looks, looks_now, found, looks_one, looks_two, planned}
+use Rattle.gq_plan_expr.proofs.PlanLaws.{then_some, some_inj, planned}
 use Rattle.gq_plan_select.specs.References.{naming_of, source_reference}
 use Rattle.gq_plan_select.specs.Resolved.{if_there, each_resolved, resolved_change, resolved_select}
-use Rattle.gq_plan_select.proofs.BlockLaws.{there_planned, each_planned, change_planned, if_planned, block_planned}
+use Rattle.gq_plan_select.proofs.BlockLaws.{two, there_planned, each_planned, found_is, change_planned, if_planned, block_planned}
 use Rattle.gq_plan_expr.specs.Globals.{Globals, known_in, sees_in}
 use Rattle.gq_plan_stmt.specs.References.{visible_of, view_of, fixed_in}
 use Rattle.gq_plan_stmt.specs.Parts.{resolved_base, resolved_seed, resolved_term, resolved_operand, resolved_sets, resolved_set_types, is_set_right, resolved_over, resolved_keyed, resolved_item}
 use Rattle.gq_plan_stmt.specs.Steps.{Behind, Parts, when_new, new_name, ended, with_alias, with_aliases, resolved_block, resolved_right, same_mark, if_same, target_seen, resolved_target, resolved_locals, local_and, if_of, else_of, body_of, resolved_stmt, resolved_stmts, resolved_branches}
 use Rattle.gq_plan_stmt.specs.Laws.{IsBounded, Grows, StepsStand, StepsLaw}
 use Rattle.gq_plan_stmt.proofs.GrowLemmas.{grows_none, grows_twice, aliases_grow, stmts_grow}
-
-two : {A B C : Type 0} (f : A → B → C) (a c : A) (b d : B) → a ≡ c → b ≡ d → f a b ≡ f c d
-two f a c b d e g = ap (λ x. f x b) e ∙ ap (f c) g
 
 -- ---- places in view
 
@@ -282,77 +279,84 @@ module _ (sorts : Sorts) (accums : List Bytes) (g : Globals) where
       let bound_c = alias_bounded a.0 (edge_alias q.walk) c.0 bound_a c.1 in
       subst (λ (p : Behind Block). BlockStands n q p.0 p.1) (some_inj v.2)
       (record {
-        stands = select_stands n a.0 c.0 u.0 q (view_block v.0) bound a.1 c.1 c.2 ((block_planned (known_in g u.0) (sees_in g u.0) q).is v.0 v.1);
+        stands = select_stands n a.0 c.0 u.0 q (view_block v.0) bound a.1 c.1 c.2 (block_planned (known_in g u.0) (sees_in g u.0) q v.0 v.1);
         visible = refl;
         bounded = bounded_back n u.0 (aliases_grow n q u.0 u.1) (alias_bounded c.0 (target_alias q.walk) u.0 bound_c c.2);
       })
 
   -- ---- parts
 
-  pub base_planned : (b : plain.BaseTree Bytes) → Looks view_declared (resolved_base g b) (renamed_base F.vertex_type b)
-  base_planned plain.Ints = looks_now view_declared declared.Int plain.Ints refl
-  base_planned plain.UInts = looks_now view_declared declared.UInt plain.UInts refl
-  base_planned plain.Bools = looks_now view_declared declared.Bool plain.Bools refl
-  base_planned plain.Strings = looks_now view_declared declared.Text plain.Strings refl
-  base_planned plain.AnyVertex = looks_now view_declared declared.AnyVertex plain.AnyVertex refl
-  base_planned (plain.VertexOf t) = looks_one VertexType view_declared (g.vertex_type t) declared.VertexOf plain.VertexOf (F.vertex_type t) (found VertexType (g.vertex_type t)) (λ m. refl)
+  base_planned : (b : plain.BaseTree Bytes) (d : Declared) → resolved_base g b ≡ Some d → view_declared d ≡ renamed_base F.vertex_type b
+  base_planned plain.Ints d h = ap view_declared (sym (some_inj h))
+  base_planned plain.UInts d h = ap view_declared (sym (some_inj h))
+  base_planned plain.Bools d h = ap view_declared (sym (some_inj h))
+  base_planned plain.Strings d h = ap view_declared (sym (some_inj h))
+  base_planned plain.AnyVertex d h = ap view_declared (sym (some_inj h))
+  base_planned (plain.VertexOf t) d h = let u = then_some (g.vertex_type t) _ d h in ap view_declared (sym (some_inj u.2)) ∙ ap plain.VertexOf (found_is VertexType (g.vertex_type t) u.0 u.1)
+
+  name_is : (n : Named) (x : Bytes) (p : ℕ) → place_at n x ≡ Some p → Place p ≡ reference_at F (view_of n) x
+  name_is n x p h = found_is Place (place_at n x) p h ∙ sym (reference_is n.visible x)
 
   module _ (n : Named) where
     abbrev N : Naming Bytes Reference
     N = naming F (view_of n)
 
-    name_planned : (x : Bytes) → Looks Place (place_at n x) (reference_at F (view_of n) x)
-    name_planned x = record { is = λ p h. (found Place (place_at n x)).is p h ∙ sym (reference_is n.visible x) }
+    seed_planned : (s : plain.Seed Bytes) (c : Seed) → resolved_seed g n s ≡ Some c → view_seed c ≡ renamed_seed N s
+    seed_planned (plain.AllOf t) c h = let u = then_some (g.vertex_type t) _ c h in ap view_seed (sym (some_inj u.2)) ∙ ap plain.AllOf (found_is VertexType (g.vertex_type t) u.0 u.1)
+    seed_planned plain.AllVertices c h = ap view_seed (sym (some_inj h))
+    seed_planned (plain.OneVertex x) c h = let u = then_some (place_at n x) _ c h in ap view_seed (sym (some_inj u.2)) ∙ ap plain.OneVertex (name_is n x u.0 u.1)
+    seed_planned (plain.ContentOf a) c h = let u = then_some (g.slot a) _ c h in ap view_seed (sym (some_inj u.2)) ∙ ap plain.ContentOf (found_is Slot (g.slot a) u.0 u.1)
 
-    seed_planned : (s : plain.Seed Bytes) → Looks view_seed (resolved_seed g n s) (renamed_seed N s)
-    seed_planned (plain.AllOf t) = looks_one VertexType view_seed (g.vertex_type t) seed.Type plain.AllOf (F.vertex_type t) (found VertexType (g.vertex_type t)) (λ m. refl)
-    seed_planned plain.AllVertices = looks_now view_seed seed.Every plain.AllVertices refl
-    seed_planned (plain.OneVertex x) = looks_one Place view_seed (place_at n x) seed.Name plain.OneVertex (reference_at F (view_of n) x) (name_planned x) (λ m. refl)
-    seed_planned (plain.ContentOf a) = looks_one Slot view_seed (g.slot a) seed.Global plain.ContentOf (F.accum a) (found Slot (g.slot a)) (λ m. refl)
-
-    term_planned : (t : plain.SetTerm Bytes) → Looks view_term (resolved_term g n t) (renamed_term N t)
-    term_planned (plain.SetNamed x) = looks_one Place view_term (place_at n x) term.Name plain.SetNamed (reference_at F (view_of n) x) (name_planned x) (λ m. refl)
-    term_planned (plain.Seeds seeds) = looks_one (map view_seed) view_term (each_resolved (resolved_seed g n) seeds) term.Seeds plain.Seeds (map (renamed_seed N) seeds) (each_planned (resolved_seed g n) view_seed (renamed_seed N) seed_planned seeds) (λ ss. refl)
+    term_planned : (t : plain.SetTerm Bytes) (c : term_code.SetTerm) → resolved_term g n t ≡ Some c → view_term c ≡ renamed_term N t
+    term_planned (plain.SetNamed x) c h = let u = then_some (place_at n x) _ c h in ap view_term (sym (some_inj u.2)) ∙ ap plain.SetNamed (name_is n x u.0 u.1)
+    term_planned (plain.Seeds seeds) c h =
+        let u = then_some (each_resolved (resolved_seed g n) seeds) _ c h in
+        ap view_term (sym (some_inj u.2)) ∙ ap plain.Seeds (each_planned (resolved_seed g n) view_seed (renamed_seed N) seed_planned seeds u.0 u.1)
 
     abbrev an_operand : SetOp → plain.SetTerm Reference → SetOp × plain.SetTerm Reference
     an_operand op t = (op, t)
 
-    abbrev view_operand : SetOp × term_code.SetTerm → SetOp × plain.SetTerm Reference
-    view_operand s = (s.0, view_term s.1)
+    operand_planned : (t : SetOp × plain.SetTerm Bytes) (c : SetOp × term_code.SetTerm) → resolved_operand g n t ≡ Some c → an_operand c.0 (view_term c.1) ≡ an_operand t.0 (renamed_term N t.1)
+    operand_planned t c h =
+        let u = then_some (resolved_term g n t.1) _ c h in
+        ap {A = SetOp × term_code.SetTerm} (λ d. an_operand d.0 (view_term d.1)) (sym (some_inj u.2)) ∙ ap (an_operand t.0) (term_planned t.1 u.0 u.1)
 
-    operand_planned : (t : SetOp × plain.SetTerm Bytes) → Looks view_operand (resolved_operand g n t) (an_operand t.0 (renamed_term N t.1))
-    operand_planned t = looks_one view_term view_operand (resolved_term g n t.1) (λ u. (t.0, u)) (an_operand t.0) (renamed_term N t.1) (term_planned t.1) (λ u. refl)
-
-  set_types_planned : (t : plain.SetTypes Bytes) → Looks view_set_types (resolved_set_types g t) (renamed_set_types F.vertex_type t)
-  set_types_planned plain.AnyType = looks_now view_set_types set_types.Every plain.AnyType refl
-  set_types_planned (plain.TypeOf t) = looks_one VertexType view_set_types (g.vertex_type t) set_types.Of plain.TypeOf (F.vertex_type t) (found VertexType (g.vertex_type t)) (λ m. refl)
+  set_types_planned : (t : plain.SetTypes Bytes) (c : SetTypes) → resolved_set_types g t ≡ Some c → view_set_types c ≡ renamed_set_types F.vertex_type t
+  set_types_planned plain.AnyType c h = ap view_set_types (sym (some_inj h))
+  set_types_planned (plain.TypeOf t) c h = let u = then_some (g.vertex_type t) _ c h in ap view_set_types (sym (some_inj u.2)) ∙ ap plain.TypeOf (found_is VertexType (g.vertex_type t) u.0 u.1)
 
   module _ (k : Known) where
     abbrev r : Renaming Bytes Reference
     r = references k
 
-    over_planned : (o : plain.Over Bytes) → Looks view_over (resolved_over k o) (renamed_over r o)
-    over_planned (plain.Elements t) = looks_one view view_over (resolved k t) over.Elements plain.Elements (renamed r t) (planned k t) (λ e. refl)
-    over_planned (plain.Range s t) = looks_two view view view_over (resolved k s) (resolved k t) over.Range plain.Range (renamed r s) (renamed r t) (planned k s) (planned k t) (λ a b. refl)
+    over_planned : (o : plain.Over Bytes) (c : Over) → resolved_over k o ≡ Some c → view_over c ≡ renamed_over r o
+    over_planned (plain.Elements t) c h = let u = then_some (resolved k t) _ c h in ap view_over (sym (some_inj u.2)) ∙ ap plain.Elements (planned k t u.0 u.1)
+    over_planned (plain.Range s t) c h =
+        let u = then_some (resolved k s) _ c h in
+        let v = then_some (resolved k t) _ c u.2 in
+        ap view_over (sym (some_inj v.2)) ∙ two plain.Range (view u.0) (renamed r s) (view v.0) (renamed r t) (planned k s u.0 u.1) (planned k t v.0 v.1)
 
     abbrev an_item : Bytes → Tree Reference → plain.Item Reference
     an_item key t = record { tree = t; key = key }
 
-    keyed_planned : (i : plain.Item Bytes) → Looks view_keyed (resolved_keyed k i) (renamed_item r i)
-    keyed_planned i = looks_one view view_keyed (resolved k i.tree) (λ e. (e, i.key)) (an_item i.key) (renamed r i.tree) (planned k i.tree) (λ e. refl)
+    keyed_planned : (i : plain.Item Bytes) (c : Expr × Bytes) → resolved_keyed k i ≡ Some c → view_keyed c ≡ renamed_item r i
+    keyed_planned i c h = let u = then_some (resolved k i.tree) _ c h in ap view_keyed (sym (some_inj u.2)) ∙ ap (an_item i.key) (planned k i.tree u.0 u.1)
 
-    item_planned : (i : plain.Printed Bytes) → Looks view_item (resolved_item k i) (renamed_printed r i)
-    item_planned (plain.Whole i) = looks_one view view_item (resolved k i.tree) (λ e. item.Value e i.key) (λ t. plain.Whole (an_item i.key t)) (renamed r i.tree) (planned k i.tree) (λ e. refl)
-    item_planned (plain.Selection x items key) =
-        looks_two Place (map view_keyed) view_item (k.place x) (each_resolved (resolved_keyed k) items) (λ p columns. item.Columns p columns key) (λ a b. plain.Selection a b key) (r.name x) (map (renamed_item r) items) (found Place (k.place x))
-        (each_planned (resolved_keyed k) view_keyed (renamed_item r) keyed_planned items) (λ p columns. refl)
+    item_planned : (i : plain.Printed Bytes) (c : PrintItem) → resolved_item k i ≡ Some c → view_item c ≡ renamed_printed r i
+    item_planned (plain.Whole i) c h =
+        let u = then_some (resolved k i.tree) _ c h in ap view_item (sym (some_inj u.2)) ∙ ap (λ t. plain.Whole (an_item i.key t)) (planned k i.tree u.0 u.1)
+    item_planned (plain.Selection x items key) c h =
+        let u = then_some (k.place x) _ c h in
+        let v = then_some (each_resolved (resolved_keyed k) items) _ c u.2 in
+        ap view_item (sym (some_inj v.2))
+        ∙ two (λ a b. plain.Selection a b key) (Place u.0) (r.name x) (map view_keyed v.0) (map (renamed_item r) items) (found_is Place (k.place x) u.0 u.1) (each_planned (resolved_keyed k) view_keyed (renamed_item r) keyed_planned items v.0 v.1)
 
   -- an expression, and an optional one, with these names in view
   tree_planned : (n : Named) (t : Tree Bytes) (e : Expr) → resolved (known_in g n) t ≡ Some e → view e ≡ renamed (inside F (view_of n)) t
-  tree_planned n t e h = (planned (known_in g n) t).is e h ∙ ap (λ z. renamed z t) (inside_is n)
+  tree_planned n t e h = planned (known_in g n) t e h ∙ ap (λ z. renamed z t) (inside_is n)
 
   tree_if_planned : (n : Named) (t : Option (Tree Bytes)) (e : Option Expr) → if_there (resolved (known_in g n)) t ≡ Some e → option_map view e ≡ option_map (renamed (inside F (view_of n))) t
-  tree_if_planned n t e h = (if_planned (known_in g n) t).is e h ∙ ap (λ z. option_map (renamed z) t) (inside_is n)
+  tree_if_planned n t e h = if_planned (known_in g n) t e h ∙ ap (λ z. option_map (renamed z) t) (inside_is n)
 
   -- ---- assignments
 
@@ -373,7 +377,7 @@ module _ (sorts : Sorts) (accums : List Bytes) (g : Globals) where
       subst (λ (p : Behind Right). RightIs n (plain.Sets t rest) p.0 p.1) (some_inj u.2)
       (record {
         stands = subst (λ s. RightStands F (view_of n) (plain.Sets t rest) (view_right (right.Sets s))) (some_inj w.2)
-            ((term_planned n t).is v.0 v.1, (each_planned (resolved_operand g n) (view_operand n) (λ s. an_operand n s.0 (renamed_term (naming F (view_of n)) s.1)) (operand_planned n) rest).is w.0 w.1);
+            (term_planned n t v.0 v.1, each_planned (resolved_operand g n) (λ s. an_operand n s.0 (view_term s.1)) (λ s. an_operand n s.0 (renamed_term (naming F (view_of n)) s.1)) (operand_planned n) rest w.0 w.1);
         visible = refl;
         bounded = bound;
       })
@@ -533,7 +537,7 @@ module _ (sorts : Sorts) (accums : List Bytes) (g : Globals) where
         let v = then_some (resolved_locals g n xs) _ b u.2 in
         let i = locals_are n xs v.0 bound v.1 in
         subst (λ (p : Behind Step). StepIs n (Local d xs) p.0 p.1) (some_inj v.2)
-        (by_view n (Local d xs) v.0.0 (step.Local u.0 v.0.1) (plain.Local (view_declared u.0) (view_locals v.0.1)) (view_step-Local u.0 v.0.1) ((base_planned d).is u.0 u.1, i.stands) i.view i.bounded)
+        (by_view n (Local d xs) v.0.0 (step.Local u.0 v.0.1) (plain.Local (view_declared u.0) (view_locals v.0.1)) (view_step-Local u.0 v.0.1) (base_planned d u.0 u.1, i.stands) i.view i.bounded)
     step_is n (Assign x types r) b bound h =
         let u = then_some (if_there (resolved_set_types g) types) _ b h in
         let v = then_some (resolved_right g n r) _ b u.2 in
@@ -543,7 +547,7 @@ module _ (sorts : Sorts) (accums : List Bytes) (g : Globals) where
         let back : view_of v.0.0 ≡ view_of n = sym (same_view n v.0.0 i.visible) in
         subst (λ (p : Behind Step). StepIs n (Assign x types r) p.0 p.1) (some_inj w.2)
         (by_view n (Assign x types r) w.0.0 (step.Assign w.0.1 u.0 v.0.1) (plain.Assign (Place w.0.1) (option_map view_set_types u.0) (view_right v.0.1)) (view_step-Assign w.0.1 u.0 v.0.1) (
-          (there_planned (resolved_set_types g) view_set_types (renamed_set_types F.vertex_type) set_types_planned types).is u.0 u.1,
+          there_planned (resolved_set_types g) view_set_types (renamed_set_types F.vertex_type) set_types_planned types u.0 u.1,
           i.stands,
           subst (TargetStands F (view_of n) x (Place w.0.1)) (set_right_is n r) (subst (λ z. TargetStands F z x (Place w.0.1) (is_set_right n r)) back t.stands),
         )
@@ -553,7 +557,7 @@ module _ (sorts : Sorts) (accums : List Bytes) (g : Globals) where
         let v = then_some (resolved_change (known_in g n) c) _ b u.2 in
         subst (λ (p : Behind Step). StepIs n (ChangeGlobal a c) p.0 p.1) (some_inj v.2)
         (by_view n (ChangeGlobal a c) n (step.Global u.0 v.0) (plain.ChangeGlobal (Slot u.0) (view_change v.0)) (view_step-Global u.0 v.0)
-        ((found Slot (g.slot a)).is u.0 u.1, (change_planned (known_in g n) c).is v.0 v.1 ∙ ap (λ z. renamed_change z c) (inside_is n)) refl bound)
+        (found_is Slot (g.slot a) u.0 u.1, change_planned (known_in g n) c v.0 v.1 ∙ ap (λ z. renamed_change z c) (inside_is n)) refl bound)
     step_is n (If branches) b bound h =
         let u = then_some (resolved_branches g n branches) _ b h in
         let i = branches_are n branches u.0 bound u.1 in
@@ -577,12 +581,12 @@ module _ (sorts : Sorts) (accums : List Bytes) (g : Globals) where
         let i = body_stands n m body w.0 (record { more = (x, record { place = n.next; marked = false }) ∷ []; is = refl }) (λ c e. all_are m body c (bounded_name n x false bound) e) inner in
         subst (λ (p : Behind Step). StepIs n (Foreach x o body) p.0 p.1) (ap {B = Behind Step} (λ (p : Behind ℕ). (w.0.0, step.Foreach p.1 u.0 w.0.1)) new.1 ∙ some_inj w.2)
         (by_view n (Foreach x o body) w.0.0 (step.Foreach n.next u.0 w.0.1) (plain.Foreach (Place n.next) (view_over u.0) (view_steps w.0.1)) (view_step-Foreach n.next u.0 w.0.1)
-        (is_new n x bound new.0, (over_planned (known_in g n) o).is u.0 u.1 ∙ ap (λ z. renamed_over z o) (inside_is n), i.stand) (same_view n w.0.0 i.visible) i.bounded)
+        (is_new n x bound new.0, over_planned (known_in g n) o u.0 u.1 ∙ ap (λ z. renamed_over z o) (inside_is n), i.stand) (same_view n w.0.0 i.visible) i.bounded)
     step_is n (Print items) b bound h =
         let u = then_some (each_resolved (resolved_item (known_in g n)) items) _ b h in
         subst (λ (p : Behind Step). StepIs n (Print items) p.0 p.1) (some_inj u.2)
         (by_view n (Print items) n (step.Print u.0) (plain.Print (map view_item u.0)) (view_step-Print u.0)
-        ((each_planned (resolved_item (known_in g n)) view_item (renamed_printed (references (known_in g n))) (item_planned (known_in g n)) items).is u.0 u.1 ∙ ap (λ z. map (renamed_printed z) items) (inside_is n)) refl bound)
+        (each_planned (resolved_item (known_in g n)) view_item (renamed_printed (references (known_in g n))) (item_planned (known_in g n)) items u.0 u.1 ∙ ap (λ z. map (renamed_printed z) items) (inside_is n)) refl bound)
 
     all_are : (n : Named) (body : Stmts Bytes) (b : Behind (List Step)) → IsBounded n → resolved_stmts g n body ≡ Some b → StepsStand sorts accums g n body b.0 b.1
     all_are n no_stmt b bound h = subst (λ (p : Behind (List Step)). StepsStand sorts accums g n no_stmt p.0 p.1) (some_inj h) (record { stand = _; behind = refl; bounded = bound })

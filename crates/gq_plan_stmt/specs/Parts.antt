@@ -56,10 +56,14 @@ view_path trees = map view_step trees
 abbrev pub selection_key : Bytes → Option Bytes → Bytes
 selection_key set name = unwrap_or name set
 
--- the edge alias of a last step
+-- the aliases of a last step
 abbrev pub last_edge : Option (Step Bytes) → Option Bytes
 last_edge None = None
 last_edge (Some s) = s.edge_alias
+
+abbrev pub last_target : Option (Step Bytes) → Option Bytes
+last_target None = None
+last_target (Some s) = s.target_alias
 
 -- ---- types
 

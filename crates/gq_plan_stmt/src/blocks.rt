@@ -17,13 +17,23 @@ ghost use Rattle.gq_plan_stmt.specs.Steps.{AnswersIn, DoneIn, resolved_block, re
 use crate::names::add_name;
 use crate::sets::plan_sets;
 use crate::values::value;
-use gq_check_from::{target_alias, text_of};
 use gq_plan_expr::{CatalogNames, NameResolver, PlanFault};
 use gq_plan_ir::{Block, Right};
 use gq_plan_select::plan_block;
 use gq_scope::Places;
 use gq_tree::{Node, PatternTree, SelectTree, StepTree};
+use gq_value::Txt;
 use std::alloc::Global;
+
+/// Returns an optional name as a text.
+fn text_of(name: &Option<Txt>) -> Option<&str>
+    ensures { option_copied result ≡ name.now }
+{
+    match name {
+        None => None,
+        Some(name) => Some(name.as_str()),
+    }
+}
 
 fn last_edge(list: &[StepTree]) -> Option<&str>
     ensures { option_copied result ≡ parts.last_edge (patterns.last_step (view_path list.now)) }
@@ -31,6 +41,15 @@ fn last_edge(list: &[StepTree]) -> Option<&str>
     match list.last() {
         None => None,
         Some(tree) => text_of(&tree.edge_alias),
+    }
+}
+
+fn last_target(list: &[StepTree]) -> Option<&str>
+    ensures { option_copied result ≡ parts.last_target (patterns.last_step (view_path list.now)) }
+{
+    match list.last() {
+        None => None,
+        Some(tree) => text_of(&tree.target_alias),
     }
 }
 
@@ -43,6 +62,19 @@ fn edge_alias(tree: &Option<PatternTree>) -> Option<&str>
         Some(tree) => match tree {
             PatternTree::Hop(tree) => text_of(&tree.edge_alias),
             PatternTree::Path(list) => last_edge(list.as_slice()),
+        },
+    }
+}
+
+/// Returns the target alias: that of a hop, or of the last step of a path.
+fn target_alias(tree: &Option<PatternTree>) -> Option<&str>
+    ensures { option_copied result ≡ patterns.target_alias (view_walk tree.now) }
+{
+    match tree {
+        None => None,
+        Some(tree) => match tree {
+            PatternTree::Hop(tree) => text_of(&tree.target_alias),
+            PatternTree::Path(list) => last_target(list.as_slice()),
         },
     }
 }

@@ -114,7 +114,6 @@ fn assign(
 }
 
 #[cycle(steps)]
-#[tactic(auto, using(gq_rules_typing::proofs::ViewLaws::statement_laws, crate::proofs::ListLemmas::in_laws))]
 fn steps(
     trees: &[Stmt],
     alloc: Global,
@@ -150,7 +149,6 @@ fn body(
 
 /// Plans the statements after ELSE; no statement is the same as no ELSE.
 #[cycle(steps)]
-#[tactic(auto, using(crate::proofs::ElseLemmas::else_laws))]
 fn else_body(
     trees: &[Stmt],
     alloc: Global,
@@ -205,7 +203,6 @@ fn foreach_step(
 }
 
 #[cycle(steps)]
-#[tactic(auto, using(gq_rules_typing::proofs::ViewLaws::statement_laws, crate::proofs::ListLemmas::in_laws))]
 fn step(
     tree: &Stmt,
     alloc: Global,
