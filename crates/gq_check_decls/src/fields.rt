@@ -18,12 +18,12 @@ pub(crate) type FieldTypes = List<(Txt, BaseType)>;
 
 /// Types the fields, which have base types; there is a maximum number.
 #[tactic(auto, using(gq_type::proofs::ArgumentLemmas::all_laws, crate::proofs::FieldLemmas::field_laws))]
-pub fn fields_written(
+pub(crate) fn fields_written(
     alloc: Global,
     scope: &Scope<'_>,
     most: usize,
     trees: &[(BaseTree, Txt)],
-) -> Result<List<(Txt, BaseType)>, CheckFault>
+) -> Result<FieldTypes, CheckFault>
     ensures { Judges fields_of (kinds.fields_written (scope_in scope.now) most [] (view_fields trees.now)) result }
 {
     let mut fields = List::new(alloc);

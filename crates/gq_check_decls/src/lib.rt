@@ -20,7 +20,6 @@ mod sorting;
 mod written;
 
 pub use defaults::parameters;
-pub use fields::fields_written;
 pub use heads::definitions;
 pub use kinds::kind_written;
 pub use written::base_written;

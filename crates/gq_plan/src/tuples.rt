@@ -1,6 +1,8 @@
 // Tuple types.
 ghost use Rattle.std.specs.Prelude.{◌≡◌, ◌≢◌, ◌++◌, IfOk, IfErr, Ok, true, [], ◌∷◌, map};
+ghost use Rattle.gq_value.specs.AccumViews.{base_of};
 ghost use Rattle.gq_rules_typing.specs.KindTypes as kinds;
+ghost use Rattle.gq_rules_typing.specs.Scopes as typing;
 ghost use Rattle.gq_rules_typing.specs.Statements.{TupleType as a_tuple_type};
 ghost use Rattle.gq_rules_typing.specs.StatementViews.{view_base, view_fields};
 ghost use Rattle.gq_scope.specs.Held.{fields_of, scope_in, sorts_in};
@@ -16,7 +18,7 @@ ghost use Rattle.gq_plan.specs.Unplanned.{Fails, NoDefinition};
 
 use crate::accums::fault_of;
 use gq_base::{List, OutOfMemory, narrow};
-use gq_check_decls::fields_written;
+use gq_check_decls::base_written;
 use gq_plan_expr::{CatalogNames, NamedTupleType, PlanFault};
 use gq_plan_ir::{Declared, Definition};
 use gq_plan_stmt::plan_base;
@@ -58,8 +60,47 @@ fn planned_fields(
 
 // ---- the fields with their types
 
-/// Returns the fields of a tuple type, with their types; there are at most 16.
+/// Returns the type that a field is declared with.
 #[tactic(auto, using(crate::proofs::FailLemmas::fail_laws))]
+fn field_type(alloc: Global, scope: &Scope<'_>, tree: &BaseTree) -> Result<BaseType, PlanFault>
+    ensures typed { IfOk result (λ base. typing.base_written (scope_in scope.now) (view_base tree.now) ≡ Ok (base_of base)) }
+    ensures unknown { IfErr result (λ e. e ≢ fault.OutOfMemory → Fails (typing.base_written (scope_in scope.now) (view_base tree.now))) }
+{
+    match base_written(alloc, scope, tree) {
+        Ok(base) => Ok(base),
+        Err(refusal) => Err(fault_of(&refusal)),
+    }
+}
+
+/// Whether one of these fields has the name.
+fn stands_in(fields: &[(Txt, BaseType)], name: &str) -> bool
+    ensures { result ≡ kinds.stands_in (map (λ f. f.0) fields.now) name.now }
+{
+    for field in fields {
+        if name == field.0.as_str() {
+            return true;
+        }
+    }
+    false
+}
+
+/// Checks that a name is new among the fields of the type, which has at most 16.
+#[tactic(auto, using(crate::proofs::FieldLemmas::name_laws))]
+fn own_name(fields: &[(Txt, BaseType)], name: &str) -> Result<(), PlanFault>
+    ensures own { IfOk result (λ _. kinds.own_name 16 (map (λ f. f.0) fields.now) name.now ≡ Ok (map (λ f. f.0) fields.now ++ name.now ∷ [])) }
+    ensures unknown { IfErr result (λ e. e ≢ fault.OutOfMemory → Fails (kinds.own_name 16 (map (λ f. f.0) fields.now) name.now)) }
+{
+    if stands_in(fields, name) {
+        return Err(PlanFault::Unknown);
+    }
+    if fields.len() >= 16 {
+        return Err(PlanFault::Unknown);
+    }
+    Ok(())
+}
+
+/// Returns the fields of a tuple type, with their types.
+#[tactic(auto, using(gq_type::proofs::ArgumentLemmas::all_laws, crate::proofs::FieldLemmas::field_laws, crate::proofs::FieldLemmas::fail_laws))]
 fn typed_fields(
     alloc: Global,
     scope: &Scope<'_>,
@@ -68,10 +109,14 @@ fn typed_fields(
     ensures typed { IfOk result (λ fields. kinds.fields_written (scope_in scope.now) 16 [] (view_fields trees.now) ≡ Ok (fields_of fields)) }
     ensures unknown { IfErr result (λ e. e ≢ fault.OutOfMemory → Fails (kinds.fields_written (scope_in scope.now) 16 [] (view_fields trees.now))) }
 {
-    match fields_written(alloc, scope, 16, trees) {
-        Ok(fields) => Ok(fields),
-        Err(refusal) => Err(fault_of(&refusal)),
+    let mut fields = List::new(alloc);
+    for tree in trees {
+        own_name(fields.as_slice(), tree.1.as_str())?;
+        let base = field_type(alloc, scope, &tree.0)?;
+        let name = Txt::of(alloc, tree.1.as_str())?;
+        fields.push((name, base))?;
     }
+    Ok(fields)
 }
 
 /// Returns a copy.
