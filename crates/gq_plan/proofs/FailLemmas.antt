@@ -1,5 +1,5 @@
 -- FailLemmas: rules that fail, and declarations that aren't planned.
-use Rattle.std.proofs.Common.{◌≡◌, ◌≢◌, Bool, true, List, [], Option, None, Result, Ok, Err, sym, ◌∙◌}
+use Rattle.std.proofs.Common.{◌≡◌, ◌≢◌, Bool, true, List, [], Option, Some, None, Result, Ok, Err, sym, ◌∙◌}
 use Rattle.std.specs.Prelude.{is_some}
 use Rattle.gq_tree.specs.Tree.{Tree}
 use Rattle.gq_scope.specs.Named.{Named, seen_at}
@@ -37,9 +37,16 @@ pub ruleset fail_laws = (failed, refused)
 
 -- ---- an accumulator
 
+none_some : {A : Type 0} (o : Option A) (a : A) → o ≡ None → o ≡ Some a → ⊥
+none_some o a n h = cc (n, h)
+
 pub opening_lacks : (sorts : Sorts) (n : Named) (tuples : TupleTypes) (slots : Named) (a : Bool × Bytes × Option (Tree Bytes))
     → if_there (resolved (known_in (globals_of sorts tuples slots) n)) a.2 ≡ None → NoAccum sorts n (heads_of tuples slots) a
-opening_lacks sorts n tuples slots a lacks = record { none = λ kind s t d e. let u = (accum_passes sorts n kind s t (heads_of tuples slots) a d e).opening.1 in cc (lacks, u) }
+opening_lacks sorts n tuples slots a lacks = record {
+  none = λ kind s t d e.
+      let u = accum_passes sorts n kind s t (heads_of tuples slots) a d e in
+      none_some (if_there (resolved (known_in (globals_of sorts tuples slots) n)) a.2) u.opening.0 lacks u.opening.1;
+}
 
 pub slot_taken : (sorts : Sorts) (n : Named) (tuples : TupleTypes) (slots : Named) (a : Bool × Bytes × Option (Tree Bytes)) → is_some (seen_at slots a.1) ≡ true → NoAccum sorts n (heads_of tuples slots) a
 slot_taken sorts n tuples slots a taken = record { none = λ kind s t d e. let u = (accum_passes sorts n kind s t (heads_of tuples slots) a d e).new in cc (taken, u) }
@@ -50,7 +57,11 @@ pub ruleset accum_laws = (opening_lacks, slot_taken)
 
 pub fields_lack : (s : Held) (n : Named) (tuples : TupleTypes) (slots : Named) (fs : List (BaseTree Bytes × Bytes)) (x : Bytes) → each_resolved (resolved_field (globals_of (sorts_in s) tuples slots)) fs ≡ None
     → NoDefinition (sorts_in s) n (heads_of tuples slots) (TupleType fs x)
-fields_lack s n tuples slots fs x lacks = record { none = λ z t d e. let u = (tuple_passes (sorts_in s) n z t (heads_of tuples slots) fs x d e).found.1 in cc (lacks, u) }
+fields_lack s n tuples slots fs x lacks = record {
+  none = λ z t d e.
+      let u = tuple_passes (sorts_in s) n z t (heads_of tuples slots) fs x d e in
+      none_some (each_resolved (resolved_field (globals_of (sorts_in s) tuples slots)) fs) u.found.0 lacks u.found.1;
+}
 
 pub fields_fail : (s : Held) (n : Named) (tuples : TupleTypes) (slots : Named) (fs : List (BaseTree Bytes × Bytes)) (x : Bytes) → IsScoped (sorts_in s) tuples s → Fails (fields_written (scope_in s) 16 [] fs)
     → NoDefinition (sorts_in s) n (heads_of tuples slots) (TupleType fs x)

@@ -153,10 +153,9 @@ pub definition_lacks : (n : Named) (s t : Held) (before tuples : TupleTypes) (fi
     → NoDefinitions (sorts_in s) n (heads_of before first) (map view_definition trees)
 definition_lacks n s t before tuples first slots trees k done d low is so_far never = record {
   none = λ z y declared e.
-      let rule = typing_definition kind_written in
       let here : NoDefinition (sorts_in s) n (heads_of tuples slots) (view_definition d) = subst (λ w. NoDefinition w n (heads_of tuples slots) (view_definition d)) so_far.scoped.sorts_are never in
-      let u = through_at rule z (map view_definition (take k trees)) (view_definition d ∷ map view_definition (drop (k + 1) trees)) y (ap (through_judged rule z) (around view_definition trees k d low is) ∙ e) in
-      let v = then_ok (rule u.0 (view_definition d)) _ y u.2 in
+      let u = through_at (typing_definition kind_written) z (map view_definition (take k trees)) (view_definition d ∷ map view_definition (drop (k + 1) trees)) y (ap (through_judged (typing_definition kind_written) z) (around view_definition trees k d low is) ∙ e) in
+      let v = then_ok (typing_definition kind_written u.0 (view_definition d)) _ y u.2 in
       here.none u.0 v.0 (definitions_behind (sorts_in s) n (map view_definition (take k trees)) z u.0 (heads_of before first) (heads_of tuples slots) done declared u.1 so_far.are) v.1;
 }
 

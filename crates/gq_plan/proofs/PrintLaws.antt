@@ -197,4 +197,4 @@ pub not_typed_new : (s : Held) (schema : Schema) (graph : Option ℕ) (q : Query
     → NotTyped (sorts_in s) q → NotTyped (sorts_of schema (graph_in schema graph)) q
 not_typed_new s schema graph q is never = subst (λ z. NotTyped z q) (sorts_new s schema graph is) never
 
-pub ruleset plan_laws = (plan_made, scope_new, planned_new, prints_new, safe_new, lacks_parameters, not_typed_new)
+pub ruleset plan_laws = (plan_made, scope_new, planned_new, prints_new, safe_new, not_typed_new)

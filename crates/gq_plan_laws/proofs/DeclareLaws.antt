@@ -136,7 +136,7 @@ module _ (sorts : Sorts) (n : Named) where
   -- ---- tuple types
 
   -- a field with the type that is found for it
-  abbrev field_found : Globals → BaseTree Bytes × Bytes → Option (declared.Declared × Bytes)
+  abbrev pub field_found : Globals → BaseTree Bytes × Bytes → Option (declared.Declared × Bytes)
   field_found g f = plans.◌>>=◌ (resolved_base g f.0) (λ b. Some (b, f.1))
 
   fields_have : (s : Scope Bytes) (h : Heads) → s.setting ≡ setting_of sorts h.tuples → (most : ℕ) (names : List Bytes) (fs : List (BaseTree Bytes × Bytes)) (fields : Fields) → fields_written s most names fs ≡ Ok fields
