@@ -1,6 +1,6 @@
 -- HeadLemmas: accumulators and definitions, one after the other.
-use Rattle.std.proofs.Common.{◌≡◌, ◌+◌, ◌<◌, ◌≤◌, ℕ, Bool, List, [], ◌∷◌, ◌++◌, length, get_or, drop, map, Option, Some, Ok, refl, sym, ap, subst}
-use Rattle.std.proofs.lemmas.List.{drop_all}
+use Rattle.std.proofs.Common.{◌≡◌, ◌+◌, ◌<◌, ◌≤◌, ℕ, Bool, List, [], ◌∷◌, ◌++◌, length, get_or, take, drop, map, Option, Some, Ok, refl, sym, ap, subst, ◌∙◌, take_all}
+use Rattle.std.proofs.lemmas.List.{take_more, take-append-drop, map_push, map-append}
 use Rattle.gq_tree.specs.Tree.{Tree}
 use Rattle.gq_tree.specs.declared.kind.AccumTree.{AccumTree}
 use Rattle.gq_tree.specs.declared.kind.DefinitionTree as definition_tree
@@ -11,7 +11,10 @@ use Rattle.gq_scope.specs.Named.{Named, with_name}
 use Rattle.gq_rules_typing.specs.Statements.{Bytes, BaseTree, KindTree, Definition, TupleType, Accums}
 use Rattle.gq_rules_typing.specs.StatementViews.{view_accum, view_definition}
 use Rattle.gq_rules_typing.specs.Sorts.{Sorts}
+use Rattle.gq_rules_typing.specs.Judging.{Judged, ◌>>=◌, through_judged}
 use Rattle.gq_rules_typing.specs.KindTypes.{fields_written, kind_written}
+use Rattle.gq_rules_typing.specs.QueryTypes.{typing_accum, typing_definition}
+use Rattle.gq_rules_meaning.proofs.AnswerLaws.{then_ok}
 use Rattle.gq_plan_ir.specs.declared.plan.Accum as code
 use Rattle.gq_plan_ir.specs.declared.plan.Declared.{Declared}
 use Rattle.gq_plan_ir.specs.declared.plan.Definition as definition_code
@@ -19,53 +22,69 @@ use Rattle.gq_plan_ir.specs.declared.plan.Definition.TheVariants as definition
 use Rattle.gq_plan_select.specs.Resolved.{each_resolved}
 use Rattle.gq_scope.specs.Held.{Held, fields_of, sorts_in, scope_in}
 use Rattle.gq_plan_expr.specs.Found.{TupleTypes, globals_of}
-use Rattle.gq_plan_laws.specs.Planned.{Heads, AccumPlanned, AccumsPlanned, DefinitionsPlanned}
+use Rattle.gq_plan_laws.specs.Planned.{Heads, with_accum, with_tuple, AccumPlanned, AccumsPlanned, DefinitionsPlanned}
+use Rattle.gq_plan_laws.proofs.DeclareLaws.{accums_behind, definitions_behind}
 use Rattle.gq_plan.specs.Heading.{IsScoped, heads_of, resolved_field}
-use Rattle.gq_plan.specs.Unplanned.{NoAccum, NoAccums, NoDefinition, NoDefinitions, DeclaredOnce, tuple_names}
-use Rattle.gq_plan.proofs.PlaceLemmas.{left_at, push_behind, none_behind}
-use Rattle.gq_plan.proofs.TupleLemmas.{AccumRead, read_accum, RestRead, read_rest, fields_lack, fields_fail, tuple_twice, kind_fails, accums_lack}
+use Rattle.gq_plan.specs.Unplanned.{NoAccum, NoAccums, NoDefinition, NoDefinitions}
+use Rattle.gq_plan.proofs.PlaceLemmas.{left_at}
 use Rattle.gq_plan.proofs.ScopeLemmas.{fields_here, kind_here}
+use Rattle.gq_plan.proofs.FailLemmas.{fields_lack, fields_fail, tuple_twice, kind_fails, accums_lack}
+
+-- ---- lists
+
+-- a rule on some and then on others
+through_at : {A S : Type 0} (f : S → A → Judged S) (s : S) (xs ys : List A) (t : S) → through_judged f s (xs ++ ys) ≡ Ok t → (u : S) × (through_judged f s xs ≡ Ok u) × (through_judged f u ys ≡ Ok t)
+through_at f s [] ys t h = (s, refl, h)
+through_at f s (x ∷ xs) ys t h =
+    let u = then_ok (f s x) (λ z. through_judged f z (xs ++ ys)) t h in
+    let v = through_at f u.0 xs ys t u.2 in
+    (v.0, ap (λ j. j >>= λ z. through_judged f z xs) u.1 ∙ v.1, v.2)
+
+-- the current one, with those before it and the rest
+around : {A B : Type 0} (f : A → B) (xs : List A) (k : ℕ) (a : A) → k < length xs → a ≡ get_or xs k a → map f (take k xs) ++ f a ∷ map f (drop (k + 1) xs) ≡ map f xs
+around f xs k a low is = sym (ap (map f) (sym (take-append-drop k xs)) ∙ (map-append f (take k xs) (drop k xs) ∙ ap (λ l. map f (take k xs) ++ map f l) (left_at xs k a low is)))
+
+one_more : {A B : Type 0} (f : A → B) (xs : List A) (k : ℕ) (a : A) → k < length xs → a ≡ get_or xs k a → map f (take k xs) ++ f a ∷ [] ≡ map f (take (k + 1) xs)
+one_more f xs k a low is = sym (ap (map f) (take_more xs k a low ∙ ap (λ x. take k xs ++ x ∷ []) (sym is)) ∙ map_push f (take k xs) a)
 
 -- ---- accumulators
 
--- a plan of the rest gives a plan of all, after what is done; and each plan of all contains one of the rest
-pub record AccumsGo (sorts : Sorts) (n : Named) (start : Heads) (all : List (Bool × Bytes × Option (Tree Bytes))) (done : List code.Accum) (rest : List (Bool × Bytes × Option (Tree Bytes))) (now : Heads) : Type 0 where
-  pub go : (others : List code.Accum) (end : Heads) → AccumsPlanned sorts n now rest others end → AccumsPlanned sorts n start all (done ++ others) end
-  pub back : (bs : List code.Accum) (end : Heads) → AccumsPlanned sorts n start all bs end → (others : List code.Accum) × AccumsPlanned sorts n now rest others end
+accums_push : (sorts : Sorts) (n : Named) (h i : Heads) (accums : List (Bool × Bytes × Option (Tree Bytes))) (bs : List code.Accum) (a : Bool × Bytes × Option (Tree Bytes)) (b : code.Accum)
+    → AccumsPlanned sorts n h accums bs i → AccumPlanned sorts n i a b → AccumsPlanned sorts n h (accums ++ a ∷ []) (bs ++ b ∷ []) (with_accum i a.1 a.0)
+accums_push sorts n h i [] [] a b p one = (subst (λ j. AccumPlanned sorts n j a b) (sym p) one, ap (λ (j : Heads). with_accum j a.1 a.0) p)
+accums_push sorts n h i [] (c ∷ bs) a b p one = absurd p
+accums_push sorts n h i (d ∷ accums) [] a b p one = absurd p
+accums_push sorts n h i (d ∷ accums) (c ∷ bs) a b p one = (p.0, accums_push sorts n (with_accum h d.1 d.0) i accums bs a b p.1 one)
 
-pub accums_begin : (sorts : Sorts) (n : Named) (start : Heads) (all : List (Bool × Bytes × Option (Tree Bytes))) → AccumsGo sorts n start all [] all start
-accums_begin sorts n start all = record { go = λ others end p. p; back = λ bs end p. (bs, p) }
+-- the first k are planned
+pub record AccumsSoFar (sorts : Sorts) (n : Named) (start : Heads) (trees : List AccumTree) (k : ℕ) (done : List code.Accum) (now : Heads) : Type 0 where
+  pub are : AccumsPlanned sorts n start (map view_accum (take k trees)) done now
 
--- the current one, and the rest
-module _ (sorts : Sorts) (n : Named) (start : Heads) (trees : List AccumTree) (done : List code.Accum) (k : ℕ) (now : Heads) (t : AccumTree) (low : k < length trees) (is : t ≡ get_or trees k t)
-    (so_far : AccumsGo sorts n start (map view_accum trees) done (map view_accum (drop k trees)) now) where
-  accum_here : (bs : List code.Accum) (end : Heads) → AccumsPlanned sorts n start (map view_accum trees) bs end → AccumRead sorts n now (view_accum t) (map view_accum (drop (k + 1) trees)) end
-  accum_here bs end p =
-      let u = so_far.back bs end p in
-      read_accum sorts n now (view_accum t) (map view_accum (drop (k + 1) trees)) u.0 end (subst (λ l. AccumsPlanned sorts n now (map view_accum l) u.0 end) (left_at trees k t low is) u.1)
-
-  pub accum_lacks : NoAccum sorts n now (view_accum t) → NoAccums sorts n start (map view_accum trees)
-  accum_lacks never = record { none = λ bs end p. let u = accum_here bs end p in never.none u.accum u.planned }
+pub accums_begin : (sorts : Sorts) (n : Named) (start : Heads) (trees : List AccumTree) → AccumsSoFar sorts n start trees 0 [] start
+accums_begin sorts n start trees = record { are = refl }
 
 pub accum_next : (sorts : Sorts) (n : Named) (start : Heads) (trees : List AccumTree) (done : List code.Accum) (k : ℕ) (tuples : TupleTypes) (slots more : Named) (t : AccumTree) (b : code.Accum)
-    → k < length trees → t ≡ get_or trees k t → AccumsGo sorts n start (map view_accum trees) done (map view_accum (drop k trees)) (heads_of tuples slots)
-    → AccumPlanned sorts n (heads_of tuples slots) (view_accum t) b → more ≡ with_name slots t.name t.attached
-    → AccumsGo sorts n start (map view_accum trees) (done ++ b ∷ []) (map view_accum (drop (k + 1) trees)) (heads_of tuples more)
+    → k < length trees → t ≡ get_or trees k t → AccumsSoFar sorts n start trees k done (heads_of tuples slots) → AccumPlanned sorts n (heads_of tuples slots) (view_accum t) b → more ≡ with_name slots t.name t.attached
+    → AccumsSoFar sorts n start trees (k + 1) (done ++ b ∷ []) (heads_of tuples more)
 accum_next sorts n start trees done k tuples slots more t b low is so_far one new = record {
-  go = λ others end p.
-      subst (λ (l : List code.Accum). AccumsPlanned sorts n start (map view_accum trees) l end) (push_behind done b others) (so_far.go (b ∷ others) end
-      (subst (λ l. AccumsPlanned sorts n (heads_of tuples slots) (map view_accum l) (b ∷ others) end) (sym (left_at trees k t low is))
-      (one, subst (λ m. AccumsPlanned sorts n (heads_of tuples m) (map view_accum (drop (k + 1) trees)) others end) new p)));
-  back = λ bs end p.
-      let u = accum_here sorts n start trees done k (heads_of tuples slots) t low is so_far bs end p in
-      (u.others, subst (λ m. AccumsPlanned sorts n (heads_of tuples m) (map view_accum (drop (k + 1) trees)) u.others end) (sym new) u.are);
+  are =
+      subst (λ m. AccumsPlanned sorts n start (map view_accum (take (k + 1) trees)) (done ++ b ∷ []) (heads_of tuples m)) (sym new)
+      (subst (λ l. AccumsPlanned sorts n start l (done ++ b ∷ []) (heads_of tuples (with_name slots t.name t.attached))) (one_more view_accum trees k t low is)
+      (accums_push sorts n start (heads_of tuples slots) (map view_accum (take k trees)) done (view_accum t) b so_far.are one));
 }
 
 pub accums_end : (sorts : Sorts) (n : Named) (start now : Heads) (trees : List AccumTree) (done : List code.Accum) (k : ℕ)
-    → length trees ≤ k → AccumsGo sorts n start (map view_accum trees) done (map view_accum (drop k trees)) now → AccumsPlanned sorts n start (map view_accum trees) done now
-accums_end sorts n start now trees done k high so_far =
-    subst (λ (l : List code.Accum). AccumsPlanned sorts n start (map view_accum trees) l now) (none_behind done) (so_far.go [] now
-    (subst (λ l. AccumsPlanned sorts n now (map view_accum l) [] now) (sym (drop_all k trees high)) refl))
+    → length trees ≤ k → AccumsSoFar sorts n start trees k done now → AccumsPlanned sorts n start (map view_accum trees) done now
+accums_end sorts n start now trees done k high so_far = subst (λ l. AccumsPlanned sorts n start (map view_accum l) done now) (take_all k trees high) so_far.are
+
+pub accum_lacks : (sorts : Sorts) (n : Named) (start now : Heads) (trees : List AccumTree) (done : List code.Accum) (k : ℕ) (t : AccumTree)
+    → k < length trees → t ≡ get_or trees k t → AccumsSoFar sorts n start trees k done now → NoAccum sorts n now (view_accum t) → NoAccums sorts n start (map view_accum trees)
+accum_lacks sorts n start now trees done k t low is so_far never = record {
+  none = λ kind s z d e.
+      let u = through_at (typing_accum kind) s (map view_accum (take k trees)) (view_accum t ∷ map view_accum (drop (k + 1) trees)) z (ap (through_judged (typing_accum kind) s) (around view_accum trees k t low is) ∙ e) in
+      let v = then_ok (typing_accum kind u.0 (view_accum t)) _ z u.2 in
+      never.none kind u.0 v.0 (accums_behind sorts n kind (map view_accum (take k trees)) s u.0 start now done d u.1 so_far.are) v.1;
+}
 
 pub ruleset accum_laws = (accums_begin, accum_next, accums_end, accum_lacks)
 
@@ -88,48 +107,29 @@ pub ruleset kind_laws = (kind_planned, kind_fails, accums_lack)
 
 -- ---- definitions
 
--- a plan of the rest gives a plan of all, after what is done; and each plan of all contains one of the rest
-pub record DefinitionsGo (sorts : Sorts) (n : Named) (start : Heads) (all : List (Definition Bytes (KindTree Bytes))) (done : List definition_code.Definition) (rest : List (Definition Bytes (KindTree Bytes))) (now : Heads) : Type 0 where
-  pub go : (others : List definition_code.Definition) (end : Heads) → DefinitionsPlanned sorts n now rest others end → DefinitionsPlanned sorts n start all (done ++ others) end
-  pub back : (es : List definition_code.Definition) (end : Heads) → DefinitionsPlanned sorts n start all es end → DeclaredOnce (tuple_names start.tuples) all → RestRead sorts n now rest end
+definitions_push : (sorts : Sorts) (n : Named) (h i j : Heads) (ds : List (Definition Bytes (KindTree Bytes))) (es : List definition_code.Definition) (d : Definition Bytes (KindTree Bytes)) (e : definition_code.Definition)
+    → DefinitionsPlanned sorts n h ds es i → DefinitionsPlanned sorts n i (d ∷ []) (e ∷ []) j → DefinitionsPlanned sorts n h (ds ++ d ∷ []) (es ++ e ∷ []) j
+definitions_push sorts n h i j [] [] d e p one = subst (λ k. DefinitionsPlanned sorts n k (d ∷ []) (e ∷ []) j) (sym p) one
+definitions_push sorts n h i j [] (f ∷ es) d e p one = absurd p
+definitions_push sorts n h i j (TupleType fs x ∷ ds) [] d e p one = absurd p
+definitions_push sorts n h i j (Accums k all ∷ ds) [] d e p one = absurd p
+definitions_push sorts n h i j (TupleType fs x ∷ ds) (definition.Accums kind bs ∷ es) d e p one = absurd p
+definitions_push sorts n h i j (Accums k all ∷ ds) (definition.Tuple gs m ∷ es) d e p one = absurd p
+definitions_push sorts n h i j (TupleType fs x ∷ ds) (definition.Tuple gs m ∷ es) d e p one = (p.0, p.1, definitions_push sorts n (with_tuple h x p.0) i j ds es d e p.2 one)
+definitions_push sorts n h i j (Accums k all ∷ ds) (definition.Accums kind bs ∷ es) d e p one = (p.0, (p.1.0, (p.1.1.0, definitions_push sorts n p.1.0 i j ds es d e p.1.1.1 one)))
 
--- the same so far, with the current scope
+-- the first k are planned, with the current scope
 pub record DefinitionsSoFar (n : Named) (s t : Held) (before tuples : TupleTypes) (first slots : Named) (trees : List definition_tree.DefinitionTree) (k : ℕ) (done : List definition_code.Definition) : Type 0 where
   pub scoped : IsScoped (sorts_in s) tuples t
-  pub goes : DefinitionsGo (sorts_in s) n (heads_of before first) (map view_definition trees) done (map view_definition (drop k trees)) (heads_of tuples slots)
+  pub are : DefinitionsPlanned (sorts_in s) n (heads_of before first) (map view_definition (take k trees)) done (heads_of tuples slots)
 
 pub definitions_begin : (n : Named) (s : Held) (tuples : TupleTypes) (slots : Named) (trees : List definition_tree.DefinitionTree) → IsScoped (sorts_in s) tuples s
     → DefinitionsSoFar n s s tuples tuples slots slots trees 0 []
-definitions_begin n s tuples slots trees scoped = record { scoped = scoped; goes = record { go = λ others end p. p; back = λ es end p once. record { others = es; are = p; once = once } } }
-
--- one, and the rest
-joined : (sorts : Sorts) (n : Named) (h i j : Heads) (d : Definition Bytes (KindTree Bytes)) (rest : List (Definition Bytes (KindTree Bytes))) (e : definition_code.Definition) (others : List definition_code.Definition)
-    → DefinitionsPlanned sorts n h (d ∷ []) (e ∷ []) i → DefinitionsPlanned sorts n i rest others j → DefinitionsPlanned sorts n h (d ∷ rest) (e ∷ others) j
-joined sorts n h i j (TupleType fs x) rest (definition.Tuple gs m) others one more = (one.0, one.1, subst (λ (k : Heads). DefinitionsPlanned sorts n k rest others j) (sym one.2) more)
-joined sorts n h i j (TupleType fs x) rest (definition.Accums kind bs) others one more = absurd one
-joined sorts n h i j (Accums k all) rest (definition.Tuple gs m) others one more = absurd one
-joined sorts n h i j (Accums k all) rest (definition.Accums kind bs) others one more =
-    (one.0, (one.1.0, (one.1.1.0, subst (λ (l : Heads). DefinitionsPlanned sorts n l rest others j) (sym one.1.1.1) more)))
+definitions_begin n s tuples slots trees scoped = record { scoped = scoped; are = refl }
 
 -- the current scope has its own types
 pub scope_here : (s t : Held) (tuples : TupleTypes) → IsScoped (sorts_in s) tuples t → IsScoped (sorts_in t) tuples t
 scope_here s t tuples h = subst (λ z. IsScoped z tuples t) (sym h.sorts_are) h
-
--- each plan of all contains one of the current definition and one of the rest
-module _ (n : Named) (s t : Held) (before tuples : TupleTypes) (first slots : Named) (trees : List definition_tree.DefinitionTree) (k : ℕ) (done : List definition_code.Definition) (d : definition_tree.DefinitionTree)
-    (low : k < length trees) (is : d ≡ get_or trees k d) (so_far : DefinitionsSoFar n s t before tuples first slots trees k done) where
-  definition_here : (es : List definition_code.Definition) (end : Heads) → DefinitionsPlanned (sorts_in s) n (heads_of before first) (map view_definition trees) es end → DeclaredOnce (tuple_names before) (map view_definition trees)
-      → RestRead (sorts_in s) n (heads_of tuples slots) (view_definition d ∷ map view_definition (drop (k + 1) trees)) end
-  definition_here es end p once = subst (λ l. RestRead (sorts_in s) n (heads_of tuples slots) (map view_definition l) end) (left_at trees k d low is) (so_far.goes.back es end p once)
-
-  pub definition_lacks : NoDefinition (sorts_in t) n (heads_of tuples slots) (view_definition d) → NoDefinitions (sorts_in s) n (heads_of before first) (map view_definition trees)
-  definition_lacks never = record {
-    none = λ es end p once.
-        let u = definition_here es end p once in
-        let here : NoDefinition (sorts_in s) n (heads_of tuples slots) (view_definition d) = subst (λ z. NoDefinition z n (heads_of tuples slots) (view_definition d)) so_far.scoped.sorts_are never in
-        let all = here.none (map view_definition (drop (k + 1) trees)) in
-        all.none u.others end u.are u.once;
-  }
 
 pub definition_next : (n : Named) (s t u : Held) (before tuples more : TupleTypes) (first slots slots' : Named) (trees : List definition_tree.DefinitionTree) (k : ℕ) (done : List definition_code.Definition) (d : definition_tree.DefinitionTree) (e : definition_code.Definition)
     → k < length trees → d ≡ get_or trees k d → DefinitionsSoFar n s t before tuples first slots trees k done
@@ -137,24 +137,26 @@ pub definition_next : (n : Named) (s t u : Held) (before tuples more : TupleType
     → DefinitionsSoFar n s u before more first slots' trees (k + 1) (done ++ e ∷ [])
 definition_next n s t u before tuples more first slots slots' trees k done d e low is so_far one scoped = record {
   scoped = subst (λ z. IsScoped z more u) so_far.scoped.sorts_are scoped;
-  goes = record {
-    go = λ others end p.
-        subst (λ (l : List definition_code.Definition). DefinitionsPlanned (sorts_in s) n (heads_of before first) (map view_definition trees) l end) (push_behind done e others)
-        (so_far.goes.go (e ∷ others) end
-        (subst (λ l. DefinitionsPlanned (sorts_in s) n (heads_of tuples slots) (map view_definition l) (e ∷ others) end) (sym (left_at trees k d low is))
-        (joined (sorts_in s) n (heads_of tuples slots) (heads_of more slots') end (view_definition d) (map view_definition (drop (k + 1) trees)) e others
-        (subst (λ z. DefinitionsPlanned z n (heads_of tuples slots) (view_definition d ∷ []) (e ∷ []) (heads_of more slots')) so_far.scoped.sorts_are one) p)));
-    back = λ es end p once.
-        let u = definition_here n s t before tuples first slots trees k done d low is so_far es end p once in
-        read_rest (sorts_in s) n (view_definition d) e (map view_definition (drop (k + 1) trees)) u.others (heads_of tuples slots) (heads_of more slots') end
-        (subst (λ z. DefinitionsPlanned z n (heads_of tuples slots) (view_definition d ∷ []) (e ∷ []) (heads_of more slots')) so_far.scoped.sorts_are one) u.are u.once;
-  };
+  are =
+      subst (λ l. DefinitionsPlanned (sorts_in s) n (heads_of before first) l (done ++ e ∷ []) (heads_of more slots')) (one_more view_definition trees k d low is)
+      (definitions_push (sorts_in s) n (heads_of before first) (heads_of tuples slots) (heads_of more slots') (map view_definition (take k trees)) done (view_definition d) e so_far.are
+      (subst (λ z. DefinitionsPlanned z n (heads_of tuples slots) (view_definition d ∷ []) (e ∷ []) (heads_of more slots')) so_far.scoped.sorts_are one));
 }
 
 pub definitions_end : (n : Named) (s t : Held) (before tuples : TupleTypes) (first slots : Named) (trees : List definition_tree.DefinitionTree) (k : ℕ) (done : List definition_code.Definition)
     → length trees ≤ k → DefinitionsSoFar n s t before tuples first slots trees k done → DefinitionsPlanned (sorts_in s) n (heads_of before first) (map view_definition trees) done (heads_of tuples slots)
 definitions_end n s t before tuples first slots trees k done high so_far =
-    subst (λ (l : List definition_code.Definition). DefinitionsPlanned (sorts_in s) n (heads_of before first) (map view_definition trees) l (heads_of tuples slots)) (none_behind done)
-    (so_far.goes.go [] (heads_of tuples slots) (subst (λ l. DefinitionsPlanned (sorts_in s) n (heads_of tuples slots) (map view_definition l) [] (heads_of tuples slots)) (sym (drop_all k trees high)) refl))
+    subst (λ l. DefinitionsPlanned (sorts_in s) n (heads_of before first) (map view_definition l) done (heads_of tuples slots)) (take_all k trees high) so_far.are
+
+pub definition_lacks : (n : Named) (s t : Held) (before tuples : TupleTypes) (first slots : Named) (trees : List definition_tree.DefinitionTree) (k : ℕ) (done : List definition_code.Definition) (d : definition_tree.DefinitionTree)
+    → k < length trees → d ≡ get_or trees k d → DefinitionsSoFar n s t before tuples first slots trees k done → NoDefinition (sorts_in t) n (heads_of tuples slots) (view_definition d)
+    → NoDefinitions (sorts_in s) n (heads_of before first) (map view_definition trees)
+definition_lacks n s t before tuples first slots trees k done d low is so_far never = record {
+  none = λ z y declared e.
+      let here : NoDefinition (sorts_in s) n (heads_of tuples slots) (view_definition d) = subst (λ w. NoDefinition w n (heads_of tuples slots) (view_definition d)) so_far.scoped.sorts_are never in
+      let u = through_at (typing_definition kind_written) z (map view_definition (take k trees)) (view_definition d ∷ map view_definition (drop (k + 1) trees)) y (ap (through_judged (typing_definition kind_written) z) (around view_definition trees k d low is) ∙ e) in
+      let v = then_ok (typing_definition kind_written u.0 (view_definition d)) _ y u.2 in
+      here.none u.0 v.0 (definitions_behind (sorts_in s) n (map view_definition (take k trees)) z u.0 (heads_of before first) (heads_of tuples slots) done declared u.1 so_far.are) v.1;
+}
 
 pub ruleset definition_laws = (definitions_begin, scope_here, definition_next, definitions_end, definition_lacks)

@@ -1,10 +1,7 @@
-pub mod OpenedLemmas
 pub mod PlaceLemmas
-pub mod FailLemmas
 pub mod ParameterLemmas
-pub mod FieldLemmas
 pub mod ScopeLemmas
-pub mod TupleLemmas
+pub mod FailLemmas
+pub mod FieldLemmas
 pub mod HeadLemmas
 pub mod PrintLaws
-pub mod TypedLaws

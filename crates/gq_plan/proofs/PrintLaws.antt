@@ -1,5 +1,5 @@
 -- PrintLaws: a plan that is made of a query prints what the query prints.
-use Rattle.std.proofs.Common.{◌≡◌, ℕ, false, List, [], Option, Some, None, refl, sym, ap, ◌∙◌, subst}
+use Rattle.std.proofs.Common.{◌≡◌, ℕ, false, List, [], Option, Some, None, Ok, refl, sym, ap, ◌∙◌, subst}
 use Rattle.std.specs.Prelude.{is_some}
 use Rattle.gq_value.specs.Val.{Val}
 use Rattle.gq_graph.specs.Catalog.{Schema}
@@ -24,21 +24,29 @@ use Rattle.gq_plan_ir.specs.PlanView.{view_plan, accum_names}
 use Rattle.gq_plan_ir.specs.Reference.{Reference}
 use Rattle.gq_plan_laws.proofs.QueryLaws.{query_law}
 use Rattle.gq_scope.specs.Named.{Named}
-use Rattle.gq_rules_typing.specs.Scopes.{InStatement, entry}
+use Rattle.gq_rules_typing.specs.Judging.{through_judged}
+use Rattle.gq_rules_typing.specs.Scopes.{InStatement, Scope, entry}
+use Rattle.gq_rules_typing.specs.KindTypes.{kind_written}
+use Rattle.gq_rules_typing.specs.StatementTypes.{typing_stmts}
+use Rattle.gq_rules_typing.specs.QueryTypes.{typing_parameter, typing_definition, typing_query}
+use Rattle.gq_rules_meaning.proofs.AnswerLaws.{then_ok}
 use Rattle.gq_scope.specs.Kept.{tuple_types}
 use Rattle.gq_scope.specs.Held.{Held, graph_in, sorts_in, setting_in, scope_in}
 use Rattle.gq_plan_stmt.specs.Steps.{resolved_stmts}
 use Rattle.gq_plan_expr.specs.Found.{TupleTypes, globals_of}
 use Rattle.gq_plan_laws.specs.Declared.{ground_of}
-use Rattle.gq_plan_laws.specs.Planned.{Heads, DefinitionsPlanned}
-use Rattle.gq_plan_laws.specs.PlannedLaws.{ParametersPlanned, IsPlanned, no_names}
+use Rattle.gq_plan_laws.specs.Planned.{Heads, setting_of, DefinitionsPlanned}
+use Rattle.gq_plan_laws.specs.PlannedLaws.{ParametersPlanned, IsPlanned, no_names, no_heads}
+use Rattle.gq_plan_laws.specs.Declares.{Declares}
 use Rattle.gq_plan_laws.proofs.PlannedQueryLaws.{plan_law}
 use Rattle.gq_plan.specs.Heading.{IsScoped, heads_of}
 use Rattle.gq_plan.specs.Prints.{graph_for, PrintsAs, PrintLaw}
 use Rattle.gq_plan.specs.Safe.{NeverStuck, SafeLaw}
-use Rattle.gq_plan.specs.Unplanned.{NoParameters, NoDefinitions, NoPlan}
+use Rattle.gq_plan.specs.Unplanned.{NotTyped, NoParameters, NoDefinitions}
 use Rattle.gq_plan.proofs.ParameterLemmas.{parameters_same}
-use Rattle.gq_plan.proofs.TupleLemmas.{definitions_same}
+use Rattle.gq_plan_laws.proofs.ParameterHas.{parameters_have, parameters_shown}
+use Rattle.gq_plan_laws.proofs.DeclareLaws.{definitions_behind}
+use Rattle.gq_plan_laws.proofs.StepHas.{statements_law}
 
 -- with these vertex and edge types in place of those of the query's graph
 abbrev with_own : Graph → List ℕ → List ℕ → Graph
@@ -105,47 +113,60 @@ plan_made s t q p names behind before tuples first slots none nothing scoped wit
 
 -- ---- no plan
 
-pub without_parameters : (sorts : Sorts) (q : Query Bytes) → NoParameters sorts q.parameters → NoPlan sorts q
-without_parameters sorts q never = record { none = λ p is once. never.none p.parameters is.names is.parameters }
+-- a typed query whose parameters are planned: scopes of typing before and after its definitions
+record Passes (sorts : Sorts) (q : Query Bytes) (names : Named) (h : Heads) (t : Scope Bytes) : Type 0 where
+  before : Scope Bytes
+  behind : Scope Bytes
+  declares : Declares sorts names h before
+  definitions : through_judged (typing_definition kind_written) before q.definitions ≡ Ok behind
+  statements : typing_stmts behind q.statements ≡ Ok t
 
-pub without_definitions : (sorts : Sorts) (q : Query Bytes) (parameters : List code.Parameter) (names : Named) → ParametersPlanned sorts q.parameters parameters names → NoDefinitions sorts names (heads_of [] no_names) q.definitions
-    → NoPlan sorts q
-without_definitions sorts q parameters names planned never = record {
-  none = λ p is once.
-      let same : is.names ≡ names = parameters_same sorts q.parameters p.parameters parameters is.names names is.parameters planned in
-      never.none p.definitions is.heads (subst (λ n. DefinitionsPlanned sorts n (heads_of [] no_names) q.definitions p.definitions is.heads) same is.definitions) once;
+passes : (sorts : Sorts) (q : Query Bytes) (parameters : List code.Parameter) (names : Named) (before : TupleTypes) (first : Named) (t : Scope Bytes) → before ≡ [] → first ≡ no_names → ParametersPlanned sorts q.parameters parameters names
+    → typing_query sorts q ≡ Ok t → Passes sorts q names (heads_of before first) t
+passes sorts q parameters names before first t none nothing planned typed =
+    let start : Scope Bytes = record { setting = setting_of sorts []; names = []; with_paths = q.with_paths } in
+    let u = then_ok (through_judged typing_parameter start q.parameters) _ t typed in
+    let v = then_ok (through_judged (typing_definition kind_written) u.0 q.definitions) _ t u.2 in
+    let ps = parameters_have sorts q.parameters start u.0 refl u.1 in
+    let same : ps.names ≡ names = parameters_same sorts q.parameters ps.planned parameters ps.names names ps.are planned in
+    let shown : Declares sorts ps.names no_heads u.0 = record { setting = ps.setting; shows = parameters_shown sorts q.parameters start u.0 refl (λ x. refl) ps; free = λ x i. refl; taken = λ x i. absurd (cc i) } in
+    record {
+      before = u.0;
+      behind = v.0;
+      declares =
+          subst (λ l. Declares sorts names (heads_of l first) u.0) (sym none)
+          (subst (λ m. Declares sorts names (heads_of [] m) u.0) (sym nothing) (subst (λ m. Declares sorts m no_heads u.0) same shown));
+      definitions = v.1;
+      statements = v.2;
+    }
+
+pub lacks_parameters : (sorts : Sorts) (q : Query Bytes) → NoParameters sorts q.parameters → NotTyped sorts q
+lacks_parameters sorts q never = record {
+  none = λ t typed.
+      let start : Scope Bytes = record { setting = setting_of sorts []; names = []; with_paths = q.with_paths } in
+      let u = then_ok (through_judged typing_parameter start q.parameters) _ t typed in
+      let ps = parameters_have sorts q.parameters start u.0 refl u.1 in
+      never.none ps.planned ps.names ps.are;
 }
 
-pub without_statements : (sorts : Sorts) (q : Query Bytes) (parameters : List code.Parameter) (names : Named) (definitions : List definition_code.Definition) (tuples : TupleTypes) (slots : Named)
-    → ParametersPlanned sorts q.parameters parameters names → DefinitionsPlanned sorts names (heads_of [] no_names) q.definitions definitions (heads_of tuples slots)
-    → resolved_stmts (globals_of sorts tuples slots) names q.statements ≡ None → NoPlan sorts q
-without_statements sorts q parameters names definitions tuples slots planned declared lacks = record {
-  none = λ p is once.
-      let same : is.names ≡ names = parameters_same sorts q.parameters p.parameters parameters is.names names is.parameters planned in
-      let heads : is.heads ≡ heads_of tuples slots =
-      definitions_same sorts names q.definitions (heads_of [] no_names) is.heads (heads_of tuples slots) p.definitions definitions
-      (subst (λ n. DefinitionsPlanned sorts n (heads_of [] no_names) q.definitions p.definitions is.heads) same is.definitions) declared in
-      let at : resolved_stmts (globals_of sorts is.heads.tuples is.heads.slots) is.names q.statements ≡ None =
-      ap (λ (h : Heads). resolved_stmts (globals_of sorts h.tuples h.slots) is.names q.statements) heads ∙ (ap (λ n. resolved_stmts (globals_of sorts tuples slots) n q.statements) same ∙ lacks) in
-      cc (at, is.statements);
-}
-
--- the same, in terms of the parts of a plan
 pub lacks_definitions : (s : Held) (q : Query Bytes) (parameters : List code.Parameter) (names : Named) (before : TupleTypes) (first : Named) → before ≡ [] → first ≡ no_names → ParametersPlanned (sorts_in s) q.parameters parameters names
-    → NoDefinitions (sorts_in s) names (heads_of before first) q.definitions → NoPlan (sorts_in s) q
-lacks_definitions s q parameters names before first none nothing planned never =
-    without_definitions (sorts_in s) q parameters names planned
-    (subst (λ (l : TupleTypes). NoDefinitions (sorts_in s) names (heads_of l no_names) q.definitions) none (subst (λ m. NoDefinitions (sorts_in s) names (heads_of before m) q.definitions) nothing never))
+    → NoDefinitions (sorts_in s) names (heads_of before first) q.definitions → NotTyped (sorts_in s) q
+lacks_definitions s q parameters names before first none nothing planned never = record {
+  none = λ t typed. let p = passes (sorts_in s) q parameters names before first t none nothing planned typed in never.none p.before p.behind p.declares p.definitions;
+}
 
 pub lacks_statements : (s t : Held) (q : Query Bytes) (parameters : List code.Parameter) (names : Named) (definitions : List definition_code.Definition) (before tuples : TupleTypes) (first slots : Named)
     → before ≡ [] → first ≡ no_names → IsScoped (sorts_in s) tuples t → ParametersPlanned (sorts_in s) q.parameters parameters names
     → DefinitionsPlanned (sorts_in s) names (heads_of before first) q.definitions definitions (heads_of tuples slots)
-    → resolved_stmts (globals_of (sorts_in t) tuples slots) names q.statements ≡ None → NoPlan (sorts_in s) q
-lacks_statements s t q parameters names definitions before tuples first slots none nothing scoped planned declared lacks =
-    without_statements (sorts_in s) q parameters names definitions tuples slots planned
-    (subst (λ (l : TupleTypes). DefinitionsPlanned (sorts_in s) names (heads_of l no_names) q.definitions definitions (heads_of tuples slots)) none
-    (subst (λ m. DefinitionsPlanned (sorts_in s) names (heads_of before m) q.definitions definitions (heads_of tuples slots)) nothing declared))
-    (subst (λ z. resolved_stmts (globals_of z tuples slots) names q.statements ≡ None) scoped.sorts_are lacks)
+    → resolved_stmts (globals_of (sorts_in t) tuples slots) names q.statements ≡ None → NotTyped (sorts_in s) q
+lacks_statements s t q parameters names definitions before tuples first slots none nothing scoped planned declared lacks = record {
+  none = λ z typed.
+      let p = passes (sorts_in s) q parameters names before first z none nothing planned typed in
+      let d = definitions_behind (sorts_in s) names q.definitions p.before p.behind (heads_of before first) (heads_of tuples slots) definitions p.declares p.definitions declared in
+      let has = (statements_law (globals_of (sorts_in s) tuples slots) p.behind names d.shows q.statements z p.statements).is in
+      let none' : resolved_stmts (globals_of (sorts_in s) tuples slots) names q.statements ≡ None = subst (λ w. resolved_stmts (globals_of w tuples slots) names q.statements ≡ None) scoped.sorts_are lacks in
+      cc (none', has);
+}
 
 -- a new scope has no visible name
 none_new : (s : Held) (schema : Schema) (graph : Option ℕ) → s ≡ record { schema = schema; graph = graph; names = []; place = InStatement; with_paths = false } → (x : Bytes) → is_some (entry (scope_in s) x) ≡ false
@@ -172,4 +193,8 @@ pub safe_new : (s : Held) (schema : Schema) (graph : Option ℕ) (q : Query Byte
     → IsPlanned (sorts_in s) q p → NeverStuck schema (graph_in schema graph) q p
 safe_new s schema graph q p is planned = safe_law schema (graph_in schema graph) q p (planned_new s schema graph q p is planned)
 
-pub ruleset plan_laws = (plan_made, scope_new, planned_new, prints_new, safe_new)
+pub not_typed_new : (s : Held) (schema : Schema) (graph : Option ℕ) (q : Query Bytes) → s ≡ record { schema = schema; graph = graph; names = []; place = InStatement; with_paths = false }
+    → NotTyped (sorts_in s) q → NotTyped (sorts_of schema (graph_in schema graph)) q
+not_typed_new s schema graph q is never = subst (λ z. NotTyped z q) (sorts_new s schema graph is) never
+
+pub ruleset plan_laws = (plan_made, scope_new, planned_new, prints_new, safe_new, not_typed_new)

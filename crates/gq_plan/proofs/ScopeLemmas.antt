@@ -20,7 +20,7 @@ use Rattle.gq_scope.specs.Held.{Held, sorts_in, setting_in, scope_in}
 use Rattle.gq_check_decls.proofs.HeadLemmas.{tuple_added}
 use Rattle.gq_plan_expr.specs.Found.{TupleTypes}
 use Rattle.gq_plan_laws.specs.Planned.{setting_of}
-use Rattle.gq_plan.specs.Unplanned.{tuple_names, is_taken}
+use Rattle.gq_plan_laws.specs.Declares.{tuple_names, is_taken}
 use Rattle.gq_plan.specs.Heading.{IsScoped}
 
 types_more : (names : List (Bytes × Entry)) (x : Bytes) (fields : List (Bytes × BaseType)) → tuple_types (names ++ (x, entry.TupleType fields) ∷ []) ≡ tuple_types names ++ (x, fields) ∷ []

@@ -12,7 +12,7 @@ use Rattle.gq_plan_expr.specs.Globals.{Globals}
 use Rattle.gq_plan_stmt.specs.Parts.{resolved_base}
 use Rattle.gq_plan_expr.specs.Found.{TupleTypes}
 use Rattle.gq_plan_laws.specs.Planned.{Heads}
-use Rattle.gq_plan.specs.Unplanned.{tuple_names, is_taken}
+use Rattle.gq_plan_laws.specs.Declares.{tuple_names, is_taken}
 
 abbrev pub heads_of : TupleTypes → Named → Heads
 heads_of tuples slots = record { tuples = tuples; slots = slots }

@@ -10,7 +10,7 @@ ghost use Rattle.gq_plan.specs.Heading.{IsScoped};
 ghost use Rattle.gq_plan_expr.specs.declared.fault.PlanFault.TheVariants as fault;
 ghost use Rattle.gq_plan.specs.Prints.{PrintsAs};
 ghost use Rattle.gq_plan.specs.Safe.{NeverStuck};
-ghost use Rattle.gq_plan.specs.Unplanned.{NoPlan, NotTyped};
+ghost use Rattle.gq_plan.specs.Unplanned.{NotTyped};
 
 use crate::definitions::definitions;
 use crate::parameters::parameters;
@@ -31,7 +31,7 @@ fn planned(alloc: Global, scope: &mut Scope<'_>, query: &QueryTree) -> Result<Pl
     requires { IsScoped (sorts_in scope.old) [] scope.old }
     ensures planned { IfOk result (λ p. IsPlanned (sorts_in scope.old) (view_query query.now) p) }
     ensures few { IfOk result (λ p. length p.edges ≤ most_types) }
-    ensures unknown { IfErr result (λ e. e ≢ fault.OutOfMemory → NoPlan (sorts_in scope.old) (view_query query.now)) }
+    ensures unknown { IfErr result (λ e. e ≢ fault.OutOfMemory → NotTyped (sorts_in scope.old) (view_query query.now)) }
 {
     let vertices = List::from_slice(alloc, scope.own_vertices())?;
     let edges = List::from_slice(alloc, scope.own_edges())?;
@@ -74,7 +74,7 @@ fn has_graph(catalog: &Catalog, graph: Option<u32>) -> bool
 ///
 /// Returns `Unknown` only for a graph that doesn't exist or a query that isn't well typed. Such a query may also give
 /// `OutOfMemory`.
-#[tactic(auto, using(crate::proofs::PrintLaws::plan_laws, crate::proofs::TypedLaws::typed_laws))]
+#[tactic(auto, using(crate::proofs::PrintLaws::plan_laws))]
 pub fn plan(
     alloc: Global,
     catalog: &Catalog,

@@ -13,7 +13,8 @@ ghost use Rattle.gq_scope.specs.Named.{Named};
 ghost use Rattle.gq_plan_expr.specs.Names.{globals_in};
 ghost use Rattle.gq_plan_laws.specs.Planned.{DefinitionsPlanned};
 ghost use Rattle.gq_plan.specs.Heading.{IsScoped, heads_of, resolved_field};
-ghost use Rattle.gq_plan.specs.Unplanned.{Fails, NoDefinition, is_taken, tuple_names};
+ghost use Rattle.gq_plan_laws.specs.Declares.{is_taken, tuple_names};
+ghost use Rattle.gq_plan.specs.Unplanned.{Fails, NoDefinition};
 
 use crate::accums::fault_of;
 use gq_base::{List, OutOfMemory, narrow};

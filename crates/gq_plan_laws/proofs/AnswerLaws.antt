@@ -36,17 +36,6 @@ alike_blaming R f (Faults e) Stuck h = absurd h
 alike_blaming R f Stuck (Gives b) h = absurd h
 alike_blaming R f Stuck (Faults d) h = absurd h
 
-pub alike_with : {F A B : Type 0} (R S : A → B → Type 0) (o : Answer F A) (p : Answer F B) → AnswersAlike R o p → ((a : A) (b : B) → R a b → S a b) → AnswersAlike S o p
-alike_with R S (Gives a) (Gives b) h k = k a b h
-alike_with R S (Faults e) (Faults d) h k = h
-alike_with R S Stuck Stuck h k = tt
-alike_with R S (Gives a) (Faults d) h k = absurd h
-alike_with R S (Gives a) Stuck h k = absurd h
-alike_with R S (Faults e) (Gives b) h k = absurd h
-alike_with R S (Faults e) Stuck h k = absurd h
-alike_with R S Stuck (Gives b) h k = absurd h
-alike_with R S Stuck (Faults d) h k = absurd h
-
 -- equal answers, if the given values are equal
 pub alike_is : {F A : Type 0} (o p : Answer F A) → AnswersAlike (λ (a b : A). b ≡ a) o p → p ≡ o
 alike_is (Gives a) (Gives b) h = ap Gives h

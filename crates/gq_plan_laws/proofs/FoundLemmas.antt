@@ -1,9 +1,10 @@
 -- FoundLemmas: the meaning of a name in typing is found for it, by the types of a graph and a query's tuple types.
-use Rattle.std.proofs.Common.{◌≡◌, ℕ, suc, Bool, true, false, List, [], ◌∷◌, Option, Some, None, refl, ap, subst, ◌∙◌}
+use Rattle.std.proofs.Common.{◌≡◌, ℕ, suc, Bool, true, false, List, [], ◌∷◌, Option, Some, None, refl, sym, ap, subst, ◌∙◌}
 use Rattle.std.specs.Prelude.{if◌then◌else◌, bytes_eq}
 use Rattle.gq_scope.specs.Named.{Named}
 use Rattle.gq_rules_typing.specs.Statements.{Bytes}
 use Rattle.gq_rules_typing.specs.Sorts.{Sorts, bases_of}
+use Rattle.gq_rules_typing.specs.Scopes.{Scope}
 use Rattle.gq_rules_typing.specs.Words as words
 use Rattle.gq_rules_typing.specs.Words.{by_name, under, methods, functions, function_from, edge_quoted}
 use Rattle.gq_rules_meaning.specs.StateFits.{AllOf}
@@ -60,3 +61,7 @@ words_found sorts ts slots = record {
     one : Option ℕ → Option (List ℕ)
     one None = None
     one (Some t) = Some (t ∷ [])
+
+-- in a scope with this setting
+pub words_in : (sorts : Sorts) (ts : TupleTypes) (slots : Named) (s : Scope Bytes) → s.setting ≡ setting_of sorts ts → FindsWords (globals_of sorts ts slots) s.setting
+words_in sorts ts slots s z = subst (λ w. FindsWords (globals_of sorts ts slots) w) (sym z) (words_found sorts ts slots)

@@ -2,6 +2,7 @@
 use Rattle.std.proofs.Common.{◌≡◌, ℕ, Bool, true, List, [], ◌∷◌, Option, Some, None, Ok, refl, ap, ◌∙◌}
 use Rattle.gq_tree.specs.Tree.{Tree, Trees, no_tree, tree}
 use Rattle.gq_value.specs.Accums.{Base, Accum}
+use Rattle.gq_scope.specs.Named.{Named}
 use Rattle.gq_rules_typing.specs.Statements.{Bytes}
 use Rattle.gq_rules_typing.specs.Selecting.{Types, Every, These, Input, Plain, Keys, Inputs, no_input, input_and}
 use Rattle.gq_rules_typing.specs.Judging.{Typed, Judged, ◌>>◌, each_judged, through_judged}
@@ -17,6 +18,7 @@ use Rattle.gq_plan_expr.specs.Resolved as plans
 use Rattle.gq_plan_expr.specs.Resolved.{resolved, resolved_all}
 use Rattle.gq_plan_expr.proofs.TypedLaws.{typed_law}
 use Rattle.gq_plan_select.specs.Resolved.{if_there, each_resolved, resolved_types, resolved_input, resolved_inputs}
+use Rattle.gq_plan_stmt.specs.Steps.{Behind}
 
 -- ---- options that have a value
 
@@ -28,6 +30,36 @@ has_one o f h = (f h.0, ap (λ o. plans.◌>>=◌ o (λ a. Some (f a))) h.1)
 
 pub has_then : {A B : Type 0} (o : Option A) (f : A → Option B) → Has o → ((a : A) → o ≡ Some a → Has (f a)) → Has (plans.◌>>=◌ o f)
 has_then o f h g = let k = g h.0 h.1 in (k.0, ap (λ o. plans.◌>>=◌ o f) h.1 ∙ k.1)
+
+-- ---- what is planned, with the names in view then, of which something holds
+
+pub record Goes {A : Type 0} (After : Named → Type 0) (o : Option (Behind A)) : Type 0 where
+  pub behind : Named
+  pub planned : A
+  pub is : o ≡ Some (behind, planned)
+  pub after : After behind
+
+pub goes_now : {A : Type 0} (After : Named → Type 0) (n : Named) (a : A) → After n → Goes After (Some (n, a))
+goes_now After n a h = record { behind = n; planned = a; is = refl; after = h }
+
+-- behind a part in which no name comes into view
+pub has_goes : {A B : Type 0} (After : Named → Type 0) (o : Option A) (f : A → Option (Behind B)) → Has o → ((a : A) → Goes After (f a)) → Goes After (plans.◌>>=◌ o f)
+has_goes {A = A} {B = B} After o f h g = let r = g h.0 in record { behind = r.behind; planned = r.planned; is = ap {A = Option A} {B = Option (Behind B)} (λ o. plans.◌>>=◌ o f) h.1 ∙ r.is; after = r.after }
+
+-- behind a part in which names may
+pub goes_then : {A B : Type 0} (Here After : Named → Type 0) (o : Option (Behind A)) (f : Behind A → Option (Behind B)) → Goes Here o → ((n : Named) (a : A) → Here n → Goes After (f (n, a))) → Goes After (plans.◌>>=◌ o f)
+goes_then {A = A} {B = B} Here After o f h g =
+    let r = g h.behind h.planned h.after in
+    record { behind = r.behind; planned = r.planned; is = ap {A = Option (Behind A)} {B = Option (Behind B)} (λ o. plans.◌>>=◌ o f) h.is ∙ r.is; after = r.after }
+
+-- what is made of it
+pub goes_as : {A B : Type 0} (Here After : Named → Type 0) (o : Option (Behind A)) (f : A → B) → ((n : Named) → Here n → After n) → Goes Here o → Goes After (plans.◌>>=◌ o (λ b. Some (b.0, f b.1)))
+goes_as {A = A} {B = B} Here After o f to h =
+    record { behind = h.behind; planned = f h.planned; is = ap {A = Option (Behind A)} {B = Option (Behind B)} (λ o. plans.◌>>=◌ o (λ b. Some (b.0, f b.1))) h.is; after = to h.behind h.after }
+
+-- the same names are in view
+abbrev pub Same : Named → Named → Type 0
+Same n m = m.visible ≡ n.visible
 
 -- ---- rules that passed
 

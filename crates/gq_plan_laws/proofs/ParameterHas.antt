@@ -4,36 +4,20 @@ use Rattle.std.specs.Prelude.{if◌then◌else◌, bytes_eq}
 use Rattle.gq_value.specs.Accums.{Base}
 use Rattle.gq_scope.specs.declared.places.NameBinding.{NameBinding}
 use Rattle.gq_scope.specs.Named.{Named, seen_at, with_name}
-use Rattle.gq_rules_typing.specs.Statements.{Bytes, BaseTree, Ints, UInts, Bools, Strings, AnyVertex, VertexOf, Parameter}
+use Rattle.gq_rules_typing.specs.Statements.{Bytes, Parameter}
 use Rattle.gq_rules_typing.specs.Sorts.{Sorts}
-use Rattle.gq_rules_typing.specs.Words.{by_name}
 use Rattle.gq_rules_typing.specs.Judging.{Mismatch, ◌>>◌, unless, through_judged}
-use Rattle.gq_rules_typing.specs.Scopes.{Entry, Variable, Scope, entry, unknown, with_entry, new_name, base_written, vertex_type}
+use Rattle.gq_rules_typing.specs.Scopes.{Entry, Variable, Scope, entry, with_entry, new_name, base_written}
 use Rattle.gq_rules_typing.specs.QueryTypes.{good_default, typing_parameter}
-use Rattle.gq_rules_meaning.proofs.AnswerLaws.{then_ok, after_ok, or_fault_ok, ok_inj}
-use Rattle.gq_plan_ir.specs.declared.plan.Declared.TheVariants as declared
+use Rattle.gq_rules_meaning.proofs.AnswerLaws.{then_ok, after_ok, ok_inj}
 use Rattle.gq_plan_ir.specs.declared.plan.Parameter as code
-use Rattle.gq_plan_stmt.specs.Parts.{resolved_base}
 use Rattle.gq_plan_stmt.specs.Steps.{when_new}
-use Rattle.gq_plan_expr.specs.Found.{TupleTypes, globals_of}
+use Rattle.gq_plan_expr.specs.Found.{globals_of}
 use Rattle.gq_plan_laws.specs.Planned.{setting_of}
 use Rattle.gq_plan_laws.specs.PlannedLaws.{no_names, ParametersPlanned}
-use Rattle.gq_plan_laws.specs.Shown.{InView, IsShown, FindsWords, Shows}
-use Rattle.gq_plan_laws.proofs.HasLemmas.{Has, has_one}
-use Rattle.gq_plan_laws.proofs.ShownLemmas.{same_bytes, same_itself, entry_none}
-use Rattle.gq_plan_laws.proofs.FoundLemmas.{words_found}
-
--- a type that is written is found
-pub written_has : (sorts : Sorts) (ts : TupleTypes) (slots : Named) (s : Scope Bytes) → s.setting ≡ setting_of sorts ts → (b : BaseTree Bytes) (c : Base) → base_written s b ≡ Ok c → Has (resolved_base (globals_of sorts ts slots) b)
-written_has sorts ts slots s z Ints c h = (declared.Int, refl)
-written_has sorts ts slots s z UInts c h = (declared.UInt, refl)
-written_has sorts ts slots s z Bools c h = (declared.Bool, refl)
-written_has sorts ts slots s z Strings c h = (declared.Text, refl)
-written_has sorts ts slots s z AnyVertex c h = (declared.AnyVertex, refl)
-written_has sorts ts slots s z (VertexOf t) c h =
-    let u = then_ok (vertex_type s t) _ c h in
-    let v = or_fault_ok (unknown s t) (s.setting.words.vertex_type t) u.0 u.1 in
-    has_one ((by_name sorts).vertex_type t) declared.VertexOf (u.0, subst (λ w. w.words.vertex_type t ≡ Some u.0) z v)
+use Rattle.gq_plan_laws.specs.Shown.{InView, IsShown, Shows}
+use Rattle.gq_plan_laws.proofs.ShownLemmas.{same_bytes, same_itself, entry_none, written_has}
+use Rattle.gq_plan_laws.proofs.FoundLemmas.{words_in}
 
 -- a name after parameters, by whether it is one of them
 abbrev Told : Option NameBinding → Option Entry → Option Entry → Bool → Type 0
@@ -74,7 +58,7 @@ parameters_have sorts (p ∷ ps) s t z h =
     let d = after_ok (new_name s p.name) (unless Mismatch (good_default a.0 p.default)) c.0.0 c.0.1 in
     let new : entry s p.name ≡ None = entry_none s p.name d.0.0 d.0.1 in
     let r = parameters_have sorts ps (with_entry p.name (Variable a.0) s) t z (subst (λ w. through_judged typing_parameter w ps ≡ Ok t) (sym (ok_inj c.1)) u.2) in
-    let base = written_has sorts [] no_names s z p.base a.0 a.1 in
+    let base = written_has (globals_of sorts [] no_names) s (words_in sorts [] no_names s z) p.base a.0 a.1 in
     let same : (x : Bytes) → bytes_eq p.name x ≡ s.setting.words.same p.name x = λ x. ap (λ w. w.words.same p.name x) (sym z) in
     let first : entry (with_entry p.name (Variable a.0) s) p.name ≡ Some (Variable a.0) = ap (λ (q : Bool). if q then Some (Variable a.0) else entry s p.name) (sym (same p.name) ∙ same_itself p.name) in
     let free : seen_at r.names p.name ≡ None = told_none (seen_at r.names p.name) _ (entry t p.name) a.0 first (r.told p.name) in
@@ -94,6 +78,6 @@ told_shown slot o e (false, h) = subst (IsShown slot o) (sym h.1) h.0
 
 pub parameters_shown : (sorts : Sorts) (ps : List (Parameter Bytes)) (s t : Scope Bytes) → s.setting ≡ setting_of sorts [] → ((x : Bytes) → entry s x ≡ None) → (p : ParametersHave sorts ps s t) → Shows (globals_of sorts [] no_names) t p.names
 parameters_shown sorts ps s t z none p = record {
-  words = subst (λ w. FindsWords (globals_of sorts [] no_names) w) (sym (p.setting ∙ z)) (words_found sorts [] no_names);
+  words = words_in sorts [] no_names t (p.setting ∙ z);
   names = λ x. told_shown None (seen_at p.names x) (entry t x) (subst (λ o. IsTold (seen_at p.names x) o (entry t x)) (none x) (p.told x));
 }

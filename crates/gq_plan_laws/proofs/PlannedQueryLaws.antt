@@ -68,7 +68,7 @@ numbered_next ts x fields =
     let same : 0 + length ts ≡ length ts = omega arith in
     numbered_more 0 ts x fields ∙ ap {B = List (Reference × Fields)} (λ k. numbered 0 ts ++ (reference.TupleType k, plain_fields fields) ∷ []) same
 
-tuples_more : (ts : TupleTypes) (x : Bytes) (fields : List (Bytes × BaseType)) → plain_tuples (ts ++ (x, fields) ∷ []) ≡ plain_tuples ts ++ (x, plain_fields fields) ∷ []
+pub tuples_more : (ts : TupleTypes) (x : Bytes) (fields : List (Bytes × BaseType)) → plain_tuples (ts ++ (x, fields) ∷ []) ≡ plain_tuples ts ++ (x, plain_fields fields) ∷ []
 tuples_more [] x fields = refl
 tuples_more (t ∷ ts) x fields = ap (λ l. (t.0, plain_fields t.1) ∷ l) (tuples_more ts x fields)
 

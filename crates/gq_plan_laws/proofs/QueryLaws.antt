@@ -273,9 +273,6 @@ module _ {M N : Type 0} (ground : Ground M N) where
     abbrev Statements : Declared ground → Type 0
     Statements d = AllStand (fixed_in ground d) view q.statements p.statements
 
-    old_start : World M
-    old_start = old_world (sides ground st.declared)
-
     started : (arguments : List Val) → AnswersAlike (DefinedAlike kinds view Statements) (start (old_ground ground) kinds q arguments) (start (new_ground ground) (own_kinds kinds view) p arguments)
     started arguments =
         alike_then (NamesAlike (sides ground st.declared) view) (DefinedAlike kinds view Statements) _ _ _ _ names

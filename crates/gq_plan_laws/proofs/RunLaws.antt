@@ -6,13 +6,12 @@ use Rattle.gq_tree.specs.Tree.{Tree}
 use Rattle.gq_value.specs.Val.{Val}
 use Rattle.gq_value.specs.Accums.{Base}
 use Rattle.gq_rules_typing.specs.Selecting.{Change, Select}
-use Rattle.gq_rules_typing.specs.Statements.{Bytes, SetTypes, Right, Selects, Sets, Expression, Printed, Stmt, Local, Assign, ChangeGlobal, If, While, Foreach, Print, Stmts, no_stmt, stmt_and, Branches, else_, if_}
+use Rattle.gq_rules_typing.specs.Statements.{SetTypes, Right, Selects, Sets, Expression, Printed, Stmt, Local, Assign, ChangeGlobal, If, While, Foreach, Print, Stmts, no_stmt, stmt_and, Branches, else_, if_}
 use Rattle.gq_rules_meaning.specs.Answers.{Answer, Gives, Faults, ◌>>=◌, blaming, each, through}
 use Rattle.gq_rules_meaning.specs.Expressions.{truth_of}
 use Rattle.gq_rules_meaning.specs.States.{Thing, Variable, State, with_new, seen}
 use Rattle.gq_rules_meaning.specs.Sources.{From, from, candidates_of, within_bound, selects_target, types_at}
 use Rattle.gq_rules_meaning.specs.Writes.{slots_changed}
-use Rattle.gq_rules_meaning.specs.Outs.{Out}
 use Rattle.gq_rules_meaning.specs.Printing.{printed}
 use Rattle.gq_rules_meaning.specs.Tails.{select}
 use Rattle.gq_rules_meaning.specs.Sets.{set_assigned}
@@ -141,9 +140,6 @@ module _ {M N : Type 0} (s : Sides M N) (w : WordsAlike s) where
   assign_alike view d x r types right other old new h st g = absurd st
 
   -- ---- locals
-
-  abbrev new_local : View M N → M × Option (Tree M) → N → N × Option (Tree N)
-  new_local view x r = (r, option_map (renamed (inside s.fixed view)) x.1)
 
   local_alike : (view : View M N) → AreDistinct s.fixed view → (b : Base) (x : M × Option (Tree M)) (y : N × Option (Tree N)) (old : State M) (new : State N) → StatesAlike s view old new → y.1 ≡ option_map (renamed (inside s.fixed view)) x.1
       → AnswersAlike (StatesAlike s (with_name s.fixed view x.0 y.0 false)) (with_local (old_world s) b old x) (with_local (new_world s) b new y)
@@ -333,9 +329,6 @@ module _ {M N : Type 0} (s : Sides M N) (w : WordsAlike s) where
       ap (each (printed (new_world s) q.state)) e
       ∙ on_state s w (λ new. each (printed (new_world s) new) (map (renamed_printed (inside s.fixed view)) items) ≡ each (printed (old_world s) r.state) items) r.state q.state h.state.slots
       (each_alike (renamed_printed (inside s.fixed view)) _ _ (printed_alike s w (reference_at s.fixed view) r.state q.state.names (view_seen s w view r.state.names q.state.names d h.state.names) h.state.slots.accums (seen_told view d r.state.names q.state.names h.state.names)) items)
-
-  abbrev with_printed : {N : Type 0} → Running N → List (Bytes × Out) → Running N
-  with_printed r ms = record r { printed = r.printed ++ ms ∷ [] }
 
   mutual
     run_alike : (st : Stmt M) (su : Stmt N) (view : View M N) → AreDistinct s.fixed view → Stands s.fixed view st su → Carries view (behind s.fixed view st su) (run (old_world s) st) (run (new_world s) su)

@@ -33,7 +33,7 @@ use Rattle.gq_plan_expr.specs.Globals.{Globals, known_in, sees_in}
 use Rattle.gq_plan_stmt.specs.Steps.{Behind, ended, with_aliases, resolved_block}
 use Rattle.gq_plan_stmt.specs.Steps as steps
 use Rattle.gq_plan_laws.specs.Shown.{IsShown, Shows}
-use Rattle.gq_plan_laws.proofs.HasLemmas.{Has, has_one, has_then, six_ok, each_has, types_have, tree_has, condition_has, number_has, converting_has, input_has, optional_has}
+use Rattle.gq_plan_laws.proofs.HasLemmas.{Has, has_one, has_then, Goes, Same, six_ok, each_has, types_have, tree_has, condition_has, number_has, converting_has, input_has, optional_has}
 use Rattle.gq_plan_laws.proofs.ShownLemmas.{same_bytes, same_itself, place_in, in_view, none_if, slot_has, knows, alias_has, vertex_type_has, edge_type_has, new_seen, new_is, shown_new, Marks}
 
 -- ---- acts
@@ -363,13 +363,8 @@ from_has k s q a b c d =
 whole_has : (k : Known) (s : Sees) (q : Select Bytes) → Has (resolved_from k s q) → Has (resolved_clauses k q) → Has (resolved_tail k q) → Has (resolved_select k s q)
 whole_has k s q a b c = has_then (resolved_from k s q) _ a (λ w e. has_then (resolved_clauses k q) _ b (λ x f. has_one (resolved_tail k q) (λ t. block_of w x t) c))
 
--- the block of a SELECT, after which the same names are in view as before
-pub record BlockHas (g : Globals) (n : Named) (q : Select Bytes) : Type 0 where
-  pub inside : Named
-  pub block : Block
-  pub is : resolved_block g n q ≡ Some (ended n inside, block)
-
-pub select_has : (g : Globals) (s : Scope Bytes) (n : Named) → Shows g s n → (q : Select Bytes) (types : List ℕ) → typing_select s q ≡ Ok types → BlockHas g n q
+-- after the block of a SELECT the same names are in view as before
+pub select_has : (g : Globals) (s : Scope Bytes) (n : Named) → Shows g s n → (q : Select Bytes) (types : List ℕ) → typing_select s q ≡ Ok types → Goes (Same n) (resolved_block g n q)
 select_has g s n shows q types h =
     let a = then_ok (source_types s q.source) _ types h in
     let b = then_ok (typed.with_alias q.alias (Alias a.0) s) _ types a.2 in
@@ -397,9 +392,10 @@ select_has g s n shows q types h =
     ap (λ (x : Option Named). plans.◌>>=◌ x (λ a. plans.◌>>=◌ (steps.with_alias a (edge_alias q.walk)) (λ b. steps.with_alias b (target_alias q.walk)))) i.is
     ∙ (ap (λ (x : Option Named). plans.◌>>=◌ x (λ b. steps.with_alias b (target_alias q.walk))) w.edge_is ∙ w.target_is) in
     record {
-      inside = w.target;
-      block = block.0;
+      behind = ended n w.target;
+      planned = block.0;
       is =
           ap (λ (x : Option Named). plans.◌>>=◌ x (λ m. plans.◌>>=◌ (resolved_select (known_in g m) (sees_in g m) q) (λ b. Some (ended n m, b)))) aliases
           ∙ ap (λ (x : Option Block). plans.◌>>=◌ x (λ b. Some (ended n w.target, b))) block.1;
+      after = refl;
     }

@@ -3,21 +3,23 @@ use Rattle.std.proofs.Common.{◌≡◌, ℕ, Bool, true, false, List, Option, S
 use Rattle.std.specs.Prelude.{not, is_some, if◌then◌else◌, bytes_eq}
 use Rattle.std.specs.Option.{option_map}
 use Rattle.std.proofs.lemmas.Slice.Eq.{bytes_eq-Decides}
-use Rattle.gq_value.specs.Accums.{Accum}
+use Rattle.gq_value.specs.Accums.{Base, Accum}
 use Rattle.gq_scope.specs.declared.places.NameBinding.{NameBinding}
 use Rattle.gq_scope.specs.Named.{Named, found_in, seen_at, place_at, marked_in, with_name}
-use Rattle.gq_rules_typing.specs.Statements.{Bytes}
+use Rattle.gq_rules_typing.specs.Statements.{Bytes, BaseTree, Ints, UInts, Bools, Strings, AnyVertex, VertexOf}
 use Rattle.gq_rules_typing.specs.Judging.{Typed, Mismatch, NotAllowedHere, NameTwice, Judged, ◌>>◌, unless}
-use Rattle.gq_rules_typing.specs.Scopes.{Entry, Variable, SetVariable, Alias, EdgeAlias, Accumulator, TupleName, Place, Scope, entry, said, unknown, with_entry, new_name, name_at, same_flag, declared_kind, global_at, before_at, names_at, vertex_type, edge_type}
+use Rattle.gq_rules_typing.specs.Scopes.{Entry, Variable, SetVariable, Alias, EdgeAlias, Accumulator, TupleName, Place, Scope, entry, said, unknown, with_entry, new_name, name_at, same_flag, declared_kind, global_at, before_at, names_at, base_written, vertex_type, edge_type}
 use Rattle.gq_rules_typing.specs.ActTypes.{vertex_alias}
 use Rattle.gq_rules_typing.specs.SetTypes.{is_set, set_types}
 use Rattle.gq_rules_meaning.proofs.AnswerLaws.{then_ok, unless_ok, or_fault_ok}
+use Rattle.gq_plan_ir.specs.declared.plan.Declared.TheVariants as declared
 use Rattle.gq_plan_expr.specs.Known.{KnowsAll}
 use Rattle.gq_plan_expr.specs.Globals.{Globals, known_in}
+use Rattle.gq_plan_stmt.specs.Parts.{resolved_base}
 use Rattle.gq_plan_stmt.specs.Steps.{Behind, when_new}
 use Rattle.gq_plan_stmt.specs.Steps as steps
-use Rattle.gq_plan_laws.specs.Shown.{InView, IsShown, Shows}
-use Rattle.gq_plan_laws.proofs.HasLemmas.{Has}
+use Rattle.gq_plan_laws.specs.Shown.{InView, IsShown, FindsWords, Shows}
+use Rattle.gq_plan_laws.proofs.HasLemmas.{Has, has_one, Goes}
 
 pub same_bytes : (a b : Bytes) → bytes_eq a b ≡ true → a ≡ b
 same_bytes a b h = (bytes_eq-Decides a b).0 h
@@ -71,6 +73,17 @@ one_more slot true true h seen o e p new old = new
 one_more slot false false h seen o e p new old = old
 one_more slot true false h seen o e p new old = absurd (cc h)
 one_more slot false true h seen o e p new old = absurd (cc h)
+
+-- a type that is written is found
+pub written_has : (g : Globals) (s : Scope Bytes) → FindsWords g s.setting → (b : BaseTree Bytes) (c : Base) → base_written s b ≡ Ok c → Has (resolved_base g b)
+written_has g s words Ints c h = (declared.Int, refl)
+written_has g s words UInts c h = (declared.UInt, refl)
+written_has g s words Bools c h = (declared.Bool, refl)
+written_has g s words Strings c h = (declared.Text, refl)
+written_has g s words AnyVertex c h = (declared.AnyVertex, refl)
+written_has g s words (VertexOf t) c h =
+    let u = then_ok (vertex_type s t) _ c h in
+    has_one (g.vertex_type t) declared.VertexOf (u.0, words.vertex_type t u.0 (or_fault_ok (unknown s t) (s.setting.words.vertex_type t) u.0 u.1))
 
 -- ---- when a scope is shown
 
@@ -177,6 +190,9 @@ module _ (g : Globals) (s : Scope Bytes) (n : Named) (shows : Shows g s n) where
         one_more (g.slot y) (bytes_eq x y) (s.setting.words.same x y) (sym (shows.words.same x y)) (record { place = n.next; marked = marked }) (seen_at n y) e (entry s y)
         (marked_shown (g.slot y) marked e n.next h) (shows.names y);
   }
+
+  pub name_goes : (x : Bytes) (e : Entry) (q : Bool) → Marks false e → new_name s x ≡ Ok q → Goes (Shows g (with_entry x e s)) (steps.new_name n x)
+  name_goes x e q mark h = record { behind = with_name n x false; planned = n.next; is = new_is x q h; after = shown_new x e false mark }
 
   -- if the same names are in view
   pub shows_same : (m : Named) → m.visible ≡ n.visible → Shows g s m

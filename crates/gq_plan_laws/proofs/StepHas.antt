@@ -4,8 +4,8 @@ use Rattle.std.specs.Prelude.{if◌then◌else◌, is_some}
 use Rattle.gq_tree.specs.Tree.{Tree, Name}
 use Rattle.gq_tree.specs.declared.body.SetOp.{SetOp}
 use Rattle.gq_value.specs.Accums.{Base, Accum}
-use Rattle.gq_scope.specs.Named.{Named, seen_at, place_at, is_marked, with_name}
-use Rattle.gq_rules_typing.specs.Statements.{Bytes, BaseTree, Ints, UInts, Bools, Strings, AnyVertex, VertexOf, Seed, AllOf, AllVertices, OneVertex, ContentOf, SetTerm, SetNamed, Seeds, SetTypes, AnyType, TypeOf, Right, Selects, Sets, Expression, Item, Printed, Whole, Selection, Over, Elements, Range, Stmt, Local, Assign, ChangeGlobal, If, While, Foreach, Print, Stmts, no_stmt, stmt_and, Branches, else_, if_}
+use Rattle.gq_scope.specs.Named.{Named, found_in, seen_at, place_at, is_marked, with_name}
+use Rattle.gq_rules_typing.specs.Statements.{Bytes, Seed, AllOf, AllVertices, OneVertex, ContentOf, SetTerm, SetNamed, Seeds, SetTypes, AnyType, TypeOf, Right, Selects, Sets, Expression, Item, Printed, Whole, Selection, Over, Elements, Range, Stmt, Local, Assign, ChangeGlobal, If, While, Foreach, Print, Stmts, no_stmt, stmt_and, Branches, else_, if_}
 use Rattle.gq_rules_typing.specs.Selecting.{Change, Adds, Puts}
 use Rattle.gq_rules_typing.specs.Judging.{Typed, TypingFault, SetOf, Mismatch, NotAllowedHere, Judged, ◌>>=◌, ◌>>◌, unless, each_judged, through_judged}
 use Rattle.gq_rules_typing.specs.Types.{as_base, alone, printable}
@@ -16,30 +16,26 @@ use Rattle.gq_rules_typing.specs.SelectTypes.{optional}
 use Rattle.gq_rules_typing.specs.SetTypes.{here, types_of, content_types, seed_types, set_types, term_types, joined_types, sets_types, is_set, right_types, right_value, kept_within, typing_assign, fixed_types, typing_fixed, typing_assignment}
 use Rattle.gq_rules_typing.specs.StatementTypes.{may_lack_value, typing_local, typing_change, element_of, variable_type, new_key, typing_whole, typing_item, typing_printed, typing_stmt, typing_stmts, typing_branches}
 use Rattle.gq_rules_meaning.proofs.AnswerLaws.{then_ok, after_ok, ok_inj}
-use Rattle.gq_plan_ir.specs.declared.expr.Expr.{Expr}
 use Rattle.gq_plan_ir.specs.declared.block.Change.TheVariants as change
-use Rattle.gq_plan_ir.specs.declared.plan.Declared.TheVariants as declared
 use Rattle.gq_plan_ir.specs.declared.step.Seed.TheVariants as seed
 use Rattle.gq_plan_ir.specs.declared.step.SetTerm.TheVariants as term
 use Rattle.gq_plan_ir.specs.declared.step.SetTypes.TheVariants as set_type
 use Rattle.gq_plan_ir.specs.declared.step.Over.TheVariants as over
 use Rattle.gq_plan_ir.specs.declared.step.PrintItem.TheVariants as item
-use Rattle.gq_plan_ir.specs.declared.step.Right as code
 use Rattle.gq_plan_ir.specs.declared.step.Right.TheVariants as right
 use Rattle.gq_plan_ir.specs.declared.step.Step.{Step}
 use Rattle.gq_plan_ir.specs.declared.step.Step.TheVariants as step
 use Rattle.gq_plan_expr.specs.Known.{Known}
-use Rattle.gq_plan_expr.specs.Resolved as plans
 use Rattle.gq_plan_expr.specs.Resolved.{resolved}
 use Rattle.gq_plan_select.specs.Resolved.{if_there, each_resolved, resolved_input, resolved_change}
 use Rattle.gq_plan_expr.specs.Globals.{Globals, known_in}
 use Rattle.gq_plan_stmt.specs.Parts.{resolved_base, resolved_seed, resolved_term, resolved_operand, resolved_sets, resolved_set_types, is_set_right, resolved_over, resolved_keyed, resolved_item}
 use Rattle.gq_plan_stmt.specs.Steps as steps
-use Rattle.gq_plan_stmt.specs.Steps.{Behind, ended, resolved_right, if_same, same_mark, target_seen, resolved_target, resolved_assign, local_and, resolved_locals, Parts, if_of, else_of, branch_and, body_of, step_and, resolved_stmt, resolved_stmts, resolved_branches}
+use Rattle.gq_plan_stmt.specs.Steps.{Behind, ended, resolved_right, if_same, same_mark, target_seen, resolved_block, resolved_target, resolved_assign, resolved_locals, if_of, else_of, body_of, resolved_stmt, resolved_stmts, resolved_branches}
 use Rattle.gq_plan_laws.specs.Shown.{InView, IsShown, Shows}
-use Rattle.gq_plan_laws.specs.Laws.{Planned, StatementsLaw}
-use Rattle.gq_plan_laws.proofs.HasLemmas.{Has, has_one, has_then, each_has, through_has, tree_has, condition_has, number_has, converting_has, input_has, optional_has}
-use Rattle.gq_plan_laws.proofs.ShownLemmas.{in_view, set_is_marked, slot_has, place_has, knows, set_place, vertex_type_has, new_seen, new_is, shown_new, shows_same}
+use Rattle.gq_plan_laws.specs.Laws.{StatementsLaw}
+use Rattle.gq_plan_laws.proofs.HasLemmas.{Has, has_one, has_then, Goes, goes_now, has_goes, goes_then, goes_as, Same, each_has, through_has, tree_has, condition_has, number_has, converting_has, input_has, optional_has}
+use Rattle.gq_plan_laws.proofs.ShownLemmas.{in_view, set_is_marked, slot_has, place_has, knows, set_place, vertex_type_has, written_has, new_seen, shown_new, name_goes, shows_same}
 use Rattle.gq_plan_laws.proofs.SelectHas.{select_has}
 
 -- ---- parts in which no name comes into view
@@ -47,14 +43,6 @@ use Rattle.gq_plan_laws.proofs.SelectHas.{select_has}
 module _ (g : Globals) (s : Scope Bytes) (n : Named) (shows : Shows g s n) where
   abbrev k : Known
   k = known_in g n
-
-  base_type_has : (b : BaseTree Bytes) (c : Base) → base_written s b ≡ Ok c → Has (resolved_base g b)
-  base_type_has Ints c h = (declared.Int, refl)
-  base_type_has UInts c h = (declared.UInt, refl)
-  base_type_has Bools c h = (declared.Bool, refl)
-  base_type_has Strings c h = (declared.Text, refl)
-  base_type_has AnyVertex c h = (declared.AnyVertex, refl)
-  base_type_has (VertexOf t) c h = let u = then_ok (vertex_type s t) _ c h in has_one (g.vertex_type t) declared.VertexOf (vertex_type_has g s n shows t u.0 u.1)
 
   -- a name alone that has a base type
   name_has : (x : Bytes) (b : Base) → base_type (here s) (Name x) ≡ Ok b → Has (place_at n x)
@@ -139,32 +127,17 @@ module _ (g : Globals) (s : Scope Bytes) (n : Named) (shows : Shows g s n) where
 
   -- ---- the right side of an assignment
 
-  -- the same names are in view after it
-  pub record RightHas (r : Right Bytes) : Type 0 where
-    pub behind : Named
-    pub planned : code.Right
-    pub is : resolved_right g n r ≡ Some (behind, planned)
-    pub same : behind.visible ≡ n.visible
-
-  value_has : (t : Tree Bytes) → Has (resolved k t) → RightHas (Expression t)
-  value_has t h = record { behind = n; planned = right.Value h.0; is = ap (λ (o : Option Expr). plans.◌>>=◌ o (λ e. Some (n, right.Value e))) h.1; same = refl }
-
-  -- whether it is a set, as typing has it
+  -- whether it is a set, as typing has it; the same names are in view after it
   abbrev RightFits : Right Bytes → Option (Judged (List ℕ)) → Type 0
-  RightFits r (Some set) = (is_set_right n r ≡ true) × ((types : List ℕ) → set ≡ Ok types → RightHas r)
+  RightFits r (Some set) = (is_set_right n r ≡ true) × ((types : List ℕ) → set ≡ Ok types → Goes (Same n) (resolved_right g n r))
   RightFits r None = is_set_right n r ≡ false
 
+  value_has : (t : Tree Bytes) → Has (resolved k t) → Goes (Same n) (resolved_right g n (Expression t))
+  value_has t h = has_goes (Same n) (resolved k t) _ h (λ e. goes_now (Same n) n (right.Value e) refl)
+
   right_fits : (r : Right Bytes) → RightFits r (right_types s r)
-  right_fits (Selects q) = (
-    refl,
-    λ types h. let b = select_has g s n shows q types h in record {
-      behind = ended n b.inside;
-      planned = right.Select b.block;
-      is = ap (λ (o : Option (Behind _)). plans.◌>>=◌ o (λ b. Some (b.0, right.Select b.1))) b.is;
-      same = refl;
-    },
-  )
-  right_fits (Sets t rest) = (refl, λ types h. let b = sets_have t rest types h in record { behind = n; planned = right.Sets b.0; is = ap (λ o. plans.◌>>=◌ o (λ s. Some (n, right.Sets s))) b.1; same = refl })
+  right_fits (Selects q) = (refl, λ types h. goes_as (Same n) (Same n) (resolved_block g n q) right.Select (λ m i. i) (select_has g s n shows q types h))
+  right_fits (Sets t rest) = (refl, λ types h. has_goes (Same n) (resolved_sets g n t rest) _ (sets_have t rest types h) (λ z. goes_now (Same n) n (right.Sets z) refl))
   right_fits (Expression (Name y)) = go (is_set (entry s y)) (set_is_marked (g.slot y) (seen_at n y) (entry s y) (shows.names y))
     where
       go : (b : Bool) → is_marked n y ≡ b → RightFits (Expression (Name y)) (if b then Some (set_types s y) else None)
@@ -177,73 +150,49 @@ module _ (g : Globals) (s : Scope Bytes) (n : Named) (shows : Shows g s n) where
 refused : {A : Type 0} {e : TypingFault} {t : A} → ◌≡◌ {A = Judged A} (Err e) (Ok t) → ⊥
 refused h = cc
 
--- the state in which statements continue
-record GoesOn (g : Globals) (t : Scope Bytes) (o : Option (Behind Step)) : Type 0 where
-  behind : Named
-  step : Step
-  is : o ≡ Some (behind, step)
-  shows : Shows g t behind
-
--- the place of the assigned name
-record TargetHas (g : Globals) (t : Scope Bytes) (m : Named) (x : Bytes) (set : Bool) : Type 0 where
-  behind : Named
-  place : ℕ
-  is : resolved_target m x set ≡ Some (behind, place)
-  shows : Shows g t behind
-
 module _ (g : Globals) (s : Scope Bytes) (n : Named) (shows : Shows g s n) where
   -- a name that is in view keeps its entry
-  old_target : (m : Named) → Shows g s m → (x : Bytes) (set : Bool) → InView (seen_at m x) set → TargetHas g s m x set
-  old_target m here x set v = record {
+  old_target : (x : Bytes) (set : Bool) → InView (seen_at n x) set → (m : Named) → Same n m → Goes (Shows g s) (resolved_target m x set)
+  old_target x set v m i = record {
     behind = m;
-    place = v.0;
-    is = ap (λ o. target_seen o m x set) v.1 ∙ kept set;
-    shows = here;
+    planned = v.0;
+    is = ap (λ o. target_seen o m x set) (ap (λ l. found_in l x) i ∙ v.1) ∙ kept set;
+    after = shows_same g s n shows m i;
   }
     where
       kept : (b : Bool) → if_same (same_mark b b) (m, v.0) ≡ Some (m, v.0)
       kept true = refl
       kept false = refl
 
-  new_target : (m : Named) → Shows g s m → (x : Bytes) (types : List ℕ) → seen_at m x ≡ None → TargetHas g (with_entry x (SetVariable types) s) m x true
-  new_target m here x types e = record { behind = with_name m x true; place = m.next; is = ap (λ o. target_seen o m x true) e; shows = shown_new g s m here x (SetVariable types) true refl }
-
-  assigned : (t : Scope Bytes) (x : Bytes) (types : Option (SetTypes Bytes)) (r : Right Bytes) (set : Bool) → Has (if_there (resolved_set_types g) types) → is_set_right n r ≡ set → (h : RightHas g s n shows r) → TargetHas g t h.behind x set → GoesOn g t (resolved_assign g n x types r)
-  assigned t x types r set a e h w = record {
-    behind = w.behind;
-    step = step.Assign w.place a.0 h.planned;
-    is =
-        ap (λ o. plans.◌>>=◌ o (λ ts. plans.◌>>=◌ (resolved_right g n r) (λ b. plans.◌>>=◌ (resolved_target b.0 x (is_set_right n r)) (λ t. Some (t.0, step.Assign t.1 ts b.1))))) a.1
-        ∙ (ap (λ (o : Option (Behind code.Right)). plans.◌>>=◌ o (λ b. plans.◌>>=◌ (resolved_target b.0 x (is_set_right n r)) (λ t. Some (t.0, step.Assign t.1 a.0 b.1)))) h.is
-        ∙ (ap (λ q. plans.◌>>=◌ (resolved_target h.behind x q) (λ t. Some (t.0, step.Assign t.1 a.0 h.planned))) e
-        ∙ ap (λ (o : Option (Behind ℕ)). plans.◌>>=◌ o (λ t. Some (t.0, step.Assign t.1 a.0 h.planned))) w.is));
-    shows = w.shows;
+  new_target : (x : Bytes) (types : List ℕ) → seen_at n x ≡ None → (m : Named) → Same n m → Goes (Shows g (with_entry x (SetVariable types) s)) (resolved_target m x true)
+  new_target x types e m i = record {
+    behind = with_name m x true;
+    planned = m.next;
+    is = ap (λ o. target_seen o m x true) (ap (λ l. found_in l x) i ∙ e);
+    after = shown_new g s m (shows_same g s n shows m i) x (SetVariable types) true refl;
   }
 
-  -- after the right side the same names are in view
-  behind_right : (r : Right Bytes) (h : RightHas g s n shows r) → Shows g s h.behind
-  behind_right r h = shows_same g s n shows h.behind h.same
-
-  seen_behind : (r : Right Bytes) (h : RightHas g s n shows r) (x : Bytes) (e : Option Entry) → IsShown (g.slot x) (seen_at n x) e → IsShown (g.slot x) (seen_at h.behind x) e
-  seen_behind r h x e d = subst (λ v. IsShown (g.slot x) (seen_at (record { visible = v; next = h.behind.next }) x) e) (sym h.same) d
+  assigned : (t : Scope Bytes) (x : Bytes) (types : Option (SetTypes Bytes)) (r : Right Bytes) (set : Bool) → Has (if_there (resolved_set_types g) types) → is_set_right n r ≡ set → Goes (Same n) (resolved_right g n r)
+      → ((m : Named) → Same n m → Goes (Shows g t) (resolved_target m x set)) → Goes (Shows g t) (resolved_assign g n x types r)
+  assigned t x types r set a e h w =
+      has_goes (Shows g t) (if_there (resolved_set_types g) types) _ a (λ ts. goes_then (Same n) (Shows g t) (resolved_right g n r) _ h (λ m b i.
+      goes_as (Shows g t) (Shows g t) (resolved_target m x (is_set_right n r)) (λ p. step.Assign p ts b) (λ o j. j) (subst (λ q. Goes (Shows g t) (resolved_target m x q)) (sym e) (w m i))))
 
   -- without types after the name
-  assign_has : (x : Bytes) (r : Right Bytes) (t : Scope Bytes) (e : Option Entry) (o : Option (Judged (List ℕ))) → IsShown (g.slot x) (seen_at n x) e → RightFits g s n shows r o → typing_assign s x r e o ≡ Ok t → GoesOn g t (resolved_assign g n x None r)
+  assign_has : (x : Bytes) (r : Right Bytes) (t : Scope Bytes) (e : Option Entry) (o : Option (Judged (List ℕ))) → IsShown (g.slot x) (seen_at n x) e → RightFits g s n shows r o → typing_assign s x r e o ≡ Ok t → Goes (Shows g t) (resolved_assign g n x None r)
   assign_has x r t (Some (SetVariable fixed)) (Some set) d f h =
       let u = after_ok (set >>= kept_within s x fixed) (Ok s) t h in
       let v = then_ok set (kept_within s x fixed) u.0.0 u.0.1 in
-      let w = f.1 v.0 v.1 in
-      subst (λ t. GoesOn g t (resolved_assign g n x None r)) (ok_inj u.1) (assigned s x None r true (None, refl) f.0 w (old_target w.behind (behind_right r w) x true (seen_behind r w x (Some (SetVariable fixed)) d)))
+      subst (λ t. Goes (Shows g t) (resolved_assign g n x None r)) (ok_inj u.1) (assigned s x None r true (None, refl) f.0 (f.1 v.0 v.1) (old_target x true d))
   assign_has x (Expression e) t (Some (Variable b)) None d f h =
       let u = after_ok (converting (here s) b e) (Ok s) t h in
       let w = value_has g s n shows e (converting_has (here s) (known_in g n) (knows g s n shows InStatement) b e u.0.0 u.0.1) in
-      subst (λ t. GoesOn g t (resolved_assign g n x None (Expression e))) (ok_inj u.1) (assigned s x None (Expression e) false (None, refl) f w (old_target w.behind (behind_right (Expression e) w) x false (seen_behind (Expression e) w x (Some (Variable b)) d)))
+      subst (λ t. Goes (Shows g t) (resolved_assign g n x None (Expression e))) (ok_inj u.1) (assigned s x None (Expression e) false (None, refl) f w (old_target x false d))
   assign_has x (Selects q) t (Some (Variable b)) None d f h = absurd (refused h)
   assign_has x (Sets z rest) t (Some (Variable b)) None d f h = absurd (refused h)
   assign_has x r t None (Some set) d f h =
       let v = then_ok set _ t h in
-      let w = f.1 v.0 v.1 in
-      subst (λ t. GoesOn g t (resolved_assign g n x None r)) (ok_inj v.2) (assigned (with_entry x (SetVariable v.0) s) x None r true (None, refl) f.0 w (new_target w.behind (behind_right r w) x v.0 (seen_behind r w x None d)))
+      subst (λ t. Goes (Shows g t) (resolved_assign g n x None r)) (ok_inj v.2) (assigned (with_entry x (SetVariable v.0) s) x None r true (None, refl) f.0 (f.1 v.0 v.1) (new_target x v.0 d))
   assign_has x r t None None d f h = absurd (refused h)
   assign_has x r t (Some TupleName) o d f h = absurd (refused h)
   assign_has x (Selects q) t (Some (Variable b)) (Some set) d f h = absurd (refused h)
@@ -261,15 +210,14 @@ module _ (g : Globals) (s : Scope Bytes) (n : Named) (shows : Shows g s n) where
       has_one (resolved_set_types g (TypeOf x)) Some (has_one (g.vertex_type x) set_type.Of (vertex_type_has g s n shows x u.0 u.1))
 
   fixed_has : (x : Bytes) (ts : SetTypes Bytes) (fixed : List ℕ) (r : Right Bytes) (t : Scope Bytes) (o : Option (Judged (List ℕ))) → Has (if_there (resolved_set_types g) (Some ts)) → seen_at n x ≡ None → RightFits g s n shows r o → typing_fixed s x fixed r o ≡ Ok t
-      → GoesOn g t (resolved_assign g n x (Some ts) r)
+      → Goes (Shows g t) (resolved_assign g n x (Some ts) r)
   fixed_has x ts fixed r t (Some set) a e f h =
       let u = after_ok (set >>= kept_within s x fixed) (Ok (with_entry x (SetVariable fixed) s)) t h in
       let v = then_ok set (kept_within s x fixed) u.0.0 u.0.1 in
-      let w = f.1 v.0 v.1 in
-      subst (λ t. GoesOn g t (resolved_assign g n x (Some ts) r)) (ok_inj u.1) (assigned (with_entry x (SetVariable fixed) s) x (Some ts) r true a f.0 w (new_target w.behind (behind_right r w) x fixed (seen_behind r w x None e)))
+      subst (λ t. Goes (Shows g t) (resolved_assign g n x (Some ts) r)) (ok_inj u.1) (assigned (with_entry x (SetVariable fixed) s) x (Some ts) r true a f.0 (f.1 v.0 v.1) (new_target x fixed e))
   fixed_has x ts fixed r t None a e f h = let u = after_ok (right_value r >>= typing (here s)) (Err Mismatch) t h in absurd (refused u.1)
 
-  assignment_has : (x : Bytes) (types : Option (SetTypes Bytes)) (r : Right Bytes) (t : Scope Bytes) → typing_assignment s x types r ≡ Ok t → GoesOn g t (resolved_assign g n x types r)
+  assignment_has : (x : Bytes) (types : Option (SetTypes Bytes)) (r : Right Bytes) (t : Scope Bytes) → typing_assignment s x types r ≡ Ok t → Goes (Shows g t) (resolved_assign g n x types r)
   assignment_has x None r t h = assign_has x r t (entry s x) (right_types s r) (shows.names x) (right_fits g s n shows r) h
   assignment_has x (Some ts) r t h =
       let u = then_ok (fixed_types s ts) _ t h in
@@ -278,172 +226,84 @@ module _ (g : Globals) (s : Scope Bytes) (n : Named) (shows : Shows g s n) where
 
 -- ---- locals
 
-record LocalsHave (g : Globals) (t : Scope Bytes) (n : Named) (xs : List (Bytes × Option (Tree Bytes))) : Type 0 where
-  behind : Named
-  planned : List (ℕ × Option Expr)
-  is : resolved_locals g n xs ≡ Some (behind, planned)
-  shows : Shows g t behind
-
-locals_have : (g : Globals) (b : Base) (xs : List (Bytes × Option (Tree Bytes))) (s t : Scope Bytes) (n : Named) → Shows g s n → through_judged (typing_local b) s xs ≡ Ok t → LocalsHave g t n xs
-locals_have g b [] s t n shows h = record { behind = n; planned = []; is = refl; shows = subst (λ t. Shows g t n) (ok_inj h) shows }
+locals_have : (g : Globals) (b : Base) (xs : List (Bytes × Option (Tree Bytes))) (s t : Scope Bytes) (n : Named) → Shows g s n → through_judged (typing_local b) s xs ≡ Ok t → Goes (Shows g t) (resolved_locals g n xs)
+locals_have g b [] s t n shows h = goes_now (Shows g t) n [] (subst (λ t. Shows g t n) (ok_inj h) shows)
 locals_have g b (x ∷ xs) s t n shows h =
     let u = then_ok (typing_local b s x) _ t h in
     let a = after_ok (unless NotAllowedHere (may_lack_value b (is_some x.1)) >> new_name s x.0 >> optional (converting (here s) b) x.1) (Ok (with_entry x.0 (Variable b) s)) u.0 u.1 in
     let c = after_ok (unless NotAllowedHere (may_lack_value b (is_some x.1)) >> new_name s x.0) (optional (converting (here s) b) x.1) a.0.0 a.0.1 in
     let d = after_ok (unless NotAllowedHere (may_lack_value b (is_some x.1))) (new_name s x.0) c.0.0 c.0.1 in
-    let e = optional_has (known_in g n) (converting (here s) b) (λ t q i. converting_has (here s) (known_in g n) (knows g s n shows InStatement) b t q i) x.1 a.0.0 c.1 in
-    let m = with_name n x.0 false in
-    let new = new_is g s n shows x.0 c.0.0 d.1 in
-    let r = locals_have g b xs u.0 t m (subst (λ z. Shows g z m) (ok_inj a.1) (shown_new g s n shows x.0 (Variable b) false refl)) u.2 in
-    record {
-      behind = r.behind;
-      planned = (n.next, e.0) ∷ r.planned;
-      is =
-          ap (λ o. plans.◌>>=◌ o (λ e. plans.◌>>=◌ (steps.new_name n x.0) (λ m. plans.◌>>=◌ (resolved_locals g m.0 xs) (λ b. Some (local_and m.1 e b))))) e.1
-          ∙ (ap (λ (o : Option (Behind ℕ)). plans.◌>>=◌ o (λ m. plans.◌>>=◌ (resolved_locals g m.0 xs) (λ b. Some (local_and m.1 e.0 b)))) new
-          ∙ ap (λ (o : Option (Behind (List (ℕ × Option Expr)))). plans.◌>>=◌ o (λ b. Some (local_and n.next e.0 b))) r.is);
-      shows = r.shows;
-    }
+    has_goes (Shows g t) (if_there (resolved (known_in g n)) x.1) _ (optional_has (known_in g n) (converting (here s) b) (converting_has (here s) (known_in g n) (knows g s n shows InStatement) b) x.1 a.0.0 c.1) (λ e.
+    goes_then (Shows g (with_entry x.0 (Variable b) s)) (Shows g t) (steps.new_name n x.0) _ (name_goes g s n shows x.0 (Variable b) c.0.0 refl d.1) (λ m p i.
+    goes_as (Shows g t) (Shows g t) (resolved_locals g m xs) (λ l. (p, e) ∷ l) (λ o j. j) (locals_have g b xs u.0 t m (subst (λ z. Shows g z m) (ok_inj a.1) i) u.2)))
 
 -- ---- statements
 
--- the statements after ELSE
-record BodyHas (n : Named) (o : Option (Behind (List Step))) : Type 0 where
-  behind : Named
-  planned : List Step
-  is : body_of n o ≡ Some (behind, planned)
-  same : behind.visible ≡ n.visible
+-- the names of a body end with it
+body_goes : (After : Named → Type 0) (n : Named) (o : Option (Behind (List Step))) → Goes After o → Goes (Same n) (body_of n o)
+body_goes After n o h = record { behind = ended n h.behind; planned = h.planned; is = ap (body_of n) h.is; after = refl }
 
-body_has : (g : Globals) (n m : Named) (body : Stmts Bytes) (t : Scope Bytes) → Planned g m body t → BodyHas n (resolved_stmts g m body)
-body_has g n m body t p = record { behind = ended n p.behind; planned = p.steps; is = ap (body_of n) p.is; same = refl }
-
-record ElseHas (n : Named) (body : Stmts Bytes) (o : Option (Behind (List Step))) : Type 0 where
-  behind : Named
-  planned : Option (List Step)
-  is : else_of n body o ≡ Some (behind, planned)
-  same : behind.visible ≡ n.visible
-
-else_has : (n : Named) (body : Stmts Bytes) (o : Option (Behind (List Step))) → BodyHas n o → ElseHas n body (body_of n o)
-else_has n no_stmt o h = record { behind = n; planned = None; is = refl; same = refl }
-else_has n (stmt_and s rest) o h = record { behind = h.behind; planned = Some h.planned; is = ap (λ (o : Option (Behind (List Step))). plans.◌>>=◌ o (λ b. Some (b.0, Some b.1))) h.is; same = h.same }
-
-record BranchesHave (g : Globals) (n : Named) (branches : Branches Bytes) : Type 0 where
-  behind : Named
-  planned : Parts
-  is : resolved_branches g n branches ≡ Some (behind, planned)
-  same : behind.visible ≡ n.visible
+else_goes : (n : Named) (body : Stmts Bytes) (o : Option (Behind (List Step))) → Goes (Same n) o → Goes (Same n) (else_of n body o)
+else_goes n no_stmt o h = goes_now (Same n) n None refl
+else_goes n (stmt_and s rest) o h = goes_as (Same n) (Same n) o Some (λ m i. i) h
 
 module _ (g : Globals) where
+  -- the scope is the one before
+  back : (s t : Scope Bytes) (n : Named) → Shows g s n → ◌≡◌ {A = Judged (Scope Bytes)} (Ok s) (Ok t) → (m : Named) → Same n m → Shows g t m
+  back s t n shows e m i = subst (λ t. Shows g t m) (ok_inj e) (shows_same g s n shows m i)
+
   mutual
-    stmt_has : (st : Stmt Bytes) (s t : Scope Bytes) (n : Named) → Shows g s n → typing_stmt s st ≡ Ok t → GoesOn g t (resolved_stmt g n st)
+    stmt_has : (st : Stmt Bytes) (s t : Scope Bytes) (n : Named) → Shows g s n → typing_stmt s st ≡ Ok t → Goes (Shows g t) (resolved_stmt g n st)
     stmt_has (Local base xs) s t n shows h =
         let u = then_ok (base_written s base) _ t h in
-        let d = base_type_has g s n shows base u.0 u.1 in
-        let r = locals_have g u.0 xs s t n shows u.2 in
-        record {
-          behind = r.behind;
-          step = step.Local d.0 r.planned;
-          is =
-              ap (λ o. plans.◌>>=◌ o (λ d. plans.◌>>=◌ (resolved_locals g n xs) (λ r. Some (r.0, step.Local d r.1)))) d.1
-              ∙ ap (λ (o : Option (Behind (List (ℕ × Option Expr)))). plans.◌>>=◌ o (λ r. Some (r.0, step.Local d.0 r.1))) r.is;
-          shows = r.shows;
-        }
+        has_goes (Shows g t) (resolved_base g base) _ (written_has g s shows.words base u.0 u.1) (λ d. goes_as (Shows g t) (Shows g t) (resolved_locals g n xs) (step.Local d) (λ m i. i) (locals_have g u.0 xs s t n shows u.2))
     stmt_has (Assign x types r) s t n shows h = assignment_has g s n shows x types r t h
     stmt_has (ChangeGlobal a c) s t n shows h =
         let u = then_ok (declared_kind s false a) _ t h in
         let v = after_ok (typing_change s u.0 c) (Ok s) t u.2 in
-        let m = slot_has g s n shows false a u.0 u.1 in
-        let d = change_has g s n shows u.0 c v.0.0 v.0.1 in
-        record {
-          behind = n;
-          step = step.Global m.0 d.0;
-          is =
-              ap (λ o. plans.◌>>=◌ o (λ m. plans.◌>>=◌ (resolved_change (known_in g n) c) (λ d. Some (n, step.Global m d)))) m.1
-              ∙ ap (λ o. plans.◌>>=◌ o (λ d. Some (n, step.Global m.0 d))) d.1;
-          shows = subst (λ t. Shows g t n) (ok_inj v.1) shows;
-        }
+        has_goes (Shows g t) (g.slot a) _ (slot_has g s n shows false a u.0 u.1) (λ m. has_goes (Shows g t) (resolved_change (known_in g n) c) _ (change_has g s n shows u.0 c v.0.0 v.0.1) (λ d.
+        goes_now (Shows g t) n (step.Global m d) (back s t n shows v.1 n refl)))
     stmt_has (If branches) s t n shows h =
         let u = after_ok (typing_branches s branches) (Ok s) t h in
-        let b = branches_have branches s n shows u.0.0 u.0.1 in
-        record {
-          behind = b.behind;
-          step = if_of b.planned;
-          is = ap (λ (o : Option (Behind Parts)). plans.◌>>=◌ o (λ b. Some (b.0, if_of b.1))) b.is;
-          shows = subst (λ t. Shows g t b.behind) (ok_inj u.1) (shows_same g s n shows b.behind b.same);
-        }
+        goes_as (Same n) (Shows g t) (resolved_branches g n branches) if_of (back s t n shows u.1) (branches_have branches s n shows u.0.0 u.0.1)
     stmt_has (While c limit body) s t n shows h =
         let u = after_ok (condition (here s) c >> optional (number (here s)) limit >> typing_stmts s body) (Ok s) t h in
         let v = after_ok (condition (here s) c >> optional (number (here s)) limit) (typing_stmts s body) u.0.0 u.0.1 in
         let w = after_ok (condition (here s) c) (optional (number (here s)) limit) v.0.0 v.0.1 in
-        let e = condition_has (here s) (known_in g n) (knows g s n shows InStatement) c w.0.0 w.0.1 in
-        let l = optional_has (known_in g n) (number (here s)) (number_has (here s) (known_in g n) (knows g s n shows InStatement)) limit v.0.0 w.1 in
-        let b = body_has g n n body u.0.0 (stmts_have body s u.0.0 n shows v.1) in
-        record {
-          behind = b.behind;
-          step = step.While e.0 l.0 b.planned;
-          is =
-              ap (λ o. plans.◌>>=◌ o (λ e. plans.◌>>=◌ (if_there (resolved (known_in g n)) limit) (λ l. plans.◌>>=◌ (body_of n (resolved_stmts g n body)) (λ b. Some (b.0, step.While e l b.1))))) e.1
-              ∙ (ap (λ o. plans.◌>>=◌ o (λ l. plans.◌>>=◌ (body_of n (resolved_stmts g n body)) (λ b. Some (b.0, step.While e.0 l b.1)))) l.1
-              ∙ ap (λ (o : Option (Behind (List Step))). plans.◌>>=◌ o (λ b. Some (b.0, step.While e.0 l.0 b.1))) b.is);
-          shows = subst (λ t. Shows g t b.behind) (ok_inj u.1) (shows_same g s n shows b.behind b.same);
-        }
+        let k = known_in g n in
+        let know = knows g s n shows InStatement in
+        has_goes (Shows g t) (resolved k c) _ (condition_has (here s) k know c w.0.0 w.0.1) (λ e.
+        has_goes (Shows g t) (if_there (resolved k) limit) _ (optional_has k (number (here s)) (number_has (here s) k know) limit v.0.0 w.1) (λ l.
+        goes_as (Same n) (Shows g t) (body_of n (resolved_stmts g n body)) (step.While e l) (back s t n shows u.1) (body_goes (Shows g u.0.0) n (resolved_stmts g n body) (stmts_have body s u.0.0 n shows v.1))))
     stmt_has (Foreach x o body) s t n shows h =
         let u = then_ok (new_name s x >> variable_type (here s) o) _ t h in
         let v = after_ok (new_name s x) (variable_type (here s) o) u.0 u.1 in
-        let w = after_ok (typing_stmts (with_entry x (Variable u.0) s) body) (Ok s) t u.2 in
-        let p = over_has g s n shows o u.0 v.1 in
-        let new = new_is g s n shows x v.0.0 v.0.1 in
-        let m = with_name n x false in
-        let b = body_has g n m body w.0.0 (stmts_have body (with_entry x (Variable u.0) s) w.0.0 m (shown_new g s n shows x (Variable u.0) false refl) w.0.1) in
-        record {
-          behind = b.behind;
-          step = step.Foreach n.next p.0 b.planned;
-          is =
-              ap (λ q. plans.◌>>=◌ q (λ p. plans.◌>>=◌ (steps.new_name n x) (λ m. plans.◌>>=◌ (body_of n (resolved_stmts g m.0 body)) (λ b. Some (b.0, step.Foreach m.1 p b.1))))) p.1
-              ∙ (ap (λ (q : Option (Behind ℕ)). plans.◌>>=◌ q (λ m. plans.◌>>=◌ (body_of n (resolved_stmts g m.0 body)) (λ b. Some (b.0, step.Foreach m.1 p.0 b.1)))) new
-              ∙ ap (λ (q : Option (Behind (List Step))). plans.◌>>=◌ q (λ b. Some (b.0, step.Foreach n.next p.0 b.1))) b.is);
-          shows = subst (λ t. Shows g t b.behind) (ok_inj w.1) (shows_same g s n shows b.behind b.same);
-        }
+        let inner = with_entry x (Variable u.0) s in
+        let w = after_ok (typing_stmts inner body) (Ok s) t u.2 in
+        has_goes (Shows g t) (resolved_over (known_in g n) o) _ (over_has g s n shows o u.0 v.1) (λ p.
+        goes_then (Shows g inner) (Shows g t) (steps.new_name n x) _ (name_goes g s n shows x (Variable u.0) v.0.0 refl v.0.1) (λ m q i.
+        goes_as (Same n) (Shows g t) (body_of n (resolved_stmts g m body)) (step.Foreach q p) (back s t n shows w.1) (body_goes (Shows g w.0.0) n (resolved_stmts g m body) (stmts_have body inner w.0.0 m i w.0.1))))
     stmt_has (Print ps) s t n shows h =
         let u = after_ok (through_judged (typing_printed s) [] ps) (Ok s) t h in
-        let is = through_has (resolved_item (known_in g n)) (typing_printed s) (printed_has g s n shows) ps [] u.0.0 u.0.1 in
-        record { behind = n; step = step.Print is.0; is = ap (λ o. plans.◌>>=◌ o (λ is. Some (n, step.Print is))) is.1; shows = subst (λ t. Shows g t n) (ok_inj u.1) shows }
+        has_goes (Shows g t) (each_resolved (resolved_item (known_in g n)) ps) _ (through_has (resolved_item (known_in g n)) (typing_printed s) (printed_has g s n shows) ps [] u.0.0 u.0.1) (λ is.
+        goes_now (Shows g t) n (step.Print is) (back s t n shows u.1 n refl))
 
-    stmts_have : (body : Stmts Bytes) (s t : Scope Bytes) (n : Named) → Shows g s n → typing_stmts s body ≡ Ok t → Planned g n body t
-    stmts_have no_stmt s t n shows h = record { behind = n; steps = []; is = refl; shows = subst (λ t. Shows g t n) (ok_inj h) shows }
+    stmts_have : (body : Stmts Bytes) (s t : Scope Bytes) (n : Named) → Shows g s n → typing_stmts s body ≡ Ok t → Goes (Shows g t) (resolved_stmts g n body)
+    stmts_have no_stmt s t n shows h = goes_now (Shows g t) n [] (back s t n shows h n refl)
     stmts_have (stmt_and st rest) s t n shows h =
         let u = then_ok (typing_stmt s st) _ t h in
-        let a = stmt_has st s u.0 n shows u.1 in
-        let r = stmts_have rest u.0 t a.behind a.shows u.2 in
-        record {
-          behind = r.behind;
-          steps = a.step ∷ r.steps;
-          is =
-              ap (λ (o : Option (Behind Step)). plans.◌>>=◌ o (λ b. plans.◌>>=◌ (resolved_stmts g b.0 rest) (λ c. Some (step_and b.1 c)))) a.is
-              ∙ ap (λ (o : Option (Behind (List Step))). plans.◌>>=◌ o (λ c. Some (step_and a.step c))) r.is;
-          shows = r.shows;
-        }
+        goes_then (Shows g u.0) (Shows g t) (resolved_stmt g n st) _ (stmt_has st s u.0 n shows u.1) (λ m a i. goes_as (Shows g t) (Shows g t) (resolved_stmts g m rest) (λ l. a ∷ l) (λ o j. j) (stmts_have rest u.0 t m i u.2))
 
-    branches_have : (branches : Branches Bytes) (s : Scope Bytes) (n : Named) → Shows g s n → (q : Bool) → typing_branches s branches ≡ Ok q → BranchesHave g n branches
+    branches_have : (branches : Branches Bytes) (s : Scope Bytes) (n : Named) → Shows g s n → (q : Bool) → typing_branches s branches ≡ Ok q → Goes (Same n) (resolved_branches g n branches)
     branches_have (else_ body) s n shows q h =
         let u = after_ok (typing_stmts s body) (Ok true) q h in
-        let e = else_has n body (resolved_stmts g n body) (body_has g n n body u.0.0 (stmts_have body s u.0.0 n shows u.0.1)) in
-        record { behind = e.behind; planned = ([], e.planned); is = ap (λ (o : Option (Behind (Option (List Step)))). plans.◌>>=◌ o (λ b. Some (b.0, ([], b.1)))) e.is; same = e.same }
+        goes_as (Same n) (Same n) (else_of n body (body_of n (resolved_stmts g n body))) (λ o. ([], o)) (λ m i. i) (else_goes n body (body_of n (resolved_stmts g n body)) (body_goes (Shows g u.0.0) n (resolved_stmts g n body) (stmts_have body s u.0.0 n shows u.0.1)))
     branches_have (if_ c body rest) s n shows q h =
         let u = after_ok (condition (here s) c >> typing_stmts s body) (typing_branches s rest) q h in
         let v = after_ok (condition (here s) c) (typing_stmts s body) u.0.0 u.0.1 in
-        let e = condition_has (here s) (known_in g n) (knows g s n shows InStatement) c v.0.0 v.0.1 in
-        let b = body_has g n n body u.0.0 (stmts_have body s u.0.0 n shows v.1) in
-        let r = branches_have rest s b.behind (shows_same g s n shows b.behind b.same) q u.1 in
-        record {
-          behind = r.behind;
-          planned = ((e.0, b.planned) ∷ r.planned.0, r.planned.1);
-          is =
-              ap (λ o. plans.◌>>=◌ o (λ e. plans.◌>>=◌ (body_of n (resolved_stmts g n body)) (λ b. plans.◌>>=◌ (resolved_branches g b.0 rest) (λ c. Some (branch_and e b.1 c))))) e.1
-              ∙ (ap (λ (o : Option (Behind (List Step))). plans.◌>>=◌ o (λ b. plans.◌>>=◌ (resolved_branches g b.0 rest) (λ c. Some (branch_and e.0 b.1 c)))) b.is
-              ∙ ap (λ (o : Option (Behind Parts)). plans.◌>>=◌ o (λ c. Some (branch_and e.0 b.planned c))) r.is);
-          same = r.same ∙ b.same;
-        }
+        has_goes (Same n) (resolved (known_in g n) c) _ (condition_has (here s) (known_in g n) (knows g s n shows InStatement) c v.0.0 v.0.1) (λ e.
+        goes_then (Same n) (Same n) (body_of n (resolved_stmts g n body)) _ (body_goes (Shows g u.0.0) n (resolved_stmts g n body) (stmts_have body s u.0.0 n shows v.1)) (λ m b i.
+        goes_as (Same m) (Same n) (resolved_branches g m rest) (λ z. ((e, b) ∷ z.0, z.1)) (λ o j. j ∙ i) (branches_have rest s m (shows_same g s n shows m i) q u.1)))
 
 pub statements_law : StatementsLaw
-statements_law g s n shows body t h = stmts_have g body s t n shows h
+statements_law g s n shows body t h = let r = stmts_have g body s t n shows h in record { behind = r.behind; steps = r.planned; is = r.is; shows = r.after }

@@ -1,16 +1,12 @@
--- Laws: well-typed statements and queries have a plan.
+-- Laws: well-typed statements have a plan.
 use Rattle.std.specs.Prelude.{◌≡◌, List, Some, Ok}
 use Rattle.gq_scope.specs.Named.{Named}
-use Rattle.gq_rules_typing.specs.Statements.{Bytes, Stmts, Query}
-use Rattle.gq_rules_typing.specs.Sorts.{Sorts}
+use Rattle.gq_rules_typing.specs.Statements.{Bytes, Stmts}
 use Rattle.gq_rules_typing.specs.Scopes.{Scope}
 use Rattle.gq_rules_typing.specs.StatementTypes.{typing_stmts}
-use Rattle.gq_rules_typing.specs.QueryTypes.{typing_query}
 use Rattle.gq_plan_ir.specs.declared.step.Step.{Step}
-use Rattle.gq_plan_ir.specs.declared.plan.Plan.{Plan}
 use Rattle.gq_plan_expr.specs.Globals.{Globals}
 use Rattle.gq_plan_stmt.specs.Steps.{resolved_stmts}
-use Rattle.gq_plan_laws.specs.PlannedLaws.{IsPlanned}
 use Rattle.gq_plan_laws.specs.Shown.{Shows}
 
 -- the statements of the plan, with the names in view after them
@@ -22,11 +18,3 @@ pub record Planned (g : Globals) (n : Named) (body : Stmts Bytes) (t : Scope Byt
 
 abbrev pub StatementsLaw : Type 0
 StatementsLaw = (g : Globals) (s : Scope Bytes) (n : Named) → Shows g s n → (body : Stmts Bytes) (t : Scope Bytes) → typing_stmts s body ≡ Ok t → Planned g n body t
-
--- a plan that is made of the query
-pub record HasPlan (sorts : Sorts) (q : Query Bytes) : Type 0 where
-  pub plan : Plan
-  pub is : IsPlanned sorts q plan
-
-abbrev pub QueryLaw : Type 0
-QueryLaw = (sorts : Sorts) (q : Query Bytes) (s : Scope Bytes) → typing_query sorts q ≡ Ok s → HasPlan sorts q

@@ -6,3 +6,4 @@ pub mod Planned
 pub mod PlannedLaws
 pub mod Shown
 pub mod Laws
+pub mod Declares

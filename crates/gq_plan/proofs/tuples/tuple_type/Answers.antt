@@ -10,7 +10,7 @@ use Rattle.gq_plan_expr.specs.Names.{globals_in}
 use Rattle.gq_plan.specs.Heading.{heads_of, resolved_field}
 use Rattle.gq_plan.specs.Unplanned.{NoDefinition}
 use Rattle.gq_plan.proofs.HeadLemmas.{tuple_planned}
-use Rattle.gq_plan.proofs.TupleLemmas.{fields_lack}
+use Rattle.gq_plan.proofs.FailLemmas.{fields_lack}
 use Rattle.gq_plan.proofs.tuples.tuple_type.Goals as goal
 
 pub returns-clause-planned : goal.returns-clause-planned
