@@ -16,7 +16,7 @@ use Rattle.gq_frame.specs.declared.page.Page.TheVariants as page
 use Rattle.gq_frame.specs.declared.single.Single.{Single}
 use Rattle.gq_frame.specs.declared.single.Single.TheVariants as single
 use Rattle.gq_frame.specs.Targets.{ShowTheSame}
-use Rattle.gq_frame.specs.Pages.{AllFit, AllowsAt, ArePages, Becomes, ChangesAt, IsApart, IsFilled, IsFull, IsHeld, IsKept, IsOwnCopy, Keeps, SealEach, Seals, ShareEach, Shares, contents_of, content_of, each_of, items_of, page_size}
+use Rattle.gq_frame.specs.Pages.{AddsSame, AllFit, AllowsAt, ArePages, Becomes, ChangesAt, IsApart, IsFilled, IsFull, IsHeld, IsKept, IsOwnCopy, Keeps, SealEach, Seals, ShareEach, Shares, contents_of, content_of, each_of, items_of, page_size}
 use Rattle.gq_frame.proofs.OpenSteps.{shows_itself, same_length}
 use Rattle.gq_frame.proofs.SingleLemmas.{each_get, each_length, each_set, held_set, same_put}
 use Rattle.gq_frame.proofs.TargetLemmas.{get_below, take_more}
@@ -76,6 +76,11 @@ module _ {A : Type 0} where
 pub same_refl : (xs : List Content) → ShowTheSame xs xs
 same_refl [] = tt
 same_refl (x ∷ xs) = (shows_itself x x refl, same_refl xs)
+
+-- a content appended, if there was memory
+pub adds_same : {E : Type 0} (r : Result (Unit {0}) E) (c d : Content) (old new : List Content) → OnOk r (new ≡ old ++ d ∷ []) → ShowsTheSame c d → OnOk r (AddsSame c old new)
+adds_same (Ok u) c d old new is h = record { copy = d; added = is; same = h }
+adds_same (Err u) c d old new is h = tt
 
 same_append : (xs ys us vs : List Content) → ShowTheSame xs ys → ShowTheSame us vs → ShowTheSame (xs ++ us) (ys ++ vs)
 same_append [] [] us vs s t = t
