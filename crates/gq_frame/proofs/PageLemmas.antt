@@ -16,7 +16,7 @@ use Rattle.gq_frame.specs.declared.page.Page.TheVariants as page
 use Rattle.gq_frame.specs.declared.single.Single.{Single}
 use Rattle.gq_frame.specs.declared.single.Single.TheVariants as single
 use Rattle.gq_frame.specs.Targets.{ShowTheSame}
-use Rattle.gq_frame.specs.Pages.{AllFit, AllowsAt, ArePages, Becomes, ChangesAt, IsApart, IsFilled, IsFull, IsHeld, IsKept, IsOwnCopy, Keeps, SealEach, Seals, ShareEach, Shares, SharesContents, contents_of, content_of, each_of, items_of, page_size}
+use Rattle.gq_frame.specs.Pages.{AddsSame, AllFit, AllowsAt, ArePages, Becomes, ChangesAt, IsApart, IsFilled, IsFull, IsHeld, IsKept, IsOwnCopy, Keeps, SealEach, Seals, ShareEach, Shares, contents_of, content_of, each_of, items_of, page_size}
 use Rattle.gq_frame.proofs.OpenSteps.{shows_itself, same_length}
 use Rattle.gq_frame.proofs.SingleLemmas.{each_get, each_length, each_set, held_set, same_put}
 use Rattle.gq_frame.proofs.TargetLemmas.{get_below, take_more}
@@ -76,6 +76,11 @@ module _ {A : Type 0} where
 pub same_refl : (xs : List Content) → ShowTheSame xs xs
 same_refl [] = tt
 same_refl (x ∷ xs) = (shows_itself x x refl, same_refl xs)
+
+-- a content appended, if there was memory
+pub adds_same : {E : Type 0} (r : Result (Unit {0}) E) (c d : Content) (old new : List Content) → OnOk r (new ≡ old ++ d ∷ []) → ShowsTheSame c d → OnOk r (AddsSame c old new)
+adds_same (Ok u) c d old new is h = record { copy = d; added = is; same = h }
+adds_same (Err u) c d old new is h = tt
 
 same_append : (xs ys us vs : List Content) → ShowTheSame xs ys → ShowTheSame us vs → ShowTheSame (xs ++ us) (ys ++ vs)
 same_append [] [] us vs s t = t
@@ -141,10 +146,6 @@ own_last p s xs e f = record { apart = tt; same = subst (λ (q : Page). ShowTheS
 pub own_copy : (p : Page) (s : Arc (List Content) Global) (xs : List Content) → p ≡ page.Shared s → ShowTheSame (arc_value s) xs → IsOwnCopy p (page.Own xs)
 own_copy p s xs e h = record { apart = tt; same = subst (λ (q : Page). ShowTheSame (items_of q) xs) (sym e) h; kept = λ k. tt }
 
--- such a page isn't shared
-pub never_shared : {P : Type 0} (p q : Page) (s : Arc (List Content) Global) → IsOwnCopy p q → q ≡ page.Shared s → P
-never_shared p q s h e = absurd (subst IsApart e h.apart)
-
 pub shares_shared : (p : Page) (s t : Arc (List Content) Global) → p ≡ page.Shared s → arc_value t ≡ arc_value s → Shares p (page.Shared t)
 shares_shared p s t e f = subst (λ (q : Page). Shares q (page.Shared t)) (sym e) (record {
   same = subst (ShowTheSame (arc_value s)) (sym f) (same_refl (arc_value s));
@@ -154,9 +155,6 @@ shares_shared p s t e f = subst (λ (q : Page). Shares q (page.Shared t)) (sym e
 pub ruleset own_laws = (own_bound, keeps_own, allows_own, own_self, own_as, own_last, own_copy, loose_self, loose_as, shares_shared)
 
 -- ---- a page of contents one by one
-
-pub shares_loose : (p : Page) (ss ts : List Single) → p ≡ page.Loose ss → SharesContents ss ts → Shares p (page.Loose ts)
-shares_loose p ss ts e h = subst (λ (q : Page). Shares q (page.Loose ts)) (sym e) (record { same = h.same; kept = h.held })
 
 loose_items : (p q : Page) (ss : List Single) → IsOwnCopy p q → q ≡ page.Loose ss → ShowTheSame (items_of p) (each_of ss)
 loose_items p q ss h e = subst (λ (x : Page). ShowTheSame (items_of p) (items_of x)) e h.same

@@ -1,21 +1,16 @@
 -- SingleLemmas: contents that are shared one by one, and the list of what they are.
 use Rattle.std.proofs.Common.{◌≡◌, ℕ, zero, suc, ◌+◌, ◌<◌, ◌≤◌, true, List, [], ◌∷◌, ◌++◌, take, length, get_or, Some, None, refl, sym, ap, ◌∙◌, subst, arith}
-use Rattle.std.specs.Arc.{arc_value}
 use Rattle.std.specs.List.{slice_get, slice_set}
-use Rattle.std.specs.declared.alloc.Global.{Global}
-use Rattle.std.specs.declared.sync.Arc.{Arc}
 use Rattle.std.proofs.Math.Seq.{take-length}
 use Rattle.gq_accum_laws.specs.Fits.{fits}
 use Rattle.gq_nest.specs.declared.content.Content.{Content}
 use Rattle.gq_nest.specs.Entries.{every}
 use Rattle.gq_nest.specs.Shows.{ShowsTheSame}
-use Rattle.gq_nest.specs.Tells.{CanBeSet, Tells}
-use Rattle.gq_value.specs.Val.{Val}
+use Rattle.gq_nest.specs.Tells.{Tells}
 use Rattle.gq_frame.specs.declared.single.Single.{Single}
-use Rattle.gq_frame.specs.declared.single.Single.TheVariants as single
 use Rattle.gq_frame.specs.Targets.{ShowTheSame}
-use Rattle.gq_frame.specs.Pages.{AllFit, AreHeld, Becomes, IsHeld, IsOwnContent, SealsContents, SharesContent, SharesContents, content_of, each_of}
-use Rattle.gq_frame.proofs.OpenSteps.{same_last, shows_itself}
+use Rattle.gq_frame.specs.Pages.{AllFit, AreHeld, IsHeld, SealsContents, SharesContent, SharesContents, content_of, each_of}
+use Rattle.gq_frame.proofs.OpenSteps.{same_last}
 use Rattle.gq_frame.proofs.TargetLemmas.{get_some, take_more}
 
 some_is : {A : Type 0} {a b : A} → Some a ≡ Some b → a ≡ b
@@ -24,42 +19,7 @@ some_is h = cc
 none_apart : {A P : Type 0} (x : A) → None ≡ Some x → P
 none_apart x h = absurd (cc h)
 
--- ---- one content
-
-single_own : {c d : Content} → single.Own c ≡ single.Own d → c ≡ d
-single_own h = cc
-
-pub shares_content : (s : Single) (a b : Arc Content Global) → s ≡ single.Shared a → arc_value b ≡ arc_value a → SharesContent s (single.Shared b)
-shares_content s a b e f = subst (λ (x : Single). SharesContent x (single.Shared b)) (sym e) (record {
-  same = shows_itself (arc_value a) (arc_value b) (sym f);
-  held = λ h. subst (λ c. Tells c true fits) (sym f) h;
-})
-
-pub own_content : (s t : Single) (c : Content) → IsOwnContent s t → t ≡ single.Own c → ShowsTheSame (content_of s) c
-own_content s t c h e = subst (ShowsTheSame (content_of s)) (single_own (sym h.owned ∙ e)) h.same
-
-pub own_already : (s : Single) (c : Content) → s ≡ single.Own c → IsOwnContent s s
-own_already s c e = record { content = c; owned = e; same = subst (λ (x : Single). ShowsTheSame (content_of x) c) (sym e) (shows_itself c c refl) }
-
-pub own_again : (s : Single) (c : Content) → s ≡ single.Own c → IsOwnContent s (single.Own c)
-own_again s c e = record { content = c; owned = refl; same = subst (λ (x : Single). ShowsTheSame (content_of x) c) (sym e) (shows_itself c c refl) }
-
-pub own_taken : (s : Single) (a : Arc Content Global) (c : Content) → s ≡ single.Shared a → c ≡ arc_value a → IsOwnContent s (single.Own c)
-own_taken s a c e f = record { content = c; owned = refl; same = subst (λ (x : Single). ShowsTheSame (content_of x) c) (sym e) (shows_itself (arc_value a) c (sym f)) }
-
-pub own_copied : (s : Single) (a : Arc Content Global) (c : Content) → s ≡ single.Shared a → ShowsTheSame (arc_value a) c → IsOwnContent s (single.Own c)
-own_copied s a c e h = record { content = c; owned = refl; same = subst (λ (x : Single). ShowsTheSame (content_of x) c) (sym e) h }
-
-pub becomes_own : (R : Content → Content → Type 0) (s t : Single) (c d : Content) → IsOwnContent s t → t ≡ single.Own c → R c d → Becomes R s (single.Own d)
-becomes_own R s t c d h e r = record { was = c; same = own_content s t c h e; becomes = r }
-
-pub settable_own : (s t : Single) (c : Content) (v : Val) → IsOwnContent s t → t ≡ single.Own c → CanBeSet (content_of s) v → CanBeSet c v
-settable_own s t c v h e can = let g = own_content s t c h e in
-    record { kind = can.kind; holds = can.holds; shows = g.each can.kind can.holds can.shows; settable = can.settable; takes = can.takes }
-
-pub ruleset single_laws = (shares_content, own_already, own_again, own_taken, own_copied, becomes_own, settable_own)
-
--- ---- many contents
+-- ---- the list of contents
 
 pub each_length : (ss : List Single) → length (each_of ss) ≡ length ss
 each_length [] = refl

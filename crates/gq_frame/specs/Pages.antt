@@ -44,6 +44,12 @@ pub record Becomes (related : Content → Content → Type 0) (old new : Single)
   pub same : ShowsTheSame (content_of old) was
   pub becomes : related was (content_of new)
 
+-- one content more, which shows the same
+pub record AddsSame (c : Content) (old new : List Content) : Type 0 where
+  pub copy : Content
+  pub added : new ≡ old ++ copy ∷ []
+  pub same : ShowsTheSame c copy
+
 -- ---- contents one by one
 
 abbrev pub each_of : List Single → List Content
@@ -81,6 +87,12 @@ abbrev pub IsKept : Page → Type 0
 IsKept (page.Own items) = Unit {0}
 IsKept (page.Shared shared) = (length (arc_value shared) ≡ page_size) × AllFit (arc_value shared)
 IsKept (page.Loose singles) = AreHeld singles
+
+-- a page whose contents aren't shared one by one
+abbrev pub IsWhole : Page → Type 0
+IsWhole (page.Own items) = Unit {0}
+IsWhole (page.Shared shared) = Unit {0}
+IsWhole (page.Loose singles) = ⊥
 
 -- a page with as many contents, which may be shared if the old one could be
 pub record Keeps (old new : Page) : Type 0 where

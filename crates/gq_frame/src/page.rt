@@ -4,7 +4,7 @@ ghost use Rattle.gq_value.specs.AccumViews.{given};
 ghost use Rattle.gq_value.specs.Views.{val};
 ghost use Rattle.gq_nest.specs.Shows.{ShowsTheSame};
 ghost use Rattle.gq_frame.specs.Targets.{ShowTheSame};
-ghost use Rattle.gq_frame.specs.Pages.{AllFit, AllowsAt, AreHeld, ChangesAt, IsFullOf, IsKept, IsOwnCopy, Keeps, SealsContents, Shares, SharesContents, Takes, TakesInt, SetsTo, each_of, items_of, page_size};
+ghost use Rattle.gq_frame.specs.Pages.{AddsSame, AllFit, AllowsAt, AreHeld, ChangesAt, IsFullOf, IsKept, IsOwnCopy, IsWhole, Keeps, SealsContents, Shares, SharesContents, Takes, TakesInt, SetsTo, each_of, items_of, page_size};
 
 use crate::ints::feed_content;
 use crate::single;
@@ -33,15 +33,37 @@ pub(crate) enum Page {
 }
 
 /// The content of a page at an index. Doesn't allocate.
+#[inline]
 pub(crate) fn content(page: &Page, at: usize) -> &Content
     requires { at < length (items_of page.now) }
     ensures { slice_get (items_of page.now) at ≡ Some result.now }
 {
     match page {
-        Page::Own(items) => items.at(at),
-        Page::Shared(items) => items.at(at),
-        Page::Loose(singles) => single::content(singles.at(at)),
+        Page::Own(_) | Page::Shared(_) => whole(page).at(at),
+        Page::Loose(singles) => loose(singles, at),
     }
+}
+
+/// The contents of a page that aren't shared one by one.
+#[inline]
+fn whole(page: &Page) -> &List<Content>
+    requires { IsWhole page.now }
+    ensures { result.now ≡ items_of page.now }
+{
+    match page {
+        Page::Own(items) => items,
+        Page::Shared(items) => items,
+        Page::Loose(_) => unreachable!(),
+    }
+}
+
+/// The content at an index, of contents that are shared one by one. Few are, so this isn't inlined.
+#[inline(never)]
+fn loose(singles: &List<Single>, at: usize) -> &Content
+    requires { at < length (each_of singles.now) }
+    ensures { slice_get (each_of singles.now) at ≡ Some result.now }
+{
+    single::content(singles.at(at))
 }
 
 /// The number of contents of a page.
@@ -250,6 +272,7 @@ pub(crate) fn set(
 }
 
 /// Makes sure that a page isn't shared as a whole. A shared page is copied, unless this is its last owner.
+#[inline]
 #[tactic(auto, using(crate::proofs::PageLemmas::own_laws))]
 fn own(alloc: Global, page: &mut Page) -> Result<(), OutOfMemory>
     ensures ok { OnOk result (IsOwnCopy page.old page.new) }
@@ -262,6 +285,7 @@ fn own(alloc: Global, page: &mut Page) -> Result<(), OutOfMemory>
 }
 
 /// Does so for a shared page. On `OutOfMemory` it stays shared.
+#[inline(never)]
 #[tactic(auto, using(crate::proofs::PageLemmas::own_laws))]
 fn take_over(alloc: Global, page: &mut Page) -> Result<(), OutOfMemory>
     ensures ok { OnOk result (IsOwnCopy page.old page.new) }
@@ -301,7 +325,23 @@ fn copied(alloc: Global, contents: &[Content]) -> Result<List<Content>, OutOfMem
 {
     let mut copy = List::from_vec(Vec::with_capacity(alloc, contents.len())?);
     for content in contents {
-        copy.push(copy_of(alloc, content)?)?;
+        push_copy(alloc, &mut copy, content)?;
     }
     Ok(copy)
+}
+
+/// Appends a copy of a content. A number or truth value goes from its place to its new one at once.
+#[inline]
+#[tactic(auto, using(crate::proofs::OpenSteps::shows_itself, crate::proofs::PageLemmas::adds_same))]
+fn push_copy(
+    alloc: Global,
+    copy: &mut List<Content>,
+    content: &Content,
+) -> Result<(), OutOfMemory>
+    ensures { OnOk result (AddsSame content.now copy.old copy.new) }
+{
+    match content {
+        Content::Scalar(scalar) => copy.push(Content::Scalar(*scalar)),
+        _ => copy.push(content.duplicate(alloc)?),
+    }
 }

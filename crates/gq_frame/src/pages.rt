@@ -61,6 +61,7 @@ impl Pages {
     }
 
     /// The content at an index. Doesn't allocate.
+    #[inline]
     pub fn at(&self, at: usize) -> &Content
         requires { at < length self.now }
         ensures { slice_get self.now at ≡ Some result.now }
@@ -69,6 +70,7 @@ impl Pages {
     }
 
     /// The content at an index, if there is one. Doesn't allocate.
+    #[inline]
     pub fn get(&self, at: usize) -> Option<&Content>
         ensures { slice_get self.now at ≡ option_copied result }
     {

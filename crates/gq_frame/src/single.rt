@@ -137,6 +137,7 @@ pub(crate) fn set(alloc: Global, single: &mut Single, value: &Value) -> Result<(
 }
 
 /// Makes sure that nothing else refers to a content. A shared one is copied, unless this is its last owner.
+#[inline]
 fn own(alloc: Global, single: &mut Single) -> Result<(), OutOfMemory>
     ensures ok { OnOk result (IsOwnContent single.old single.new) }
     ensures err { OnErr result (single.new ≡ single.old) }
@@ -148,6 +149,7 @@ fn own(alloc: Global, single: &mut Single) -> Result<(), OutOfMemory>
 }
 
 /// Does so for a shared content. On `OutOfMemory` it stays shared.
+#[inline(never)]
 fn take_over(alloc: Global, single: &mut Single) -> Result<(), OutOfMemory>
     ensures ok { OnOk result (IsOwnContent single.old single.new) }
     ensures err { OnErr result (single.new ≡ single.old) }
