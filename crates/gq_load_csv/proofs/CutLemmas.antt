@@ -1,16 +1,17 @@
 -- Cuts: a text that is read by lines, cut behind a line end. The records of the parts, one after the other, are its records.
-use Rattle.std.proofs.Common.{◌≡◌, ℕ, zero, suc, ◌+◌, ◌-◌, ◌<◌, ◌≤◌, List, [], ◌∷◌, ◌++◌, length, Option, Bool, true, false, inl, inr, ◌⊎◌, refl, sym, ap, ap₂, subst, ◌∙◌, arith, take, drop, get_or, add-one}
-use Rattle.std.specs.Prelude.{if◌then◌else◌, ◌&&◌, ◌==◌}
+use Rattle.std.proofs.Common.{◌≡◌, ℕ, zero, suc, ◌+◌, ◌-◌, ◌<◌, ◌≤◌, List, [], ◌∷◌, ◌++◌, length, Option, Some, None, Bool, true, false, inl, inr, ◌⊎◌, refl, sym, ap, ap₂, subst, ◌∙◌, arith, take, drop, get_or, add-one}
+use Rattle.std.specs.Prelude.{if◌then◌else◌, unwrap_or, ◌&&◌, ◌==◌}
 use Rattle.std.specs.List.{list_all}
 use Rattle.std.proofs.Math.Seq.{take-suc}
 use Rattle.std.proofs.lemmas.List.{append-nil, drop_all, take_all, take-append-drop, get_or-drop}
 use Rattle.std.proofs.lemmas.Bool.{cases_Bool}
 use Rattle.std.proofs.lemmas.Bool.Decides.{nat_tests}
 use Rattle.csv.specs.Reading.{records}
+use Rattle.memchr.specs.Find.{IsFirstByte, is_byte}
 use Rattle.gq_load_csv.specs.Lines.{is_plain_byte, line_from}
 use Rattle.gq_load_csv.specs.Cursors.{behind_end}
 use Rattle.gq_load_csv.specs.Records.{config_of}
-use Rattle.gq_load_csv.proofs.LineLemmas.{both, byte_here, end_before, first_line, none_left, turn}
+use Rattle.gq_load_csv.proofs.LineLemmas.{both, end_before, first_line, length_behind, none_left}
 use Rattle.gq_load_csv.proofs.CursorLemmas.{behind_line_is, plain_end}
 
 -- ---- the first line of a text that is cut behind a line end
@@ -69,6 +70,9 @@ plain_front p [] b plain = refl
 plain_front p (c ∷ a) b plain =
     let parts = both (p c) (list_all p (a ++ b)) plain in
     rw (parts.0, plain_front p a b parts.1) refl
+
+pub plain_taken : (p : ℕ → Bool) (n : ℕ) (text : List ℕ) → list_all p text ≡ true → list_all p (take n text) ≡ true
+plain_taken p n text plain = plain_front p (take n text) (drop n text) (ap (list_all p) (take-append-drop n text) ∙ plain)
 
 abbrev Cut : ℕ → Option ℕ → List ℕ → List ℕ → Type 0
 Cut d q a b = records (config_of d q) (a ++ b) ≡ records (config_of d q) a ++ records (config_of d q) b
@@ -153,6 +157,19 @@ cut_end d q text =
     ∙ ap₂ (λ (f r : List (List (List ℕ))). f ++ r) (ap (records (config_of d q)) (sym (take_all (length text) text (omega arith))))
     (sym (ap (records (config_of d q)) (drop_all (length text) text (omega arith)) ∙ none_left d q))
 
--- the byte that a search from a place found
-pub found_at : (text : List ℕ) (size place : ℕ) → get_or (drop size text) place 0 ≡ 10 → get_or text (size + place) 0 ≡ 10
-found_at text size place is = sym (get_or-drop text size place 0) ∙ is
+-- the byte that a search found
+first_is : (o : Option ℕ) (place : ℕ) (hay : List ℕ) → o ≡ Some place → IsFirstByte (is_byte 10) hay o → (place < length hay) × (get_or hay place 0 ≡ 10)
+first_is None place hay e h = absurd (cc)
+first_is (Some k) place hay e h =
+    let same : k ≡ place = ap (λ (o : Option ℕ). unwrap_or o 0) e in
+    let here : get_or hay k 0 ≡ 10 = grind (arith, nat_tests, h.1) in
+    subst (λ (n : ℕ). (n < length hay) × (get_or hay n 0 ≡ 10)) same (h.0.high, here)
+
+-- behind the line end that a search from a place found
+pub cut_found : (d : ℕ) (q : Option ℕ) (text hay : List ℕ) (size place : ℕ) (o : Option ℕ) → hay ≡ take (length text - size) (drop size text) → size < length text
+    → o ≡ Some place → IsFirstByte (is_byte 10) hay o → (10 == d) ≡ false → list_all (is_plain_byte q) text ≡ true → Parts d q text (size + place + 1)
+cut_found d q text hay size place o is low e found line plain =
+    let whole : hay ≡ drop size text = is ∙ take_all (length text - size) (drop size text) (omega (arith, length_behind size text (omega arith))) in
+    let first : (place < length hay) × (get_or hay place 0 ≡ 10) = first_is o place hay e found in
+    let here : get_or text (size + place) 0 ≡ 10 = sym (get_or-drop size text place 0) ∙ ap (λ (h : List ℕ). get_or h place 0) (sym whole) ∙ first.1 in
+    cut_behind d q text (size + place) line plain (omega (arith, first.0, ap length whole, length_behind size text (omega arith))) here
