@@ -4,5 +4,6 @@ pub mod DigitLemmas
 pub mod PartLemmas
 pub mod LineLemmas
 pub mod CursorLemmas
+pub mod CutLemmas
 pub mod BlankLemmas
 pub mod PlainLemmas

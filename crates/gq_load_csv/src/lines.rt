@@ -1,5 +1,5 @@
 // Texts whose records are their lines.
-ghost use Rattle.std.specs.Prelude.{◌≡◌, ◌==◌, ◌+◌, ◌≤◌, ℕ, Bool, Option, [], ◌∷◌, length, drop, slice_index_or, true, false, IfOk, if◌then◌else◌, is_none};
+ghost use Rattle.std.specs.Prelude.{◌≡◌, ◌==◌, ◌+◌, ◌≤◌, ℕ, Bool, Option, [], ◌∷◌, ◌++◌, length, take, drop, slice_index_or, true, false, IfOk, if◌then◌else◌, is_none};
 ghost use Rattle.std.specs.List.{list_all};
 ghost use Rattle.csv.specs.Reading.{records, strip_bom};
 ghost use Rattle.gq_load_csv.specs.Lines as spec;
@@ -72,6 +72,39 @@ pub(crate) fn next_line<'a>(
     let size = read_fields(lines.separator, text, fields)?;
     lines.rest = behind(text, size);
     Ok(true)
+}
+
+/// Takes the lines in about the first `size` bytes of a text, up to a line end, or all of them if there are no more.
+pub(crate) fn cut<'a>(lines: &mut Lines<'a>, size: usize) -> Lines<'a>
+    requires { IsPlain lines.old.separator lines.old.quote lines.old.rest.now }
+    ensures front { IsPlain result.separator result.quote result.rest.now }
+    ensures behind { IsPlain lines.new.separator lines.new.quote lines.new.rest.now }
+    ensures all { lines_left lines.old ≡ lines_left result ++ lines_left lines.new }
+{
+    let text = lines.rest;
+    let place = cut_place(text, size);
+    lines.rest = &text[place..];
+    Lines {
+        rest: &text[..place],
+        separator: lines.separator,
+        quote: lines.quote,
+    }
+}
+
+/// The first place from `size` on that is behind a line end, or the end of the text.
+fn cut_place(text: &[u8], size: usize) -> usize
+    ensures within { result ≤ length text.now }
+    ensures all { (separator : ℕ) (quote : Option ℕ) → IsPlain separator quote text.now →
+        records (config_of separator quote) text.now ≡
+        records (config_of separator quote) (take result text.now) ++ records (config_of separator quote) (drop result text.now) }
+{
+    if size >= text.len() {
+        return text.len();
+    }
+    match memchr(b'\n', &text[size..]) {
+        Some(place) => size + place + 1,
+        None => text.len(),
+    }
 }
 
 /// Skips the line ends at the beginning of a text.

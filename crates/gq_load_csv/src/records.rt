@@ -1,11 +1,11 @@
 // The records of a file.
-ghost use Rattle.std.specs.Prelude.{◌≡◌, [], ◌∷◌, Some, IfOk, IfSome, if◌then◌else◌};
-ghost use Rattle.gq_load_csv.specs.Lines.{left_in, IsOpen};
+ghost use Rattle.std.specs.Prelude.{◌≡◌, [], ◌∷◌, ◌++◌, Some, IfOk, IfNone, IfSome, if◌then◌else◌};
+ghost use Rattle.gq_load_csv.specs.Lines.{left_in, lines_left, IsOpen, IsPlain};
 ghost use Rattle.gq_load_csv.specs.Records.{records_of};
 ghost use Rattle.gq_load_csv.specs.Unread.{unread, Reads};
 
 use crate::line::{Line, line_of};
-use crate::lines::{Lines, is_plain};
+use crate::lines::{Lines, cut, is_plain};
 use crate::record::Record;
 use csv::{Reader, ReaderBuilder};
 use gq_base::OutOfMemory;
@@ -62,6 +62,27 @@ impl<'a> Records<'a> {
         next_of(&mut self.source, row)
     }
 
+    /// How many bytes are left, if the file is read by lines. It says nothing about the records.
+    pub fn size(&self) -> Option<usize> {
+        match &self.source {
+            Source::Plain(lines) => Some(lines.rest.len()),
+            Source::Any(_) => None,
+        }
+    }
+
+    /// Takes the records in about the next `size` bytes, if the file is read by lines. None says nothing about them.
+    pub fn cut(&mut self, size: usize) -> Option<Records<'a>>
+        ensures some { IfSome result (λ front. self.old ≡ front ++ self.new) }
+        ensures none { IfNone result (self.new ≡ self.old) }
+    {
+        match cut_lines(&mut self.source, size) {
+            Some(lines) => Some(Records {
+                source: Source::Plain(lines),
+            }),
+            None => None,
+        }
+    }
+
     /// The next record as a line, if the file is read by lines. None says nothing about the records.
     #[inline(always)]
     pub fn line(&self) -> Option<Line<'a>>
@@ -99,6 +120,20 @@ fn reader_of<'a>(
         .quote(quote.unwrap_or(b'"'))
         .quoting(quote.is_some())
         .from_reader(alloc, bytes)
+}
+
+/// Takes the lines in about the next `size` bytes of a source, if it has lines.
+fn cut_lines<'a>(source: &mut Source<'a>, size: usize) -> Option<Lines<'a>>
+    requires { IsOpen source.old }
+    ensures open { IsOpen source.new }
+    ensures plain { IfSome result (λ front. IsPlain front.separator front.quote front.rest.now) }
+    ensures some { IfSome result (λ front. left_in source.old ≡ lines_left front ++ left_in source.new) }
+    ensures none { IfNone result (source.new ≡ source.old) }
+{
+    match source {
+        Source::Plain(lines) => Some(cut(lines, size)),
+        Source::Any(_) => None,
+    }
 }
 
 fn next_of<'a>(source: &mut Source<'a>, row: &mut Record<'a>) -> Result<bool, OutOfMemory>
