@@ -1,5 +1,5 @@
 -- ColumnLemmas: what the accumulators of a slot are, side by side.
-use Rattle.std.proofs.Common.{◌≡◌, ℕ, ◌+◌, Bool, List, [], ◌∷◌, ◌++◌, length, Option, Some, None, refl, sym, ap, subst, ◌∙◌, arith}
+use Rattle.std.proofs.Common.{◌≡◌, ℕ, ◌+◌, Bool, List, [], ◌∷◌, ◌++◌, length, Option, Some, None, refl, sym, ap, subst, ◌∙◌, arith, inl, inr}
 use Rattle.std.specs.Prelude.{ℤ, IfSome, slice_get}
 use Rattle.gq_nest.specs.declared.content.Content.{Content}
 use Rattle.gq_graph.specs.declared.rows.Candidate.{Candidate}
@@ -9,7 +9,7 @@ use Rattle.gq_frame.specs.declared.accums.Accums.{Accums}
 use Rattle.gq_exec_contribute.specs.declared.columns.Column.{Column}
 use Rattle.gq_exec_contribute.specs.declared.filters.EndCell.{EndCell}
 use Rattle.gq_exec_contribute.specs.declared.leaves.Leaves.{Leaves}
-use Rattle.gq_exec_contribute.specs.Columns.{AreInts, AreTruths, IsColumn, IsListed, StandsInt, StandsTruth}
+use Rattle.gq_exec_contribute.specs.Columns.{AreInts, AreTruths, HasInt, IsColumn, ListsInt, ListsTruth, StandsInt, StandsTruth}
 use Rattle.gq_exec_contribute.specs.Filters.{IsEndCell, StandsAtEnd, end_tree}
 use Rattle.gq_exec_contribute.specs.Prepared.{HoldsInt, HoldsTruth, IsInt, IsTruth, StandsAt, sees_in}
 use Rattle.gq_exec_contribute.proofs.CellLemmas.{get_pushed, longer}
@@ -49,25 +49,34 @@ truths_none a n bs e = (list_none (StandsTruth a n) bs e).each
 
 -- ---- a column
 
-pub ints_column : (a : Accums) (m : Column) → AreInts a m.slot m.ints → m.truths ≡ [] → IsColumn a m
-ints_column a m ints none = record { ints = ints; truths = truths_none a m.slot m.truths none }
+pub ints_column : (a : Accums) (m : Column) → AreInts a m.slot m.ints → m.shorts ≡ [] → m.truths ≡ [] → IsColumn a m
+ints_column a m ints none nor = record { ints = ints; shorts = ints_none a m.slot m.shorts none; truths = truths_none a m.slot m.truths nor }
 
-pub truths_column : (a : Accums) (m : Column) → m.ints ≡ [] → AreTruths a m.slot m.truths → IsColumn a m
-truths_column a m none truths = record { ints = ints_none a m.slot m.ints none; truths = truths }
+pub shorts_column : (a : Accums) (m : Column) (ints : List ℤ) → AreInts a m.slot ints → m.ints ≡ [] → m.shorts ≡ ints → m.truths ≡ [] → IsColumn a m
+shorts_column a m ints are none same nor = record { ints = ints_none a m.slot m.ints none; shorts = subst (AreInts a m.slot) (sym same) are; truths = truths_none a m.slot m.truths nor }
 
-pub no_column : (a : Accums) (m : Column) → m.ints ≡ [] → m.truths ≡ [] → IsColumn a m
-no_column a m none nor = ints_column a m (ints_none a m.slot m.ints none) nor
+pub truths_column : (a : Accums) (m : Column) → m.ints ≡ [] → m.shorts ≡ [] → AreTruths a m.slot m.truths → IsColumn a m
+truths_column a m none nor truths = record { ints = ints_none a m.slot m.ints none; shorts = ints_none a m.slot m.shorts nor; truths = truths }
+
+pub no_column : (a : Accums) (m : Column) → m.ints ≡ [] → m.shorts ≡ [] → m.truths ≡ [] → IsColumn a m
+no_column a m none nor neither = ints_column a m (ints_none a m.slot m.ints none) nor neither
+
+pub ruleset column_laws = (ints_column, shorts_column, truths_column, no_column)
+
+pub has_int : (a : Accums) (m : Column) (v : ℕ) (x : ℤ) → IsColumn a m → HasInt m v x → StandsInt a m.slot v x
+has_int a m v x column (inl there) = column.shorts v x there
+has_int a m v x column (inr there) = column.ints v x there
 
 -- ---- what an end reads as
 
 module _ (clock : Calendar) (o : Over) (l : Leaves) (accums : Accums) (c : Candidate) (e : EndCell) (m : Column) (cell : IsEndCell l e) (column : IsColumn accums m) where
-  pub column_int : (x : ℤ) → IsListed m.slot m.ints e c x → IsInt (sees_in clock o l accums c) (end_tree e) x
+  pub column_int : (x : ℤ) → ListsInt m e c x → IsInt (sees_in clock o l accums c) (end_tree e) x
   column_int x h =
-      let s = column.ints h.vertex x h.there in
+      let s = has_int accums m h.vertex x column h.there in
       let at = subst (λ (n : ℕ). StandsAt accums n h.vertex s.content) h.slot s.stands in
       end_int clock o l accums c e s.content cell (record { vertex = h.vertex; at = h.at; stands = at }) (Some x) s.holds
 
-  pub column_truth : (b : Bool) → IsListed m.slot m.truths e c b → IsTruth (sees_in clock o l accums c) (end_tree e) b
+  pub column_truth : (b : Bool) → ListsTruth m e c b → IsTruth (sees_in clock o l accums c) (end_tree e) b
   column_truth b h =
       let s = column.truths h.vertex b h.there in
       let at = subst (λ (n : ℕ). StandsAt accums n h.vertex s.content) h.slot s.stands in

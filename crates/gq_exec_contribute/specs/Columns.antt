@@ -1,5 +1,5 @@
 -- Columns: what the accumulators of a slot are, side by side, by number of vertex.
-use Rattle.std.specs.Prelude.{◌≡◌, ℕ, ℤ, Bool, List, Some, slice_get}
+use Rattle.std.specs.Prelude.{◌≡◌, ◌⊎◌, ℕ, ℤ, Bool, List, Some, slice_get}
 use Rattle.gq_nest.specs.declared.content.Content.{Content}
 use Rattle.gq_graph.specs.declared.rows.Candidate.{Candidate}
 use Rattle.gq_frame.specs.declared.accums.Accums.{Accums}
@@ -26,14 +26,25 @@ AreInts a n xs = (v : ℕ) (x : ℤ) → slice_get xs v ≡ Some x → StandsInt
 abbrev pub AreTruths : Accums → ℕ → List Bool → Type 0
 AreTruths a n bs = (v : ℕ) (b : Bool) → slice_get bs v ≡ Some b → StandsTruth a n v b
 
--- a column has what these accumulators are
+-- a column lists what these accumulators are
 pub record IsColumn (a : Accums) (m : Column) : Type 0 where
   pub ints : AreInts a m.slot m.ints
+  pub shorts : AreInts a m.slot m.shorts
   pub truths : AreTruths a m.slot m.truths
 
--- a list of a slot has x for the accumulator of an end
-pub record IsListed {A : Type 0} (n : ℕ) (xs : List A) (e : EndCell) (c : Candidate) (x : A) : Type 0 where
+-- it has this INT for a vertex
+abbrev pub HasInt : Column → ℕ → ℤ → Type 0
+HasInt m v x = (slice_get m.shorts v ≡ Some x) ⊎ (slice_get m.ints v ≡ Some x)
+
+-- it has this INT, or this truth, for the accumulator of an end
+pub record ListsInt (m : Column) (e : EndCell) (c : Candidate) (x : ℤ) : Type 0 where
   pub vertex : ℕ
   pub at : end_vertex e.is_target c ≡ Some vertex
-  pub slot : n ≡ e.slot
-  pub there : slice_get xs vertex ≡ Some x
+  pub slot : m.slot ≡ e.slot
+  pub there : HasInt m vertex x
+
+pub record ListsTruth (m : Column) (e : EndCell) (c : Candidate) (b : Bool) : Type 0 where
+  pub vertex : ℕ
+  pub at : end_vertex e.is_target c ≡ Some vertex
+  pub slot : m.slot ≡ e.slot
+  pub there : slice_get m.truths vertex ≡ Some b

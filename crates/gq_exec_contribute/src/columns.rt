@@ -1,10 +1,11 @@
 // The INTs or truths of a slot's accumulators, side by side.
 //
 // WHERE of a block reads the accumulators from before the block, those of targets in no order, and most of them many
-// times. A content takes 48 bytes, an INT 8 and a truth 1: so a column has room in a cache where contents haven't.
-ghost use Rattle.std.specs.Prelude.{IfOk, IfSome};
+// times. A content takes 48 bytes, an INT 8, or 4 if all are short, and a truth 1: so a column has room in a cache where
+// contents haven't.
+ghost use Rattle.std.specs.Prelude.{◌≡◌, IfOk, IfSome};
 ghost use Rattle.gq_frame.specs.Slots.{AreSound};
-ghost use Rattle.gq_exec_contribute.specs.Columns.{AreInts, AreTruths, IsColumn, IsListed, StandsInt, StandsTruth};
+ghost use Rattle.gq_exec_contribute.specs.Columns.{AreInts, AreTruths, HasInt, IsColumn, ListsInt, ListsTruth, StandsInt, StandsTruth};
 ghost use Rattle.gq_exec_contribute.specs.Prepared.{AreAllCells, AreFound};
 
 use crate::cells::{Cells, content_in, int_in, truth_in};
@@ -16,11 +17,14 @@ use gq_frame::Accums;
 use gq_graph::Candidate;
 use std::alloc::Global;
 
-/// What the accumulators of a slot are before a block, by number of vertex: all INTs, all truths, or nothing.
+/// What the accumulators of a slot are before a block, by number of vertex. At most one of the lists has anything.
 #[derive(Drop)]
 pub struct Column {
     pub slot: u32,
     pub ints: List<i64>,
+
+    /// INTs that all have at most 32 bits.
+    pub shorts: List<i32>,
     pub truths: List<bool>,
 }
 
@@ -28,7 +32,7 @@ impl Column {
     /// Whether it has what the accumulators of these cells are.
     pub fn covers(&self, cells: &Cells) -> bool {
         let count = cells.targets as usize;
-        self.ints.len() == count || self.truths.len() == count
+        self.ints.len() == count || self.shorts.len() == count || self.truths.len() == count
     }
 }
 
@@ -69,6 +73,7 @@ fn column_in(
         None => Ok(Column {
             slot: 0,
             ints: List::new(alloc),
+            shorts: List::new(alloc),
             truths: List::new(alloc),
         }),
         Some(filter) => match filter {
@@ -95,11 +100,21 @@ fn ints_column(
     requires cells { AreAllCells accums.now.slots cells.now }
     ensures { IfOk result (IsColumn accums.now) }
 {
-    Ok(Column {
-        slot: at.slot,
-        ints: ints_of(alloc, accums, cells, at, candidates)?,
-        truths: List::new(alloc),
-    })
+    let ints = ints_of(alloc, accums, cells, at, candidates)?;
+    match shortened(alloc, ints.as_slice())? {
+        Some(shorts) => Ok(Column {
+            slot: at.slot,
+            ints: List::new(alloc),
+            shorts,
+            truths: List::new(alloc),
+        }),
+        None => Ok(Column {
+            slot: at.slot,
+            ints,
+            shorts: List::new(alloc),
+            truths: List::new(alloc),
+        }),
+    }
 }
 
 /// The column of an accumulator that is a truth.
@@ -117,6 +132,7 @@ fn truths_column(
     Ok(Column {
         slot: at.slot,
         ints: List::new(alloc),
+        shorts: List::new(alloc),
         truths: truths_of(alloc, accums, cells, at, candidates)?,
     })
 }
@@ -144,6 +160,20 @@ fn ints_of(
         }
     }
     Ok(ints)
+}
+
+/// The same INTs, if all have at most 32 bits.
+fn shortened(alloc: Global, ints: &[i64]) -> Result<Option<List<i32>>, OutOfMemory>
+    ensures { IfOk result (λ found. IfSome found (λ shorts. shorts ≡ ints.now)) }
+{
+    let mut shorts = List::new(alloc);
+    for x in ints {
+        match i32::try_from(*x) {
+            Ok(x) => shorts.push(x)?,
+            Err(_) => return Ok(None),
+        }
+    }
+    Ok(Some(shorts))
 }
 
 /// The truths of a slot's accumulators; none if one of them isn't a truth, or if there are fewer candidates.
@@ -197,23 +227,33 @@ fn truth_there(accums: &Accums, cells: &List<Cells>, slot: u32, vertex: u32) -> 
 
 /// The INT of an accumulator of an end, if the column has it.
 pub(crate) fn listed_int(column: &Column, at: &EndCell, c: &Candidate) -> Option<i64>
-    ensures { IfSome result (IsListed column.now.slot column.now.ints at.now c.now) }
+    ensures { IfSome result (ListsInt column.now at.now c.now) }
 {
     if column.slot != at.slot {
         return None;
     }
     match end_vertex(at.is_target, c) {
         None => None,
-        Some(vertex) => match column.ints.get(vertex as usize) {
-            None => None,
+        Some(vertex) => int_of_vertex(column, vertex),
+    }
+}
+
+/// The INT of a vertex.
+fn int_of_vertex(column: &Column, vertex: u32) -> Option<i64>
+    ensures { IfSome result (HasInt column.now vertex) }
+{
+    match column.shorts.get(vertex as usize) {
+        Some(x) => Some(i64::from(*x)),
+        None => match column.ints.get(vertex as usize) {
             Some(x) => Some(*x),
+            None => None,
         },
     }
 }
 
 /// The truth of an accumulator of an end, if the column has it.
 pub(crate) fn listed_truth(column: &Column, at: &EndCell, c: &Candidate) -> Option<bool>
-    ensures { IfSome result (IsListed column.now.slot column.now.truths at.now c.now) }
+    ensures { IfSome result (ListsTruth column.now at.now c.now) }
 {
     if column.slot != at.slot {
         return None;
