@@ -1,5 +1,5 @@
 // HAVING.
-ghost use Rattle.std.specs.Prelude.{◌≡◌, ◌++◌, [], ◌∷◌, IfOk, IfSome, OnOk, Some, cond, map};
+ghost use Rattle.std.specs.Prelude.{◌≡◌, ◌++◌, [], ◌∷◌, IfSome, OnOk, Some, cond, map};
 ghost use Rattle.std.specs.Option.{option_map};
 ghost use Rattle.gq_rules_meaning.specs.Blocks.{passes};
 ghost use Rattle.gq_rules_meaning.specs.Expressions.{truth_of};
@@ -22,7 +22,7 @@ use gq_eval::run_truth;
 use gq_eval_context::{BlockContext, BlockFault, fault_at};
 use gq_eval_operand::Halt;
 use gq_exec_contribute::{Leaves, leaves_of, truth_at};
-use gq_exec_source::{End, Ends};
+use gq_exec_source::{End, as_source};
 use gq_frame::{Accums, Alias};
 use gq_plan_ir::{Expr, Walk};
 use std::alloc::Global;
@@ -62,7 +62,7 @@ fn holding(
     requires { AreSound accums.now }
     ensures { Answered itself (passing (vertex_look gregorian over.now accums.now end.now) (Some (view expr.now)) vertices.now) result }
 {
-    match alone(alloc, end) {
+    match as_source(alloc, end) {
         Err(_) => Err(BlockFault::OutOfMemory),
         Ok(ends) => match leaves_of(alloc, &accums.slots, &Walk::Nowhere, &ends) {
             Err(_) => Err(BlockFault::OutOfMemory),
@@ -72,23 +72,6 @@ fn holding(
             }
         },
     }
-}
-
-/// A copy of an end as the source, and a target without an alias.
-fn alone(alloc: Global, end: &End) -> Result<Ends, OutOfMemory>
-    ensures { IfOk result (λ ends. ends.source ≡ end.now) }
-{
-    let types = List::from_slice(alloc, end.types.as_slice())?;
-    Ok(Ends {
-        source: End {
-            alias: end.alias,
-            types,
-        },
-        target: End {
-            alias: None,
-            types: List::new(alloc),
-        },
-    })
 }
 
 /// Returns the vertices where a condition holds, in order.

@@ -14,8 +14,8 @@
 //! faults, overflows, and values that aren't INTs, truths or vertices are left to the evaluation. Inputs
 //! of maps, groups and heaps that are made of INTs are kept as INTs (`src/rows.rt`), and become rows of values only
 //! when they are fed. Read `specs/Prepared.antt` first; the code begins in `src/gathering.rt` (ACCUM), `src/truths.rt`
-//! (WHERE) and `src/vertex.rt` (POST-ACCUM), and `src/leaves.rt` resolves names and accumulators. `src/filters.rt`
-//! resolves a WHERE over accumulators of the ends as a whole.
+//! (WHERE) and `src/vertex.rt` (POST-ACCUM, HAVING and ORDER BY), and `src/leaves.rt` resolves names and accumulators.
+//! `src/filters.rt` resolves a WHERE over accumulators of the ends as a whole.
 #![tactic(auto)]
 
 mod acts;
@@ -55,5 +55,5 @@ pub use leaves::{Leaves, leaves_of};
 pub use rows::Ints;
 pub use scalars::{ScalarInput, feed_scalars, input_of};
 pub use truths::passes;
-pub use vertex::{added_at, truth_at};
+pub use vertex::{added_at, int_at, truth_at};
 pub use waiting::WaitingInputs;

@@ -1,10 +1,11 @@
-// Reads conditions and inputs of POST-ACCUM.
+// Reads expressions at one vertex: conditions and inputs of POST-ACCUM, the condition of HAVING, keys of ORDER BY.
 ghost use Rattle.std.specs.Prelude.{◌≡◌, IfSome};
 ghost use Rattle.gq_rules_calendar.specs.Gregorian.{gregorian};
 ghost use Rattle.gq_plan_ir.specs.BlockView.{view_change};
 ghost use Rattle.gq_plan_ir.specs.ExprView.{view};
-ghost use Rattle.gq_exec_contribute.specs.Prepared.{AreIn, IsAdded, IsTruth, only_source, sees_at};
+ghost use Rattle.gq_exec_contribute.specs.Prepared.{AreIn, IsAdded, IsInt, IsTruth, only_source, sees_at};
 
+use crate::arithmetic::read_int;
 use crate::gathering::added;
 use crate::leaves::Leaves;
 use crate::reading::read;
@@ -31,6 +32,22 @@ pub fn truth_at(
 {
     let c = only_source(vertex);
     truth(expr, alloc, over, leaves, accums, &c)
+}
+
+/// Reads the INT of an expression at a vertex, which the alias of the source is bound to, with the current accumulators.
+/// `None` if it can't be read; nothing is evaluated. Allocates nothing.
+pub fn int_at(
+    expr: &Expr,
+    over: &BlockContext<'_>,
+    leaves: &Leaves<'_>,
+    accums: &Accums,
+    vertex: u32,
+) -> Option<i64>
+    requires { AreIn accums.now leaves.now }
+    ensures { IfSome result (IsInt (sees_at gregorian over.now leaves.now accums.now vertex) (view expr.now)) }
+{
+    let c = only_source(vertex);
+    read_int(expr, over, leaves, accums, &c)
 }
 
 /// Reads the input of a `+=` to the accumulator of a slot at a vertex, with the current accumulators. `None` for `=`, and

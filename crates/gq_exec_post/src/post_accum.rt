@@ -19,10 +19,9 @@ use crate::phases::{for_target, run_of};
 use crate::vertices::run_vertices;
 use crate::waiting::none;
 use crate::writing::Writing;
-use gq_base::{List, OutOfMemory};
 use gq_eval_context::{After, BlockContext, BlockFault};
 use gq_exec_contribute::{Leaves, leaves_of};
-use gq_exec_source::{End, Ends, selects_target};
+use gq_exec_source::{End, Ends, as_source, selects_target};
 use gq_frame::Accums;
 use gq_plan_ir::{Act, Block, Walk};
 use std::alloc::Global;
@@ -132,7 +131,7 @@ fn phase_at(
     ensures told { RunsAt gregorian over.now end.now (view_acts acts.now) vertices.now accums result }
     ensures keeps { IfOk result (KeepsTo accums) }
 {
-    match alone(alloc, end) {
+    match as_source(alloc, end) {
         Err(_) => Err(BlockFault::OutOfMemory),
         Ok(ends) => match leaves_of(alloc, &accums.slots, &Walk::Nowhere, &ends) {
             Err(_) => Err(BlockFault::OutOfMemory),
@@ -165,21 +164,4 @@ fn vertices_at(
         Err(fault) => Err(fault),
         Ok(()) => fed(alloc, writing),
     }
-}
-
-/// A copy of an end as the source, and a target without an alias.
-fn alone(alloc: Global, end: &End) -> Result<Ends, OutOfMemory>
-    ensures { IfOk result (λ ends. ends.source ≡ end.now) }
-{
-    let types = List::from_slice(alloc, end.types.as_slice())?;
-    Ok(Ends {
-        source: End {
-            alias: end.alias,
-            types,
-        },
-        target: End {
-            alias: None,
-            types: List::new(alloc),
-        },
-    })
 }

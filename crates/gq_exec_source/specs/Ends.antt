@@ -1,5 +1,5 @@
 -- Ends: the ends of a block's candidates, as the definitions have them.
-use Rattle.std.specs.Prelude.{◌≡◌, ℕ, Bool, true, false, List, [], Option, Some}
+use Rattle.std.specs.Prelude.{◌≡◌, ℕ, Bool, true, false, List, [], Option, Some, None}
 use Rattle.std.specs.Option.{option_map}
 use Rattle.gq_graph.specs.Catalog.{Schema}
 use Rattle.gq_graph.specs.declared.rows.VertexRow.{VertexRow}
@@ -29,6 +29,10 @@ end_things e v = option_map (λ place. (place, AVertex e.types v)) e.alias
 abbrev pub end_at : Ends → Bool → End
 end_at e true = e.target
 end_at e false = e.source
+
+-- an end as the source, and a target without an alias
+abbrev pub as_source : End → Ends
+as_source e = record { source = e; target = record { alias = None; types = [] } }
 
 -- these are the ends in the definitions
 pub record AreEnds (e : Ends) (f : From Reference) : Type 0 where

@@ -7,7 +7,7 @@ ghost use Rattle.gq_plan_ir.specs.BlockView.{view_block, view_path_step, view_wa
 ghost use Rattle.gq_plan_ir.specs.Reference.{Place};
 ghost use Rattle.gq_plan_ir.specs.References.{same};
 ghost use Rattle.gq_frame.specs.Names.{alias_of};
-ghost use Rattle.gq_exec_source.specs.Ends.{HasEnds, end_things};
+ghost use Rattle.gq_exec_source.specs.Ends.{HasEnds, as_source, end_things};
 
 use crate::patterns::end_types;
 use crate::sources::types_from;
@@ -96,4 +96,21 @@ pub fn ends_of(
         types: end_types(alloc, catalog, plan, &block.walk)?,
     };
     Ok(Ends { source, target })
+}
+
+/// A copy of an end as the source, and a target without an alias.
+pub fn as_source(alloc: Global, end: &End) -> Result<Ends, OutOfMemory>
+    ensures { IfOk result (λ ends. ends ≡ as_source end.now) }
+{
+    let types = List::from_slice(alloc, end.types.as_slice())?;
+    Ok(Ends {
+        source: End {
+            alias: end.alias,
+            types,
+        },
+        target: End {
+            alias: None,
+            types: List::new(alloc),
+        },
+    })
 }

@@ -39,7 +39,7 @@ mod types;
 mod walks;
 
 pub use candidates::candidates_of;
-pub use ends::{End, Ends, ends_of, selects_target};
+pub use ends::{End, Ends, as_source, ends_of, selects_target};
 pub use marks::{is_marked, listed, mark, unmarked};
 pub use path_types::{PathPattern, PathStep, PathsFault};
 pub use paths::{MOST_PATHS, Paths};
