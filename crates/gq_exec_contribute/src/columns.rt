@@ -48,13 +48,7 @@ pub fn column_of(
     requires { AreFound over.now leaves.now }
     ensures { IfOk result (IsColumn over.now.frame.accums) }
 {
-    column_in(
-        alloc,
-        filter,
-        &over.frame.accums,
-        &leaves.cells,
-        candidates,
-    )
+    column_in(alloc, filter, &over.frame.accums, &leaves.cells, candidates)
 }
 
 /// The column of a slot of these accumulators.
