@@ -4,11 +4,10 @@
 // so the processor waits for many at once, and has them in the cache when the candidates are tried. Sources come in
 // order, so theirs are near each other.
 use crate::rounds::Work;
-use crate::wanted::Wanted;
 use gq_base::{List, OutOfMemory};
 use gq_edge::Edges;
 use gq_eval_context::BlockContext;
-use gq_exec_contribute::{Cells, keep, touch};
+use gq_exec_contribute::{Cells, Column, keep, touch};
 use gq_frame::Accums;
 use gq_graph::Steps;
 use gq_index::{Candidates, Cursor};
@@ -53,7 +52,7 @@ fn read_up_to(
     if work.wanted.target() {
         list(&work.candidates, start, end, true, room)?;
         let numbers = room.as_slice();
-        keep(targets(&work.wanted, &store.vertices, &over.frame.accums, numbers));
+        keep(targets(work, &store.vertices, &over.frame.accums, numbers));
     }
     Ok(())
 }
@@ -122,7 +121,8 @@ fn weight(value: &Value) -> u64 {
 }
 
 /// Reads what a block wants of targets.
-fn targets(wanted: &Wanted, vertices: &Vertices, accums: &Accums, numbers: &[u32]) -> u64 {
+fn targets(work: &Work<'_>, vertices: &Vertices, accums: &Accums, numbers: &[u32]) -> u64 {
+    let wanted = &work.wanted;
     let mut sum = 0u64;
     if wanted.row || wanted.id {
         sum = sum.wrapping_add(heads(vertices, numbers));
@@ -135,6 +135,9 @@ fn targets(wanted: &Wanted, vertices: &Vertices, accums: &Accums, numbers: &[u32
     }
     for cells in wanted.cells.as_slice() {
         sum = sum.wrapping_add(contents(accums, cells, numbers));
+    }
+    if wanted.column {
+        sum = sum.wrapping_add(listed(&work.column, numbers));
     }
     sum
 }
@@ -188,4 +191,27 @@ fn contents(accums: &Accums, cells: &Cells, numbers: &[u32]) -> u64 {
         sum = sum.wrapping_add(touch(accums, cells, *vertex));
     }
     sum
+}
+
+/// Reads what a column has for each vertex.
+fn listed(column: &Column, numbers: &[u32]) -> u64 {
+    let mut sum = 0u64;
+    for vertex in numbers {
+        sum = sum.wrapping_add(listed_at(column, *vertex as usize));
+    }
+    sum
+}
+
+/// Reads what a column has at a place.
+fn listed_at(column: &Column, place: usize) -> u64 {
+    match column.shorts.get(place) {
+        Some(x) => u64::from(*x > 0),
+        None => match column.ints.get(place) {
+            Some(x) => u64::from(*x > 0),
+            None => match column.truths.get(place) {
+                Some(truth) => u64::from(*truth),
+                None => 0,
+            },
+        },
+    }
 }

@@ -20,17 +20,23 @@ pub(crate) struct Wanted {
 
     /// The accumulators of the target that they read.
     pub cells: List<Cells>,
+
+    /// Whether they read the column, and it is too large for a cache.
+    pub column: bool,
 }
+
+/// A column of so many bytes has room in a cache near the processor, and isn't read ahead.
+const NEAR: usize = 1 << 20;
 
 impl Wanted {
     /// Whether something of the target is read.
     pub fn target(&self) -> bool {
-        self.row || self.id || self.cells.len() > 0
+        self.row || self.id || self.column || self.cells.len() > 0
     }
 }
 
-/// What a block reads. With WHERE it is what WHERE reads, since many candidates may be filtered out. What only the
-/// column has to be read for is left out: most of it is in a cache.
+/// What a block reads. With WHERE it is what WHERE reads, since many candidates may be filtered out. What the column has
+/// is read there.
 pub(crate) fn wanted_by(
     alloc: Global,
     block: &Block,
@@ -43,6 +49,7 @@ pub(crate) fn wanted_by(
         row: false,
         id: false,
         cells: List::new(alloc),
+        column: false,
     };
     match &block.filter {
         Some(filter) => add_expr(filter, leaves, graph, &mut wanted)?,
@@ -50,6 +57,7 @@ pub(crate) fn wanted_by(
     }
     if are_in(wanted.cells.as_slice(), column) {
         wanted.cells.truncate(0);
+        wanted.column = bytes_of(column) > NEAR;
     }
     Ok(wanted)
 }
@@ -60,6 +68,13 @@ fn are_in(cells: &[Cells], column: &Column) -> bool {
         [cells] => column.covers(cells),
         _ => false,
     }
+}
+
+/// The bytes that a column takes.
+fn bytes_of(column: &Column) -> usize {
+    let ints = column.ints.len().saturating_mul(8);
+    let shorts = column.shorts.len().saturating_mul(4);
+    ints.max(shorts).max(column.truths.len())
 }
 
 /// Adds what acts read. Acts within IF aren't looked at.
