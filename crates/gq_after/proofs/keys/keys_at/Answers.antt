@@ -1,22 +1,8 @@
-use Rattle.std.proofs.Common.{ℕ, Option, map, subst}
-use Rattle.gq_value.specs.Views.{val}
-use Rattle.gq_rules_meaning.specs.Answers.{each}
-use Rattle.gq_rules_meaning.specs.Expressions.{value_of}
-use Rattle.gq_rules_calendar.specs.Gregorian.{gregorian}
-use Rattle.gq_plan_ir.specs.ExprView.{view}
-use Rattle.gq_eval_operand.specs.Meant.{Tells}
-use Rattle.gq_frame.specs.Names.{Placed}
-use Rattle.gq_eval_context.specs.Viewed.{viewed}
-use Rattle.gq_eval_context.specs.Looks.{look_of}
-use Rattle.gq_after.specs.Sights.{one_alias}
+use Rattle.std.proofs.Common.{◌<◌, length, refl, sym, ◌∙◌, arith}
+use Rattle.gq_after.proofs.BeforeLemmas.{key_lacks}
 use Rattle.gq_after.proofs.keys.keys_at.Goals as goal
 
-pub returns-in-Some : goal.returns-in-Some
-returns-in-Some c =
-    subst (λ (o : Option (ℕ × Placed)). Tells (map val) (each (λ key. value_of (look_of gregorian (viewed c.args.over.now (one_alias o) c.args.accums.now c.args.accums.now)) (view key.0)) c.args.order.now) c.keys_under.result)
-    c.in-Some.ensures c.keys_under.ensures
-
-pub returns-in-None : goal.returns-in-None
-returns-in-None c =
-    subst (λ (o : Option (ℕ × Placed)). Tells (map val) (each (λ key. value_of (look_of gregorian (viewed c.args.over.now (one_alias o) c.args.accums.now c.args.accums.now)) (view key.0)) c.args.order.now) c.keys_under-in-None.result)
-    c.in-None.ensures c.keys_under-in-None.ensures
+pub key_at-requires-clause-lacks : goal.key_at-requires-clause-lacks
+key_at-requires-clause-lacks c e =
+    let n : c.loop-key.key-index < length c.args.order.now = omega arith in
+    key_lacks c.args.order.now c.loop-key.key-index _ (sym c.requires.has ∙ e) n refl
