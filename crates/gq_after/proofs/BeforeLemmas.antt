@@ -133,10 +133,13 @@ keys_last = last (λ ks. before_in_keys (order_of ks)) refl
 pub ruleset keys_laws = (keys_there, keys_next, keys_last)
 
 -- if none has one, the one at a place has none
-pub key_lacks : (ks : List (Expr × Bool)) (i : ℕ) (k : Expr × Bool) → before_in_keys (order_of ks) ≡ false → i < length ks → k ≡ get_or ks i k → before_in (view k.0) ≡ false
+key_lacks : (ks : List (Expr × Bool)) (i : ℕ) (k : Expr × Bool) → before_in_keys (order_of ks) ≡ false → i < length ks → k ≡ get_or ks i k → before_in (view k.0) ≡ false
 key_lacks [] i k h n is = absurd (omega (arith, n))
 key_lacks (k' ∷ ks) zero k h n is = ap (λ (x : Expr × Bool). before_in (view x.0)) is ∙ first_lacks _ _ h
 key_lacks (k' ∷ ks) (suc i) k h n is = key_lacks ks i k (others_lack _ _ h) (omega (arith, n)) is
+
+pub keys_lack : (ks : List (Expr × Bool)) (i : ℕ) (k : Expr × Bool) (b : Bool) → b ≡ before_in_keys (order_of ks) → i < length ks → k ≡ get_or ks i k → b ≡ false → before_in (view k.0) ≡ false
+keys_lack ks i k b has n is lacks = key_lacks ks i k (sym has ∙ lacks) n is
 
 -- ---- an expression without one means the same, whatever the accumulators from before the block are
 

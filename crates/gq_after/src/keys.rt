@@ -89,7 +89,7 @@ fn rows_of(
 }
 
 /// Returns the keys of a vertex, in order.
-#[tactic(auto, using(crate::proofs::KeyLemmas::key_laws))]
+#[tactic(auto, using(crate::proofs::KeyLemmas::key_laws, crate::proofs::BeforeLemmas::keys_lack))]
 fn keys_at(
     order: &[(Expr, bool)],
     before: bool,
