@@ -333,11 +333,7 @@ fn copied(alloc: Global, contents: &[Content]) -> Result<List<Content>, OutOfMem
 /// Appends a copy of a content. A number or truth value goes from its place to its new one at once.
 #[inline]
 #[tactic(auto, using(crate::proofs::OpenSteps::shows_itself, crate::proofs::PageLemmas::adds_same))]
-fn push_copy(
-    alloc: Global,
-    copy: &mut List<Content>,
-    content: &Content,
-) -> Result<(), OutOfMemory>
+fn push_copy(alloc: Global, copy: &mut List<Content>, content: &Content) -> Result<(), OutOfMemory>
     ensures { OnOk result (AddsSame content.now copy.old copy.new) }
 {
     match content {
