@@ -83,11 +83,15 @@ get_past [] n y e = absurd (cc e)
 get_past (x ∷ xs) zero y e = omega arith
 get_past (x ∷ xs) (suc n) y e = let l = get_past xs n y e in omega (arith, l)
 
-get_pushed : {A : Type 0} (xs : List A) (x y : A) (n : ℕ) (P : A → ℕ → Type 0) → ((m : ℕ) (z : A) → slice_get xs m ≡ Some z → P z m) → P x (length xs) → slice_get (xs ++ x ∷ []) n ≡ Some y → P y n
+pub get_pushed : {A : Type 0} (xs : List A) (x y : A) (n : ℕ) (P : A → ℕ → Type 0) → ((m : ℕ) (z : A) → slice_get xs m ≡ Some z → P z m) → P x (length xs) → slice_get (xs ++ x ∷ []) n ≡ Some y → P y n
 get_pushed [] x y zero P each last e = subst (λ z. P z 0) (cc e) last
 get_pushed [] x y (suc n) P each last e = absurd (cc e)
 get_pushed (w ∷ xs) x y zero P each last e = each 0 y e
 get_pushed (w ∷ xs) x y (suc n) P each last e = get_pushed xs x y n (λ z m. P z (suc m)) (λ m z. each (suc m) z) last e
+
+pub longer : {A : Type 0} (xs : List A) (x : A) → length (xs ++ x ∷ []) ≡ length xs + 1
+longer [] x = refl
+longer (y ∷ xs) x = let l = longer xs x in omega (arith, l)
 
 pub cells_made : (slots : Slots) (n slot : ℕ) (s : code_slot.Slot) (cells : Cells) → slot ≡ n → slice_get slots.declared n ≡ Some s → cells.first ≡ number_of slots slot 0 → cells.targets ≡ targets_of slots.vertices s → Takes (accum_of s.kind) cells.takes → AreCells slots n cells
 cells_made slots n slot s cells same there first targets takes = record { slot = s; declared = there; first = first ∙ ap (λ (m : ℕ). number_of slots m 0) same; targets = targets; takes = takes }
@@ -100,10 +104,6 @@ cells_more slots i all now cells are push so = subst (CellsTo slots (i + 1)) (sy
   count = longer all cells ∙ ap (λ (n : ℕ). n + 1) so.count;
   each = record { each = λ n found h. get_pushed all cells found n (λ z m. AreCells slots m z) so.each.each (subst (λ (n : ℕ). AreCells slots n cells) (sym so.count) are) h };
 })
-  where
-    longer : {A : Type 0} (xs : List A) (x : A) → length (xs ++ x ∷ []) ≡ length xs + 1
-    longer [] x = refl
-    longer (y ∷ xs) x = let l = longer xs x in omega (arith, l)
 
 pub cells_all : (slots : Slots) (i : ℕ) (all : List Cells) → CellsTo slots i all → AreAllCells slots all
 cells_all slots i all so = so.each

@@ -17,3 +17,4 @@ pub mod ArithmeticLemmas
 pub mod AskedLemmas
 pub mod FilterLemmas
 pub mod WaitingLemmas
+pub mod ColumnLemmas

@@ -8,3 +8,4 @@ pub mod Asked
 pub mod Scalars
 pub mod Waiting
 pub mod Filters
+pub mod Columns

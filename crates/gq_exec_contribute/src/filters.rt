@@ -6,10 +6,12 @@ ghost use Rattle.gq_rules_calendar.specs.Gregorian.{gregorian};
 ghost use Rattle.gq_rules_meaning.specs.Answers.{Gives};
 ghost use Rattle.gq_rules_meaning.specs.Blocks.{passes};
 ghost use Rattle.gq_plan_ir.specs.ExprView.{view, view_parts};
+ghost use Rattle.gq_exec_contribute.specs.Columns.{IsColumn};
 ghost use Rattle.gq_exec_contribute.specs.Filters.{AreResolved, IsEnd, IsEndCell, IsEndOf, IsFilter, IsPartOf, StandsAtEnd, end_tree, end_vertex, filter_tree};
 ghost use Rattle.gq_exec_contribute.specs.Prepared.{AreFound, AreIn, IsInt, IsTruth, sees, sees_in};
 
 use crate::cells::{Cells, int_in, target_in, truth_in};
+use crate::columns::{Column, listed_int, listed_truth};
 use crate::leaves::Leaves;
 use crate::names::is_at;
 use crate::truths::{ints_related, passes};
@@ -149,23 +151,25 @@ fn end_named(leaves: &Leaves<'_>, place: u32) -> Option<bool>
     None
 }
 
-/// Whether a candidate passes WHERE, with the condition resolved if it could be; `None` if that can't be read. Memory is
-/// freed before it returns.
+/// Whether a candidate passes WHERE, with the condition resolved if it could be; `None` if that can't be read. What the
+/// column has is read there. Memory is freed before it returns.
 pub fn passes_by(
     filter: &Option<Filter>,
     expr: &Option<Expr>,
     alloc: Global,
     over: &BlockContext<'_>,
     leaves: &Leaves<'_>,
+    column: &Column,
     c: &Candidate,
 ) -> Option<bool>
     requires found { AreFound over.now leaves.now }
+    requires column { IsColumn over.now.frame.accums column.now }
     requires resolved { IfSome filter.now (IsFilter leaves.now (option_map view expr.now)) }
     ensures { IfSome result (λ b. passes (sees gregorian over.now leaves.now c.now) (option_map view expr.now) ≡ Gives b) }
 {
     match filter {
         None => passes(expr, alloc, over, leaves, c),
-        Some(filter) => match decided(filter, over, leaves, &over.frame.accums, c) {
+        Some(filter) => match decided(filter, over, leaves, &over.frame.accums, column, c) {
             Some(holds) => Some(holds),
             None => passes(expr, alloc, over, leaves, c),
         },
@@ -178,18 +182,20 @@ fn decided(
     over: &BlockContext<'_>,
     leaves: &Leaves<'_>,
     accums: &Accums,
+    column: &Column,
     c: &Candidate,
 ) -> Option<bool>
     requires found { AreIn accums.now leaves.now }
+    requires column { IsColumn accums.now column.now }
     requires ends { AreResolved leaves.now filter.now }
     ensures { IfSome result (IsTruth (sees_in gregorian over.now leaves.now accums.now c.now) (filter_tree filter.now)) }
 {
     match filter {
         Filter::Compared(left, sign, right) => {
-            compared_ends(left, *sign, right, over, leaves, accums, c)
+            compared_ends(left, *sign, right, over, leaves, accums, column, c)
         }
-        Filter::Held(at) => end_truth(at, over, leaves, accums, c),
-        Filter::NotHeld(count, at) => match end_truth(at, over, leaves, accums, c) {
+        Filter::Held(at) => end_truth(at, over, leaves, accums, column, c),
+        Filter::NotHeld(count, at) => match end_truth(at, over, leaves, accums, column, c) {
             Some(holds) => Some(nots(*count, holds)),
             None => None,
         },
@@ -205,15 +211,17 @@ fn compared_ends(
     over: &BlockContext<'_>,
     leaves: &Leaves<'_>,
     accums: &Accums,
+    column: &Column,
     c: &Candidate,
 ) -> Option<bool>
     requires found { AreIn accums.now leaves.now }
+    requires column { IsColumn accums.now column.now }
     requires left { IsEndCell leaves.now left.now }
     requires right { IsEndCell leaves.now right.now }
     ensures { IfSome result (IsTruth (sees_in gregorian over.now leaves.now accums.now c.now) (tree.Cmp (end_tree left.now) sign (end_tree right.now))) }
 {
-    match end_int(left, over, leaves, accums, c) {
-        Some(x) => match end_int(right, over, leaves, accums, c) {
+    match end_int(left, over, leaves, accums, column, c) {
+        Some(x) => match end_int(right, over, leaves, accums, column, c) {
             Some(y) => Some(ints_related(sign, x, y)),
             None => None,
         },
@@ -227,15 +235,20 @@ fn end_int(
     over: &BlockContext<'_>,
     leaves: &Leaves<'_>,
     accums: &Accums,
+    column: &Column,
     c: &Candidate,
 ) -> Option<i64>
     requires found { AreIn accums.now leaves.now }
+    requires column { IsColumn accums.now column.now }
     requires at { IsEndCell leaves.now at.now }
     ensures { IfSome result (IsInt (sees_in gregorian over.now leaves.now accums.now c.now) (end_tree at.now)) }
 {
-    match end_content(at, leaves, accums, c) {
-        Some(content) => int_in(content),
-        None => None,
+    match listed_int(column, at, c) {
+        Some(x) => Some(x),
+        None => match end_content(at, leaves, accums, c) {
+            Some(content) => int_in(content),
+            None => None,
+        },
     }
 }
 
@@ -245,15 +258,20 @@ fn end_truth(
     over: &BlockContext<'_>,
     leaves: &Leaves<'_>,
     accums: &Accums,
+    column: &Column,
     c: &Candidate,
 ) -> Option<bool>
     requires found { AreIn accums.now leaves.now }
+    requires column { IsColumn accums.now column.now }
     requires at { IsEndCell leaves.now at.now }
     ensures { IfSome result (IsTruth (sees_in gregorian over.now leaves.now accums.now c.now) (end_tree at.now)) }
 {
-    match end_content(at, leaves, accums, c) {
-        Some(content) => truth_in(content),
-        None => None,
+    match listed_truth(column, at, c) {
+        Some(truth) => Some(truth),
+        None => match end_content(at, leaves, accums, c) {
+            Some(content) => truth_in(content),
+            None => None,
+        },
     }
 }
 
@@ -281,7 +299,7 @@ fn end_content<'a>(
 }
 
 /// The vertex at an end of a candidate.
-fn end_vertex(is_target: bool, c: &Candidate) -> Option<u32>
+pub(crate) fn end_vertex(is_target: bool, c: &Candidate) -> Option<u32>
     ensures { result ≡ end_vertex is_target c.now }
 {
     if is_target { c.target } else { Some(c.source) }

@@ -43,6 +43,7 @@ use Rattle.gq_exec_source.specs.contracts.ends.End as end
 use Rattle.gq_exec_source.specs.contracts.ends.Ends as ends
 use Rattle.gq_exec_contribute.specs.contracts.cells.Taken as taken
 use Rattle.gq_exec_contribute.specs.contracts.cells.Cells as cells
+use Rattle.gq_exec_contribute.specs.contracts.columns.Column as column
 use Rattle.gq_exec_contribute.specs.contracts.filters.EndCell as end_cell
 use Rattle.gq_exec_contribute.specs.contracts.filters.Filter as filter
 use Rattle.gq_exec_contribute.specs.contracts.rows.Ints as ints
@@ -149,6 +150,9 @@ end_cell_field = search (cells_field, sendable) depth 30 fits 50000
 filter_field : IsSync (filter.the_field).row
 filter_field = search (end_cell_field, sendable) depth 30 fits 50000
 
+column_field : IsSync (column.the_field).row
+column_field = search (list_crosses.the_sync, crosses, sendable) depth 30 fits 50000
+
 leaves_field : (l : NamedLft) → IsSync (leaves.the_field l).row
 leaves_field l = search (ends_sync, cells_sync, list_crosses.the_sync, crosses, sendable) depth 30 fits 50000
 
@@ -210,7 +214,7 @@ wanted_field : IsSync (wanted.the_field).row
 wanted_field = search (cells_sync, list_crosses.the_sync, crosses, sendable) depth 30 fits 50000
 
 pub work_sync : (l : NamedLft) → IsSync (work.the_row l)
-work_sync l = search (block_sync, leaves_field, filter_field, wanted_field, candidates_field, list_crosses.the_sync, crosses, sendable) depth 30 fits 50000
+work_sync l = search (block_sync, leaves_field, filter_field, column_field, wanted_field, candidates_field, list_crosses.the_sync, crosses, sendable) depth 30 fits 50000
 
 pub round_sync : (l : NamedLft) → IsSync (round.the_row l)
 round_sync l = search (graph_field, plan_sync, tuple_sync, frame_sync, work_sync, sync, crosses, sendable) depth 30 fits 50000

@@ -34,6 +34,7 @@ use Rattle.gq_workers.specs.declared.rounds.Work.{Work}
 use Rattle.gq_workers.specs.declared.run.BlockProgress.{BlockProgress}
 use Rattle.gq_exec_contribute.specs.Scalars.{as_inputs}
 use Rattle.gq_exec_contribute.specs.Aliases.{bound_to}
+use Rattle.gq_exec_contribute.specs.Columns.{IsColumn}
 use Rattle.gq_exec_contribute.specs.Filters.{IsFilter}
 use Rattle.gq_exec_contribute.specs.Prepared.{AreFound}
 use Rattle.gq_exec_contribute.specs.declared.scalars.ScalarInput.{ScalarInput}
@@ -196,6 +197,7 @@ pub record IsWork (o : Over) (w : Work) : Type 0 where
   pub edge : option_map Place w.leaves.edge ≡ edge_alias (view_walk w.block.now.walk)
   pub candidates : AreCandidates o w.block.now w.candidates
   pub found : AreFound o w.leaves
+  pub column : IsColumn o.frame.accums w.column
   pub filter : IsResolved w
   pub some : 1 ≤ w.size
 

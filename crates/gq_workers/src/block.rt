@@ -13,7 +13,7 @@ use crate::wanted::wanted_by;
 use crate::workers::try_rounds;
 use gq_base::OutOfMemory;
 use gq_eval_context::{After, BlockContext, BlockFault};
-use gq_exec_contribute::{Stop, filter_of, leaves_of};
+use gq_exec_contribute::{Stop, column_of, filter_of, leaves_of};
 use gq_exec_source::Ends;
 use gq_index::Candidates;
 use gq_io::{Gate, Shape};
@@ -105,11 +105,13 @@ fn work_of<'b>(
 {
     let leaves = leaves_of(alloc, &over.frame.accums.slots, &block.walk, ends)?;
     let filter = filter_of(&block.filter, &leaves);
-    let wanted = wanted_by(alloc, block, &leaves, over.graph)?;
+    let column = column_of(alloc, &filter, over, &leaves, candidates.count())?;
+    let wanted = wanted_by(alloc, block, &leaves, &column, over.graph)?;
     Ok(Work {
         block,
         leaves,
         filter,
+        column,
         wanted,
         candidates,
         size: shape.chunk.max(1),

@@ -1,6 +1,7 @@
 // Trying a candidate.
 ghost use Rattle.std.specs.Prelude.{◌≡◌, ◌||◌, ◌*◌, ℕ, [], true, length, map, IfOk};
 ghost use Rattle.gq_rules_calendar.specs.Gregorian.{gregorian};
+ghost use Rattle.gq_exec_contribute.specs.Columns.{IsColumn};
 ghost use Rattle.gq_exec_contribute.specs.Passing.{Comes};
 ghost use Rattle.gq_exec_source.specs.Marks.{is_marked};
 ghost use Rattle.gq_exec_source.specs.Starts.{IsBelow, IsWithin};
@@ -41,6 +42,7 @@ pub(crate) fn try_one(
     requires within { IsWithin (length over.now.vertices) candidate.now }
     requires shaped { IsShaped (length over.now.vertices) found.old }
     requires prepared { AreFound over.now work.now.leaves }
+    requires column { IsColumn over.now.frame.accums work.now.column }
     requires resolved { IsResolved work.now }
     ensures tried { IfOk result (Tried over.now (come gregorian over.now work.now candidate.now) found.old found.new) }
     ensures shaped { IfOk result (λ _. IsShaped (length over.now.vertices) found.new) }
@@ -74,6 +76,7 @@ fn is_read(
     requires within { IsWithin (length over.now.vertices) candidate.now }
     requires shaped { IsShaped (length over.now.vertices) found.old }
     requires prepared { AreFound over.now work.now.leaves }
+    requires column { IsColumn over.now.frame.accums work.now.column }
     requires resolved { IsResolved work.now }
     ensures { IfOk result (Done over.now (come gregorian over.now work.now candidate.now) found.old found.new) }
 {
@@ -86,6 +89,7 @@ fn is_read(
         alloc,
         over,
         &work.leaves,
+        &work.column,
         candidate,
     ) {
         None => Ok(false),

@@ -3,7 +3,7 @@ use crate::wanted::Wanted;
 use gq_base::{List, OutOfMemory};
 use gq_core::Batches;
 use gq_eval_attributes::TupleType;
-use gq_exec_contribute::{Filter, Leaves, Stop, WaitingInputs};
+use gq_exec_contribute::{Column, Filter, Leaves, Stop, WaitingInputs};
 use gq_frame::Frame;
 use gq_index::{Candidates, Graph};
 use gq_plan_ir::{Block, Plan};
@@ -18,6 +18,9 @@ pub(crate) struct Work<'b> {
 
     /// WHERE, if its accumulators could be resolved.
     pub filter: Option<Filter>,
+
+    /// What the accumulators of a slot that WHERE reads are, side by side.
+    pub column: Column,
 
     /// What the expressions read of targets and edges.
     pub wanted: Wanted,

@@ -1,6 +1,6 @@
 // What the expressions of a block read of the targets and edges of its candidates.
 use gq_base::{List, OutOfMemory};
-use gq_exec_contribute::{Cells, Leaves};
+use gq_exec_contribute::{Cells, Column, Leaves};
 use gq_index::Graph;
 use gq_plan_ir::{Act, Behind, Block, Change, Expr, Feed, Field};
 use gq_tree::{AddSign, MulSign};
@@ -29,11 +29,13 @@ impl Wanted {
     }
 }
 
-/// What a block reads. With WHERE it is what WHERE reads, since many candidates may be filtered out.
+/// What a block reads. With WHERE it is what WHERE reads, since many candidates may be filtered out. What only the
+/// column has to be read for is left out: most of it is in a cache.
 pub(crate) fn wanted_by(
     alloc: Global,
     block: &Block,
     leaves: &Leaves<'_>,
+    column: &Column,
     graph: Graph<'_>,
 ) -> Result<Wanted, OutOfMemory> {
     let mut wanted = Wanted {
@@ -46,7 +48,18 @@ pub(crate) fn wanted_by(
         Some(filter) => add_expr(filter, leaves, graph, &mut wanted)?,
         None => add_acts(block.accum.as_slice(), leaves, graph, &mut wanted)?,
     }
+    if are_in(wanted.cells.as_slice(), column) {
+        wanted.cells.truncate(0);
+    }
     Ok(wanted)
+}
+
+/// Whether a column has the accumulator that is read.
+fn are_in(cells: &[Cells], column: &Column) -> bool {
+    match cells {
+        [cells] => column.covers(cells),
+        _ => false,
+    }
 }
 
 /// Adds what acts read. Acts within IF aren't looked at.

@@ -9,13 +9,13 @@ use Rattle.gq_exec_contribute.proofs.TruthLemmas.{not_truth}
 use Rattle.gq_exec_contribute.proofs.filters.decided.Goals as goal
 
 pub compared_ends-requires : goal.compared_ends-requires
-compared_ends-requires c = let h = subst (λ (f : Filter). AreResolved c.args.leaves.now f) c.in-Compared.is c.requires.ends in record { found = c.requires.found; left = h.0; right = h.1 }
+compared_ends-requires c = let h = subst (λ (f : Filter). AreResolved c.args.leaves.now f) c.in-Compared.is c.requires.ends in record { found = c.requires.found; column = c.requires.column; left = h.0; right = h.1 }
 
 pub end_truth-requires : goal.end_truth-requires
-end_truth-requires c = record { found = c.requires.found; at = subst (λ (f : Filter). AreResolved c.args.leaves.now f) c.in-Held.is c.requires.ends }
+end_truth-requires c = record { found = c.requires.found; column = c.requires.column; at = subst (λ (f : Filter). AreResolved c.args.leaves.now f) c.in-Held.is c.requires.ends }
 
 pub end_truth-requires-in-NotHeld : goal.end_truth-requires-in-NotHeld
-end_truth-requires-in-NotHeld c = record { found = c.requires.found; at = subst (λ (f : Filter). AreResolved c.args.leaves.now f) c.in-NotHeld.is c.requires.ends }
+end_truth-requires-in-NotHeld c = record { found = c.requires.found; column = c.requires.column; at = subst (λ (f : Filter). AreResolved c.args.leaves.now f) c.in-NotHeld.is c.requires.ends }
 
 pub returns-in-Compared : goal.returns-in-Compared
 returns-in-Compared c = stands_for (sees_in gregorian c.args.over.now c.args.leaves.now c.args.accums.now c.args.c.now) c.args.filter.now (tree.Cmp (end_tree c.in-Compared.left) c.in-Compared.sign (end_tree c.in-Compared.right)) c.compared_ends.result (ap (λ (f : Filter). filter_tree f) c.in-Compared.is) c.compared_ends.ensures

@@ -4,6 +4,7 @@ use Rattle.gq_rules_calendar.specs.Gregorian.{gregorian}
 use Rattle.gq_frame.specs.declared.accums.Accums.{Accums}
 use Rattle.gq_plan_ir.specs.ExprView.{view}
 use Rattle.gq_eval_context.specs.Viewed.{Over}
+use Rattle.gq_exec_contribute.specs.Columns.{IsColumn}
 use Rattle.gq_exec_contribute.specs.Filters.{filter_tree}
 use Rattle.gq_exec_contribute.specs.Prepared.{AreAllCells, IsTruth, sees, sees_in}
 use Rattle.gq_exec_contribute.proofs.FilterLemmas.{filter_there, passed}
@@ -16,6 +17,7 @@ decided-requires c = record {
     cells = subst (λ (o : Over). AreAllCells o.frame.accums.slots c.args.leaves.now.cells) (sym c.over.view_is) c.requires.found.cells;
     sound = c.over.invariant.accums;
   };
+  column = subst (λ (o : Over). IsColumn o.frame.accums c.args.column.now) (sym c.over.view_is) c.requires.column;
   ends = (filter_there c.args.leaves.now (option_map view c.args.expr.now) c.args.filter.now c.in-Some.filter c.in-Some.is c.requires.resolved).ends;
 }
 

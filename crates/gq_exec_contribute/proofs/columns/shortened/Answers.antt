@@ -1,0 +1,1 @@
+use Rattle.gq_exec_contribute.proofs.columns.shortened.Goals as goal
