@@ -1,5 +1,5 @@
 -- BeforeLemmas: searching expressions for `v.@a'`, and what those without one mean.
-use Rattle.std.proofs.Common.{◌≡◌, ℕ, ◌+◌, ◌<◌, ◌≤◌, Bool, true, false, ◌||◌, List, [], ◌∷◌, drop, length, get_or, Option, Some, None, refl, sym, ap, ap₂, ◌∙◌}
+use Rattle.std.proofs.Common.{◌≡◌, ℕ, zero, suc, ◌+◌, ◌<◌, ◌≤◌, Bool, true, false, ◌||◌, List, [], ◌∷◌, drop, length, get_or, Option, Some, None, refl, sym, ap, ap₂, ◌∙◌, arith}
 use mathlib.Core.Path.{fun_ext}
 use Rattle.std.proofs.lemmas.List.{drop_more, drop_all}
 use Rattle.gq_tree.specs.Tree.{Tree, Behind, Trees, Parts, Factors, Terms, Number, Text, Truth, Global, Name, Call, Post, Neg, Mul, Sum, Cmp, Not, And, Or, Field, Method, Attached, Before, no_tree, tree, no_part, part, no_factor, factor, no_term, term}
@@ -16,7 +16,8 @@ use Rattle.gq_rules_meaning.specs.Meanings.{Meant, Outcome, value_of_meant, as_t
 use Rattle.gq_plan_ir.specs.declared.expr.Expr.{Expr}
 use Rattle.gq_plan_ir.specs.declared.expr.Behind as code
 use Rattle.gq_plan_ir.specs.ExprView.{view, views, view_behind, view_parts, view_factors, view_terms, quoted}
-use Rattle.gq_after.specs.Before.{before_in, before_in_trees, before_in_parts, before_in_part, before_in_factors, before_in_terms}
+use Rattle.gq_after.specs.Before.{before_in, before_in_trees, before_in_parts, before_in_part, before_in_factors, before_in_terms, before_in_keys}
+use Rattle.gq_after.specs.Ranks.{order_of}
 
 -- ---- a search of a list, item by item
 
@@ -107,7 +108,7 @@ terms_last = last (λ ts. before_in_terms (view_terms ts)) refl
 
 pub ruleset terms_laws = (terms_there, terms_next, terms_last)
 
--- ---- an expression without one means the same, whatever the accumulators from before the block are
+-- ---- the values of ORDER BY
 
 first_lacks : (a b : Bool) → (a || b) ≡ false → a ≡ false
 first_lacks true b h = h
@@ -116,6 +117,31 @@ first_lacks false b h = refl
 others_lack : (a b : Bool) → (a || b) ≡ false → b ≡ false
 others_lack true b h = absurd (cc h)
 others_lack false b h = h
+
+abbrev pub KeysTo : List (Expr × Bool) → ℕ → Type 0
+KeysTo = LeftTo (λ ks. before_in_keys (order_of ks))
+
+pub keys_there : (ks : List (Expr × Bool)) (i : ℕ) (k : Expr × Bool) (b : Bool) → KeysTo ks i → i < length ks → k ≡ get_or ks i k → b ≡ before_in (view k.0) → b ≡ true → true ≡ before_in_keys (order_of ks)
+keys_there = there (λ ks. before_in_keys (order_of ks)) (λ k. before_in (view k.0)) (λ k ks. refl)
+
+pub keys_next : (ks : List (Expr × Bool)) (i : ℕ) (k : Expr × Bool) (b : Bool) → KeysTo ks i → i < length ks → k ≡ get_or ks i k → b ≡ before_in (view k.0) → b ≡ false → KeysTo ks (i + 1)
+keys_next = next (λ ks. before_in_keys (order_of ks)) (λ k. before_in (view k.0)) (λ k ks. refl)
+
+pub keys_last : (ks : List (Expr × Bool)) (i : ℕ) → KeysTo ks i → length ks ≤ i → false ≡ before_in_keys (order_of ks)
+keys_last = last (λ ks. before_in_keys (order_of ks)) refl
+
+pub ruleset keys_laws = (keys_there, keys_next, keys_last)
+
+-- if none has one, the one at a place has none
+key_lacks : (ks : List (Expr × Bool)) (i : ℕ) (k : Expr × Bool) → before_in_keys (order_of ks) ≡ false → i < length ks → k ≡ get_or ks i k → before_in (view k.0) ≡ false
+key_lacks [] i k h n is = absurd (omega (arith, n))
+key_lacks (k' ∷ ks) zero k h n is = ap (λ (x : Expr × Bool). before_in (view x.0)) is ∙ first_lacks _ _ h
+key_lacks (k' ∷ ks) (suc i) k h n is = key_lacks ks i k (others_lack _ _ h) (omega (arith, n)) is
+
+pub keys_lack : (ks : List (Expr × Bool)) (i : ℕ) (k : Expr × Bool) (b : Bool) → b ≡ before_in_keys (order_of ks) → i < length ks → k ≡ get_or ks i k → b ≡ false → before_in (view k.0) ≡ false
+keys_lack ks i k b has n is lacks = key_lacks ks i k (sym has ∙ lacks) n is
+
+-- ---- an expression without one means the same, whatever the accumulators from before the block are
 
 module _ {N : Type 0} (look : Look N) (before : N → ℕ → Outcome) where
   abbrev other : Look N

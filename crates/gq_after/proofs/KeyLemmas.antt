@@ -49,11 +49,6 @@ module _ (look : Look Reference) where
       → each (λ key. value_of look (view key.0)) order ≡ Gives done
   key_all order i done inv l = nothing_left (each key_of) order i done refl inv l
 
-  -- without ORDER BY
-  pub no_keys : (order : List (Expr × Bool)) (row : List Value) → length order ≡ 0 → row ≡ [] → each (λ key. value_of look (view key.0)) order ≡ Gives (map val row)
-  no_keys [] row l e = sym (ap (λ r. Gives (map val r)) e)
-  no_keys (key ∷ order) row l e = absurd (omega (arith, l))
-
 pub ruleset key_laws = (key_first, key_stops, key_next, key_all)
 
 -- ---- vertices with their keys

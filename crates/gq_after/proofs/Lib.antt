@@ -4,6 +4,9 @@ pub mod EachSteps
 pub mod BeforeLemmas
 pub mod PassLemmas
 pub mod KeyLemmas
+pub mod ReadLemmas
 pub mod HavingLemmas
 pub mod LimitLemmas
+pub mod AscendLemmas
+pub mod SortLemmas
 pub mod TailLemmas

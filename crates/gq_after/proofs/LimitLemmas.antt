@@ -1,8 +1,8 @@
 -- LimitLemmas: LIMIT, and prefixes of a list.
-use Rattle.std.proofs.Common.{◌≡◌, ℕ, zero, suc, ◌+◌, ◌<◌, ℤ, pos, negsuc, false, ◌||◌, List, [], ◌∷◌, ◌++◌, take, min, map, length, get_or, Some, None, Result, inl, inr, refl, sym, ap, ap₂, subst, ◌∙◌, arith, nat_eq}
+use Rattle.std.proofs.Common.{◌≡◌, ℕ, zero, suc, ◌+◌, ◌<◌, ℤ, pos, negsuc, false, ◌||◌, List, [], ◌∷◌, ◌++◌, take, min, length, get_or, Some, None, Result, inl, inr, refl, sym, ap, ap₂, subst, ◌∙◌, arith, nat_eq}
 use Rattle.std.specs.List.{AllByRecursion, IsDistinct}
 use Rattle.std.proofs.lemmas.Map.Keys.{IsDistinct-head, IsDistinct-tail}
-use Rattle.std.proofs.lemmas.List.{length-map, take_all}
+use Rattle.std.proofs.lemmas.List.{take_all, take_more}
 use Rattle.std.proofs.lemmas.Bool.{cases_lt}
 use Rattle.gq_tree.specs.Tree.{Tree}
 use Rattle.gq_value.specs.declared.value.Wrong.{Wrong}
@@ -83,39 +83,22 @@ taken_apart (x ∷ xs) zero d l = refl
 taken_apart (x ∷ xs) (suc j) d l =
     ap₂ ◌||◌ (every_at (λ y. nat_eq x y ≡ false) xs j (omega arith) (IsDistinct-head nat_eq x xs d)) (taken_apart xs j (IsDistinct-tail nat_eq x xs d) (omega arith))
 
-module _ {A : Type 0} (number : A → ℕ) where
-  pub first_none : (rows : List A) (n : ℕ) → n ≡ length rows → take n (map number rows) ≡ first_of None (map number rows)
-  first_none rows n e = take_all n (map number rows) (let l = length-map rows number in omega (arith, e, l))
+pub first_none : (vs : List ℕ) (n : ℕ) → n ≡ length vs → take n vs ≡ first_of None vs
+first_none vs n e = take_all n vs (omega (arith, e))
 
-  pub first_some : (rows : List A) (most n : ℕ) → n ≡ min (length rows) most → take n (map number rows) ≡ first_of (Some most) (map number rows)
-  first_some rows most n e = ap (λ k. take k (map number rows)) (e ∙ ap (λ l. min l most) (sym (length-map rows number))) ∙ cut_min most (map number rows)
-    where
-      cut_min : (m : ℕ) (vs : List ℕ) → take (min (length vs) m) vs ≡ take m vs
-      cut_min m vs = elim (cases_lt m (length vs)) [
-        | inl h ↦ ap (λ k. take k vs) (let e : min (length vs) m ≡ m = omega arith in e)
-        | inr h ↦ take_all (min (length vs) m) vs (omega arith) ∙ sym (take_all m vs h)
-      ]
+pub first_some : (vs : List ℕ) (most n : ℕ) → n ≡ min (length vs) most → take n vs ≡ first_of (Some most) vs
+first_some vs most n e = ap (λ k. take k vs) e ∙ elim (cases_lt most (length vs)) [
+  | inl h ↦ ap (λ k. take k vs) (let e : min (length vs) most ≡ most = omega arith in e)
+  | inr h ↦ take_all (min (length vs) most) vs (omega arith) ∙ sym (take_all most vs h)
+]
 
-  one_more : (rows : List A) (i : ℕ) (d : A) → i < length rows → take (suc i) (map number rows) ≡ take i (map number rows) ++ number (get_or rows i d) ∷ []
-  one_more [] i d l = let no : ⊥ = omega arith in absurd no
-  one_more (r ∷ rows) zero d l = refl
-  one_more (r ∷ rows) (suc i) d l = ap (λ vs. number r ∷ vs) (one_more rows i d (omega arith))
+-- one more vertex
+pub vertex_apart : (vs : List ℕ) (i : ℕ) (list : List ℕ) → IsDistinct nat_eq vs → i < length vs → list ≡ take i vs → among list (get_or vs i 0) ≡ false
+vertex_apart vs i list d n e = ap (λ ws. among ws (get_or vs i 0)) e ∙ taken_apart vs i d n
 
-  place_of : (rows : List A) (i : ℕ) (d : A) → i < length rows → get_or (map number rows) i 0 ≡ number (get_or rows i d)
-  place_of [] i d l = let no : ⊥ = omega arith in absurd no
-  place_of (r ∷ rows) zero d l = refl
-  place_of (r ∷ rows) (suc i) d l = place_of rows i d (omega arith)
-
-  -- one more row
-  pub row_apart : (rows : List A) (i : ℕ) (row : A) (list : List ℕ) → IsDistinct nat_eq (map number rows) → i < length rows → row ≡ get_or rows i row → list ≡ take i (map number rows) → among list (number row) ≡ false
-  row_apart rows i row list d l is e =
-      ap₂ among e (ap number is ∙ sym (place_of rows i row l))
-      ∙ taken_apart (map number rows) i d (let n = length-map rows number in omega (arith, l, n))
-
-  pub row_listed : (rows : List A) (i : ℕ) (row : A) (list new : List ℕ) → i < length rows → row ≡ get_or rows i row → list ≡ take i (map number rows) → new ≡ list ++ number row ∷ [] → new ≡ take (i + 1) (map number rows)
-  row_listed rows i row list new l is e w =
-      w ∙ ap₂ (λ vs v. vs ++ v ∷ []) e (ap number is) ∙ sym (one_more rows i row l) ∙ ap (λ n. take n (map number rows)) (let f : suc i ≡ i + 1 = omega arith in f)
+pub vertex_listed : (vs : List ℕ) (i v : ℕ) (list new : List ℕ) → i < length vs → v ≡ get_or vs i v → list ≡ take i vs → new ≡ list ++ v ∷ [] → new ≡ take (i + 1) vs
+vertex_listed vs i v list new n is e w = w ∙ ap₂ (λ ws x. ws ++ x ∷ []) e is ∙ sym (take_more vs i v n)
 
 pub ruleset first_laws = (first_none, first_some)
 
-pub ruleset list_laws = (row_apart, row_listed)
+pub ruleset list_laws = (vertex_listed)

@@ -1,5 +1,5 @@
 -- Before: whether an expression reads an accumulator as it was before the block, as `v.@a'`.
-use Rattle.std.specs.Prelude.{Bool, true, false, ◌||◌}
+use Rattle.std.specs.Prelude.{Bool, true, false, ◌||◌, List, [], ◌∷◌}
 use Rattle.gq_tree.specs.Tree.{Tree, Behind, Trees, Parts, Factors, Terms, Call, Post, Neg, Mul, Sum, Cmp, Not, And, Or, Method, Before, no_tree, tree, no_part, part, no_factor, factor, no_term, term}
 
 abbrev mutual
@@ -35,3 +35,8 @@ abbrev mutual
   pub before_in_terms : {N : Type 0} → Terms N → Bool
   before_in_terms no_term = false
   before_in_terms (term sign t rest) = before_in t || before_in_terms rest
+
+-- whether one of the values of ORDER BY does
+abbrev pub before_in_keys : {N : Type 0} → List (Tree N × Bool) → Bool
+before_in_keys [] = false
+before_in_keys (key ∷ order) = before_in key.0 || before_in_keys order

@@ -1,3 +1,4 @@
+pub mod Ascending
 pub mod Before
 pub mod Ranks
 pub mod Sights

@@ -1,8 +1,9 @@
 -- Sights: what the expressions of a tail see, as the code iterates over the vertices.
-use Rattle.std.specs.Prelude.{◌≡◌, ℕ, List, [], ◌∷◌, map, take, Option, Some, None}
+use Rattle.std.specs.Prelude.{◌≡◌, ℕ, Bool, List, [], ◌∷◌, map, take, Option, Some, None}
 use Rattle.gq_accum_laws.specs.Gather.{sorted}
+use Rattle.gq_tree.specs.Tree.{Tree}
 use Rattle.gq_rules_typing.specs.Selecting.{Select}
-use Rattle.gq_rules_meaning.specs.Answers.{Answer, ◌>>=◌, each}
+use Rattle.gq_rules_meaning.specs.Answers.{Answer, Gives, ◌>>=◌, each}
 use Rattle.gq_rules_meaning.specs.Blocks.{BlockFault}
 use Rattle.gq_rules_meaning.specs.Calendars.{Calendar}
 use Rattle.gq_rules_meaning.specs.Expressions.{World, Look}
@@ -35,6 +36,10 @@ tail_of world look plain q vertices =
     passing look q.having vertices >>= λ vs.
     each (ranked look q.order) vs >>= λ rs.
     cut world plain q.limit (map (λ (r : Ranked). r.vertex) (sorted (in_order q.order) rs))
+
+-- vertices in the order of their keys
+abbrev pub ordered : {N : Type 0} → (ℕ → Look N) → List (Tree N × Bool) → List ℕ → Answer BlockFault (List ℕ)
+ordered look order vs = each (ranked look order) vs >>= λ rs. Gives (map (λ (r : Ranked). r.vertex) (sorted (in_order order) rs))
 
 -- all items, or the first `n`
 abbrev pub first_of : Option ℕ → List ℕ → List ℕ

@@ -1,7 +1,8 @@
-// Whether an expression reads an accumulator as it was before the block.
+// Whether expressions read an accumulator as it was before the block.
 ghost use Rattle.std.specs.Prelude.{◌≡◌};
 ghost use Rattle.gq_plan_ir.specs.ExprView.{view, views, view_behind, view_parts, view_factors, view_terms};
-ghost use Rattle.gq_after.specs.Before.{before_in, before_in_trees, before_in_parts, before_in_part, before_in_factors, before_in_terms};
+ghost use Rattle.gq_after.specs.Before.{before_in, before_in_trees, before_in_parts, before_in_part, before_in_factors, before_in_terms, before_in_keys};
+ghost use Rattle.gq_after.specs.Ranks.{order_of};
 
 use gq_plan_ir::{Behind, Expr};
 use gq_tree::{AddSign, MulSign};
@@ -89,6 +90,19 @@ fn terms_have(terms: &[(AddSign, Expr)]) -> bool
 {
     for term in terms {
         if has_before(&term.1) {
+            return true;
+        }
+    }
+    false
+}
+
+/// Whether one of the values of ORDER BY has one.
+#[tactic(auto, using(crate::proofs::BeforeLemmas::keys_laws))]
+pub(crate) fn keys_have(order: &[(Expr, bool)]) -> bool
+    ensures { result ≡ before_in_keys (order_of order.now) }
+{
+    for key in order {
+        if has_before(&key.0) {
             return true;
         }
     }

@@ -135,7 +135,7 @@ fn holds_at(
 
 /// Reads a condition at a vertex. A `v.@a'` isn't read: to HAVING it is what the block leaves, and reading takes it from
 /// before the block.
-#[tactic(auto, using(crate::proofs::HavingLemmas::read_laws))]
+#[tactic(auto, using(crate::proofs::ReadLemmas::read_laws))]
 fn read_at(
     expr: &Expr,
     before: bool,

@@ -5,14 +5,15 @@
 //!
 //! Read `Tails.antt` of `gq_rules_meaning` first, then `specs/Ranks.antt` (the order in which rows of keys
 //! are compared, for rows of any length), `specs/Sights.antt` (what the expressions see) and `specs/Before.antt`
-//! (whether a condition has a `v.@a'`). The code begins in `src/tails.rt`; `src/having.rt`, `src/keys.rt`,
-//! `src/rows.rt` and `src/limit.rt` have one step each.
+//! (whether an expression has a `v.@a'`). The code begins in `src/tails.rt`; `src/having.rt`, `src/order.rt` and
+//! `src/limit.rt` have one step each. ORDER BY takes its keys from `src/keys.rt` and compares them in `src/rows.rt`.
 #![tactic(auto)]
 
 mod before;
 mod having;
 mod keys;
 mod limit;
+mod order;
 mod rows;
 mod tails;
 

@@ -16,7 +16,6 @@ ghost use Rattle.gq_eval_context.specs.Answered.{Answered};
 ghost use Rattle.gq_eval_context.specs.Limits.{most_of};
 ghost use Rattle.gq_after.specs.Sights.{first_of, plain_look};
 
-use crate::rows::Ranked;
 use gq_base::OutOfMemory;
 use gq_eval::run_value;
 use gq_eval_context::{BlockContext, BlockFault, fault_at, limit_count};
@@ -75,32 +74,32 @@ fn count_seen<V: Sees>(expr: &Expr, alloc: Global, sight: &V) -> Result<u64, Hal
     limit_count(&value)
 }
 
-/// Returns the vertices of the first `most` rows, or of all.
+/// Returns the first `most` vertices, or all.
 #[tactic(auto, using(crate::proofs::LimitLemmas::first_laws))]
-pub(crate) fn first_rows(
+pub(crate) fn first_vertices(
     alloc: Global,
-    rows: &[Ranked],
+    vertices: &[u32],
     most: Option<u64>,
 ) -> Result<VertexList, OutOfMemory>
-    requires { IsDistinct nat_eq (map (λ r. r.vertex) rows.now) }
-    ensures { IfOk result (λ list. list ≡ first_of most (map (λ r. r.vertex) rows.now)) }
+    requires { IsDistinct nat_eq vertices.now }
+    ensures { IfOk result (λ list. list ≡ first_of most vertices.now) }
 {
     match most {
-        None => listed(alloc, rows, rows.len()),
-        Some(most) => listed(alloc, rows, rows.len().min(most as usize)),
+        None => listed(alloc, vertices, vertices.len()),
+        Some(most) => listed(alloc, vertices, vertices.len().min(most as usize)),
     }
 }
 
-/// Returns the vertices of the first `count` rows.
+/// Returns the first `count` vertices.
 #[tactic(auto, using(crate::proofs::LimitLemmas::list_laws))]
-fn listed(alloc: Global, rows: &[Ranked], count: usize) -> Result<VertexList, OutOfMemory>
-    requires once { IsDistinct nat_eq (map (λ r. r.vertex) rows.now) }
-    requires there { count ≤ length rows.now }
-    ensures { IfOk result (λ list. list ≡ take count (map (λ r. r.vertex) rows.now)) }
+fn listed(alloc: Global, vertices: &[u32], count: usize) -> Result<VertexList, OutOfMemory>
+    requires once { IsDistinct nat_eq vertices.now }
+    requires there { count ≤ length vertices.now }
+    ensures { IfOk result (λ list. list ≡ take count vertices.now) }
 {
     let mut list = VertexList::new(alloc);
     for place in 0..count {
-        list.push(rows[place].vertex)?;
+        list.push(vertices[place])?;
     }
     Ok(list)
 }

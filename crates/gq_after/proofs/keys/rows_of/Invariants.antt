@@ -5,7 +5,7 @@ use Rattle.gq_rules_calendar.specs.Gregorian.{gregorian}
 use Rattle.gq_after.specs.Ranks.{order_of, ranked}
 use Rattle.gq_after.specs.Sights.{vertex_look}
 use Rattle.gq_after.proofs.EachSteps.{and_more}
-use Rattle.gq_after.proofs.keys.with_keys.Given as goal
+use Rattle.gq_after.proofs.keys.rows_of.Given as goal
 
 -- the rows so far, followed by those of the rest of the vertices
 abbrev pub invariant-loop-vertex : goal.invariant-loop-vertex
