@@ -10,7 +10,7 @@ use Rattle.gq_exec_contribute.specs.declared.columns.Column.{Column}
 use Rattle.gq_exec_contribute.specs.declared.filters.EndCell.{EndCell}
 use Rattle.gq_exec_contribute.specs.declared.leaves.Leaves.{Leaves}
 use Rattle.gq_exec_contribute.specs.Columns.{AreInts, AreTruths, HasInt, IsColumn, ListsInt, ListsTruth, StandsInt, StandsTruth}
-use Rattle.gq_exec_contribute.specs.Filters.{IsEndCell, StandsAtEnd, end_tree}
+use Rattle.gq_exec_contribute.specs.Filters.{IsEndCell, StandsAtEnd, end_tree, end_vertex}
 use Rattle.gq_exec_contribute.specs.Prepared.{HoldsInt, HoldsTruth, IsInt, IsTruth, StandsAt, sees_in}
 use Rattle.gq_exec_contribute.proofs.CellLemmas.{get_pushed, longer}
 use Rattle.gq_exec_contribute.proofs.FilterLemmas.{end_int, end_truth}
@@ -26,6 +26,12 @@ truth_stands a n v content None at h = tt
 truth_stands a n v content (Some b) at h = record { content = content; stands = at; holds = h }
 
 pub ruleset stands_laws = (int_stands, truth_stands)
+
+-- what a column has for the vertex of an end
+pub int_listed : (m : Column) (e : EndCell) (c : Candidate) (v : ℕ) (r : Option ℤ) → end_vertex e.is_target c ≡ Some v → m.slot ≡ e.slot
+    → IfSome r (HasInt m v) → IfSome r (ListsInt m e c)
+int_listed m e c v None at slot there = tt
+int_listed m e c v (Some x) at slot there = record { vertex = v; at = at; slot = slot; there = there }
 
 -- the first i items of a list are what P says of their numbers
 pub record ListTo {A : Type 0} (P : ℕ → A → Type 0) (i : ℕ) (xs : List A) : Type 0 where
