@@ -107,8 +107,10 @@ fn keys_at(
 {
     let mut row = List::new(alloc);
     for key in order {
-        let value = key_at(&key.0, before, alloc, over, accums, end, leaves, vertex)?;
-        row.push(value)?;
+        match key_at(&key.0, before, alloc, over, accums, end, leaves, vertex) {
+            Err(halt) => return Err(halt),
+            Ok(value) => row.push(value)?,
+        }
     }
     Ok(row)
 }
