@@ -15,4 +15,4 @@ pub loop-key-preserved : goal.loop-key-preserved
 loop-key-preserved c =
     let n : c.loop-key.key-index < length c.args.order.now = omega arith in
     key_next (vertex_look gregorian c.args.over.now c.args.accums.now c.args.end.now c.args.vertex) c.args.order.now c.loop-key.key-index c.key-item.result c.loop-key.row c.push.new.self c.in-Ok.value _ c.loop-key.invariant n
-    c.key-item.is c.in-Ok.ensures refl c.in_ok-push.ensures.ok
+    c.key-item.is c.in-Ok.ensures refl c.in_ok-push-in-Ok.ensures.ok
