@@ -1,6 +1,6 @@
 -- Segments: how many segments a list of candidates has, and what the code keeps of candidates.
 -- A segment is one source with one edge type and at least one candidate.
-use Rattle.std.specs.Prelude.{ℕ, ◌-◌, Bool, false, ◌&&◌, ◌||◌, not, ◌==◌, List, length, map, Option, Some, slice_index_or}
+use Rattle.std.specs.Prelude.{ℕ, ◌-◌, ◌<◌, ◌≡◌, Bool, true, false, ◌&&◌, ◌||◌, not, ◌==◌, List, length, map, Option, Some, slice_index_or}
 use Rattle.std.specs.Option.{is_some}
 use Rattle.gq_graph.specs.declared.rows.Candidate.{Candidate}
 use Rattle.gq_graph.specs.Candidates.{alone, among, is_target}
@@ -48,3 +48,7 @@ leads edges kinds targets way = among edges way.kind && is_target kinds targets 
 -- whether a walk has a listed type and leads to a vertex of a listed type
 abbrev pub is_wanted : List ℕ → List ℕ → List ℕ → Traversal → Bool
 is_wanted edges kinds targets walk = among edges walk.kind && is_target kinds targets walk.target
+
+-- if all vertices are said to be targets, each of them is one
+abbrev pub AreAll : List ℕ → List ℕ → Bool → Type 0
+AreAll kinds targets all = all ≡ true → (v : ℕ) → v < length kinds → is_target kinds targets v ≡ true

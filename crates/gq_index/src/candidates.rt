@@ -7,7 +7,7 @@ ghost use Rattle.gq_index.specs.declared.walks.Traversal.{Traversal};
 ghost use Rattle.gq_index.specs.Runs.{Holds};
 ghost use Rattle.gq_index.specs.Sights.{sight_of, vertex_kinds};
 ghost use Rattle.gq_index.specs.Walks.{adjacency, walks_at, walked};
-ghost use Rattle.gq_index.specs.Segments.{is_wanted, leads, segment_count, of_walk};
+ghost use Rattle.gq_index.specs.Segments.{AreAll, is_wanted, leads, segment_count, of_walk};
 ghost use Rattle.gq_index.specs.Stretches.{way_at};
 
 use crate::index::Index;
@@ -36,6 +36,8 @@ pub enum CandidateRows<'g> {
 struct Wanted<'a> {
     edges: Marks<'a>,
     targets: Marks<'a>,
+    /// Whether it is known that each vertex has a listed type.
+    all: bool,
 }
 
 /// Whether a vertex exists and has a listed type.
@@ -48,11 +50,47 @@ fn reaches(targets: &Marks<'_>, vertices: &Vertices, vertex: u32) -> bool
     targets.has(vertices.kind(vertex))
 }
 
+/// Whether each vertex has a listed type.
+fn are_all(targets: &Marks<'_>, vertices: &Vertices) -> bool
+    ensures { AreAll (vertex_kinds vertices.now) targets.now result }
+{
+    for vertex in 0..vertices.len() {
+        if !reaches(targets, vertices, vertex) {
+            return false;
+        }
+    }
+    true
+}
+
+/// Whether each vertex is known to have a listed type. It is found out where there are many sources: a look at all
+/// vertices costs less than those at the ends of many walks.
+fn are_known(targets: &Marks<'_>, vertices: &Vertices, sources: usize) -> bool
+    ensures { AreAll (vertex_kinds vertices.now) targets.now result }
+{
+    if sources < vertices.len() as usize / 4 {
+        return false;
+    }
+    are_all(targets, vertices)
+}
+
+/// Whether a vertex exists and has a wanted type. Its type is read only where types differ: the vertices at the far ends
+/// of edges are far apart in memory.
+fn is_wanted_end(wanted: &Wanted<'_>, vertices: &Vertices, vertex: u32) -> bool
+    requires { AreAll (vertex_kinds vertices.now) wanted.now.targets wanted.now.all }
+    ensures { result ≡ is_target (vertex_kinds vertices.now) wanted.now.targets vertex }
+{
+    if wanted.all && vertex < vertices.len() {
+        return true;
+    }
+    reaches(&wanted.targets, vertices, vertex)
+}
+
 /// Whether an edge type is wanted, and a vertex exists and has a wanted type.
 fn wants(wanted: &Wanted<'_>, vertices: &Vertices, kind: u32, target: u32) -> bool
+    requires { AreAll (vertex_kinds vertices.now) wanted.now.targets wanted.now.all }
     ensures { result ≡ (among wanted.now.edges kind && is_target (vertex_kinds vertices.now) wanted.now.targets target) }
 {
-    wanted.edges.has(kind) && reaches(&wanted.targets, vertices, target)
+    wanted.edges.has(kind) && is_wanted_end(wanted, vertices, target)
 }
 
 /// Where the ways from a place on that are wanted end, or those that aren't.
@@ -63,7 +101,8 @@ fn end_of_run(
     vertices: &Vertices,
     are_wanted: bool,
 ) -> usize
-    requires { from ≤ length ways.now }
+    requires from { from ≤ length ways.now }
+    requires all { AreAll (vertex_kinds vertices.now) wanted.now.targets wanted.now.all }
     ensures order { from ≤ result }
     ensures within { result ≤ length ways.now }
     ensures run { (k : ℕ) → from ≤ k → k < result → leads wanted.now.edges (vertex_kinds vertices.now) wanted.now.targets (way_at ways.now k) ≡ are_wanted }
@@ -84,6 +123,7 @@ fn wanted_ways<'g>(
     wanted: &Wanted<'_>,
     vertices: &Vertices,
 ) -> Option<&'g [Neighbor]>
+    requires { AreAll (vertex_kinds vertices.now) wanted.now.targets wanted.now.all }
     ensures { IfSome result (λ part. part.now ≡ filter (leads wanted.now.edges (vertex_kinds vertices.now) wanted.now.targets) ways.now) }
 {
     let first = end_of_run(ways, 0, wanted, vertices, false);
@@ -103,6 +143,7 @@ fn found_in_place<'g>(
     wanted: &Wanted<'_>,
     vertices: &Vertices,
 ) -> Result<Option<Stretches<'g>>, OutOfMemory>
+    requires all { AreAll (vertex_kinds vertices.now) wanted.now.targets wanted.now.all }
     requires rising { (a b : ℕ) → a < b → b < length sources.now → slice_index sources.now a < slice_index sources.now b }
     ensures { IfOk result (λ found. IfSome found (λ walks. walks ≡ flat_map (λ v. filter (is_wanted wanted.now.edges (vertex_kinds vertices.now) wanted.now.targets) (walks_at index.now v)) sources.now)) }
 {
@@ -124,6 +165,7 @@ fn add_way(
     segments: &mut Vec<Segment>,
     reached: &mut Vec<Reached>,
 ) -> Result<(), OutOfMemory>
+    requires { AreAll (vertex_kinds vertices.now) wanted.now.targets wanted.now.all }
     ensures { IfOk result (λ _. (before : List Traversal) → Holds segments.old.items reached.old.items before
         → Holds segments.new.items reached.new.items
         (before ++ filter (is_wanted wanted.now.edges (vertex_kinds vertices.now) wanted.now.targets) (walk ∷ []))) }
@@ -145,6 +187,7 @@ fn add_wanted(
     segments: &mut Vec<Segment>,
     reached: &mut Vec<Reached>,
 ) -> Result<(), OutOfMemory>
+    requires { AreAll (vertex_kinds vertices.now) wanted.now.targets wanted.now.all }
     ensures { IfOk result (λ _. (before : List Traversal) → Holds segments.old.items reached.old.items before
         → Holds segments.new.items reached.new.items
         (before ++ filter (is_wanted wanted.now.edges (vertex_kinds vertices.now) wanted.now.targets) (map (walked source) ways.now))) }
@@ -169,6 +212,7 @@ fn gather(
     wanted: &Wanted<'_>,
     vertices: &Vertices,
 ) -> Result<Runs, OutOfMemory>
+    requires { AreAll (vertex_kinds vertices.now) wanted.now.targets wanted.now.all }
     ensures { IfOk result (λ r. r ≡ flat_map (λ v. filter (is_wanted wanted.now.edges (vertex_kinds vertices.now) wanted.now.targets) (walks_at index.now v)) sources.now) }
 {
     let mut segments = Vec::new(alloc);
@@ -227,8 +271,13 @@ fn walks_of<'g>(
     let count = graph.catalog.type_count();
     let edges = Marks::of(alloc, pattern.edges.as_slice(), count)?;
     let targets = Marks::of(alloc, pattern.targets.as_slice(), count)?;
-    let wanted = Wanted { edges, targets };
     let vertices = &graph.store.vertices;
+    let all = are_known(&targets, vertices, sources.len());
+    let wanted = Wanted {
+        edges,
+        targets,
+        all,
+    };
     match found_in_place(alloc, graph.index, &sources, &wanted, vertices)? {
         Some(walks) => return Ok(Candidates::in_place(walks)),
         None => {}

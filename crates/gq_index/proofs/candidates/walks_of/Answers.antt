@@ -10,6 +10,7 @@ pub found_in_place-requires : goal.found_in_place-requires
 found_in_place-requires c =
     let g = c.args.graph.now in let sight = sight_of g.catalog.now g.store.now.vertices g.store.now.edges in
     record {
+      all = c.are_known-all.ensures;
       rising = filtered_rises (among c.args.set.now) (length sight.kinds) c.deref.result.now
           (c.deref.ensures.value ∙ c.in_ok-sources.ensures ∙ by_number_below sight c.args.set.now);
     }
