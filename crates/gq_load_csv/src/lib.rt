@@ -18,6 +18,7 @@ mod numbers;
 mod part;
 mod record;
 mod records;
+mod scratch;
 mod value;
 
 pub use id::{Id, read_id};
@@ -26,4 +27,5 @@ pub use line::Line;
 pub use part::Part;
 pub use record::Record;
 pub use records::Records;
+pub use scratch::pieces;
 pub use value::{default_value, read_int, read_key, read_value};
