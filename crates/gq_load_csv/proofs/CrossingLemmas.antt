@@ -1,4 +1,5 @@
--- CrossingLemmas: threads can send and share parts of a file. A struct that has a part as a field takes the lemma on the field.
+-- CrossingLemmas: threads can send and share parts of a file. A struct with a part as a field needs the lemma for that
+-- (`the_field`).
 use denote.Param.Send.{IsSend, IsSync, sendable}
 use denote.Ref.{NamedLft}
 use Rattle.std.proofs.Crossing.{crosses}

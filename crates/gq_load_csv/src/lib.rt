@@ -6,7 +6,7 @@
 //!
 //! Read `specs/Records.antt` first (which records a file has), then `specs/Fields.antt` (which value or id a
 //! field gives) with `specs/Texts.antt`, `specs/Numbers.antt` and `specs/Readings.antt`. The code is in
-//! `src/records.rt`, `src/lines.rt`, `src/line.rt`, `src/value.rt` and `src/id.rt`.
+//! `src/records.rt`, `src/lines.rt`, `src/line.rt`, `src/part.rt`, `src/value.rt` and `src/id.rt`.
 #![tactic(auto)]
 
 mod cursor;

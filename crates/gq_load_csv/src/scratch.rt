@@ -34,7 +34,7 @@ pub fn pieces<'a, R: Threads + Sync>(
     alloc: Global,
     parts: &[Part<'a>],
 ) -> Result<Vec<Result<Piece<'a>, OutOfMemory>>, OutOfMemory> {
-    let piece = |index: usize| -> Result<Piece<'a>, OutOfMemory> { piece_of(alloc, parts, index) };
+    let piece = |index: usize| -> Result<Piece<'_>, OutOfMemory> { piece_of(alloc, parts, index) };
     let pieces = thread::map_indices(rt, alloc, parts.len(), &piece)?;
     Ok(pieces)
 }
