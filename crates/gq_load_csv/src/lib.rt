@@ -18,7 +18,6 @@ mod numbers;
 mod part;
 mod record;
 mod records;
-mod scratch;
 mod value;
 
 pub use id::{Id, read_id};
@@ -27,5 +26,4 @@ pub use line::Line;
 pub use part::Part;
 pub use record::Record;
 pub use records::Records;
-pub use scratch::pieces;
 pub use value::{default_value, read_int, read_key, read_value};
