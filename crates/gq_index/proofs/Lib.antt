@@ -14,3 +14,4 @@ pub mod StepLemmas
 pub mod KeptLemmas
 pub mod NamingLemmas
 pub mod NumberLemmas
+pub mod CrossingLemmas
