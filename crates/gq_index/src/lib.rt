@@ -21,6 +21,7 @@ mod marks;
 mod packed;
 mod places;
 mod put;
+mod ranges;
 mod runs;
 mod store;
 mod stretches;
