@@ -15,3 +15,4 @@ pub mod KeptLemmas
 pub mod NamingLemmas
 pub mod NumberLemmas
 pub mod CrossingLemmas
+pub mod RangeLemmas
