@@ -1,5 +1,5 @@
 // Lists of ways, filled by several workers: each fills those of one range of vertices.
-ghost use Rattle.std.specs.Prelude.{◌≡◌, ℕ, ◌+◌, ◌<◌, ◌≤◌, ◌^◌, ◌++◌, ◌×◌, ◌∷◌, [], List, length, true, All, IfOk, IfSome};
+ghost use Rattle.std.specs.Prelude.{◌≡◌, ℕ, ◌+◌, ◌<◌, ◌≤◌, ◌^◌, ◌++◌, ◌∷◌, [], List, length, true, All, IfOk, IfSome};
 ghost use Rattle.gq_index.specs.declared.walks.Traversal.{Traversal};
 ghost use Rattle.gq_index.specs.Lists.{lists_of};
 ghost use Rattle.gq_index.specs.Ranges.{AreRanged, HoldWalks};
