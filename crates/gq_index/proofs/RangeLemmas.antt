@@ -167,3 +167,32 @@ hold_all types edges n lists long held =
     ∙ map_below_agree (λ v. map (walked v) (ways_at lists v)) (walks_from types edges) n
     (λ v h. let here : 0 + v ≡ v = omega arith in
     subst (λ (s : ℕ). map (walked s) (ways_at lists v) ≡ walks_from types edges s) here (held v (omega (arith, h, long))))
+
+-- ---- putting a walk
+
+pub put_in : (a n count : ℕ) (old new : RangeLists) (walks : List Traversal) (w : Traversal) → new.first ≡ old.first → old.first ≤ w.source
+    → (AreListed n count (lists_of old.lists) (lowered old.first walks)
+    → AreListed n count (lists_of new.lists) (lowered old.first walks ++ counted_from old.first w ∷ []))
+    → AreRanged a n count old walks → AreRanged a n count new (walks ++ w ∷ [])
+put_in a n count old new walks w same low more are = record {
+  first_is = same ∙ are.first_is;
+  lists = subst (λ (f : ℕ). AreListed n count (lists_of new.lists) (lowered f (walks ++ w ∷ []))) are.first_is
+      (subst (AreListed n count (lists_of new.lists)) (sym (lowered_in old.first walks w low))
+      (more (subst (λ (f : ℕ). AreListed n count (lists_of old.lists) (lowered f walks)) (sym are.first_is) are.lists)));
+}
+
+pub put_out : (a n count : ℕ) (range : RangeLists) (walks : List Traversal) (w : Traversal) → w.source < range.first
+    → AreRanged a n count range walks → AreRanged a n count range (walks ++ w ∷ [])
+put_out a n count range walks w past are = record {
+  first_is = are.first_is;
+  lists = subst (AreListed n count (lists_of range.lists)) (sym (lowered_out a walks w (omega (arith, past, are.first_is)))) are.lists;
+}
+
+-- ---- the range of all vertices
+
+pub ranged_all : (n count : ℕ) (range : RangeLists) (walks : List Traversal) → range.first ≡ 0 → AreListed n count (lists_of range.lists) walks
+    → AreRanged 0 n count range walks
+ranged_all n count range walks is are = record { first_is = is; lists = subst (AreListed n count (lists_of range.lists)) (sym (lowered_all walks)) are }
+
+pub all_listed : (n count : ℕ) (range : RangeLists) (walks : List Traversal) → AreRanged 0 n count range walks → AreListed n count (lists_of range.lists) walks
+all_listed n count range walks are = subst (AreListed n count (lists_of range.lists)) (lowered_all walks) are.lists
