@@ -292,9 +292,9 @@ joined_spans spans others first limit le before behind = record {
         ∙ get_or-map (moved first) others (v - length spans) no_span no_span (there v high h)
 
 -- one more span is moved
-pub moved_more : (old spans others : List Span) (first i : ℕ) (span : Span) → i < length others → span ≡ span_at others i
-    → spans ≡ old ++ map (moved first) (take i others) → spans ++ moved first span ∷ [] ≡ old ++ map (moved first) (take (i + 1) others)
-moved_more old spans others first i span low is all =
+pub moved_more : (old spans others : List Span) (first i : ℕ) (s : Span) → i < length others → s ≡ span_at others i
+    → spans ≡ old ++ map (moved first) (take i others) → spans ++ moved first s ∷ [] ≡ old ++ map (moved first) (take (i + 1) others)
+moved_more old spans others first i s low is all =
     ap₂ (λ (xs : List Span) (x : Span). xs ++ moved first x ∷ []) all is
     ∙ append_assoc old (map (moved first) (take i others)) (moved first (span_at others i) ∷ [])
     ∙ ap (λ l. old ++ l) (sym (map_push (moved first) (take i others) (span_at others i)) ∙ ap (map (moved first)) (sym (take_more others i no_span low)))
