@@ -1,6 +1,6 @@
 -- CrossingLemmas: threads may share a store, an index and the types of a catalog. An enum or a struct that is a field of
 -- another one has a lemma for that (`the_field`).
-use denote.Param.Send.{IsSend, IsSync, sendable}
+use denote.Param.Send.{IsSync, sendable}
 use Rattle.std.proofs.Crossing.{crosses}
 use Rattle.std.proofs.MapsCrossing as maps
 use Rattle.gq_base.proofs.list.List.TheSendSync as list_crosses
@@ -20,8 +20,6 @@ use Rattle.gq_edge.specs.contracts.rows.EdgeRows as edge_rows
 use Rattle.gq_edge.specs.contracts.edges.Edges as edges
 use Rattle.gq_index.specs.contracts.store.Store as store
 use Rattle.gq_index.specs.contracts.index.Index as index
-use Rattle.gq_index.specs.contracts.lists.Lists as lists
-use Rattle.gq_index.specs.contracts.ranges.RangeLists as range_lists
 
 base_field : IsSync (base.the_field).row
 base_field = search (list_crosses.the_sync, crosses, base_knot.crosses, sendable) depth 30 fits 50000
@@ -49,13 +47,6 @@ edges_field = search (edge_rows_field, value_sync, list_crosses.the_sync, maps.c
 
 pub store_sync : IsSync store.the_row
 store_sync = search (vertices_field, edges_field, crosses, sendable) depth 30 fits 50000
-
--- a worker leaves the lists of a range
-lists_field : IsSend (lists.the_field).row
-lists_field = search (crosses, sendable) depth 30 fits 50000
-
-pub range_send : IsSend range_lists.the_row
-range_send = search (lists_field, crosses, sendable) depth 30 fits 50000
 
 pub index_sync : IsSync index.the_row
 index_sync = search (list_crosses.the_sync, maps.crosses, crosses, sendable) depth 30 fits 50000
