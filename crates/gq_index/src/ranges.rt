@@ -15,7 +15,7 @@ use std::alloc::Global;
 use std::thread;
 use std::thread::Threads;
 
-/// The most ranges. Each worker reads all edges, so more of them cost more than they gain.
+/// The most ranges. Each worker reads all edges, so many of them would cost more than they gain.
 const MOST_RANGES: u32 = 8;
 
 /// The lists of a range of vertices, of which `first` is the first one.
@@ -101,7 +101,7 @@ fn take_in(whole: &mut Packed, range: &RangeLists) -> Result<bool, OutOfMemory>
     }
 }
 
-/// Joins the lists of all ranges; none if they aren't those of all vertices, which no workers leave.
+/// Joins the lists of all ranges, in order; none if they aren't those of all vertices, which no workers leave.
 fn joined(
     alloc: Global,
     types: &[EdgeType],
@@ -129,7 +129,8 @@ fn joined(
     Ok(Some(whole))
 }
 
-/// Fills the lists of all vertices with several workers.
+/// Fills the lists of all vertices, each worker those of one range. None if they can't be joined, which doesn't happen:
+/// ranges follow one another, and there is room for all walks.
 pub fn filled_by<R: Threads + Sync>(
     rt: &R,
     workers: u32,
