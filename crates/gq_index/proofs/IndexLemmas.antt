@@ -60,7 +60,7 @@ by_type_from types edges v =
     (λ e h. ap (filter (λ (walk : Traversal). walk.kind == e)) (all_walks_from types edges v) ∙ of_kind types edges v e h)
 
 -- with those along the edges after the first ones they are those along all edges
-grown_from : (types : List EdgeType) (edges : List EdgeRow) (first v : ℕ) → first ≤ length edges
+pub grown_from : (types : List EdgeType) (edges : List EdgeRow) (first v : ℕ) → first ≤ length edges
     → by_type (length types) (taken_from v (all_walks types (take first edges) ++ walks_behind types first edges)) ≡ walks_from types edges v
 unfolding by_type
 grown_from types edges first v low =

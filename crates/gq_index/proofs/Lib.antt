@@ -14,3 +14,5 @@ pub mod StepLemmas
 pub mod KeptLemmas
 pub mod NamingLemmas
 pub mod NumberLemmas
+pub mod CrossingLemmas
+pub mod RangeLemmas

@@ -3,12 +3,13 @@ use Rattle.std.proofs.Common.{inl, inr, ℕ, ◌+◌, ◌-◌, ◌<◌, ◌≤�
 use Rattle.std.specs.List.{insert}
 use Rattle.std.specs.List.Sorted.{IsPartitionPoint, IsPartitionedBy}
 use Rattle.std.specs.Prelude.{true, false, leb, min}
-use Rattle.std.proofs.lemmas.List.{ext_get_or, get_or-take, get_or-drop, get_or-map, get_or-set_same, get_or-set_other, get_or_append_left, get_or-append_right, get_or_past, length-take, length-drop, length-map, map-set, map_push, take_more, take_all, drop_all}
+use Rattle.std.proofs.Math.Seq.{drop-append-add}
+use Rattle.std.proofs.lemmas.List.{append_assoc, ext_get_or, get_or-take, get_or-drop, get_or-map, get_or-set_same, get_or-set_other, get_or_append_left, get_or-append_right, get_or_past, length-take, length-take-le, length-drop, length-map, map-append, map-set, map_push, take_more, take_all, drop_all}
 use Rattle.std.proofs.lemmas.Bool.{cases_eq}
 use Rattle.gq_index.specs.declared.packed.Span.{Span}
 use Rattle.gq_index.specs.declared.walks.Neighbor.{Neighbor}
 use Rattle.gq_index.specs.declared.walks.Traversal.{Traversal}
-use Rattle.gq_index.specs.Packed.{span_at, part, parts, AreApart, HasRoom}
+use Rattle.gq_index.specs.Packed.{span_at, moved, part, parts, AreApart, HasRoom}
 use Rattle.gq_index.specs.Walks.{walked, ways_at, way_of, taken_from, AreListed}
 use Rattle.gq_index.proofs.ListLemmas.{inserted, listed_more}
 use Rattle.gq_index.proofs.WalkLemmas.{lt_or_le}
@@ -233,3 +234,90 @@ pub copied_more : {V : Type 0} (f : V → List Neighbor) (lists : List (List Nei
     → map f vs ≡ take i lists → f v ≡ ways_at lists i → map f (vs ++ v ∷ []) ≡ take (i + 1) lists
 copied_more f lists vs i v low all e =
     map_push f vs v ∙ ap₂ (λ (xs : List (List Neighbor)) (x : List Neighbor). xs ++ x ∷ []) all e ∙ sym (take_more lists i [] low)
+
+-- ---- other lists behind these
+
+first_spans : (others : List Span) (size i : ℕ) → i ≤ length others → AreApart others size → AreApart (take i others) size
+first_spans others size i le before = record {
+  up = λ v h. let low : v < i = omega (arith, h, long) in subst (λ (s : Span). s.start ≤ s.stop) (sym (same v low)) (before.up v (omega arith));
+  within = λ v h. let low : v < i = omega (arith, h, long) in subst (λ (s : Span). s.stop ≤ size) (sym (same v low)) (before.within v (omega arith));
+  apart = λ a b less h.
+      let low : b < i = omega (arith, h, long) in
+      subst (λ (s : Span). s.stop ≤ (span_at (take i others) b).start) (sym (same a (omega arith)))
+      (subst (λ (s : Span). (span_at others a).stop ≤ s.start) (sym (same b low)) (before.apart a b less (omega arith)));
+}
+  where
+    long : length (take i others) ≡ i
+    long = length-take-le i others le
+
+    same : (v : ℕ) → v < i → span_at (take i others) v ≡ span_at others v
+    same v low = get_or-take i others v no_span low
+
+joined_spans : (spans others : List Span) (first limit : ℕ) → first ≤ limit → AreApart spans first → AreApart others (limit - first)
+    → AreApart (spans ++ map (moved first) others) limit
+joined_spans spans others first limit le before behind = record {
+  up = λ v h. elim (lt_or_le v (length spans)) [
+    | inl low ↦ subst (λ (s : Span). s.start ≤ s.stop) (sym (old v low)) (before.up v low)
+    | inr high ↦ subst (λ (s : Span). s.start ≤ s.stop) (sym (new v high h)) (omega (arith, behind.up (v - length spans) (there v high h)))
+  ];
+  within = λ v h. elim (lt_or_le v (length spans)) [
+    | inl low ↦ subst (λ (s : Span). s.stop ≤ limit) (sym (old v low)) (omega (arith, before.within v low))
+    | inr high ↦ subst (λ (s : Span). s.stop ≤ limit) (sym (new v high h)) (omega (arith, le, behind.within (v - length spans) (there v high h)))
+  ];
+  apart = λ a b less h. elim (lt_or_le b (length spans)) [
+    | inl here ↦ subst (λ (s : Span). s.stop ≤ (span_at all b).start) (sym (old a (omega arith)))
+        (subst (λ (s : Span). (span_at spans a).stop ≤ s.start) (sym (old b here)) (before.apart a b less here))
+    | inr high ↦ subst (λ (s : Span). (span_at all a).stop ≤ s.start) (sym (new b high h)) (elim (lt_or_le a (length spans)) [
+      | inl low ↦ subst (λ (s : Span). s.stop ≤ first + (span_at others (b - length spans)).start) (sym (old a low)) (omega (arith, before.within a low))
+      | inr above ↦
+          let ha : a < length all = omega (arith, less, h) in
+          subst (λ (s : Span). s.stop ≤ first + (span_at others (b - length spans)).start) (sym (new a above ha))
+          (omega (arith, behind.apart (a - length spans) (b - length spans) (omega arith) (there b high h)))
+    ])
+  ];
+}
+  where
+    all : List Span
+    all = spans ++ map (moved first) others
+
+    there : (v : ℕ) → length spans ≤ v → v < length all → v - length spans < length others
+    there v high h = omega (arith, high, h, length-append spans (map (moved first) others), length-map others (moved first))
+
+    old : (v : ℕ) → v < length spans → span_at all v ≡ span_at spans v
+    old v low = get_or_append_left spans (map (moved first) others) no_span v low
+
+    new : (v : ℕ) → length spans ≤ v → v < length all → span_at all v ≡ moved first (span_at others (v - length spans))
+    new v high h =
+        get_or-append_right spans (map (moved first) others) (length spans) v no_span refl high
+        ∙ get_or-map (moved first) others (v - length spans) no_span no_span (there v high h)
+
+-- one more span is moved
+pub moved_more : (old spans others : List Span) (first i : ℕ) (s : Span) → i < length others → s ≡ span_at others i
+    → spans ≡ old ++ map (moved first) (take i others) → spans ++ moved first s ∷ [] ≡ old ++ map (moved first) (take (i + 1) others)
+moved_more old spans others first i s low is all =
+    ap₂ (λ (xs : List Span) (x : Span). xs ++ moved first x ∷ []) all is
+    ∙ append_assoc old (map (moved first) (take i others)) (moved first (span_at others i) ∷ [])
+    ∙ ap (λ l. old ++ l) (sym (map_push (moved first) (take i others) (span_at others i)) ∙ ap (map (moved first)) (sym (take_more others i no_span low)))
+
+pub moved_apart : (old spans others : List Span) (first limit i : ℕ) → first ≤ limit → i ≤ length others → AreApart old first → AreApart others (limit - first)
+    → spans ≡ old ++ map (moved first) (take i others) → AreApart spans limit
+moved_apart old spans others first limit i le low before behind is =
+    subst (λ (l : List Span). AreApart l limit) (sym is) (joined_spans old (take i others) first limit le before (first_spans others (limit - first) i low behind))
+
+part_moved : (ways more : List Neighbor) (s : Span) → part (ways ++ more) (moved (length ways) s) ≡ part more s
+part_moved ways more s =
+    let same : length ways + s.stop - (length ways + s.start) ≡ s.stop - s.start = omega arith in
+    ap₂ (λ (n : ℕ) (l : List Neighbor). take n l) same (drop-append-add ways more s.start)
+
+parts_moved : (ways more : List Neighbor) (others : List Span) → parts (map (moved (length ways)) others) (ways ++ more) ≡ parts others more
+parts_moved ways more [] = refl
+parts_moved ways more (s ∷ others) = ap₂ (λ (x : List Neighbor) (xs : List (List Neighbor)). x ∷ xs) (part_moved ways more s) (parts_moved ways more others)
+
+-- the lists of both, one after the other
+pub parts_joined : (spans others : List Span) (ways more : List Neighbor) → AreApart spans (length ways)
+    → parts (spans ++ map (moved (length ways)) others) (ways ++ more) ≡ parts spans ways ++ parts others more
+parts_joined spans others ways more apart =
+    map-append (part (ways ++ more)) spans (map (moved (length ways)) others)
+    ∙ ap₂ (λ (xs ys : List (List Neighbor)). xs ++ ys)
+    (parts_roomy spans ways (ways ++ more) apart (omega (arith, length-append ways more)) (λ i low. get_or_append_left ways more no_way i low))
+    (parts_moved ways more others)

@@ -11,3 +11,4 @@ pub mod Ends
 pub mod Namings
 pub mod Rows
 pub mod Kept
+pub mod Ranges

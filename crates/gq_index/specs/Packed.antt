@@ -1,5 +1,5 @@
 -- Packed: lists one after another in one list, each with room behind it.
-use Rattle.std.specs.Prelude.{ℕ, ◌-◌, ◌<◌, ◌≤◌, List, length, map, take, drop, slice_index_or}
+use Rattle.std.specs.Prelude.{ℕ, ◌+◌, ◌-◌, ◌<◌, ◌≤◌, List, length, map, take, drop, slice_index_or}
 use Rattle.gq_index.specs.declared.packed.Span.{Span}
 use Rattle.gq_index.specs.declared.walks.Neighbor.{Neighbor}
 
@@ -14,6 +14,10 @@ part ways span = take (span.stop - span.start) (drop span.start ways)
 -- the ways in each span
 abbrev pub parts : List Span → List Neighbor → List (List Neighbor)
 parts spans ways = map (part ways) spans
+
+-- a span, moved behind so many ways
+abbrev pub moved : ℕ → Span → Span
+moved first span = record { start = first + span.start; stop = first + span.stop }
 
 -- each span ends where the next one begins, or before; the last one ends within the first `size` places
 pub record AreApart (spans : List Span) (size : ℕ) : Type 0 where

@@ -14,9 +14,13 @@ use gq_graph::EdgeType;
 use gq_schema::Catalog;
 use std::alloc::Global;
 use std::mem;
+use std::thread::Threads;
 
 /// How many ways may move for each edge of the index before it is rebuilt instead.
 const MOST_MOVES: u64 = 16;
+
+/// How many edges make it worth while to start threads.
+const MANY_EDGES: usize = 100_000;
 
 /// An index, kept between queries, of the rows that existed when it was last updated.
 #[derive(Drop)]
@@ -137,6 +141,53 @@ impl KeptIndex {
         }
         *self = KeptIndex::of_types(alloc, types.len() as u32);
         self.extend(alloc, catalog, store)
+    }
+
+    /// Updates the index as `catch_up` does. If it is rebuilt, and there are many edges, the workers share that.
+    pub fn catch_up_by<R: Threads + Sync>(
+        &mut self,
+        rt: &R,
+        workers: u32,
+        alloc: Global,
+        catalog: &Catalog,
+        store: &Store,
+    ) -> Result<(), OutOfMemory>
+        requires { IsKept self.old catalog.now store.now }
+        ensures index { IfOk result (λ _. self.new.index ≡ adjacency (sight_of catalog.now store.now.vertices store.now.edges)) }
+        ensures kept { IsKept self.new catalog.now store.now }
+    {
+        let types = catalog.edge_types();
+        let edges = store.edges.ends();
+        if self.edges > 0 && self.goes_on(types, edges) {
+            return self.extend(alloc, catalog, store);
+        }
+        *self = KeptIndex::of_types(alloc, types.len() as u32);
+        if workers < 2 || edges.len() < MANY_EDGES {
+            return self.extend(alloc, catalog, store);
+        }
+        self.fill_by(rt, workers, alloc, catalog, store)
+    }
+
+    /// Builds the index anew with several workers.
+    fn fill_by<R: Threads + Sync>(
+        &mut self,
+        rt: &R,
+        workers: u32,
+        alloc: Global,
+        catalog: &Catalog,
+        store: &Store,
+    ) -> Result<(), OutOfMemory>
+        requires kept { IsKept self.old catalog.now store.now }
+        requires types { self.old.types ≡ length catalog.now.edge_types }
+        ensures index { IfOk result (λ _. self.new.index ≡ adjacency (sight_of catalog.now store.now.vertices store.now.edges)) }
+        ensures kept { IsKept self.new catalog.now store.now }
+    {
+        let edges = store.edges.ends();
+        let vertices = store.vertices.len();
+        self.index = Index::built_by(rt, workers, alloc, catalog.edge_types(), edges, vertices)?;
+        self.whole = are_within(edges, 0, vertices);
+        self.edges = edges.len() as u32;
+        Ok(())
     }
 
     /// Adds the new vertices and edges.

@@ -6,9 +6,10 @@
 //! `Candidates::at` finds a candidate by its position, so workers share only a counter of chunks.
 //!
 //! Read `Candidates.antt` of `gq_graph` first, then `specs/Walks.antt`, `specs/Runs.antt` and `specs/Stretches.antt`.
-//! `src/index.rt` has the adjacency lists, which `src/walks.rt` fills, `src/stretches.rt` has what is borrowed from
-//! them, and `src/runs.rt` the segments. `specs/Kept.antt` specifies what `src/kept.rt` keeps. Rows enter the store in
-//! `src/put.rt`: `specs/Steps.antt` defines a row as a list of upserts, and a store as a fold of them.
+//! `src/index.rt` has the adjacency lists, which `src/walks.rt` fills, and `src/ranges.rt` divides among workers.
+//! `src/stretches.rt` has what is borrowed from them, and `src/runs.rt` the segments. `specs/Kept.antt` specifies what
+//! `src/kept.rt` keeps. Rows enter the store in `src/put.rt`: `specs/Steps.antt` defines a row as a list of upserts, and
+//! a store as a fold of them.
 #![tactic(auto)]
 
 mod candidates;
@@ -21,6 +22,7 @@ mod marks;
 mod packed;
 mod places;
 mod put;
+mod ranges;
 mod runs;
 mod store;
 mod stretches;

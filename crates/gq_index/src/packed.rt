@@ -1,8 +1,8 @@
 // Lists of ways that lie one after another in one list.
-ghost use Rattle.std.specs.Prelude.{◌≡◌, ℕ, ◌+◌, ◌<◌, ◌≤◌, ◌^◌, ◌++◌, [], ◌∷◌, List, length, true, false, IfOk, replicate, slice_set};
+ghost use Rattle.std.specs.Prelude.{◌≡◌, ℕ, ◌+◌, ◌-◌, ◌<◌, ◌≤◌, ◌^◌, ◌++◌, [], ◌∷◌, List, length, map, true, false, IfOk, replicate, slice_set};
 ghost use Rattle.gq_index.specs.declared.walks.Neighbor.{Neighbor};
 ghost use Rattle.gq_index.specs.declared.walks.Traversal.{Traversal};
-ghost use Rattle.gq_index.specs.Packed.{AreApart, HasRoom, part, parts, span_at};
+ghost use Rattle.gq_index.specs.Packed.{AreApart, HasRoom, moved, part, parts, span_at};
 ghost use Rattle.gq_index.specs.Walks.{AreListed, ways_at};
 
 use crate::lists::is_last;
@@ -81,6 +81,29 @@ fn append(spans: &mut Vec<Span>, first: u32, limit: u32, room: &[u32]) -> Result
     Ok(())
 }
 
+/// Appends spans, each moved behind the first ways. After `OutOfMemory` some of them may be there.
+fn append_moved(
+    spans: &mut Vec<Span>,
+    first: u32,
+    limit: u32,
+    others: &[Span],
+) -> Result<(), OutOfMemory>
+    requires apart { AreApart spans.old.items first }
+    requires others { AreApart others.now (limit - first) }
+    requires within { first ≤ limit }
+    ensures apart { AreApart spans.new.items limit }
+    ensures spans { IfOk result (λ _. spans.new.items ≡ spans.old.items ++ map (moved first) others.now) }
+{
+    spans.reserve(others.len())?;
+    for span in others {
+        spans.push(Span {
+            start: first + span.start,
+            stop: first + span.stop,
+        })?;
+    }
+    Ok(())
+}
+
 /// Lists of ways that lie one after another in one list, each with room behind it. It takes 8 bytes for each list.
 #[derive(Drop)]
 pub struct Packed {
@@ -153,6 +176,17 @@ impl Packed {
             },
         )?;
         append(&mut self.spans, first as u32, size as u32, room)
+    }
+
+    /// Appends other lists, with the room behind each.
+    pub fn extend(&mut self, other: &Packed) -> Result<(), OutOfMemory>
+        ensures { IfOk result (λ _. self.new ≡ self.old ++ other.now) }
+    {
+        let first = self.ways.len();
+        let size = first.saturating_add(other.ways.len());
+        within(size, u32::MAX as usize)?;
+        self.ways.extend_from_slice(&other.ways)?;
+        append_moved(&mut self.spans, first as u32, size as u32, &other.spans)
     }
 
     /// Adds a walk behind those from its source vertex, if that exists; false, and nothing has changed, if there is no

@@ -9,17 +9,6 @@ use Rattle.gq_base.proofs.boxed.Boxed.TheSendSync as boxed_crosses
 use Rattle.gq_value.specs.contracts.value.Value as value
 use Rattle.gq_value.specs.contracts.kind.BaseType as base
 use Rattle.gq_value.specs.contracts.kind.Kind as kind
-use Rattle.gq_graph.specs.contracts.types.IdShape as id
-use Rattle.gq_graph.specs.contracts.types.Attribute as attribute
-use Rattle.gq_graph.specs.contracts.types.VertexType as vertex_type
-use Rattle.gq_graph.specs.contracts.types.EdgeType as edge_type
-use Rattle.gq_graph.specs.contracts.row_values.Span as span
-use Rattle.gq_graph.specs.contracts.row_list.Rows as rows
-use Rattle.gq_vertex.specs.contracts.heads.VertexHead as head
-use Rattle.gq_vertex.specs.contracts.vertices.Vertices as vertices
-use Rattle.gq_edge.specs.contracts.rows.EdgeEnds as ends_of_edge
-use Rattle.gq_edge.specs.contracts.rows.EdgeRows as edge_rows
-use Rattle.gq_edge.specs.contracts.edges.Edges as edges
 use Rattle.gq_value.proofs.value.Value.TheLaws.TheKnot as value_knot
 use Rattle.gq_value.proofs.kind.BaseType.TheLaws.TheKnot as base_knot
 use Rattle.gq_value.proofs.kind.Kind.TheLaws.TheKnot as kind_knot
@@ -50,8 +39,6 @@ use Rattle.gq_exec_contribute.specs.contracts.rows.Ints as ints
 use Rattle.gq_exec_contribute.specs.contracts.waiting.PackedInput as packed
 use Rattle.gq_exec_contribute.specs.contracts.waiting.WaitingInputs as waiting
 use Rattle.gq_exec_contribute.specs.contracts.leaves.Leaves as leaves
-use Rattle.gq_index.specs.contracts.store.Store as store
-use Rattle.gq_index.specs.contracts.index.Index as index
 use Rattle.gq_index.specs.contracts.store.Graph as graph
 use Rattle.gq_index.specs.contracts.stretches.Stretch as stretch
 use Rattle.gq_index.specs.contracts.stretches.Stretches as stretches
@@ -62,6 +49,7 @@ use Rattle.gq_workers.specs.contracts.rounds.Work as work
 use Rattle.gq_workers.specs.contracts.rounds.Round as round
 use Rattle.gq_workers.specs.contracts.rounds.ChunkOutput as left
 use Rattle.gq_workers.specs.contracts.rounds.WorkerOutput as part
+pub use Rattle.gq_index.proofs.CrossingLemmas.{edge_type_sync, index_sync, store_sync, vertex_type_sync}
 pub use Rattle.gq_plan_ir.proofs.CrossingLemmas.{block_sync, plan_sync}
 
 -- ---- what workers leave
@@ -155,45 +143,6 @@ column_field = search (list_crosses.the_sync, crosses, sendable) depth 30 fits 5
 
 leaves_field : (l : NamedLft) → IsSync (leaves.the_field l).row
 leaves_field l = search (ends_sync, cells_sync, list_crosses.the_sync, crosses, sendable) depth 30 fits 50000
-
-span_sync : IsSync span.the_row
-span_sync = search (sendable) depth 30 fits 50000
-
-rows_field : IsSync (rows.the_field).row
-rows_field = search (span_sync, value_sync, list_crosses.the_sync, crosses, sendable) depth 30 fits 50000
-
-head_sync : IsSync head.the_row
-head_sync = search (txt_sync, sendable) depth 30 fits 50000
-
-vertices_field : IsSync (vertices.the_field).row
-vertices_field = search (head_sync, rows_field, txt_sync, list_crosses.the_sync, maps.crosses, crosses, sendable) depth 30 fits 50000
-
-edge_ends_sync : IsSync ends_of_edge.the_row
-edge_ends_sync = search (sendable) depth 30 fits 50000
-
-edge_rows_field : IsSync (edge_rows.the_field).row
-edge_rows_field = search (edge_ends_sync, rows_field, list_crosses.the_sync, crosses, sendable) depth 30 fits 50000
-
-edges_field : IsSync (edges.the_field).row
-edges_field = search (edge_rows_field, value_sync, list_crosses.the_sync, maps.crosses, crosses, sendable) depth 30 fits 50000
-
-pub store_sync : IsSync store.the_row
-store_sync = search (vertices_field, edges_field, crosses, sendable) depth 30 fits 50000
-
-pub index_sync : IsSync index.the_row
-index_sync = search (list_crosses.the_sync, maps.crosses, crosses, sendable) depth 30 fits 50000
-
-id_field : IsSync (id.the_field).row
-id_field = search (txt_sync, sendable) depth 30 fits 50000
-
-attribute_sync : IsSync attribute.the_row
-attribute_sync = search (base_field, value_sync, txt_sync, list_crosses.the_sync, crosses, sendable) depth 30 fits 50000
-
-pub vertex_type_sync : IsSync vertex_type.the_row
-vertex_type_sync = search (id_field, attribute_sync, txt_sync, list_crosses.the_sync, crosses, sendable) depth 30 fits 50000
-
-pub edge_type_sync : IsSync edge_type.the_row
-edge_type_sync = search (attribute_sync, txt_sync, list_crosses.the_sync, crosses, sendable) depth 30 fits 50000
 
 graph_field : (l : NamedLft) → IsSync (graph.the_field l).row
 graph_field l = search (store_sync, index_sync, vertex_type_sync, edge_type_sync, txt_sync, list_crosses.the_sync, maps.crosses, crosses, sendable) depth 30 fits 50000
