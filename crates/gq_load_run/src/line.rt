@@ -40,7 +40,15 @@ pub(crate) fn load_numbered<R: Threads + Sync>(
     ensures fits { StoreFits catalog.now store.new }
     ensures grown { StoreGrown store.old store.new }
 {
-    load_line(rt, workers, alloc, catalog, job.lines.at(number), bytes, store)
+    load_line(
+        rt,
+        workers,
+        alloc,
+        catalog,
+        job.lines.at(number),
+        bytes,
+        store,
+    )
 }
 
 // Loads the bytes of a file as the line says.
