@@ -29,10 +29,10 @@ pub(crate) fn name_of(
     let values = discriminators(naming, edge);
     let mut name = Vec::with_capacity(alloc, values.len().saturating_add(3))?;
     let (first, second) = ends(naming.directed, edge.from, edge.to);
+    add_all(alloc, &mut name, values)?;
     add(&mut name, Value::Vertex(first))?;
     add(&mut name, Value::Vertex(second))?;
     add(&mut name, Value::UInt(edge.kind as u64))?;
-    add_all(alloc, &mut name, values)?;
     Ok(name)
 }
 
