@@ -16,7 +16,7 @@ use Rattle.gq_value.specs.Views.{val}
 use Rattle.gq_edge.specs.Keyed.{edge_key, HasEnds}
 use Rattle.gq_edge.specs.Named.{naming_at, row_key, AreNamed, IsFindable}
 use Rattle.std.proofs.Math.Seq.{map-set_same}
-use Rattle.gq_edge.specs.Sorted.{Names, name_row, row_name, is_name, AreSorted, IsSorted}
+use Rattle.gq_edge.specs.Sorted.{Name, Names, name_row, row_name, is_name, AreSorted, IsSorted}
 use Rattle.gq_edge.proofs.SortedLemmas.{row_of, row_back, held, itself, position_map, find_first}
 use Rattle.gq_edge.proofs.EdgeNames.{EdgeName, name_of, named_so, is_named, same_key, exact_kind, exact_name}
 
@@ -336,20 +336,27 @@ row_hit naming edge rows namings keys k named agrees kind low is =
     let own = agreed_type naming rows namings keys k named agrees (ap (λ (n : EdgeName). n.kind) same ∙ kind) low in
     is_named naming edge row (sym (subst (λ (m : Naming). name_of m row ≡ name_of naming edge) own same))
 
+-- the place of an edge's name among those of the rows is the number of its row
+pub placed : (naming : Naming) (edge : EdgeRow) (rows : List EdgeRow) (namings : List Naming) (keys : List ℕ) (name : Name) → AreNamed rows namings keys
+    → Agrees namings naming → edge.kind ≡ naming.kind → map val name.1.items ≡ name_row naming edge
+    → position (is_name name) (map (row_name namings) rows) ≡ edge_number rows naming edge
+placed naming edge rows namings keys name named agrees kind is =
+    position_map (is_name name) (row_name namings) (is_edge naming edge) rows no_edge (λ k low.
+    let row = edge_at rows k in
+    same_bool (is_name name (row_name namings row)) (is_edge naming edge row)
+    (λ hit. row_hit naming edge rows namings keys k named agrees kind low (held (row_name namings row) (map val name.1.items) hit ∙ is))
+    (λ hit.
+    let own = agreed naming edge rows namings keys k named agrees kind low hit in
+    let same : row_name namings row ≡ map val name.1.items =
+    ap (λ (m : Naming). name_row m row) own ∙ sym (ap row_of (named_so naming edge row hit)) ∙ sym is in
+    ap (λ r. is_name name r) same ∙ itself (map val name.1.items)))
+
 -- what a search in the tree needs
 pub searchable : (naming : Naming) (edge : EdgeRow) (rows : List EdgeRow) (namings : List Naming) (keys : List ℕ) (tree : Option Names) → AreNamed rows namings keys
     → Agrees namings naming → edge.kind ≡ naming.kind → AreSorted (map (row_name namings) rows) tree → IsSorted naming edge rows tree
 searchable naming edge rows namings keys None named agrees kind sorted = tt
-searchable naming edge rows namings keys (Some tree) named agrees kind sorted = λ name is.
-    sorted name ∙ position_map (is_name name) (row_name namings) (is_edge naming edge) rows no_edge (λ k low.
-    let row = edge_at rows k in
-    same_bool (is_name name (row_name namings row)) (is_edge naming edge row)
-    (λ hit. row_hit naming edge rows namings keys k named agrees kind low (held (row_name namings row) (map val name.items) hit ∙ is))
-    (λ hit.
-    let own = agreed naming edge rows namings keys k named agrees kind low hit in
-    let same : row_name namings row ≡ map val name.items =
-    ap (λ (m : Naming). name_row m row) own ∙ sym (ap row_of (named_so naming edge row hit)) ∙ sym is in
-    ap (λ r. is_name name r) same ∙ itself (map val name.items)))
+searchable naming edge rows namings keys (Some tree) named agrees kind sorted = λ name own is.
+    sorted name own ∙ placed naming edge rows namings keys name named agrees kind is
 
 -- no row has the name of a new edge
 pub new_name : (naming : Naming) (edge : EdgeRow) (rows : List EdgeRow) (namings : List Naming) (keys : List ℕ) → AreNamed rows namings keys
