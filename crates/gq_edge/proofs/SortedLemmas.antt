@@ -142,17 +142,6 @@ sorted_push names row n key old new fresh at hashed is sorted updates = λ name 
     seek_none (is_name name) [] names (λ k low. missed (is_name name (get_or names k [])) (λ other.
     fresh k low (held (get_or names k []) (map val name.1.items) other ∙ sym (held row (map val name.1.items) hit))))))
 
--- the name is there already, and keeps its number
-pub sorted_kept : (names : List (List Val)) (row : List Val) (n : ℕ) (key : Name) (old new : Names) → position (is_name key) names ≡ Some n
-    → IsHashed key → map val key.1.items ≡ row → AreSorted names (Some old) → Updates name_cmp old new key (Some n) → AreSorted names (Some new)
-sorted_kept names row n key old new there hashed is sorted updates = λ name own.
-    updates.0 name ∙ ap (λ t. cond t (Some n) (get name_cmp old name)) (at_name key name row hashed own is)
-    ∙ ap (λ o. cond (is_name name row) (Some n) o) (sorted name own) ∙ by name (is_name name row) refl
-  where
-    by : (name : Name) (t : Bool) → is_name name row ≡ t → cond t (Some n) (position (is_name name) names) ≡ position (is_name name) names
-    by name false miss = refl
-    by name true hit = sym (ap (λ r. position (λ x. is_eq (slice_cmp place x r)) names) (sym (held row (map val name.1.items) hit) ∙ sym is) ∙ there)
-
 -- one more of the rows that exist
 pub sorted_next : (names : List (List Val)) (n : ℕ) (key : Name) (old new : Names)
     → ((i j : ℕ) → i < j → j < length names → get_or names i [] ≡ get_or names j [] → ⊥) → n < length names → IsHashed key → map val key.1.items ≡ get_or names n []

@@ -1,7 +1,7 @@
 // A tree of edges by name.
-ghost use Rattle.std.specs.Prelude.{◌≡◌, ◌<◌, ◌≤◌, ◌++◌, ◌∷◌, [], length, map, take, IfOk, OnOk, OnErr, None, Some};
+ghost use Rattle.std.specs.Prelude.{◌≡◌, ◌<◌, ◌≤◌, ◌++◌, ◌∷◌, [], length, map, take, IfOk, OnOk, OnErr, None, Some, true};
 ghost use Rattle.std.specs.BTreeMap.{get, Updates, IsUnchanged};
-ghost use Rattle.std.specs.Option.{unwrap_or};
+ghost use Rattle.std.specs.Option.{is_some, unwrap_or};
 ghost use Rattle.gq_value.specs.Views.{val};
 ghost use Rattle.gq_graph.specs.Edges.{edge_number, most_edges, Agrees};
 ghost use Rattle.gq_edge.specs.Keyed.{first_end, second_end};
@@ -168,13 +168,15 @@ fn naming_at(namings: &[Naming], kind: u32) -> Naming
 /// their numbers.
 pub(crate) fn claim(names: &mut Names, name: Name, number: u32) -> Result<u32, OutOfMemory>
     ensures number { IfOk result (λ n. n ≡ unwrap_or (get spec.name_cmp names.old name) number) }
-    ensures put { IfOk result (λ n. Updates spec.name_cmp names.old names.new name (Some n)) }
+    ensures known { OnOk result (is_some (get spec.name_cmp names.old name) ≡ true → names.new ≡ names.old) }
+    ensures put { OnOk result (get spec.name_cmp names.old name ≡ None → Updates spec.name_cmp names.old names.new name (Some number)) }
     ensures stays { OnErr result (IsUnchanged names.old names.new) }
 {
-    match names.entry(name) {
-        Ok(entry) => Ok(*entry.or_insert(number)),
-        Err(_) => Err(OutOfMemory),
+    if let Some(found) = names.get(&name) {
+        return Ok(*found);
     }
+    put(names, name, number)?;
+    Ok(number)
 }
 
 /// Maps a name to that number. After `OutOfMemory` all names keep their numbers.
