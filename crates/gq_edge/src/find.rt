@@ -68,7 +68,8 @@ pub(crate) fn place(
     ensures stays { OnErr result (AreSorted (map (row_name namings.now) rows.now) names.new) }
 {
     if let Some(tree) = names {
-        return claim(tree, name_of(alloc, naming, edge)?, rows.len() as u32);
+        let number = claim(tree, name_of(alloc, naming, edge)?, rows.len() as u32)?;
+        return Ok(number);
     }
     match find_by_key(rows, index, naming, key, edge) {
         Some(number) => Ok(number),
