@@ -4,7 +4,6 @@ use Rattle.std.specs.Option.{option_or}
 use Rattle.std.specs.List.{position, position_from, find}
 use Rattle.std.specs.Map.{lookup}
 use Rattle.std.specs.BTreeMap.{get, is_at, Updates, IsEmpty}
-use Rattle.std.specs.Global.{Vec}
 use Rattle.std.specs.Ordering.{is_eq, nat_cmp, ordering_then, on}
 use Rattle.std.specs.Cmp.Lexicographic.{slice_cmp}
 use Rattle.std.specs.Cmp.Derive.Mapped.{lex_map}
@@ -12,7 +11,6 @@ use Rattle.std.proofs.lemmas.Bool.Decides.{nat_tests}
 use Rattle.std.proofs.lemmas.Iterator.Adapters.{position_from-zero}
 use Rattle.std.proofs.lemmas.List.{take_more, get_or-take, length-take-le}
 use Rattle.gq_base.proofs.Seeks.{seek_none}
-use Rattle.gq_value.specs.declared.value.Value.{Value}
 use Rattle.gq_value.specs.Val.{Val, Vertex, UInt}
 use Rattle.gq_value.specs.Views.{val}
 use Rattle.gq_value.specs.Order.{place}

@@ -16,7 +16,7 @@ use gq_graph::Naming;
 use std::alloc::Global;
 
 /// Finds the number of the row with an edge's name: in the tree of names if there is one and memory for the name, and
-/// otherwise by the keys of the rows.
+/// otherwise by the keys of the rows. So it needs no memory, as a full table must tell whether a name is new.
 pub(crate) fn find(
     rows: &EdgeRows,
     index: &KeyIndex,
@@ -42,8 +42,8 @@ pub(crate) fn find(
     find_by_key(rows, index, naming, key, edge)
 }
 
-/// The number of the row of an edge, or the number of rows if its name is new. Then the tree of names has the name
-/// already, if there is a tree: so it is searched only once. After `OutOfMemory` all rows are found as before.
+/// The number of the row of an edge, or the number of rows if its name is new. Then the tree of names, if there is one,
+/// already has the name, which is made only once. After `OutOfMemory` all rows are found as before.
 pub(crate) fn place(
     names: &mut Option<Names>,
     alloc: Global,

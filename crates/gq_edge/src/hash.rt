@@ -45,6 +45,5 @@ fn text_mixed(hash: u64, text: &str) -> u64
 fn mixed(hash: u64, part: u64) -> u64
     ensures { result ≡ spec.mixed hash part }
 {
-    hash.wrapping_mul(0x9E37_79B9_7F4A_7C15)
-        .wrapping_add(part)
+    hash.wrapping_mul(0x9E37_79B9_7F4A_7C15).wrapping_add(part)
 }

@@ -24,11 +24,7 @@ pub(crate) type Names = BTreeMap<Name, u32>;
 pub(crate) type Name = (u64, Vec<Value>);
 
 /// The name of an edge: its ends in order, its type, its discriminators.
-pub(crate) fn name_of(
-    alloc: Global,
-    naming: Naming,
-    edge: EdgeRef<'_>,
-) -> Result<Name, OutOfMemory>
+pub(crate) fn name_of(alloc: Global, naming: Naming, edge: EdgeRef<'_>) -> Result<Name, OutOfMemory>
     ensures row { IfOk result (λ name. map val name.1.items ≡ spec.name_row naming (edge_of edge.entry)) }
     ensures hashed { IfOk result spec.IsHashed }
 {
