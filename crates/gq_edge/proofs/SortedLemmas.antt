@@ -4,20 +4,20 @@ use Rattle.std.specs.Option.{option_or}
 use Rattle.std.specs.List.{position, position_from, find}
 use Rattle.std.specs.Map.{lookup}
 use Rattle.std.specs.BTreeMap.{get, is_at, Updates, IsEmpty}
-use Rattle.std.specs.Global.{Vec}
-use Rattle.std.specs.Ordering.{is_eq, ordering_then}
+use Rattle.std.specs.Ordering.{is_eq, nat_cmp, ordering_then, on}
 use Rattle.std.specs.Cmp.Lexicographic.{slice_cmp}
 use Rattle.std.specs.Cmp.Derive.Mapped.{lex_map}
+use Rattle.std.proofs.lemmas.Bool.Decides.{nat_tests}
 use Rattle.std.proofs.lemmas.Iterator.Adapters.{position_from-zero}
 use Rattle.std.proofs.lemmas.List.{take_more, get_or-take, length-take-le}
 use Rattle.gq_base.proofs.Seeks.{seek_none}
-use Rattle.gq_value.specs.declared.value.Value.{Value}
 use Rattle.gq_value.specs.Val.{Val, Vertex, UInt}
 use Rattle.gq_value.specs.Views.{val}
 use Rattle.gq_value.specs.Order.{place}
 use Rattle.gq_value.specs.OrderLaws.{place_same}
 use Rattle.gq_graph.specs.declared.rows.Naming.{Naming}
-use Rattle.gq_edge.specs.Sorted.{Names, name_cmp, is_name, AreSorted}
+use Rattle.gq_edge.specs.Hashed.{row_hash}
+use Rattle.gq_edge.specs.Sorted.{Name, Names, IsHashed, name_cmp, is_name, AreSorted}
 use Rattle.gq_edge.proofs.EdgeNames.{EdgeName, name_same, place_own}
 
 missed : (b : Bool) → (b ≡ true → ⊥) → b ≡ false
@@ -105,33 +105,50 @@ position_map p f q xs d same = position_from-zero p (map f xs) ∙ by 0 xs same 
         ap (λ t. cond t (Some i) (position_from p (i + 1) (map f zs))) (same 0 (omega arith))
         ∙ ap (λ o. cond (q z) (Some i) o) (by (i + 1) zs (λ k low. same (suc k) (omega (arith, low))))
 
+-- a hash before a row doesn't change whether two names are the same
+hash_first : (o p : Ordering) → (is_eq p ≡ true → o ≡ Equal) → is_eq (ordering_then o p) ≡ is_eq p
+hash_first Equal p same = refl
+hash_first Less p same = sym (missed (is_eq p) (λ hit. let e : Less ≡ Equal = same hit in absurd (cc)))
+hash_first Greater p same = sym (missed (is_eq p) (λ hit. let e : Greater ≡ Equal = same hit in absurd (cc)))
+
+nat_own : (n : ℕ) → nat_cmp n n ≡ Equal
+nat_own n = grind (arith, nat_tests)
+
+-- whether a query is at a name depends on the rows alone
+at_name : (key name : Name) (row : List Val) → IsHashed key → IsHashed name → map val key.1.items ≡ row → is_at (name_cmp key) name ≡ is_name name row
+at_name key name row own other is =
+    let rows : is_eq (slice_cmp (on val place) key.1.items name.1.items) ≡ is_eq (slice_cmp place (map val key.1.items) (map val name.1.items)) =
+    ap is_eq (sym (lex_map val place key.1.items name.1.items)) in
+    hash_first (nat_cmp key.0 name.0) (slice_cmp (on val place) key.1.items name.1.items) (λ hit.
+    let same : key.0 ≡ name.0 = own ∙ ap row_hash (held (map val key.1.items) (map val name.1.items) (sym rows ∙ hit)) ∙ sym other in
+    ap (nat_cmp key.0) (sym same) ∙ nat_own key.0)
+    ∙ rows ∙ ap (λ r. is_eq (slice_cmp place r (map val name.1.items))) is
+
 -- no names
 pub sorted_none : (tree : Names) → IsEmpty tree → AreSorted [] (Some tree)
-sorted_none tree empty = λ name. ap (lookup (is_at (name_cmp name))) empty
+sorted_none tree empty = λ name own. ap (lookup (is_at (name_cmp name))) empty
 
 -- one more name, which is new
-pub sorted_push : (names : List (List Val)) (row : List Val) (n : ℕ) (key : Vec Value) (old new : Names)
-    → ((k : ℕ) → k < length names → get_or names k [] ≡ row → ⊥) → n ≡ length names → map val key.items ≡ row → AreSorted names (Some old)
-    → Updates name_cmp old new key (Some n) → AreSorted (names ++ row ∷ []) (Some new)
-sorted_push names row n key old new fresh at is sorted updates = λ name.
-    let test : is_at (name_cmp key) name ≡ is_name name row =
-    ap is_eq (sym (lex_map val place key.items name.items)) ∙ ap (λ r. is_eq (slice_cmp place r (map val name.items))) is in
-    updates.0 name ∙ ap (λ t. cond t (Some n) (get name_cmp old name)) test
-    ∙ ap (λ o. cond (is_name name row) (Some n) o) (sorted name)
+pub sorted_push : (names : List (List Val)) (row : List Val) (n : ℕ) (key : Name) (old new : Names)
+    → ((k : ℕ) → k < length names → get_or names k [] ≡ row → ⊥) → n ≡ length names → IsHashed key → map val key.1.items ≡ row
+    → AreSorted names (Some old) → Updates name_cmp old new key (Some n) → AreSorted (names ++ row ∷ []) (Some new)
+sorted_push names row n key old new fresh at hashed is sorted updates = λ name own.
+    updates.0 name ∙ ap (λ t. cond t (Some n) (get name_cmp old name)) (at_name key name row hashed own is)
+    ∙ ap (λ o. cond (is_name name row) (Some n) o) (sorted name own)
     ∙ ap (λ m. cond (is_name name row) (Some m) (position (is_name name) names)) at
     ∙ sym (position_push (is_name name) names row (λ hit.
     seek_none (is_name name) [] names (λ k low. missed (is_name name (get_or names k [])) (λ other.
-    fresh k low (held (get_or names k []) (map val name.items) other ∙ sym (held row (map val name.items) hit))))))
+    fresh k low (held (get_or names k []) (map val name.1.items) other ∙ sym (held row (map val name.1.items) hit))))))
 
 -- one more of the rows that exist
-pub sorted_next : (names : List (List Val)) (n : ℕ) (key : Vec Value) (old new : Names)
-    → ((i j : ℕ) → i < j → j < length names → get_or names i [] ≡ get_or names j [] → ⊥) → n < length names → map val key.items ≡ get_or names n []
+pub sorted_next : (names : List (List Val)) (n : ℕ) (key : Name) (old new : Names)
+    → ((i j : ℕ) → i < j → j < length names → get_or names i [] ≡ get_or names j [] → ⊥) → n < length names → IsHashed key → map val key.1.items ≡ get_or names n []
     → AreSorted (take n names) (Some old) → Updates name_cmp old new key (Some n) → AreSorted (take (n + 1) names) (Some new)
-sorted_next names n key old new apart low is sorted updates =
+sorted_next names n key old new apart low hashed is sorted updates =
     let count : length (take n names) ≡ n = length-take-le n names (omega (arith, low)) in
     subst (λ l. AreSorted l (Some new)) (sym (take_more names n [] low))
     (sorted_push (take n names) (get_or names n []) n key old new
-    (λ k under same. let before : k < n = omega (arith, under, count) in apart k n before low (sym (get_or-take n names k [] before) ∙ same)) (sym count) is sorted updates)
+    (λ k under same. let before : k < n = omega (arith, under, count) in apart k n before low (sym (get_or-take n names k [] before) ∙ same)) (sym count) hashed is sorted updates)
 
 -- the naming of a type is the first one of that type
 pub find_first : (p : Naming → Bool) (xs : List Naming) (i : ℕ) (d : Naming) → i < length xs → find p (take i xs) ≡ None → p (get_or xs i d) ≡ true

@@ -1,7 +1,8 @@
 -- The table of edges: each row by its name, and the naming of each type that has rows.
-use Rattle.std.proofs.Common.{inl, inr, ℕ, zero, suc, ◌+◌, ◌<◌, ◌≡◌, ◌≢◌, ◌==◌, Bool, true, false, cond, List, [], ◌∷◌, ◌++◌, length, get_or, set, take, map, Option, Some, None, refl, ap, sym, ◌∙◌, subst, arith, eq-eqb, length-set}
+use Rattle.std.proofs.Common.{inl, inr, ℕ, zero, suc, ◌+◌, ◌<◌, ◌≤◌, ◌≡◌, ◌≢◌, ◌==◌, Bool, true, false, cond, List, [], ◌∷◌, ◌++◌, length, get_or, set, take, map, Option, Some, None, refl, ap, sym, ◌∙◌, subst, arith, eq-eqb, length-set}
 use Rattle.std.specs.Option.{is_some, unwrap_or, option_or}
-use Rattle.std.specs.List.{find}
+use Rattle.std.specs.BTreeMap.{get, Updates}
+use Rattle.std.specs.List.{find, position}
 use Rattle.std.proofs.lemmas.Bool.{cases_lt}
 use Rattle.std.proofs.lemmas.Bool.Decides.{eqb_tells, nat_tests}
 use Rattle.std.proofs.lemmas.List.{length-map, get_or-map, map_push, get_or_append_left, get_or_push, length_push, get_or-set_same, get_or-set_other}
@@ -16,8 +17,8 @@ use Rattle.gq_value.specs.Views.{val}
 use Rattle.gq_edge.specs.Keyed.{edge_key, HasEnds}
 use Rattle.gq_edge.specs.Named.{naming_at, row_key, AreNamed, IsFindable}
 use Rattle.std.proofs.Math.Seq.{map-set_same}
-use Rattle.gq_edge.specs.Sorted.{Names, name_row, row_name, is_name, AreSorted, IsSorted}
-use Rattle.gq_edge.proofs.SortedLemmas.{row_of, row_back, held, itself, position_map, find_first}
+use Rattle.gq_edge.specs.Sorted.{Name, Names, IsHashed, name_cmp, name_row, row_name, is_name, AreSorted, IsPlaced, IsSorted}
+use Rattle.gq_edge.proofs.SortedLemmas.{row_of, row_back, held, itself, position_map, sorted_push, find_first}
 use Rattle.gq_edge.proofs.EdgeNames.{EdgeName, name_of, named_so, is_named, same_key, exact_kind, exact_name}
 
 abbrev pub no_naming : Naming
@@ -336,20 +337,27 @@ row_hit naming edge rows namings keys k named agrees kind low is =
     let own = agreed_type naming rows namings keys k named agrees (ap (λ (n : EdgeName). n.kind) same ∙ kind) low in
     is_named naming edge row (sym (subst (λ (m : Naming). name_of m row ≡ name_of naming edge) own same))
 
+-- the place of an edge's name among those of the rows is the number of its row
+pub placed : (naming : Naming) (edge : EdgeRow) (rows : List EdgeRow) (namings : List Naming) (keys : List ℕ) (name : Name) → AreNamed rows namings keys
+    → Agrees namings naming → edge.kind ≡ naming.kind → map val name.1.items ≡ name_row naming edge
+    → position (is_name name) (map (row_name namings) rows) ≡ edge_number rows naming edge
+placed naming edge rows namings keys name named agrees kind is =
+    position_map (is_name name) (row_name namings) (is_edge naming edge) rows no_edge (λ k low.
+    let row = edge_at rows k in
+    same_bool (is_name name (row_name namings row)) (is_edge naming edge row)
+    (λ hit. row_hit naming edge rows namings keys k named agrees kind low (held (row_name namings row) (map val name.1.items) hit ∙ is))
+    (λ hit.
+    let own = agreed naming edge rows namings keys k named agrees kind low hit in
+    let same : row_name namings row ≡ map val name.1.items =
+    ap (λ (m : Naming). name_row m row) own ∙ sym (ap row_of (named_so naming edge row hit)) ∙ sym is in
+    ap (λ r. is_name name r) same ∙ itself (map val name.1.items)))
+
 -- what a search in the tree needs
 pub searchable : (naming : Naming) (edge : EdgeRow) (rows : List EdgeRow) (namings : List Naming) (keys : List ℕ) (tree : Option Names) → AreNamed rows namings keys
     → Agrees namings naming → edge.kind ≡ naming.kind → AreSorted (map (row_name namings) rows) tree → IsSorted naming edge rows tree
 searchable naming edge rows namings keys None named agrees kind sorted = tt
-searchable naming edge rows namings keys (Some tree) named agrees kind sorted = λ name is.
-    sorted name ∙ position_map (is_name name) (row_name namings) (is_edge naming edge) rows no_edge (λ k low.
-    let row = edge_at rows k in
-    same_bool (is_name name (row_name namings row)) (is_edge naming edge row)
-    (λ hit. row_hit naming edge rows namings keys k named agrees kind low (held (row_name namings row) (map val name.items) hit ∙ is))
-    (λ hit.
-    let own = agreed naming edge rows namings keys k named agrees kind low hit in
-    let same : row_name namings row ≡ map val name.items =
-    ap (λ (m : Naming). name_row m row) own ∙ sym (ap row_of (named_so naming edge row hit)) ∙ sym is in
-    ap (λ r. is_name name r) same ∙ itself (map val name.items)))
+searchable naming edge rows namings keys (Some tree) named agrees kind sorted = λ name own is.
+    sorted name own ∙ placed naming edge rows namings keys name named agrees kind is
 
 -- no row has the name of a new edge
 pub new_name : (naming : Naming) (edge : EdgeRow) (rows : List EdgeRow) (namings : List Naming) (keys : List ℕ) → AreNamed rows namings keys
@@ -359,6 +367,51 @@ new_name naming edge rows namings keys named agrees kind none k low is =
     let under : k < length rows = omega (arith, low, length-map rows (row_name namings)) in
     nowhere (is_edge naming edge) no_edge rows k none under
     (row_hit naming edge rows namings keys k named agrees kind under (sym (get_or-map (row_name namings) rows k no_edge [] under) ∙ is))
+
+-- an edge has its place in the tree once it was searched for and, where it is new, inserted
+pub claimed : (naming : Naming) (edge : EdgeRow) (rows : List EdgeRow) (namings : List Naming) (keys : List ℕ) (key : Name) (old new : Names) (len n : ℕ)
+    → AreNamed rows namings keys → Agrees namings naming → edge.kind ≡ naming.kind → AreSorted (map (row_name namings) rows) (Some old)
+    → IsHashed key → map val key.1.items ≡ name_row naming edge → len ≡ length rows
+    → n ≡ unwrap_or (get name_cmp old key) len → (is_some (get name_cmp old key) ≡ true → new ≡ old)
+    → (get name_cmp old key ≡ None → Updates name_cmp old new key (Some len))
+    → (n ≡ unwrap_or (edge_number rows naming edge) (length rows))
+    × IsPlaced (map (row_name namings) rows) (name_row naming edge) (edge_number rows naming edge) (Some new)
+claimed naming edge rows namings keys key old new len n named agrees kind sorted hashed is long at known put =
+    (at ∙ ap (λ o. unwrap_or o len) there ∙ ap (unwrap_or (edge_number rows naming edge)) long, by (edge_number rows naming edge) refl)
+  where
+    there : get name_cmp old key ≡ edge_number rows naming edge
+    there = sorted key hashed ∙ placed naming edge rows namings keys key named agrees kind is
+
+    by : (o : Option ℕ) → edge_number rows naming edge ≡ o → IsPlaced (map (row_name namings) rows) (name_row naming edge) o (Some new)
+    by (Some m) found = subst (λ (t : Names). AreSorted (map (row_name namings) rows) (Some t)) (sym (known (ap is_some (there ∙ found)))) sorted
+    by None missing =
+        sorted_push (map (row_name namings) rows) (name_row naming edge) len key old new
+        (new_name naming edge rows namings keys named agrees kind missing) (long ∙ sym (length-map rows (row_name namings))) hashed is sorted (put (there ∙ missing))
+
+-- a row that is found is in its place, and nothing changes
+pub placed_known : (names : List (List Val)) (row : List Val) (o : Option ℕ) (n : ℕ) (tree : Option Names) → o ≡ Some n → AreSorted names tree → IsPlaced names row o tree
+placed_known names row o n tree is sorted = subst (λ (p : Option ℕ). IsPlaced names row p tree) (sym is) sorted
+
+-- a row that isn't found is appended
+pub placed_new : (names : List (List Val)) (row : List Val) (o : Option ℕ) (tree : Option Names) → o ≡ None → AreSorted (names ++ row ∷ []) tree → IsPlaced names row o tree
+placed_new names row o tree is sorted = subst (λ (p : Option ℕ). IsPlaced names row p tree) (sym is) sorted
+
+-- a number below that of the rows is the one of the edge's row
+pub known_number : (o : Option ℕ) (n len : ℕ) → n ≡ unwrap_or o len → n < len → o ≡ Some n
+known_number (Some m) n len at low = ap Some (sym at)
+known_number None n len at low = let same : n ≡ len = at in absurd (omega (arith, same, low))
+
+-- and that of the rows tells that there is no such row
+pub new_number : (rows : List EdgeRow) (naming : Naming) (edge : EdgeRow) (n : ℕ) → n ≡ unwrap_or (edge_number rows naming edge) (length rows)
+    → length rows ≤ n → edge_number rows naming edge ≡ None
+new_number rows naming edge n at high = by (edge_number rows naming edge) refl
+  where
+    by : (o : Option ℕ) → edge_number rows naming edge ≡ o → edge_number rows naming edge ≡ None
+    by None is = is
+    by (Some m) is =
+        let low : m < length rows = (number_low rows naming edge m is).0 in
+        let same : n ≡ m = at ∙ ap (λ (o : Option ℕ). unwrap_or o (length rows)) is in
+        absurd (omega (arith, low, same, high))
 
 -- two rows have two names
 pub names_apart : (rows : List EdgeRow) (namings : List Naming) (keys : List ℕ) → AreNamed rows namings keys → (i j : ℕ) → i < j → j < length (map (row_name namings) rows)

@@ -1,4 +1,5 @@
 pub mod Flat
+pub mod Hashed
 pub mod Joined
 pub mod Keyed
 pub mod Named

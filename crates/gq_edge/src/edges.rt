@@ -2,14 +2,14 @@
 ghost use Rattle.std.specs.Prelude.{ℕ, ◌≡◌, ◌<◌, ◌≤◌, ◌↔◌, ◌++◌, [], ◌∷◌, length, map, slice_set, take, is_some, true, false, vec_len, vec_capacity, Some, None, Err, IfOk, MatchResult};
 ghost use Rattle.std.specs.Option.{unwrap_or};
 ghost use Rattle.gq_base.specs.Keys.{number_of};
-ghost use Rattle.gq_graph.specs.Edges.{Agrees, edge_with, naming_with, edge_number, upsert_edge, edge_at, noted, naming_of, most_edges};
-ghost use Rattle.gq_edge.specs.Keyed.{edge_key, HasEnds};
+ghost use Rattle.gq_graph.specs.Edges.{Agrees, edge_with, naming_with, edge_number, edge_put, upsert_edge, edge_at, noted, naming_of, most_edges};
+ghost use Rattle.gq_edge.specs.Keyed.{edge_key, edge_tag, HasEnds};
 ghost use Rattle.gq_edge.specs.Named.{AreNamed};
 ghost use Rattle.gq_edge.specs.Sorted.{AreSorted, row_name};
 
-use crate::find::find;
+use crate::find::{find, place};
 use crate::key::{edge_key, plain_key};
-use crate::names::{Names, insert, sorted};
+use crate::names::{Names, sorted};
 use crate::rows::{EdgeEnds, EdgeRows, lent};
 use gq_base::{Key, KeyIndex, OutOfMemory};
 use gq_graph::{Naming, StoreFault};
@@ -121,40 +121,38 @@ impl Edges {
         let alloc = self.rows.allocator();
         let edge = lent(kind, from, to, attributes);
         let key = edge_key(naming, edge);
-        match find(
-            &self.rows,
-            &self.index,
-            &self.names,
-            alloc,
+        if self.rows.len() >= MOST_EDGES {
+            return match find(
+                &self.rows,
+                &self.index,
+                &self.names,
+                alloc,
+                naming,
+                key,
+                edge,
+            ) {
+                Some(number) => {
+                    if !replace(&mut self.rows, number, attributes) {
+                        return Err(StoreFault::OutOfMemory);
+                    }
+                    Ok(number)
+                }
+                None => Err(StoreFault::Full),
+            };
+        }
+        match put(
+            &mut self.rows,
+            &mut self.namings,
+            &mut self.index,
+            &mut self.names,
             naming,
             key,
-            edge,
+            from,
+            to,
+            attributes,
         ) {
-            Some(number) => {
-                if !replace(&mut self.rows, number, attributes) {
-                    return Err(StoreFault::OutOfMemory);
-                }
-                Ok(number)
-            }
-            None => {
-                if self.rows.len() >= MOST_EDGES {
-                    return Err(StoreFault::Full);
-                }
-                match add(
-                    &mut self.rows,
-                    &mut self.namings,
-                    &mut self.index,
-                    &mut self.names,
-                    naming,
-                    key,
-                    from,
-                    to,
-                    attributes,
-                ) {
-                    Ok(number) => Ok(number),
-                    Err(OutOfMemory) => Err(StoreFault::OutOfMemory),
-                }
-            }
+            Ok(number) => Ok(number),
+            Err(OutOfMemory) => Err(StoreFault::OutOfMemory),
         }
     }
 
@@ -187,8 +185,8 @@ impl Edges {
     }
 }
 
-/// Appends an edge with a new name.
-fn add(
+/// Replaces the attributes of the edge of that name, or appends a new edge.
+fn put(
     rows: &mut EdgeRows,
     namings: &mut Vec<Naming>,
     index: &mut KeyIndex,
@@ -204,18 +202,18 @@ fn add(
     requires agrees { Agrees namings.old.items naming }
     requires within { naming.key ≤ length attributes.old }
     requires keyed { number_of key ≡ edge_key naming (edge_with naming.kind from to attributes.old) }
+    requires tagged { key.tag ≡ edge_tag naming (edge_with naming.kind from to attributes.old) }
     requires ends { HasEnds (edge_with naming.kind from to attributes.old) }
-    requires new { edge_number rows.old naming (edge_with naming.kind from to attributes.old) ≡ None }
     requires room { length rows.old < most_edges }
     ensures named { AreNamed rows.new namings.new.items index.new }
     ensures sorted { AreSorted (map (row_name namings.new.items) rows.new) names.new }
-    ensures done { MatchResult result
-        (λ n. (n ≡ length rows.old) × (rows.new ≡ rows.old ++ edge_with naming.kind from to attributes.old ∷ []) × (namings.new.items ≡ noted namings.old.items naming))
+    ensures done { let edge = edge_with naming.kind from to attributes.old in
+        MatchResult result
+        (λ n. (n ≡ unwrap_or (edge_number rows.old naming edge) (length rows.old)) × (rows.new ≡ edge_put rows.old edge (edge_number rows.old naming edge)) × (namings.new.items ≡ noted namings.old.items naming))
         (λ _. (rows.new ≡ rows.old) × (namings.new.items ≡ namings.old.items)) }
 {
-    let number = rows.len() as u32;
     namings.reserve(1)?;
-    insert(
+    let number = place(
         names,
         rows.allocator(),
         rows,
@@ -225,6 +223,10 @@ fn add(
         key,
         lent(naming.kind, from, to, attributes),
     )?;
+    if (number as usize) < rows.len() {
+        rows.set(number, attributes)?;
+        return Ok(number);
+    }
     push(rows, index, names, key, naming.kind, from, to, attributes)?;
     note(namings, naming);
     Ok(number)

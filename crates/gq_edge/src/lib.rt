@@ -11,6 +11,7 @@
 
 mod edges;
 mod find;
+mod hash;
 mod key;
 mod names;
 mod rows;

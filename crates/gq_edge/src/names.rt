@@ -1,6 +1,7 @@
 // A tree of edges by name.
-ghost use Rattle.std.specs.Prelude.{◌≡◌, ◌<◌, ◌≤◌, ◌++◌, ◌∷◌, [], length, map, take, IfOk, OnOk, OnErr, None, Some};
-ghost use Rattle.std.specs.BTreeMap.{Updates, IsUnchanged};
+ghost use Rattle.std.specs.Prelude.{◌≡◌, ◌<◌, ◌≤◌, ◌++◌, ◌∷◌, [], length, map, take, IfOk, OnOk, OnErr, None, Some, true};
+ghost use Rattle.std.specs.BTreeMap.{get, Updates, IsUnchanged};
+ghost use Rattle.std.specs.Option.{is_some, unwrap_or};
 ghost use Rattle.gq_value.specs.Views.{val};
 ghost use Rattle.gq_graph.specs.Edges.{edge_number, most_edges, Agrees};
 ghost use Rattle.gq_edge.specs.Keyed.{first_end, second_end};
@@ -8,6 +9,7 @@ ghost use Rattle.gq_edge.specs.Flat.{edge_of};
 ghost use Rattle.gq_edge.specs.Named as named;
 ghost use Rattle.gq_edge.specs.Sorted as spec;
 
+use crate::hash::row_hash;
 use crate::rows::{EdgeRef, EdgeRows};
 use gq_base::{Key, KeyIndex, OutOfMemory};
 use gq_graph::Naming;
@@ -16,15 +18,15 @@ use std::alloc::Global;
 use std::collections::BTreeMap;
 
 /// The numbers of edges, by name.
-pub(crate) type Names = BTreeMap<Vec<Value>, u32>;
+pub(crate) type Names = BTreeMap<Name, u32>;
 
-/// The name of an edge as a row of values: its ends in order, its type, its discriminators.
-pub(crate) fn name_of(
-    alloc: Global,
-    naming: Naming,
-    edge: EdgeRef<'_>,
-) -> Result<Vec<Value>, OutOfMemory>
-    ensures { IfOk result (λ name. map val name.items ≡ spec.name_row naming (edge_of edge.entry)) }
+/// A name as a row of values, behind a hash of the row: most names differ in the hash, so few rows are compared.
+pub(crate) type Name = (u64, Vec<Value>);
+
+/// The name of an edge: its ends in order, its type, its discriminators.
+pub(crate) fn name_of(alloc: Global, naming: Naming, edge: EdgeRef<'_>) -> Result<Name, OutOfMemory>
+    ensures row { IfOk result (λ name. map val name.1.items ≡ spec.name_row naming (edge_of edge.entry)) }
+    ensures hashed { IfOk result spec.IsHashed }
 {
     let values = discriminators(naming, edge);
     let mut name = Vec::with_capacity(alloc, values.len().saturating_add(3))?;
@@ -33,7 +35,8 @@ pub(crate) fn name_of(
     add(&mut name, Value::Vertex(second))?;
     add(&mut name, Value::UInt(edge.kind as u64))?;
     add_all(alloc, &mut name, values)?;
-    Ok(name)
+    let hash = row_hash(&name);
+    Ok((hash, name))
 }
 
 /// Both ends; the smaller is first if the edge is undirected.
@@ -157,8 +160,23 @@ fn naming_at(namings: &[Naming], kind: u32) -> Naming
     }
 }
 
+/// The number of a name in the tree, which gets it with that number if it is new. After `OutOfMemory` all names keep
+/// their numbers.
+pub(crate) fn claim(names: &mut Names, name: Name, number: u32) -> Result<u32, OutOfMemory>
+    ensures number { IfOk result (λ n. n ≡ unwrap_or (get spec.name_cmp names.old name) number) }
+    ensures known { OnOk result (is_some (get spec.name_cmp names.old name) ≡ true → names.new ≡ names.old) }
+    ensures put { OnOk result (get spec.name_cmp names.old name ≡ None → Updates spec.name_cmp names.old names.new name (Some number)) }
+    ensures stays { OnErr result (IsUnchanged names.old names.new) }
+{
+    if let Some(found) = names.get(&name) {
+        return Ok(*found);
+    }
+    put(names, name, number)?;
+    Ok(number)
+}
+
 /// Maps a name to that number. After `OutOfMemory` all names keep their numbers.
-fn put(names: &mut Names, name: Vec<Value>, number: u32) -> Result<(), OutOfMemory>
+fn put(names: &mut Names, name: Name, number: u32) -> Result<(), OutOfMemory>
     ensures put { OnOk result (Updates spec.name_cmp names.old names.new name (Some number)) }
     ensures stays { OnErr result (IsUnchanged names.old names.new) }
 {

@@ -12,4 +12,4 @@ returns-in_ok-name_of-in-Some-clause-put c =
     on_ok c.put.result c.put.ensures.put
     (sorted_push (map (row_name namings) rows) (name_row c.args.naming (edge_of c.args.edge)) c.len.result c.in_ok-name_of-in-Some.field-0 c.in-Some.tree c.put.new.names
     (new_name c.args.naming (edge_of c.args.edge) rows namings c.args.keys.now c.requires.named c.requires.agrees c.requires.kind c.requires.new)
-    (c.len.ensures ∙ sym (length-map rows (row_name namings))) c.in_ok-name_of-in-Some.ensures (rw c.in-Some.is at c.make_if_crowded.ensures))
+    (c.len.ensures ∙ sym (length-map rows (row_name namings))) c.in_ok-name_of-in-Some.ensures.hashed c.in_ok-name_of-in-Some.ensures.row (rw c.in-Some.is at c.make_if_crowded.ensures))

@@ -1,10 +1,9 @@
 use Rattle.std.proofs.Common.{◌≡◌, ◌∙◌, refl, ap, sym, subst, Some}
 use Rattle.gq_graph.specs.declared.rows.EdgeRow.{EdgeRow}
 use Rattle.gq_graph.specs.Edges.{EdgeTable, Agrees, edge_with, naming_with, edge_number}
-use Rattle.gq_edge.specs.Keyed.{edge_key, HasEnds}
 use Rattle.gq_edge.specs.Named.{IsFindable}
 use Rattle.gq_edge.specs.Sorted.{AreSorted, IsSorted}
-use Rattle.gq_edge.proofs.TableLemmas.{findable, searchable, found_row, number_low, replaced_is}
+use Rattle.gq_edge.proofs.TableLemmas.{findable, searchable, found_row, replaced_is}
 use Rattle.gq_edge.proofs.edges.Edges.upsert.Goals as goal
 
 pub find-requires-clause-findable : goal.find-requires-clause-findable
@@ -21,19 +20,6 @@ find-requires-clause-sorted c =
     subst (λ (e : EdgeRow). IsSorted naming e c.self.inside.rows c.self.inside.names) (sym c.lent-edge.ensures)
     (searchable naming edge c.self.inside.rows c.self.inside.namings.items c.self.inside.index c.self.inside.names c.self.invariant.named agrees refl
     c.self.invariant.sorted)
-
-pub add-requires-clause-keyed : goal.add-requires-clause-keyed
-add-requires-clause-keyed c = c.edge_key-key.ensures.number ∙ ap (edge_key (naming_with c.args.kind c.args.directed c.args.key)) c.lent-edge.ensures
-
-pub add-requires-clause-ends : goal.add-requires-clause-ends
-add-requires-clause-ends c = subst HasEnds c.lent-edge.ensures c.edge_key-key.ensures.ends
-
-pub replace-requires : goal.replace-requires
-replace-requires c =
-    let naming = naming_with c.args.kind c.args.directed c.args.key in let edge = edge_with c.args.kind c.args.from c.args.to c.args.attributes.now in
-    let found : edge_number c.self.inside.rows naming edge ≡ Some c.in-Some.number =
-    ap (edge_number c.self.inside.rows naming) (sym c.lent-edge.ensures) ∙ sym c.find.ensures ∙ c.in-Some.is in
-    (number_low c.self.inside.rows naming edge c.in-Some.number found).0
 
 pub invariant_of-self-in-Some : goal.invariant_of-self-in-Some
 invariant_of-self-in-Some c =
