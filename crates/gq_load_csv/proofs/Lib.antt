@@ -4,7 +4,6 @@ pub mod DigitLemmas
 pub mod PartLemmas
 pub mod LineLemmas
 pub mod CursorLemmas
-pub mod CrossingLemmas
 pub mod CutLemmas
 pub mod BlankLemmas
 pub mod PlainLemmas

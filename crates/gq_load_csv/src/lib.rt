@@ -6,7 +6,7 @@
 //!
 //! Read `specs/Records.antt` first (which records a file has), then `specs/Fields.antt` (which value or id a
 //! field gives) with `specs/Texts.antt`, `specs/Numbers.antt` and `specs/Readings.antt`. The code is in
-//! `src/records.rt`, `src/lines.rt`, `src/line.rt`, `src/part.rt`, `src/value.rt` and `src/id.rt`.
+//! `src/records.rt`, `src/lines.rt`, `src/line.rt`, `src/value.rt` and `src/id.rt`.
 #![tactic(auto)]
 
 mod cursor;
@@ -15,7 +15,6 @@ mod laws;
 mod line;
 mod lines;
 mod numbers;
-mod part;
 mod record;
 mod records;
 mod value;
@@ -23,7 +22,6 @@ mod value;
 pub use id::{Id, read_id};
 pub use laws::one_reading;
 pub use line::Line;
-pub use part::Part;
 pub use record::Record;
 pub use records::Records;
 pub use value::{default_value, read_int, read_key, read_value};

@@ -6,7 +6,6 @@ ghost use Rattle.gq_load_csv.specs.Unread.{unread, Reads};
 
 use crate::line::{Line, line_of};
 use crate::lines::{Lines, cut, is_plain};
-use crate::part::Part;
 use crate::record::Record;
 use csv::{Reader, ReaderBuilder};
 use gq_base::OutOfMemory;
@@ -55,16 +54,6 @@ impl<'a> Records<'a> {
         Records { source }
     }
 
-    /// Returns the records of these lines.
-    pub(crate) fn of_lines(lines: Lines<'a>) -> Records<'a>
-        requires { IsPlain lines.separator lines.quote lines.rest.now }
-        ensures { result ≡ lines_left lines.entry }
-    {
-        Records {
-            source: Source::Plain(lines),
-        }
-    }
-
     /// Reads the next record into `row`, reusing its memory, and returns whether there was one. After `OutOfMemory`
     /// the remaining records are unspecified.
     pub fn next(&mut self, row: &mut Record<'a>) -> Result<bool, OutOfMemory>
@@ -82,12 +71,14 @@ impl<'a> Records<'a> {
     }
 
     /// Takes the records in about the next `size` bytes, if the file is read by lines. None says nothing about them.
-    pub fn cut(&mut self, size: usize) -> Option<Part<'a>>
+    pub fn cut(&mut self, size: usize) -> Option<Records<'a>>
         ensures some { IfSome result (λ front. self.old ≡ front ++ self.new) }
         ensures none { IfNone result (self.new ≡ self.old) }
     {
         match cut_lines(&mut self.source, size) {
-            Some(lines) => Some(Part::of(lines)),
+            Some(lines) => Some(Records {
+                source: Source::Plain(lines),
+            }),
             None => None,
         }
     }

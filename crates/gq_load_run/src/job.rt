@@ -26,13 +26,10 @@ use gq_io::{FileFault, Files, ask};
 use gq_load_check::{GivenPaths, Job};
 use gq_schema::Catalog;
 use std::alloc::Global;
-use std::thread::Threads;
 
 /// Runs the LOADs of a job in a run that supplies these paths, and returns the line of their reports. Each reads its
 /// file after the LOADs before it.
-pub(crate) fn run_loads<R: Threads + Sync, F: Files>(
-    rt: &R,
-    workers: u32,
+pub(crate) fn run_loads<F: Files>(
     alloc: Global,
     catalog: &Catalog,
     job: &Job,
@@ -61,9 +58,7 @@ pub(crate) fn run_loads<R: Threads + Sync, F: Files>(
 {
     let mut reports = Vec::new(alloc);
     for number in 0..job.lines.len() {
-        match load_one(
-            rt, workers, alloc, catalog, job, given, number, store, files,
-        ) {
+        match load_one(alloc, catalog, job, given, number, store, files) {
             Ok(report) => match reports.push(report) {
                 Ok(()) => {}
                 Err(_) => return Err(StatementFault::OutOfMemory),
@@ -79,9 +74,7 @@ pub(crate) fn run_loads<R: Threads + Sync, F: Files>(
 
 // Reads the file of the LOAD with this number, and loads it.
 #[tactic(auto, using(gq_index::proofs::KeptLemmas::store_same))]
-fn load_one<R: Threads + Sync, F: Files>(
-    rt: &R,
-    workers: u32,
+fn load_one<F: Files>(
     alloc: Global,
     catalog: &Catalog,
     job: &Job,
@@ -116,7 +109,7 @@ fn load_one<R: Threads + Sync, F: Files>(
         Err(OutOfMemory) => return Err(StatementFault::OutOfMemory),
     };
     match ask(alloc, files, path.as_str()) {
-        Ok(bytes) => match load_numbered(rt, workers, alloc, catalog, job, number, &bytes, store) {
+        Ok(bytes) => match load_numbered(alloc, catalog, job, number, &bytes, store) {
             Ok(report) => Ok(FileReport {
                 file: path,
                 lines: report.lines,

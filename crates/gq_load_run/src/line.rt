@@ -11,17 +11,14 @@ ghost use Rattle.gq_load_run.specs.Loadings.{Leaves, LineLeaves, line_loaded, lo
 
 use gq_diagnostics::{Refusal, StatementFault};
 use gq_index::Store;
-use gq_load::{LoadFault, Report, load_on};
+use gq_load::{LoadFault, Report, load};
 use gq_load_check::{Job, LoadLine};
 use gq_schema::Catalog;
 use std::alloc::Global;
-use std::thread::Threads;
 
 /// Runs the LOAD with this number on the bytes of its file. LOADs are counted from 0.
 #[tactic(auto, unfolding(crate::specs::Loadings::loaded_by))]
-pub(crate) fn load_numbered<R: Threads + Sync>(
-    rt: &R,
-    workers: u32,
+pub(crate) fn load_numbered(
     alloc: Global,
     catalog: &Catalog,
     job: &Job,
@@ -40,21 +37,11 @@ pub(crate) fn load_numbered<R: Threads + Sync>(
     ensures fits { StoreFits catalog.now store.new }
     ensures grown { StoreGrown store.old store.new }
 {
-    load_line(
-        rt,
-        workers,
-        alloc,
-        catalog,
-        job.lines.at(number),
-        bytes,
-        store,
-    )
+    load_line(alloc, catalog, job.lines.at(number), bytes, store)
 }
 
 // Loads the bytes of a file as the line says.
-fn load_line<R: Threads + Sync>(
-    rt: &R,
-    workers: u32,
+fn load_line(
     alloc: Global,
     catalog: &Catalog,
     line: &LoadLine,
@@ -72,7 +59,7 @@ fn load_line<R: Threads + Sync>(
     ensures fits { StoreFits catalog.now store.new }
     ensures grown { StoreGrown store.old store.new }
 {
-    match load_on(rt, workers, alloc, catalog, line, bytes, store) {
+    match load(alloc, catalog, line, bytes, store) {
         Ok(report) => Ok(report),
         Err(LoadFault::NoColumn(name)) => Err(StatementFault::Refused(Refusal::NoColumn(name))),
         Err(LoadFault::Full) => Err(StatementFault::Refused(Refusal::StoreFull)),

@@ -24,19 +24,16 @@ use gq_schema::Catalog;
 use gq_tree::RunJobTree;
 use gq_value::Txt;
 use std::alloc::Global;
-use std::thread::Threads;
 
 /// Executes RUN LOADING JOB, and returns the line of its reports. The store gains the upserts of its LOADs, one after
-/// another. Several workers read a large file, on threads of this runtime; their number doesn't affect the answer.
+/// another.
 ///
 /// Refused if no job has the name, else if the run supplies a path for a name although the job has no such file, else
 /// by the first LOAD that is refused. After a refusal the store has the upserts of the LOADs that ended, and of the
 /// refused one those before the upsert that found no room; a missing column loads nothing. After `OutOfMemory` a prefix
 /// of a LOAD's upserts was put.
 #[tactic(auto, using(gq_index::proofs::KeptLemmas::store_same))]
-pub fn run_job<R: Threads + Sync, F: Files>(
-    rt: &R,
-    workers: u32,
+pub fn run_job<F: Files>(
     alloc: Global,
     catalog: &Catalog,
     jobs: &Jobs,
@@ -62,15 +59,13 @@ pub fn run_job<R: Threads + Sync, F: Files>(
     ensures absences_stay { F.absences files.old ≤ F.absences files.new }
 {
     match jobs.find(tree.name.as_str()) {
-        Some(job) => run_found(rt, workers, alloc, catalog, job, store, files, tree),
+        Some(job) => run_found(alloc, catalog, job, store, files, tree),
         None => Err(unknown_name(alloc, tree.name.as_str())),
     }
 }
 
 #[tactic(auto, using(gq_index::proofs::KeptLemmas::store_same))]
-fn run_found<R: Threads + Sync, F: Files>(
-    rt: &R,
-    workers: u32,
+fn run_found<F: Files>(
     alloc: Global,
     catalog: &Catalog,
     job: &Job,
@@ -102,7 +97,7 @@ fn run_found<R: Threads + Sync, F: Files>(
         Ok(given) => given,
         Err(OutOfMemory) => return Err(StatementFault::OutOfMemory),
     };
-    run_loads(rt, workers, alloc, catalog, job, &given, store, files)
+    run_loads(alloc, catalog, job, &given, store, files)
 }
 
 // Returns `UnknownName`, or `OutOfMemory` if the name can't be copied.

@@ -121,7 +121,7 @@ impl<'s, M: RunsQueries> Session<'s, M> {
             Statement::Graph(tree) => silent(self.make_graph(tree)),
             Statement::Use(name) => silent(self.use_graph(name)),
             Statement::Job(tree) => silent(self.make_job(tree)),
-            Statement::RunJob(tree) => self.run_job(rt, files, tree),
+            Statement::RunJob(tree) => self.run_job(files, tree),
             Statement::Query(replace, name, tree) => silent(self.make_query(*replace, name, tree)),
             Statement::Install(which) => silent(self.install(which)),
             Statement::Interpret(tree) => self.interpret(rt, tree),
@@ -275,9 +275,8 @@ impl<'s, M: RunsQueries> Session<'s, M> {
         insert_row(self.alloc, &self.catalog, &mut self.store, tree)
     }
 
-    fn run_job<R: Threads + Sync, F: Files>(
+    fn run_job<F: Files>(
         &mut self,
-        rt: &R,
         files: &mut F,
         tree: &RunJobTree,
     ) -> Result<Option<Vec<u8>>, StatementFault>
@@ -293,8 +292,6 @@ impl<'s, M: RunsQueries> Session<'s, M> {
         ensures absences_stay { F.absences files.old ≤ F.absences files.new }
     {
         with_line(run_job(
-            rt,
-            self.runner.shape.workers,
             self.alloc,
             &self.catalog,
             &self.jobs,

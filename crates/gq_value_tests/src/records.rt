@@ -10,14 +10,9 @@ fn shown(
     quote: Option<u8>,
     text: &[u8],
 ) -> Result<Vec<u8>, OutOfMemory> {
-    let records = Records::open(alloc, separator, quote, text);
-    let mut shown = Vec::new(alloc);
-    show(alloc, records, &mut shown)?;
-    Ok(shown)
-}
-
-fn show(alloc: Global, mut records: Records<'_>, shown: &mut Vec<u8>) -> Result<(), OutOfMemory> {
+    let mut records = Records::open(alloc, separator, quote, text);
     let mut record = Record::new(alloc);
+    let mut shown = Vec::new(alloc);
     for _ in 0..9 {
         if !records.next(&mut record)? {
             break;
@@ -28,50 +23,7 @@ fn show(alloc: Global, mut records: Records<'_>, shown: &mut Vec<u8>) -> Result<
         }
         shown.push(b';')?;
     }
-    Ok(())
-}
-
-/// The records of the parts of a text, with `/` after each part. If a part begins with a line, its first field is shown
-/// alone, with `>` after it.
-fn in_parts(alloc: Global, text: &[u8], size: usize) -> Result<Vec<u8>, OutOfMemory> {
-    let mut records = Records::open(alloc, b',', None, text);
-    let mut shown = Vec::new(alloc);
-    for _ in 0..9 {
-        let mut part = match records.cut(size) {
-            Some(part) => part,
-            None => break,
-        };
-        if part.is_empty() {
-            break;
-        }
-        match part.copy().line() {
-            Some(mut line) => {
-                shown.extend_from_slice(line.field(0).unwrap_or(b"?"))?;
-                shown.push(b'>')?;
-                part.go_behind(line);
-            }
-            None => {}
-        }
-        show(alloc, part.records(), &mut shown)?;
-        shown.push(b'/')?;
-    }
     Ok(shown)
-}
-
-#[test]
-fn a_file_is_cut_behind_the_line_that_a_size_ends_in(rt: HostRuntime) -> Result<(), Fail> {
-    let table: [(usize, &[u8]); 3] = [
-        (2, b"a>/cd>/ef>/g||;/"),
-        (4, b"a>cd|;/ef>g||;/"),
-        (99, b"a>cd|;ef|;g||;/"),
-    ];
-    for (size, records) in table {
-        assert_eq!(rt;
-            in_parts(rt.alloc(), b"a,b\ncd\nef\n\ng,", size)?.as_slice(),
-            records
-        );
-    }
-    Ok(())
 }
 
 #[test]
