@@ -216,10 +216,7 @@ impl<'s, M: RunsQueries> Session<'s, M> {
         ensures same { self.new ≡ self.old }
     {
         let (alloc, catalog, store) = (self.alloc, &self.catalog, &self.store);
-        match self
-            .index
-            .catch_up_by(rt, self.runner.shape.workers, alloc, catalog, store)
-        {
+        match self.index.catch_up(alloc, catalog, store) {
             Ok(()) => {}
             Err(OutOfMemory) => return Err(StatementFault::OutOfMemory),
         }
@@ -247,13 +244,7 @@ impl<'s, M: RunsQueries> Session<'s, M> {
         ensures prints { Prints self.old (query_interpreted self.old tree.now) result }
         ensures same { self.new ≡ self.old }
     {
-        match self.index.catch_up_by(
-            rt,
-            self.runner.shape.workers,
-            self.alloc,
-            &self.catalog,
-            &self.store,
-        ) {
+        match self.index.catch_up(self.alloc, &self.catalog, &self.store) {
             Ok(()) => {}
             Err(OutOfMemory) => return Err(StatementFault::OutOfMemory),
         }

@@ -18,7 +18,7 @@ pub run_query-requires-clause-indexed : goal.run_query-requires-clause-indexed
 run_query-requires-clause-indexed g c κs within =
     let i = c.self.inside in
     let v : State = record { schema = i.catalog; in_use = i.in_use; jobs = i.jobs; queries = i.queries; store = i.store; file = i.file; turns = i.runner.now.turns } in
-    session_indexed v i.index c.self.invariant.fits c.catch_up_by.new.self c.index.result.now c.in-Ok.ensures.index c.index.ensures
+    session_indexed v i.index c.self.invariant.fits c.catch_up.new.self c.index.result.now c.in-Ok.ensures.index c.index.ensures
 
 pub run_query-requires-clause-runs : goal.run_query-requires-clause-runs
 run_query-requires-clause-runs g c κs within =
@@ -33,7 +33,7 @@ pub invariant_of-self : goal.invariant_of-self
 invariant_of-self g c =
     let i = c.self.inside in
     let v : State = record { schema = i.catalog; in_use = i.in_use; jobs = i.jobs; queries = i.queries; store = i.store; file = i.file; turns = i.runner.now.turns } in record {
-      fits = session_indexes v i.index c.self.invariant.fits c.catch_up_by.new.self c.catch_up_by.ensures.kept;
+      fits = session_indexes v i.index c.self.invariant.fits c.catch_up.new.self c.catch_up.ensures.kept;
       ready = c.self.invariant.ready;
     }
 
@@ -41,6 +41,6 @@ pub invariant_of-self-2 : goal.invariant_of-self-2
 invariant_of-self-2 g c =
     let i = c.self.inside in
     let v : State = record { schema = i.catalog; in_use = i.in_use; jobs = i.jobs; queries = i.queries; store = i.store; file = i.file; turns = i.runner.now.turns } in record {
-      fits = session_indexes v i.index c.self.invariant.fits c.catch_up_by.new.self c.catch_up_by.ensures.kept;
+      fits = session_indexes v i.index c.self.invariant.fits c.catch_up.new.self c.catch_up.ensures.kept;
       ready = c.run_query.ensures.ready;
     }
