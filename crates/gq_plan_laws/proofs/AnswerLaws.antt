@@ -8,12 +8,7 @@ pub alike_then : {F A B C D : Type 0} (R : A → B → Type 0) (S : C → D → 
 alike_then R S (Gives a) (Gives b) f g h k = k a b h
 alike_then R S (Faults e) (Faults d) f g h k = h
 alike_then R S Stuck Stuck f g h k = tt
-alike_then R S (Gives a) (Faults d) f g h k = absurd h
-alike_then R S (Gives a) Stuck f g h k = absurd h
-alike_then R S (Faults e) (Gives b) f g h k = absurd h
-alike_then R S (Faults e) Stuck f g h k = absurd h
-alike_then R S Stuck (Gives b) f g h k = absurd h
-alike_then R S Stuck (Faults d) f g h k = absurd h
+alike_then R S o p f g h k = absurd h
 
 -- the given values are the same on both sides
 pub alike_same : {F A C D : Type 0} (S : C → D → Type 0) (o p : Answer F A) (f : A → Answer F C) (g : A → Answer F D)
@@ -29,24 +24,14 @@ pub alike_blaming : {E F A B : Type 0} (R : A → B → Type 0) (f : E → F) (o
 alike_blaming R f (Gives a) (Gives b) h = h
 alike_blaming R f (Faults e) (Faults d) h = ap f h
 alike_blaming R f Stuck Stuck h = tt
-alike_blaming R f (Gives a) (Faults d) h = absurd h
-alike_blaming R f (Gives a) Stuck h = absurd h
-alike_blaming R f (Faults e) (Gives b) h = absurd h
-alike_blaming R f (Faults e) Stuck h = absurd h
-alike_blaming R f Stuck (Gives b) h = absurd h
-alike_blaming R f Stuck (Faults d) h = absurd h
+alike_blaming R f o p h = absurd h
 
 -- equal answers, if the given values are equal
 pub alike_is : {F A : Type 0} (o p : Answer F A) → AnswersAlike (λ (a b : A). b ≡ a) o p → p ≡ o
 alike_is (Gives a) (Gives b) h = ap Gives h
 alike_is (Faults e) (Faults d) h = ap Faults (sym h)
 alike_is Stuck Stuck h = refl
-alike_is (Gives a) (Faults d) h = absurd h
-alike_is (Gives a) Stuck h = absurd h
-alike_is (Faults e) (Gives b) h = absurd h
-alike_is (Faults e) Stuck h = absurd h
-alike_is Stuck (Gives b) h = absurd h
-alike_is Stuck (Faults d) h = absurd h
+alike_is o p h = absurd h
 
 -- ---- lists
 
@@ -80,5 +65,4 @@ through_same {S = S} h f g k (a ∷ as') s = ap (λ o. o >>= λ t. through g t (
   where
     go : (o : Answer _ S) → ((t : S) → through g t (map h as') ≡ through f t as') → (o >>= λ t. through g t (map h as')) ≡ (o >>= λ t. through f t as')
     go (Gives t) e = e t
-    go (Faults d) e = refl
-    go Stuck e = refl
+    go o e = refl

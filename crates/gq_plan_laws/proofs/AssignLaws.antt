@@ -95,9 +95,7 @@ module _ {M N : Type 0} (s : Sides M N) (w : WordsAlike s) where
           go : (thing : Thing) → Assigned (old_thing thing) (new_thing thing)
           go (Variable b v) =
               alike_same (StatesAlike s (with_target s.fixed view x r)) _ _ _ _ (as_alike (named_by s.fixed f) _ _ (sees s w f (source_at s.fixed view) old new.names k h.slots.accums) b t) (λ v. named_alike old other false (Variable b v) same_other g refl)
-          go (SetOf types vs) = tt
-          go (EdgeRow a b) = tt
-          go (Member types vs v) = tt
+          go thing = tt
 
       name_alike : (types : Option (SetTypes M)) (y : M) (q : Bool) → is_set (under same y old.names) ≡ q → TargetStands s.fixed view x r q
           → Assigned (expression_assigned (old_world s) old x types (Name y)) (expression_assigned (new_world s) other r (option_map (renamed_set_types s.fixed.vertex_type) types) (Name (f y)))

@@ -62,9 +62,7 @@ module _ {M N : Type 0} (s : Sides M N) (w : WordsAlike s) (f : M → N) where
 
   named_looks : (as' : List (M × Thing)) (bs : List (N × Thing)) (x : Option M) (t : Option Thing) → ToldIf x → LooksAlike s w f as' bs → LooksAlike s w f (named_as x t as') (named_as (option_map f x) t bs)
   named_looks as' bs (Some x) (Some t) h k = looks_new s w f as' bs x (f x) t h k
-  named_looks as' bs (Some x) None h k = k
-  named_looks as' bs None (Some t) h k = k
-  named_looks as' bs None None h k = k
+  named_looks as' bs x t h k = k
 
   -- all aliases are looked for as their names are
   pub record AliasesTold (m : From M) : Type 0 where

@@ -31,25 +31,11 @@ some_inj h = cc
 
 nothing_same : (r : Reference) → same r TypeName ≡ false
 nothing_same (Place n) = refl
-nothing_same (Slot n) = refl
-nothing_same (VertexType t) = refl
-nothing_same (EdgeType t) = refl
-nothing_same (TupleType n) = refl
-nothing_same TypeName = refl
-nothing_same (FieldAt c) = refl
-nothing_same (Calls f) = refl
-nothing_same (Does m) = refl
+nothing_same r = refl
 
 type_same : (r : Reference) (t : ℕ) → same r (VertexType t) ≡ false
 type_same (Place n) t = refl
-type_same (Slot n) t = refl
-type_same (VertexType u) t = refl
-type_same (EdgeType u) t = refl
-type_same (TupleType n) t = refl
-type_same TypeName t = refl
-type_same (FieldAt c) t = refl
-type_same (Calls f) t = refl
-type_same (Does m) t = refl
+type_same r t = refl
 
 no_variable : (r : Reference) (o : Option ℕ) → same r (or_nothing VertexType o) ≡ false
 no_variable r None = nothing_same r
@@ -101,26 +87,20 @@ fields_at (Some t) = t.1
 -- past the end of the table the name says it
 tuple_table : (ts : TupleTypes) (n : ℕ) (f : Bytes)
     → in_table (map (in_tuple f) ts) n (names_of (fields_at (slice_get (plain_tuples ts) n))) f ≡ place_of (names_of (fields_at (slice_get (plain_tuples ts) n))) f
-tuple_table [] n f = refl
-tuple_table (t ∷ ts) zero f = refl
 tuple_table (t ∷ ts) (suc n) f = tuple_table ts n f
+tuple_table ts n f = refl
 
 -- ---- tuple types
 
 numbered_fields : (i : ℕ) (ts : TupleTypes) (n : ℕ) → fields_at (slice_get (numbered i ts) n) ≡ fields_at (slice_get (plain_tuples ts) n)
-numbered_fields i [] n = refl
-numbered_fields i (t ∷ ts) zero = refl
 numbered_fields i (t ∷ ts) (suc n) = numbered_fields (suc i) ts n
+numbered_fields i ts n = refl
 
 -- ---- functions of the language
 
 part_is : (p : words.PartOfTime) → function_of (part_of_time p) ≡ Calls (words.PartOf p)
 part_is words.Year = refl
-part_is words.Month = refl
-part_is words.Day = refl
-part_is words.Hour = refl
-part_is words.Minute = refl
-part_is words.Second = refl
+part_is p = refl
 
 -- no function of the language makes a tuple
 abbrev is_own : words.Function → Bool
@@ -134,9 +114,8 @@ under_all {A = A} p f (x ∷ pairs) a h e = go (bytes_eq x.0 f) (p x.1) refl e h
     go : (q b : Bool) → p x.1 ≡ b → (if q then Some x.1 else under bytes_eq f pairs) ≡ Some a → (b && list_all (λ (x : Bytes × A). p x.1) pairs) ≡ true
         → (list_all (λ (x : Bytes × A). p x.1) pairs ≡ true → under bytes_eq f pairs ≡ Some a → p a ≡ true) → p a ≡ true
     go true true d e h r = subst (λ z. p z ≡ true) (some_inj e) d
-    go true false d e h r = cc
     go false true d e h r = r h e
-    go false false d e h r = cc
+    go q b d e h r = cc
 
 -- ---- all together
 

@@ -39,8 +39,7 @@ module _ {M N : Type 0} (r : Renaming M N) (old : Look M) (new : Look N) (h : Se
     inputs_alike : (ks : List Accum) (xs : Inputs M) → inputs_of new ks (renamed_inputs r xs) ≡ inputs_of old ks xs
     inputs_alike [] no_input = refl
     inputs_alike (k ∷ ks) (input_and x xs) = then_same _ _ _ _ (input_alike k x) (λ y. ap (λ o. o >>= λ ys. Gives (given_and y ys)) (inputs_alike ks xs))
-    inputs_alike [] (input_and x xs) = refl
-    inputs_alike (k ∷ ks) no_input = refl
+    inputs_alike ks xs = refl
 
   pub made_alike : (k : Accum) (change : Change M) → made_by new k (renamed_change r change) ≡ made_by old k change
   made_alike k (Adds x) = ap (λ o. o >>= λ y. Gives (with_input y)) (input_alike k x)

@@ -23,10 +23,7 @@ module _ {M N : Type 0} (r : Renaming M N) (old : M → Bool) (new : N → Bool)
     tree_names (Not n t) = tree_names t
     tree_names (And t ts) = or_same _ _ _ _ (tree_names t) (trees_name ts)
     tree_names (Or t ts) = or_same _ _ _ _ (tree_names t) (trees_name ts)
-    tree_names (Number n) = refl
-    tree_names (Text t) = refl
-    tree_names (Truth b) = refl
-    tree_names (Global a) = refl
+    tree_names t = refl
 
     trees_name : (ts : Trees M) → in_trees new (renamed_trees r ts) ≡ in_trees old ts
     trees_name no_tree = refl
@@ -38,9 +35,7 @@ module _ {M N : Type 0} (r : Renaming M N) (old : M → Bool) (new : N → Bool)
 
     part_names : (p : Behind M) → in_part new (renamed_part r p) ≡ in_part old p
     part_names (Method m ts) = trees_name ts
-    part_names (Field f) = refl
-    part_names (Attached a) = refl
-    part_names (Before a) = refl
+    part_names p = refl
 
     factors_name : (fs : Factors M) → in_factors new (renamed_factors r fs) ≡ in_factors old fs
     factors_name no_factor = refl

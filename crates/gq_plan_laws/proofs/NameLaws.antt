@@ -74,10 +74,7 @@ module _ {M N : Type 0} (s : Sides M N) (w : WordsAlike s) where
       let e : like b.0 (f y) ≡ same a.0 y = ap (λ r. like r (f y)) h.0.reference ∙ t.0 y ∙ ap (λ n. same n y) (sym h.0.name) in
       let g : under like (f y) bs ≡ under same y as' = looks f view as' bs t.1 h.1 y in
       ap (λ q. if q then Some b.1 else under like (f y) bs) e ∙ (ap (λ o. if same a.0 y then Some b.1 else o) g ∙ ap (λ th. if same a.0 y then Some th else under same y as') h.0.thing)
-  looks f [] [] (b ∷ bs) t h y = absurd h
-  looks f [] (a ∷ as') bs t h y = absurd h
-  looks f (v ∷ view) [] bs t h y = absurd h
-  looks f (v ∷ view) (a ∷ as') [] t h y = absurd h
+  looks f view as' bs t h y = absurd h
 
   -- one more name
   pub looks_new : (f : M → N) (as' : List (M × Thing)) (bs : List (N × Thing)) (x : M) (r : N) (thing : Thing) → Told f r x → LooksAlike f as' bs → LooksAlike f ((x, thing) ∷ as') ((r, thing) ∷ bs)
@@ -91,10 +88,7 @@ module _ {M N : Type 0} (s : Sides M N) (w : WordsAlike s) where
       go : (q : Bool) → is_some (visible_at s.fixed view x) ≡ is_some (under same x as') → is_some (if q then Some v else visible_at s.fixed view x) ≡ is_some (if q then Some a.1 else under same x as')
       go true r = refl
       go false r = r
-  found_visible [] [] (b ∷ bs) h x = absurd h
-  found_visible [] (a ∷ as') bs h x = absurd h
-  found_visible (v ∷ view) [] bs h x = absurd h
-  found_visible (v ∷ view) (a ∷ as') [] h x = absurd h
+  found_visible view as' bs h x = absurd h
 
   -- a set is visible as one
   pub found_set : (view : View M N) (as' : List (M × Thing)) (bs : List (N × Thing)) → NamesAlike s view as' bs → (x : M) → is_set_at s.fixed view x ≡ is_set (under same x as')
@@ -104,10 +98,7 @@ module _ {M N : Type 0} (s : Sides M N) (w : WordsAlike s) where
       go : (q : Bool) → is_set_at s.fixed view x ≡ is_set (under same x as') → set_flag s.fixed (if q then Some v else visible_at s.fixed view x) ≡ is_set (if q then Some a.1 else under same x as')
       go true r = sym h.0.set
       go false r = r
-  found_set [] [] (b ∷ bs) h x = absurd h
-  found_set [] (a ∷ as') bs h x = absurd h
-  found_set (v ∷ view) [] bs h x = absurd h
-  found_set (v ∷ view) (a ∷ as') [] h x = absurd h
+  found_set view as' bs h x = absurd h
 
   -- the reference of a visible name is looked for as the name is
   pub told_at : (f : M → N) (view : View M N) → AllTold f view → (x : M) (v : Visible M N) → visible_at s.fixed view x ≡ Some v → Told f v.reference x

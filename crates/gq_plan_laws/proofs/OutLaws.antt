@@ -34,24 +34,17 @@ module _ {M N : Type 0} (s : Sides M N) (w : WordsAlike s) where
 
   mutual
     pub value_out : (b : Base) (v : Val) → out_value new b v ≡ out_value old b v
-    value_out (TUPLE n bs) (Tuple row) = ap (λ fs. OutObject (out_fields new fs row)) (w.tuples n) ∙ ap OutObject (fields_out (tuple_fields (setting old) n) row)
     value_out b (Int x) = refl
-    value_out b (UInt x) = refl
-    value_out b (Truth x) = refl
-    value_out b (Text x) = refl
-    value_out b (Vertex x) = refl
-    value_out b (Fraction x n) = refl
-    value_out b (Tuple row) = refl
+    value_out (TUPLE n bs) (Tuple row) = ap (λ fs. OutObject (out_fields new fs row)) (w.tuples n) ∙ ap OutObject (fields_out (tuple_fields (setting old) n) row)
+    value_out b v = refl
 
     fields_out : (fs : Fields) (row : Vals) → out_fields new fs row ≡ out_fields old fs row
-    fields_out [] row = refl
-    fields_out (f ∷ fs) none = refl
     fields_out (f ∷ fs) (more v row) = ap (λ o. member_and f.0 o (out_fields new fs row)) (value_out f.1 v) ∙ ap (member_and f.0 (out_value old f.1 v)) (fields_out fs row)
+    fields_out fs row = refl
 
   pub named_out : (fs : Fields) (vs : List Val) → out_named new fs vs ≡ out_named old fs vs
-  named_out [] vs = refl
-  named_out (f ∷ fs) [] = refl
   named_out (f ∷ fs) (v ∷ vs) = ap (λ o. (f.0, o) ∷ out_named new fs vs) (value_out f.1 v) ∙ ap (λ ms. (f.0, out_value old f.1 v) ∷ ms) (named_out fs vs)
+  named_out fs vs = refl
 
   items_out : (b : Base) (vs : List Val) → out_items new b vs ≡ out_items old b vs
   items_out b vs = ap (λ os. OutList (outs os)) (map_same (out_value old b) (out_value new b) (value_out b) vs)
@@ -75,11 +68,7 @@ module _ {M N : Type 0} (s : Sides M N) (w : WordsAlike s) where
     content_out (SumAccum n) c = value_out (number_type n) (value_in (SumAccum n) c)
     content_out (MinAccum n) c = value_out (number_type n) (value_in (MinAccum n) c)
     content_out (MaxAccum n) c = value_out (number_type n) (value_in (MaxAccum n) c)
-    content_out OrAccum c = refl
-    content_out AndAccum c = refl
-    content_out BitwiseOrAccum c = refl
-    content_out BitwiseAndAccum c = refl
-    content_out AvgAccum c = refl
+    content_out k c = refl
 
     parts_out : (ps : Parts) (cs : HoldsEach ps) → out_parts new ps cs ≡ out_parts old ps cs
     parts_out no_part cs = refl
@@ -89,8 +78,7 @@ module _ {M N : Type 0} (s : Sides M N) (w : WordsAlike s) where
 
   of_out : (name : Bytes) (k : Accum) (attached : Bool) (c : Option (Holds k)) → of_content new name k attached c ≡ of_content old name k attached c
   of_out name k true (Some c) = ap (λ o. (name, o) ∷ []) (content_out k c)
-  of_out name k true None = refl
-  of_out name k false c = refl
+  of_out name k attached c = refl
 
   attached_out : (v : ℕ) (slots : List (Slot M)) → AllOf (AccumIs s) slots → out_attached new v (new_slots s slots) ≡ out_attached old v slots
   attached_out v [] h = refl
@@ -108,6 +96,4 @@ module _ {M N : Type 0} (s : Sides M N) (w : WordsAlike s) where
   meant_out slots h (IsAverage v) = ap Gives (value_out INT v)
   meant_out slots h (IsContent k c) = ap Gives (content_out k c)
   meant_out slots h (IsSet vs) = ap (λ o. o >>= λ os. Gives (OutList (outs os))) (each_same (out_whole_vertex old slots) (out_whole_vertex new (new_slots s slots)) (whole_out slots h) vs)
-  meant_out slots h (IsRow ps cs) = refl
-  meant_out slots h (IsEdge r t) = refl
-  meant_out slots h (IsMember set b v) = refl
+  meant_out slots h m = refl

@@ -33,8 +33,7 @@ told_more : (q r : Bool) → q ≡ r → (p : ℕ) (o : Option NameBinding) (bef
 told_more true true e p o before behind b new (true, h) = let i = h.1.1 in absurd (cc i)
 told_more true true e p o before behind b new (false, h) = (true, ((p, refl), ((b, h.1), new refl)))
 told_more false false e p o before behind b new h = h
-told_more true false e p o before behind b new h = absurd (cc e)
-told_more false true e p o before behind b new h = absurd (cc e)
+told_more q r e p o before behind b new h = absurd (cc e)
 
 -- the name of a parameter isn't taken by a later one
 told_none : (o : Option NameBinding) (before behind : Option Entry) (b : Base) → before ≡ Some (Variable b) → IsTold o before behind → o ≡ None

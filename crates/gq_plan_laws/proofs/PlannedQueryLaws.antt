@@ -89,13 +89,9 @@ module _ (g : Graph) (clock : Calendar) (accums : List Bytes) where
     pub are : accums ≡ done ++ more
 
   base_is : (h : Heads) (b : BaseTree Bytes) (d : declared.Declared) → resolved_base (globals_of g.sorts h.tuples h.slots) b ≡ Some d → view_declared d ≡ renamed_base (D h.tuples h.slots).vertex_type b
-  base_is h Ints d e = ap view_declared (sym (some_inj e))
-  base_is h UInts d e = ap view_declared (sym (some_inj e))
-  base_is h Bools d e = ap view_declared (sym (some_inj e))
-  base_is h Strings d e = ap view_declared (sym (some_inj e))
-  base_is h AnyVertex d e = ap view_declared (sym (some_inj e))
   base_is h (VertexOf t) d e =
       let u = then_some ((globals_of g.sorts h.tuples h.slots).vertex_type t) _ d e in ap view_declared (sym (some_inj u.2)) ∙ ap VertexOf (found_is VertexType ((globals_of g.sorts h.tuples h.slots).vertex_type t) u.0 u.1)
+  base_is h b d e = ap view_declared (sym (some_inj e))
 
   -- ---- accumulators
 
@@ -111,8 +107,6 @@ module _ (g : Graph) (clock : Calendar) (accums : List Bytes) where
         → AccumsPlanned g.sorts n h as' bs j → At h done (accum_names_of bs ++ more) → ((dones : List Bytes) → At j dones more → Then (D j.tuples j.slots))
         → AccumsStand G kind_of (view_of n) (D h.tuples h.slots) as' (map view_accum bs) Then
     accums_stand h [] [] j done more Then p at then = subst (λ (i : Heads). Then (D i.tuples i.slots)) (sym p) (then done (subst (λ i. At i done more) p at))
-    accums_stand h [] (b ∷ bs) j done more Then p at then = absurd p
-    accums_stand h (a ∷ rest) [] j done more Then p at then = absurd p
     accums_stand h (a ∷ rest) (b ∷ bs) j done more Then p at then =
         let named = subst (λ x. At h done (x ∷ (accum_names_of bs ++ more))) p.0.name at in
         let next = accum_at h done a.1 a.0 (accum_names_of bs ++ more) p.0.new named in (
@@ -126,6 +120,7 @@ module _ (g : Graph) (clock : Calendar) (accums : List Bytes) where
             ),
           ),
         )
+    accums_stand h as' bs j done more Then p at then = absurd p
 
     -- ---- definitions
 
@@ -136,11 +131,6 @@ module _ (g : Graph) (clock : Calendar) (accums : List Bytes) where
         → DefinitionsPlanned g.sorts n h ds es j → At h done (names_of_all es) → ((dones : List Bytes) → At j dones [] → Then (D j.tuples j.slots))
         → DefinitionsStand G kind_of (view_of n) (D h.tuples h.slots) ds (map view_definition es) Then
     definitions_stand h [] [] j done Then p at then = subst (λ (i : Heads). Then (D i.tuples i.slots)) (sym p) (then done (subst (λ i. At i done []) p at))
-    definitions_stand h [] (e ∷ es) j done Then p at then = absurd p
-    definitions_stand h (TupleType fs x ∷ ds) [] j done Then p at then = absurd p
-    definitions_stand h (Accums k as' ∷ ds) [] j done Then p at then = absurd p
-    definitions_stand h (TupleType fs x ∷ ds) (definition.Accums kind bs ∷ es) j done Then p at then = absurd p
-    definitions_stand h (Accums k as' ∷ ds) (definition.Tuple gs m ∷ es) j done Then p at then = absurd p
     definitions_stand h (TupleType fs x ∷ ds) (definition.Tuple gs m ∷ es) j done Then p at then =
         let t = p.1 in
         let fields = p.0 in (
@@ -176,6 +166,7 @@ module _ (g : Graph) (clock : Calendar) (accums : List Bytes) where
       accums_stand h as' bs p.1.0 done (names_of_all es) (λ e. DefinitionsStand G kind_of (view_of n) e ds (map view_definition es) Then) p.1.1.0 at
           (λ dones i. definitions_stand p.1.0 ds es j dones Then p.1.1.1 i then),
     )
+    definitions_stand h ds es j done Then p at then = absurd p
 
   -- ---- parameters
 
@@ -187,8 +178,6 @@ module _ (g : Graph) (clock : Calendar) (accums : List Bytes) where
 
   parameters_are : (ps : List (Parameter Bytes)) (qs : List parameter_code.Parameter) (n : Named) → ParametersPlanned g.sorts ps qs n → ParametersAre ps qs n
   parameters_are [] [] n p = subst (ParametersAre [] []) (sym p) (record { stand = _; view = refl; distinct = _; bounded = _ })
-  parameters_are [] (q ∷ qs) n p = absurd p
-  parameters_are (x ∷ ps) [] n p = absurd p
   parameters_are (x ∷ ps) (q ∷ qs) n p =
       let m = p.1.0 in
       let i = parameters_are ps qs m p.1.1.0 in
@@ -200,6 +189,7 @@ module _ (g : Graph) (clock : Calendar) (accums : List Bytes) where
         distinct = (is_new g.sorts accums (globals_of g.sorts [] no_names) m x.name i.bounded new.0, i.distinct);
         bounded = bounded_name m x.name false i.bounded;
       })
+  parameters_are ps qs n p = absurd p
 
 pub plan_law : PlanLaw
 plan_law g clock q p h =

@@ -46,9 +46,7 @@ module _ {M N : Type 0} (s : Sides M N) (w : WordsAlike s) (f : M → N) where
     selection_out : (x : M) → Told s w f (f x) x → (items : List (Item M)) (thing : Thing)
         → selection (new_world s) (new_state s w f bs old) (f x) (map (renamed_item (named_by s.fixed f)) items) thing ≡ selection (old_world s) old x items thing
     selection_out x e items (SetOf types vs) = ap (λ o. o >>= λ os. Gives (OutList (outs os))) (each_same _ _ (member_out x e types vs items) vs)
-    selection_out x e items (states.Variable b v) = refl
-    selection_out x e items (states.EdgeRow r q) = refl
-    selection_out x e items (Member types vs v) = refl
+    selection_out x e items thing = refl
 
     pub printed_alike : (p : Printed M) → printed (new_world s) (new_state s w f bs old) (renamed_printed (named_by s.fixed f) p) ≡ printed (old_world s) old p
     printed_alike (Whole i) = item_out old.slots h (old_look s w f old.names bs k old.slots old.slots) (new_look s w f old.names bs k old.slots old.slots) (seen_alike s w f old.names bs k old.slots old.slots h h) i

@@ -51,10 +51,7 @@ module _ {M N : Type 0} (ground : Ground M N) where
   one_more : (accums : List (M × N)) (old : List (Slot M)) (new : List (Slot N)) (slot : Slot M) (r : N) → SlotsStand accums old new → SlotsStand (accums ++ (slot.name, r) ∷ []) (old ++ slot ∷ []) (new ++ named_slot r slot ∷ [])
   one_more [] [] [] slot r h = ((refl, refl), tt)
   one_more (a ∷ accums) (t ∷ old) (u ∷ new) slot r h = (h.0, one_more accums old new slot r h.1)
-  one_more [] [] (u ∷ new) slot r h = absurd h
-  one_more [] (t ∷ old) new slot r h = absurd h
-  one_more (a ∷ accums) [] new slot r h = absurd h
-  one_more (a ∷ accums) (t ∷ old) [] slot r h = absurd h
+  one_more accums old new slot r h = absurd h
 
   -- they hold the same if each accumulator's reference represents its name
   slots_alike : (d : Declared ground) (accums : List (M × N)) (old : List (Slot M)) (new : List (Slot N)) → AllOf (AccumTold ground d) accums → SlotsStand accums old new → SlotsAlike (sides ground d) old new
@@ -72,10 +69,7 @@ module _ {M N : Type 0} (ground : Ground M N) where
           r.accums,
         );
       }
-  slots_alike d [] [] (y ∷ new) t h = absurd h
-  slots_alike d [] (x ∷ old) new t h = absurd h
-  slots_alike d (a ∷ accums) [] new t h = absurd h
-  slots_alike d (a ∷ accums) (x ∷ old) [] t h = absurd h
+  slots_alike d accums old new t h = absurd h
 
   -- ---- parameters
 
@@ -88,23 +82,18 @@ module _ {M N : Type 0} (ground : Ground M N) where
       alike_same (NamesAlike (sides ground d) (parameters_view ground d (p ∷ ps) (q ∷ qs))) _ _ _ _ (ap (base_of_tree (new_world (sides ground d))) h.0 ∙ base_alike (sides ground d) i.words p.base)
       (λ b. alike_then (NamesAlike (sides ground d) (parameters_view ground d ps qs)) (NamesAlike (sides ground d) (parameters_view ground d (p ∷ ps) (q ∷ qs))) _ _ _ _ (bound_alike d i ps qs h.1 vs)
       (λ as' bs k. new_alike (sides ground d) i.words (parameters_view ground d ps qs) as' bs p.name q.name (Variable b v) false refl k))
-  bound_alike d i [] (q ∷ qs) h vs = absurd h
-  bound_alike d i (p ∷ ps) [] h vs = absurd h
+  bound_alike d i ps qs h vs = absurd h
 
   -- ---- tuple types
 
   base_written_alike : (d : Declared ground) → IsSound ground d → (b : BaseTree M) (c : Base) → base_written (scope_of (setting (old_world (sides ground d)))) b ≡ Ok c → base_written (scope_of (setting (new_world (sides ground d)))) (renamed_base d.vertex_type b) ≡ Ok c
-  base_written_alike d i Ints c e = e
-  base_written_alike d i UInts c e = e
-  base_written_alike d i Bools c e = e
-  base_written_alike d i Strings c e = e
-  base_written_alike d i AnyVertex c e = e
   base_written_alike d i (VertexOf t) c e = go (ground.names.vertex_type t) (ground.references.vertex_type (d.vertex_type t)) (i.words.vertex_type t) e
     where
       go : (o p : Option ℕ) → p ≡ o → judging.◌>>=◌ (or_fault (UnknownName (ground.names.said t)) o) (λ n. Ok (VERTEX_OF n)) ≡ Ok c
           → judging.◌>>=◌ (or_fault (UnknownName (ground.references.said (d.vertex_type t))) p) (λ n. Ok (VERTEX_OF n)) ≡ Ok c
       go (Some n) p e h = subst (λ p. judging.◌>>=◌ (or_fault (UnknownName (ground.references.said (d.vertex_type t))) p) (λ n. Ok (VERTEX_OF n)) ≡ Ok c) (sym e) h
       go None p e h = cc
+  base_written_alike d i b c e = e
 
   abbrev new_field : Declared ground → BaseTree M × Bytes → BaseTree N × Bytes
   new_field d f = (renamed_base d.vertex_type f.0, f.1)
@@ -140,10 +129,7 @@ module _ {M N : Type 0} (ground : Ground M N) where
   names_in : (d e : Declared ground) (view : View M N) (as' : List (M × Thing)) (bs : List (N × Thing)) → NamesAlike (sides ground d) view as' bs → NamesAlike (sides ground e) view as' bs
   names_in d e [] [] [] h = tt
   names_in d e (v ∷ view) (a ∷ as') (b ∷ bs) h = (record { name = h.0.name; reference = h.0.reference; thing = h.0.thing; set = h.0.set }, names_in d e view as' bs h.1)
-  names_in d e [] [] (b ∷ bs) h = absurd h
-  names_in d e [] (a ∷ as') bs h = absurd h
-  names_in d e (v ∷ view) [] bs h = absurd h
-  names_in d e (v ∷ view) (a ∷ as') [] h = absurd h
+  names_in d e view as' bs h = absurd h
 
   module _ {K : Type 0} (kinds : World M → K → Answer Wrong Accum) (view : View M N) where
     -- after some declarations, if the rest holds
@@ -195,8 +181,7 @@ module _ {M N : Type 0} (ground : Ground M N) where
 
         new_with : List (N × Fields) → World N
         new_with ts = record { words = ground.references; tuples = ts; graph = ground.graph; calendar = ground.calendar }
-    accums_alike Then k [] (b ∷ others) d i di st world other e g old new n h = absurd st
-    accums_alike Then k (a ∷ accums) [] d i di st world other e g old new n h = absurd st
+    accums_alike Then k accums others d i di st world other e g old new n h = absurd st
 
     -- after some declarations, with the tuple types
     abbrev DefinedAlike : (Declared ground → Type 0) → Defining M → Defining N → Type 0
@@ -258,11 +243,7 @@ module _ {M N : Type 0} (ground : Ground M N) where
     definitions_alike Then (Accums k accums ∷ ds) (Accums kind others ∷ es) a b p =
         alike_then (DefinedAlike (λ d. DefinitionsStand ground kinds view d ds es Then)) (DefinedAlike Then) _ _ _ _
         (accum_defined (λ d. DefinitionsStand ground kinds view d ds es Then) k kind accums others p.declared p.rest.0 p.rest.1 a b p.sound p.distinct p.old_is p.new_is p.names p.slots) (λ u v q. definitions_alike Then ds es u v q)
-    definitions_alike Then [] (e ∷ es) a b p = absurd p.rest
-    definitions_alike Then (TupleType fs x ∷ ds) [] a b p = absurd p.rest
-    definitions_alike Then (Accums k accums ∷ ds) [] a b p = absurd p.rest
-    definitions_alike Then (TupleType fs x ∷ ds) (Accums kind others ∷ es) a b p = absurd p.rest
-    definitions_alike Then (Accums k accums ∷ ds) (TupleType gs y ∷ es) a b p = absurd p.rest
+    definitions_alike Then ds es a b p = absurd p.rest
 
   -- ---- queries
 

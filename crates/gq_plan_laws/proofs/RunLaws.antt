@@ -157,8 +157,7 @@ module _ {M N : Type 0} (s : Sides M N) (w : WordsAlike s) where
   locals_alike view d b (x ∷ xs) (y ∷ ys) old new h st =
       alike_then (StatesAlike s (with_name s.fixed view x.0 y.0 false)) (StatesAlike s (with_locals s.fixed (with_name s.fixed view x.0 y.0 false) xs ys)) _ _ _ _ (local_alike view d b x y old new h st.1)
       (λ a c k. locals_alike (with_name s.fixed view x.0 y.0 false) (st.0, d) b xs ys a c k st.2)
-  locals_alike view d b [] (y ∷ ys) old new h st = absurd st
-  locals_alike view d b (x ∷ xs) [] old new h st = absurd st
+  locals_alike view d b xs ys old new h st = absurd st
 
   -- ---- views after statements
 
@@ -177,9 +176,8 @@ module _ {M N : Type 0} (s : Sides M N) (w : WordsAlike s) where
   extends_then a b c h g = (g.0 ++ h.0, g.1 ∙ ap (λ l. g.0 ++ l) h.1 ∙ append_assoc g.0 h.0 a)
 
   locals_extend : (view : View M N) (xs : List (M × Option (Tree M))) (ys : List (N × Option (Tree N))) → Extends view (with_locals s.fixed view xs ys)
-  locals_extend view [] ys = extends_same view
-  locals_extend view (x ∷ xs) [] = extends_same view
   locals_extend view (x ∷ xs) (y ∷ ys) = extends_then view (with_name s.fixed view x.0 y.0 false) (with_locals s.fixed (with_name s.fixed view x.0 y.0 false) xs ys) ((record { name = x.0; reference = y.0; is_set = false }) ∷ [], refl) (locals_extend (with_name s.fixed view x.0 y.0 false) xs ys)
+  locals_extend view xs ys = extends_same view
 
   target_extends : (view : View M N) (x : M) (r : N) → Extends view (with_target s.fixed view x r)
   target_extends view x r = go (visible_at s.fixed view x)
@@ -198,15 +196,13 @@ module _ {M N : Type 0} (s : Sides M N) (w : WordsAlike s) where
   behind_extends st su view = ([], refl)
 
   all_extend : (body : Stmts M) (other : Stmts N) (view : View M N) → Extends view (behind_all s.fixed view body other)
-  all_extend no_stmt other view = ([], refl)
-  all_extend (stmt_and st rest) no_stmt view = ([], refl)
   all_extend (stmt_and st rest) (stmt_and su more) view = extends_then view (behind s.fixed view st su) (behind_all s.fixed (behind s.fixed view st su) rest more) (behind_extends st su view) (all_extend rest more (behind s.fixed view st su))
+  all_extend body other view = ([], refl)
 
   locals_distinct : (view : View M N) (xs : List (M × Option (Tree M))) (ys : List (N × Option (Tree N))) → AreDistinct s.fixed view → LocalsStand s.fixed view xs ys → AreDistinct s.fixed (with_locals s.fixed view xs ys)
   locals_distinct view [] [] d h = d
   locals_distinct view (x ∷ xs) (y ∷ ys) d h = locals_distinct (with_name s.fixed view x.0 y.0 false) xs ys (h.0, d) h.2
-  locals_distinct view [] (y ∷ ys) d h = absurd h
-  locals_distinct view (x ∷ xs) [] d h = absurd h
+  locals_distinct view xs ys d h = absurd h
 
   target_distinct : (view : View M N) (x : M) (r : N) (q : Bool) → AreDistinct s.fixed view → TargetStands s.fixed view x r q → AreDistinct s.fixed (with_target s.fixed view x r)
   target_distinct view x r q d h = go (visible_at s.fixed view x) h
@@ -357,16 +353,14 @@ module _ {M N : Type 0} (s : Sides M N) (w : WordsAlike s) where
     runs_alike (stmt_and st rest) (stmt_and su more) view d h r q k =
         alike_then (RunsAlike s (behind s.fixed view st su)) (RunsAlike s (behind_all s.fixed (behind s.fixed view st su) rest more)) _ _ _ _ (run_alike st su view d h.0 r q k)
         (runs_alike rest more (behind s.fixed view st su) (behind_distinct st su view d h.0) h.1)
-    runs_alike no_stmt (stmt_and su more) view d h r q k = absurd h
-    runs_alike (stmt_and st rest) no_stmt view d h r q k = absurd h
+    runs_alike body other view d h r q k = absurd h
 
     branches_alike : (branches : Branches M) (others : Branches N) (view : View M N) → AreDistinct s.fixed view → BranchesStand s.fixed view branches others → Carries view view (run_branches (old_world s) branches) (run_branches (new_world s) others)
     branches_alike (else_ body) (else_ other) view d st r q h = inner_alike view (behind_all s.fixed view body other) (run_all (old_world s) body) (run_all (new_world s) other) (all_extend body other view) (runs_alike body other view d st) r q h
     branches_alike (if_ t body rest) (if_ u other more) view d st r q h =
         alike_same (RunsAlike s view) _ _ _ _ (condition_alike view d t u st.0 r q h)
         (elim [ true ↦ inner_alike view (behind_all s.fixed view body other) (run_all (old_world s) body) (run_all (new_world s) other) (all_extend body other view) (runs_alike body other view d st.1) r q h | false ↦ branches_alike rest more view d st.2 r q h ])
-    branches_alike (else_ body) (if_ u other more) view d h r q k = absurd h
-    branches_alike (if_ t body rest) (else_ other) view d h r q k = absurd h
+    branches_alike branches others view d h r q k = absurd h
 
 pub statement_law : {M N : Type 0} → StatementLaw M N
 statement_law s w view d body other st r q h = runs_alike s w body other view d st r q h

@@ -314,12 +314,10 @@ source_is g s n shows x types e = go (entry s x) (shows.names x) e
 
     go : (o : Option Entry) → IsShown (g.slot x) (seen_at n x) o → of_entry o ≡ Ok types → IsSource (g.vertex_type x) (seen_at n x)
     go (Some (SetVariable ts)) d h = subst (SourceAt (g.vertex_type x) (seen_at n x)) (sym (ap marked_in d.1)) (in_view (seen_at n x) true d)
-    go (Some (Variable b)) d h = a_type (ap marked_in d.1) h
-    go (Some (Alias ts)) d h = a_type (ap marked_in d.1) h
-    go (Some (EdgeAlias ts)) d h = a_type (ap marked_in d.1) h
     go (Some (Accumulator k attached)) d h = a_type (ap marked_in d.0) h
     go (Some TupleName) d h = a_type (ap marked_in d) h
     go None d h = a_type (ap marked_in d) h
+    go o d h = a_type (ap marked_in d.1) h
 
 selected_has : (g : Globals) (s : Scope Bytes) (n : Named) → Shows g s n → (a b : Option Bytes) (x : Bytes) (types : List ℕ) → selected_types s a b x ≡ Ok types → Has (place_at n x)
 selected_has g s n shows a b x types e = go (entry s x) (shows.names x) (after_ok (unless (unknown s x) (is_alias s.setting.words.same a x || is_alias s.setting.words.same b x)) (of_entry (entry s x)) types e).1
@@ -330,12 +328,7 @@ selected_has g s n shows a b x types e = go (entry s x) (shows.names x) (after_o
 
     go : (o : Option Entry) → IsShown (g.slot x) (seen_at n x) o → of_entry o ≡ Ok types → Has (place_at n x)
     go (Some (Alias ts)) d h = in_view (seen_at n x) false d
-    go (Some (Variable b)) d h = cc
-    go (Some (SetVariable ts)) d h = cc
-    go (Some (EdgeAlias ts)) d h = cc
-    go (Some (Accumulator k attached)) d h = cc
-    go (Some TupleName) d h = cc
-    go None d h = cc
+    go o d h = cc
 
 source_has : (g : Globals) (n : Named) (x : Bytes) → IsSource (g.vertex_type x) (seen_at n x) → Has (resolved_source (known_in g n) (sees_in g n) x)
 source_has g n x h = go (is_marked n x) h

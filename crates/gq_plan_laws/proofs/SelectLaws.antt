@@ -30,20 +30,17 @@ module _ {M N : Type 0} (s : Sides M N) (w : WordsAlike s) where
   pub alias_distinct : (view : View M N) (x : Option M) (r : Option N) → AreDistinct s.fixed view → AliasIsNew s.fixed view x r → AreDistinct s.fixed (with_alias s.fixed view x r)
   alias_distinct view None None d n = d
   alias_distinct view (Some x) (Some r) d n = (n, d)
-  alias_distinct view None (Some r) d n = absurd n
-  alias_distinct view (Some x) None d n = absurd n
+  alias_distinct view x r d n = absurd n
 
   without_alias : (f : M → N) (view : View M N) (x : Option M) (r : Option N) → AliasIsNew s.fixed view x r → AllTold s w f (with_alias s.fixed view x r) → AllTold s w f view
   without_alias f view None None n t = t
   without_alias f view (Some x) (Some r) n t = t.1
-  without_alias f view None (Some r) n t = absurd n
-  without_alias f view (Some x) None n t = absurd n
+  without_alias f view x r n t = absurd n
 
   alias_told : (f : M → N) (view : View M N) (x : Option M) (r : Option N) → r ≡ option_map f x → AliasIsNew s.fixed view x r → AllTold s w f (with_alias s.fixed view x r) → ToldIf s w f x
   alias_told f view None None e n t = tt
   alias_told f view (Some x) (Some r) e n t = subst (λ z. Told s w f z x) (some_inj s w e) t.0
-  alias_told f view None (Some r) e n t = absurd n
-  alias_told f view (Some x) None e n t = absurd n
+  alias_told f view x r e n t = absurd n
 
   -- an alias isn't a set, and hides none
   alias_no_set : (view : View M N) (x : Option M) (r : Option N) → AliasIsNew s.fixed view x r → (n : M) → is_set_at s.fixed (with_alias s.fixed view x r) n ≡ is_set_at s.fixed view n
@@ -58,8 +55,7 @@ module _ {M N : Type 0} (s : Sides M N) (w : WordsAlike s) where
           ap (λ q. set_flag s.fixed (if q then Some v else visible_at s.fixed view n)) e
           ∙ sym (ap (set_flag s.fixed) (not_visible s w view n (subst (λ z. AllOf (λ (u : Visible M N). same u.name z ≡ false) view) (w.same x n e) a.name)))
       go false e = ap (λ q. set_flag s.fixed (if q then Some v else visible_at s.fixed view n)) e
-  alias_no_set view None (Some r) a n = absurd a
-  alias_no_set view (Some x) None a n = absurd a
+  alias_no_set view x r a n = absurd a
 
   -- ---- the source of a SELECT
 
@@ -86,17 +82,11 @@ module _ {M N : Type 0} (s : Sides M N) (w : WordsAlike s) where
 
       is_a_set : (o : Option Thing) → is_set o ≡ true → new_thing (f n) o ≡ old_thing o
       is_a_set (Some (SetOf types vs)) i = refl
-      is_a_set (Some (Variable b v)) i = cc
-      is_a_set (Some (EdgeRow a b)) i = cc
-      is_a_set (Some (Member types vs v)) i = cc
-      is_a_set None i = cc
+      is_a_set o i = cc
 
       is_no_set : (o : Option Thing) → is_set o ≡ false → old_thing o ≡ of_type (s.fixed.names.vertex_type n)
       is_no_set (Some (SetOf types vs)) i = cc
-      is_no_set (Some (Variable b v)) i = refl
-      is_no_set (Some (EdgeRow a b)) i = refl
-      is_no_set (Some (Member types vs v)) i = refl
-      is_no_set None i = refl
+      is_no_set o i = refl
 
       go : (q : Bool) → is_set (under same n as') ≡ q → source_of (new_world s) bs (if q then f n else s.fixed.vertex_type n) ≡ source_of (old_world s) as' n
       go true e = ap (new_thing (f n)) (k n) ∙ is_a_set (under same n as') e

@@ -25,68 +25,28 @@ use Rattle.gq_plan_laws.proofs.BlockLaws.{new_state, seen_alike}
 
 module _ {M N : Type 0} (s : Sides M N) (w : WordsAlike s) where
   pub base_alike : (b : BaseTree M) → base_of_tree (new_world s) (renamed_base s.fixed.vertex_type b) ≡ base_of_tree (old_world s) b
-  base_alike Ints = refl
-  base_alike UInts = refl
-  base_alike Bools = refl
-  base_alike Strings = refl
-  base_alike AnyVertex = refl
   base_alike (VertexOf t) = ap (λ o. found o >>= λ n. Gives (VERTEX_OF n)) (w.vertex_type t)
+  base_alike b = refl
 
   types_alike : (b : Base) → types_of_base (new_world s) b ≡ types_of_base (old_world s) b
   types_alike (VERTEX_OF t) = refl
-  types_alike INT = refl
-  types_alike UINT = refl
-  types_alike BOOL = refl
-  types_alike STRING = refl
-  types_alike DATETIME = refl
-  types_alike VERTEX = refl
-  types_alike (TUPLE n bs) = refl
+  types_alike b = refl
 
   variable_alike : (m : Meant) → of_variable (new_world s) m ≡ of_variable (old_world s) m
   variable_alike (Is b (Vertex v)) = ap (λ ts. Gives (ts, v ∷ [])) (types_alike b)
-  variable_alike (Is b (Int x)) = refl
-  variable_alike (Is b (UInt x)) = refl
-  variable_alike (Is b (Truth x)) = refl
-  variable_alike (Is b (Text x)) = refl
-  variable_alike (Is b (Tuple row)) = refl
-  variable_alike (Is b (Fraction x n)) = refl
-  variable_alike (IsAverage v) = refl
-  variable_alike (IsContent k c) = refl
-  variable_alike (IsRow ps cs) = refl
-  variable_alike (IsEdge r t) = refl
-  variable_alike (IsSet vs) = refl
-  variable_alike (IsMember vs b v) = refl
+  variable_alike m = refl
 
   content_alike : (m : Meant) → of_content (new_world s) m ≡ of_content (old_world s) m
   content_alike (IsContent (SetAccum b) c) = ap (λ ts. Gives (ts, vertices_in c)) (types_alike b)
-  content_alike (IsContent (SumAccum n) c) = refl
-  content_alike (IsContent (MinAccum n) c) = refl
-  content_alike (IsContent (MaxAccum n) c) = refl
-  content_alike (IsContent OrAccum c) = refl
-  content_alike (IsContent AndAccum c) = refl
-  content_alike (IsContent BitwiseOrAccum c) = refl
-  content_alike (IsContent BitwiseAndAccum c) = refl
-  content_alike (IsContent AvgAccum c) = refl
-  content_alike (IsContent (BagAccum b) c) = refl
-  content_alike (IsContent (ListAccum b) c) = refl
-  content_alike (IsContent (MapAccum b k) c) = refl
-  content_alike (IsContent (GroupByAccum keys ps) c) = refl
-  content_alike (IsContent (HeapAccum b n by) c) = refl
-  content_alike (Is b v) = refl
-  content_alike (IsAverage v) = refl
-  content_alike (IsRow ps cs) = refl
-  content_alike (IsEdge r t) = refl
-  content_alike (IsSet vs) = refl
-  content_alike (IsMember vs b v) = refl
+  content_alike m = refl
 
   pub fixed_alike : (types : Option (SetTypes M)) (ts : List ℕ) → types_fixed (new_world s) (option_map (renamed_set_types s.fixed.vertex_type) types) ts ≡ types_fixed (old_world s) types ts
-  fixed_alike None ts = refl
-  fixed_alike (Some AnyType) ts = refl
   fixed_alike (Some (TypeOf t)) ts = ap of_type (w.vertex_type t)
     where
       of_type : Option ℕ → List ℕ
       of_type None = ts
       of_type (Some n) = n ∷ []
+  fixed_alike types ts = refl
 
   module _ (f source : M → N) (old : State M) (bs : List (N × Thing)) (k : LooksAlike s w f old.names bs) (h : AllOf (AccumIs s) old.slots) where
     abbrev pub sees : SeesAlike (named_by s.fixed f) (seen (old_world s) old) (seen (new_world s) (new_state s w f bs old))

@@ -43,13 +43,10 @@ entry_none s x q h = none_if (entry s x) (unless_ok (NameTwice (said s x)) (not 
 
 -- only a set is marked
 pub set_is_marked : (slot : Option ℕ) (o : Option NameBinding) (e : Option Entry) → IsShown slot o e → marked_in o ≡ is_set e
-set_is_marked slot o (Some (Variable b)) h = ap marked_in h.1
-set_is_marked slot o (Some (SetVariable types)) h = ap marked_in h.1
-set_is_marked slot o (Some (Alias types)) h = ap marked_in h.1
-set_is_marked slot o (Some (EdgeAlias types)) h = ap marked_in h.1
 set_is_marked slot o (Some (Accumulator k attached)) h = ap marked_in h.0
 set_is_marked slot o (Some TupleName) h = ap marked_in h
 set_is_marked slot o None h = ap marked_in h
+set_is_marked slot o e h = ap marked_in h.1
 
 -- an entry that may come into view with a mark
 abbrev pub Marks : Bool → Entry → Type 0
@@ -61,18 +58,14 @@ Marks marked (Accumulator k attached) = ⊥
 Marks marked TupleName = ⊥
 
 marked_shown : (slot : Option ℕ) (marked : Bool) (e : Entry) (p : ℕ) → Marks marked e → IsShown slot (Some (record { place = p; marked = marked })) (Some e)
-marked_shown slot marked (Variable b) p h = (p, ap {A = Bool} {B = Option NameBinding} (λ q. Some (record { place = p; marked = q })) h)
-marked_shown slot marked (SetVariable types) p h = (p, ap {A = Bool} {B = Option NameBinding} (λ q. Some (record { place = p; marked = q })) h)
-marked_shown slot marked (Alias types) p h = (p, ap {A = Bool} {B = Option NameBinding} (λ q. Some (record { place = p; marked = q })) h)
-marked_shown slot marked (EdgeAlias types) p h = (p, ap {A = Bool} {B = Option NameBinding} (λ q. Some (record { place = p; marked = q })) h)
 marked_shown slot marked (Accumulator k attached) p h = absurd h
 marked_shown slot marked TupleName p h = absurd h
+marked_shown slot marked e p h = (p, ap {A = Bool} {B = Option NameBinding} (λ q. Some (record { place = p; marked = q })) h)
 
 one_more : (slot : Option ℕ) (b c : Bool) → b ≡ c → (seen : NameBinding) (o : Option NameBinding) (e : Entry) (p : Option Entry) → IsShown slot (Some seen) (Some e) → IsShown slot o p → IsShown slot (if b then Some seen else o) (if c then Some e else p)
 one_more slot true true h seen o e p new old = new
 one_more slot false false h seen o e p new old = old
-one_more slot true false h seen o e p new old = absurd (cc h)
-one_more slot false true h seen o e p new old = absurd (cc h)
+one_more slot b c h seen o e p new old = absurd (cc h)
 
 -- a type that is written is found
 pub written_has : (g : Globals) (s : Scope Bytes) → FindsWords g s.setting → (b : BaseTree Bytes) (c : Base) → base_written s b ≡ Ok c → Has (resolved_base g b)
@@ -97,24 +90,17 @@ module _ (g : Globals) (s : Scope Bytes) (n : Named) (shows : Shows g s n) where
 
       go : (o : Option Entry) → IsShown (g.slot a) (seen_at n a) o → of_entry o ≡ Ok kind → Has (g.slot a)
       go (Some (Accumulator j flag)) d h = d.1
-      go (Some (Variable b)) d h = cc
-      go (Some (SetVariable ts)) d h = cc
-      go (Some (Alias ts)) d h = cc
-      go (Some (EdgeAlias ts)) d h = cc
-      go (Some TupleName) d h = cc
-      go None d h = cc
+      go o d h = cc
 
   pub place_has : (place : Place Bytes) (x : Bytes) (ty : Typed) → name_at s place x (entry s x) ≡ Ok ty → Has (place_at n x)
   place_has place x ty e = go (entry s x) (shows.names x) e
     where
       go : (o : Option Entry) → IsShown (g.slot x) (seen_at n x) o → name_at s place x o ≡ Ok ty → Has (place_at n x)
-      go (Some (Variable b)) d h = in_view (seen_at n x) false d
       go (Some (SetVariable ts)) d h = in_view (seen_at n x) true d
-      go (Some (Alias ts)) d h = in_view (seen_at n x) false d
-      go (Some (EdgeAlias ts)) d h = in_view (seen_at n x) false d
       go (Some (Accumulator k flag)) d h = cc
       go (Some TupleName) d h = cc
       go None d h = cc
+      go o d h = in_view (seen_at n x) false d
 
   pub knows : (place : Place Bytes) → KnowsAll (names_at s place) (known_in g n)
   knows place = record {
@@ -140,12 +126,7 @@ module _ (g : Globals) (s : Scope Bytes) (n : Named) (shows : Shows g s n) where
 
       go : (o : Option Entry) → IsShown (g.slot x) (seen_at n x) o → of_entry o ≡ Ok types → InView (seen_at n x) true
       go (Some (SetVariable ts)) d h = d
-      go (Some TupleName) d h = cc
-      go None d h = cc
-      go (Some (Variable b)) d h = cc
-      go (Some (Alias ts)) d h = cc
-      go (Some (EdgeAlias ts)) d h = cc
-      go (Some (Accumulator k attached)) d h = cc
+      go o d h = cc
 
   pub set_place : (x : Bytes) (types : List ℕ) → set_types s x ≡ Ok types → Has (place_at n x)
   set_place x types e = in_view (seen_at n x) true (set_has x types e)
@@ -162,12 +143,7 @@ module _ (g : Globals) (s : Scope Bytes) (n : Named) (shows : Shows g s n) where
 
       go : (o : Option Entry) → IsShown (g.slot v) (seen_at n v) o → of_entry o ≡ Ok q → Has (place_at n v)
       go (Some (Alias ts)) d h = in_view (seen_at n v) false d
-      go (Some TupleName) d h = cc
-      go None d h = cc
-      go (Some (Variable b)) d h = cc
-      go (Some (SetVariable ts)) d h = cc
-      go (Some (EdgeAlias ts)) d h = cc
-      go (Some (Accumulator k attached)) d h = cc
+      go o d h = cc
 
   pub vertex_type_has : (t : Bytes) (m : ℕ) → vertex_type s t ≡ Ok m → Has (g.vertex_type t)
   vertex_type_has t m h = (m, shows.words.vertex_type t m (or_fault_ok (unknown s t) (s.setting.words.vertex_type t) m h))

@@ -24,9 +24,8 @@ map_length f [] = refl
 map_length f (x ∷ xs) = ap suc (map_length f xs)
 
 pub map_at : {A B : Type 0} (f : A → B) (xs : List A) (n : ℕ) → slice_get (map f xs) n ≡ option_map f (slice_get xs n)
-map_at f [] n = refl
-map_at f (x ∷ xs) zero = refl
 map_at f (x ∷ xs) (suc n) = map_at f xs n
+map_at f xs n = refl
 
 module _ {M N : Type 0} (s : Sides M N) (w : WordsAlike s) where
   -- ---- accumulators
@@ -103,21 +102,7 @@ module _ {M N : Type 0} (s : Sides M N) (w : WordsAlike s) where
   field_alike (IsMember set b v) f = vertex_alike f v
   field_alike (IsEdge r t) f = edge_alike f r t
   field_alike (IsRow ps cs) f = parts_alike f ps cs
-  field_alike (IsAverage v) f = refl
-  field_alike (IsContent k c) f = refl
-  field_alike (IsSet vs) f = refl
-  field_alike (Is b (Int x)) f = refl
-  field_alike (Is b (UInt x)) f = refl
-  field_alike (Is b (Truth x)) f = refl
-  field_alike (Is b (Text x)) f = refl
-  field_alike (Is b (Fraction x y)) f = refl
-  field_alike (Is INT (Tuple row)) f = refl
-  field_alike (Is UINT (Tuple row)) f = refl
-  field_alike (Is BOOL (Tuple row)) f = refl
-  field_alike (Is STRING (Tuple row)) f = refl
-  field_alike (Is DATETIME (Tuple row)) f = refl
-  field_alike (Is VERTEX (Tuple row)) f = refl
-  field_alike (Is (VERTEX_OF t) (Tuple row)) f = refl
+  field_alike m f = refl
 
   -- ---- all together
 

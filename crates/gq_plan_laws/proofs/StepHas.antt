@@ -100,12 +100,7 @@ module _ (g : Globals) (s : Scope Bytes) (n : Named) (shows : Shows g s n) where
 
       go : (o : Option Entry) → IsShown (g.slot x) (seen_at n x) o → entry s x ≡ o → (if is_set o then Ok (SetOf []) else typing (here s) (Name x)) ≡ Ok ty → Has (place_at n x)
       go (Some (SetVariable ts)) d i h = in_view (seen_at n x) true d
-      go (Some (Variable b)) d i h = named h
-      go (Some (Alias ts)) d i h = named h
-      go (Some (EdgeAlias ts)) d i h = named h
-      go (Some (Accumulator j attached)) d i h = named h
-      go (Some TupleName) d i h = named h
-      go None d i h = named h
+      go o d i h = named h
 
   whole_has : (t : Tree Bytes) (ty : Typed) → typing_whole s t ≡ Ok ty → Has (resolved k t)
   whole_has (Name x) ty h = has_one (place_at n x) _ (whole_name x ty h)
@@ -188,20 +183,10 @@ module _ (g : Globals) (s : Scope Bytes) (n : Named) (shows : Shows g s n) where
       let u = after_ok (converting (here s) b e) (Ok s) t h in
       let w = value_has g s n shows e (converting_has (here s) (known_in g n) (knows g s n shows InStatement) b e u.0.0 u.0.1) in
       subst (λ t. Goes (Shows g t) (resolved_assign g n x None (Expression e))) (ok_inj u.1) (assigned s x None (Expression e) false (None, refl) f w (old_target x false d))
-  assign_has x (Selects q) t (Some (Variable b)) None d f h = absurd (refused h)
-  assign_has x (Sets z rest) t (Some (Variable b)) None d f h = absurd (refused h)
   assign_has x r t None (Some set) d f h =
       let v = then_ok set _ t h in
       subst (λ t. Goes (Shows g t) (resolved_assign g n x None r)) (ok_inj v.2) (assigned (with_entry x (SetVariable v.0) s) x None r true (None, refl) f.0 (f.1 v.0 v.1) (new_target x v.0 d))
-  assign_has x r t None None d f h = absurd (refused h)
-  assign_has x r t (Some TupleName) o d f h = absurd (refused h)
-  assign_has x (Selects q) t (Some (Variable b)) (Some set) d f h = absurd (refused h)
-  assign_has x (Sets z rest) t (Some (Variable b)) (Some set) d f h = absurd (refused h)
-  assign_has x (Expression e) t (Some (Variable b)) (Some set) d f h = absurd (refused h)
-  assign_has x r t (Some (SetVariable fixed)) None d f h = absurd (refused h)
-  assign_has x r t (Some (Alias ts)) o d f h = absurd (refused h)
-  assign_has x r t (Some (EdgeAlias ts)) o d f h = absurd (refused h)
-  assign_has x r t (Some (Accumulator j attached)) o d f h = absurd (refused h)
+  assign_has x r t e o d f h = absurd (refused h)
 
   set_types_have : (ts : SetTypes Bytes) (types : List ℕ) → fixed_types s ts ≡ Ok types → Has (if_there (resolved_set_types g) (Some ts))
   set_types_have AnyType types h = (Some set_type.Every, refl)

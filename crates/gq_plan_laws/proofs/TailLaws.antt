@@ -36,10 +36,8 @@ module _ {M N : Type 0} (r : Renaming M N) where
   new_key key = (renamed r key.0, key.1)
 
   keys_alike : (order : List (Tree M × Bool)) (vs ws : List Val) → by_keys (map new_key order) vs ws ≡ by_keys order vs ws
-  keys_alike [] vs ws = refl
-  keys_alike (key ∷ order) [] ws = refl
-  keys_alike (key ∷ order) (v ∷ vs) [] = refl
   keys_alike (key ∷ order) (v ∷ vs) (x ∷ ws) = ap (ordering_then (if key.1 then ordering_reverse (compare v x) else compare v x)) (keys_alike order vs ws)
+  keys_alike order vs ws = refl
 
   order_alike : (order : List (Tree M × Bool)) (a b : Ranked) → in_order (map new_key order) a b ≡ in_order order a b
   order_alike order a b = ap (λ o. ordering_then o (nat_cmp a.vertex b.vertex)) (keys_alike order a.keys b.keys)

@@ -32,10 +32,7 @@ module _ {M N : Type 0} (s : Sides M N) (w : WordsAlike s) where
   pub new_reference : (view : View M N) (as' : Names) (bs : References) (r : N) → AllOf (λ (v : Visible M N). (like v.reference r ≡ false) × (like r v.reference ≡ false)) view → NamesAlike s view as' bs → under like r bs ≡ None
   new_reference [] [] [] r n h = refl
   new_reference (v ∷ view) (a ∷ as') (b ∷ bs) r n h = ap (λ q. if q then Some b.1 else under like r bs) (ap (λ z. like z r) h.0.reference ∙ n.0.0) ∙ new_reference view as' bs r n.1 h.1
-  new_reference [] [] (b ∷ bs) r n h = absurd h
-  new_reference [] (a ∷ as') bs r n h = absurd h
-  new_reference (v ∷ view) [] bs r n h = absurd h
-  new_reference (v ∷ view) (a ∷ as') [] r n h = absurd h
+  new_reference view as' bs r n h = absurd h
 
   -- nor is its name
   pub not_visible : (view : View M N) (x : M) → AllOf (λ (v : Visible M N). same v.name x ≡ false) view → visible_at s.fixed view x ≡ None
@@ -72,10 +69,7 @@ module _ {M N : Type 0} (s : Sides M N) (w : WordsAlike s) where
           let is : v ≡ u = some_inj e in
           (record { name = sym (w.same v.name x g); reference = ap (λ (z : Visible M N). z.reference) (sym is); thing = refl; set = i ∙ ap (λ (z : Visible M N). z.is_set) (sym is) }, h.1)
       go false g e r = (h.0, r e)
-  changed_alike [] [] (b ∷ bs) x u thing e t i h = absurd h
-  changed_alike [] (a ∷ as') bs x u thing e t i h = absurd h
-  changed_alike (v ∷ view) [] bs x u thing e t i h = absurd h
-  changed_alike (v ∷ view) (a ∷ as') [] x u thing e t i h = absurd h
+  changed_alike view as' bs x u thing e t i h = absurd h
 
   -- a visible name and its reference have the same thing
   pub at_target : (view : View M N) (as' : Names) (bs : References) (x : M) (r : N) (q : Bool) → AreDistinct s.fixed view → NamesAlike s view as' bs → TargetStands s.fixed view x r q → under like r bs ≡ under same x as'
@@ -143,16 +137,12 @@ module _ {M N : Type 0} (s : Sides M N) (w : WordsAlike s) where
   pub names_length : (view : View M N) (as' : Names) (bs : References) → NamesAlike s view as' bs → (length as' ≡ length view) × (length bs ≡ length view)
   names_length [] [] [] h = (refl, refl)
   names_length (v ∷ view) (a ∷ as') (b ∷ bs) h = let r = names_length view as' bs h.1 in (ap suc r.0, ap suc r.1)
-  names_length [] [] (b ∷ bs) h = absurd h
-  names_length [] (a ∷ as') bs h = absurd h
-  names_length (v ∷ view) [] bs h = absurd h
-  names_length (v ∷ view) (a ∷ as') [] h = absurd h
+  names_length view as' bs h = absurd h
 
   dropped_alike : (added view : View M N) (as' : Names) (bs : References) → NamesAlike s (added ++ view) as' bs → NamesAlike s view (drop (length added) as') (drop (length added) bs)
   dropped_alike [] view as' bs h = h
   dropped_alike (v ∷ added) view (a ∷ as') (b ∷ bs) h = dropped_alike added view as' bs h.1
-  dropped_alike (v ∷ added) view [] bs h = absurd h
-  dropped_alike (v ∷ added) view (a ∷ as') [] h = absurd h
+  dropped_alike added view as' bs h = absurd h
 
   length_both : (added view : View M N) → length (added ++ view) ≡ length added + length view
   length_both [] view = omega arith

@@ -67,13 +67,10 @@ module _ {M N : Type 0} (s : Sides M N) (w : WordsAlike s) (f source : M → N) 
   -- ---- aliases and ends
 
   last_alike : (steps : List (Step M)) → last_step (map (renamed_step (naming_by s.fixed f source)) steps) ≡ option_map (renamed_step (naming_by s.fixed f source)) (last_step steps)
-  last_alike [] = refl
-  last_alike (t ∷ []) = refl
   last_alike (t ∷ u ∷ rest) = last_alike (u ∷ rest)
+  last_alike steps = refl
 
   pub edge_alias_alike : (walk : Walk M) → edge_alias (renamed_walk (naming_by s.fixed f source) walk) ≡ option_map f (edge_alias walk)
-  edge_alias_alike Nowhere = refl
-  edge_alias_alike (OneHop h) = refl
   edge_alias_alike (Path steps) = ap of_step (last_alike steps) ∙ go (last_step steps)
     where
       of_step : {N : Type 0} → Option (Step N) → Option N
@@ -83,10 +80,9 @@ module _ {M N : Type 0} (s : Sides M N) (w : WordsAlike s) (f source : M → N) 
       go : (o : Option (Step M)) → of_step (option_map (renamed_step (naming_by s.fixed f source)) o) ≡ option_map f (of_step o)
       go None = refl
       go (Some t) = refl
+  edge_alias_alike walk = refl
 
   pub target_alias_alike : (walk : Walk M) → target_alias (renamed_walk (naming_by s.fixed f source) walk) ≡ option_map f (target_alias walk)
-  target_alias_alike Nowhere = refl
-  target_alias_alike (OneHop h) = refl
   target_alias_alike (Path steps) = ap of_step (last_alike steps) ∙ go (last_step steps)
     where
       of_step : {N : Type 0} → Option (Step N) → Option N
@@ -96,6 +92,7 @@ module _ {M N : Type 0} (s : Sides M N) (w : WordsAlike s) (f source : M → N) 
       go : (o : Option (Step M)) → of_step (option_map (renamed_step (naming_by s.fixed f source)) o) ≡ option_map f (of_step o)
       go None = refl
       go (Some t) = refl
+  target_alias_alike walk = refl
 
   pub ends_alike : (walk : Walk M) → end_types (setting (new_world s)) (renamed_walk (naming_by s.fixed f source) walk) ≡ end_types (setting (old_world s)) walk
   ends_alike Nowhere = refl
@@ -118,5 +115,4 @@ module _ {M N : Type 0} (s : Sides M N) (w : WordsAlike s) (f source : M → N) 
 
   pub bound_alike : (walk : Walk M) (cs : List Candidate) → within_bound (renamed_walk (naming_by s.fixed f source) walk) cs ≡ within_bound walk cs
   bound_alike Nowhere cs = refl
-  bound_alike (OneHop h) cs = refl
-  bound_alike (Path steps) cs = refl
+  bound_alike walk cs = refl

@@ -18,8 +18,8 @@ use Rattle.gq_plan_laws.proofs.InputLaws.{made_alike}
 module _ {M N : Type 0} (s : Sides M N) (w : WordsAlike s) where
   changed_alike : (g : Making) (v n : ℕ) (slots : List (Slot M)) → changed_at (slot_changed g v) n (new_slots s slots) ≡ new_slots s (changed_at (slot_changed g v) n slots)
   changed_alike g v n [] = refl
-  changed_alike g v zero (t ∷ slots) = refl
   changed_alike g v (suc n) (t ∷ slots) = ap (λ ts. new_slot s t ∷ ts) (changed_alike g v n slots)
+  changed_alike g v n slots = refl
 
   changed_are : (g : Making) (v n : ℕ) (slots : List (Slot M)) → AllOf (AccumIs s) slots → AllOf (AccumIs s) (changed_at (slot_changed g v) n slots)
   changed_are g v n [] h = tt
