@@ -34,11 +34,7 @@ module _ {M N : Type 0} (s : Sides M N) (w : WordsAlike s) where
   -- ---- states
 
   kept_slots : {N : Type 0} (world : World N) (x : N) (thing : Thing) (a : State N) → (with_name world x thing a).slots ≡ a.slots
-  kept_slots world x thing a = go (is_some (thing_named world a.names x))
-    where
-      go : (b : Bool) → (if b then (record a { names = changed world.words.same x thing a.names }) else with_new x thing a).slots ≡ a.slots
-      go true = refl
-      go false = refl
+  kept_slots world x thing a = elim (is_some (thing_named world a.names x)) as (λ b. (if b then (record a { names = changed world.words.same x thing a.names }) else with_new x thing a).slots ≡ a.slots) [ true ↦ refl | false ↦ refl ]
 
   -- a fact on the state with the accumulators renamed
   pub on_state : (P : State N → Type 0) (old : State M) (new : State N) → SlotsAlike s old.slots new.slots → P (new_state s w (λ x. s.fixed.nothing) new.names old) → P new
@@ -50,18 +46,14 @@ module _ {M N : Type 0} (s : Sides M N) (w : WordsAlike s) where
         → StatesAlike s (with_target s.fixed view x r) (with_name (old_world s) x thing old) (with_name (new_world s) r thing new)
     named_alike old new q thing h t i = record {
       names = assigned_alike s w view old new x r q thing d h.names t i;
-      slots = subst (λ ss. SlotsAlike s ss (with_name (new_world s) r thing new).slots) (sym (kept_slots (old_world s) x thing old)) (subst (SlotsAlike s old.slots) (sym (kept_slots (new_world s) r thing new)) h.slots);
+      slots = rw (kept_slots (old_world s) x thing old, kept_slots (new_world s) r thing new) h.slots;
     }
 
     pub set_assigned_alike : (old : State M) (new : State N) (types : Option (SetTypes M)) (set : TypedSet) → StatesAlike s view old new → TargetStands s.fixed view x r true
         → StatesAlike s (with_target s.fixed view x r) (set_assigned (old_world s) x types set old) (set_assigned (new_world s) r (option_map (renamed_set_types s.fixed.vertex_type) types) set new)
     set_assigned_alike old new types set h t =
-        subst (λ ts. StatesAlike s (with_target s.fixed view x r) (set_assigned (old_world s) x types set old) (with_name (new_world s) r (SetOf ts set.1) new)) (sym kept)
+        rw (ap (λ o. types_kept o (types_fixed (new_world s) (option_map (renamed_set_types s.fixed.vertex_type) types) set.0)) (at_target s w view old.names new.names x r true d h.names t), fixed_alike s w types set.0)
         (named_alike old new true (SetOf (types_kept (under same x old.names) (types_fixed (old_world s) types set.0)) set.1) h t refl)
-      where
-        kept : types_kept (under like r new.names) (types_fixed (new_world s) (option_map (renamed_set_types s.fixed.vertex_type) types) set.0) ≡ types_kept (under same x old.names) (types_fixed (old_world s) types set.0)
-        kept = ap (λ o. types_kept o (types_fixed (new_world s) (option_map (renamed_set_types s.fixed.vertex_type) types) set.0)) (at_target s w view old.names new.names x r true d h.names t)
-            ∙ ap (types_kept (under same x old.names)) (fixed_alike s w types set.0)
 
     -- ---- values
 
@@ -99,9 +91,7 @@ module _ {M N : Type 0} (s : Sides M N) (w : WordsAlike s) where
 
       name_alike : (types : Option (SetTypes M)) (y : M) (q : Bool) → is_set (under same y old.names) ≡ q → TargetStands s.fixed view x r q
           → Assigned (expression_assigned (old_world s) old x types (Name y)) (expression_assigned (new_world s) other r (option_map (renamed_set_types s.fixed.vertex_type) types) (Name (f y)))
-      name_alike types y q e g =
-          subst (λ b. Assigned (old_by b) (new_by (is_set (under like (f y) new.names)))) (sym e)
-          (subst (λ b. Assigned (old_by q) (new_by b)) (sym (ap is_set (k y) ∙ e)) (go q g))
+      name_alike types y q e g = rw (e, ap is_set (k y) ∙ e, expression_assigned) (go q g)
         where
           old_by : Bool → Answer Wrong (State M)
           old_by b = elim b [ true ↦ set_named (old_world s) old y >>= λ set. Gives (set_assigned (old_world s) x types set old) | false ↦ value_assigned (old_world s) old x (Name y) ]
@@ -116,19 +106,7 @@ module _ {M N : Type 0} (s : Sides M N) (w : WordsAlike s) where
       pub expression_alike : (types : Option (SetTypes M)) (t : Tree M) → TargetStands s.fixed view x r (is_set_right s.fixed view (Expression t))
           → Assigned (expression_assigned (old_world s) old x types t) (expression_assigned (new_world s) other r (option_map (renamed_set_types s.fixed.vertex_type) types) (renamed (inside s.fixed view) t))
       expression_alike types (Name y) g = name_alike types y (is_set_at s.fixed view y) (sym (found_set s w view old.names new.names h.names y)) g
-      expression_alike types (Number n) g = value_alike (Number n) g
-      expression_alike types (Text t) g = value_alike (Text t) g
-      expression_alike types (Truth b) g = value_alike (Truth b) g
-      expression_alike types (Global a) g = value_alike (Global a) g
-      expression_alike types (Call c ts) g = value_alike (Call c ts) g
-      expression_alike types (Post t ps) g = value_alike (Post t ps) g
-      expression_alike types (Neg n t) g = value_alike (Neg n t) g
-      expression_alike types (Mul t fs) g = value_alike (Mul t fs) g
-      expression_alike types (Sum t ts) g = value_alike (Sum t ts) g
-      expression_alike types (Cmp t sign u) g = value_alike (Cmp t sign u) g
-      expression_alike types (Not n t) g = value_alike (Not n t) g
-      expression_alike types (And t ts) g = value_alike (And t ts) g
-      expression_alike types (Or t ts) g = value_alike (Or t ts) g
+      expression_alike types t g = value_alike t g
 
       pub sets_assigned_alike : (types : Option (SetTypes M)) (t : SetTerm M) (rest : List (SetOp × SetTerm M)) → TargetStands s.fixed view x r true
           → Assigned (assigned (old_world s) old x types (Sets t rest)) (assigned (new_world s) other r (option_map (renamed_set_types s.fixed.vertex_type) types) (Sets (renamed_term (naming s.fixed view) t) (map {A = SetOp × SetTerm M} (λ z. (z.0, renamed_term (naming s.fixed view) z.1)) rest)))

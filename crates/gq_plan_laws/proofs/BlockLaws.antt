@@ -46,19 +46,12 @@ module _ {M N : Type 0} (s : Sides M N) (w : WordsAlike s) (f : M → N) where
   abbrev pub renamed_from : From M → From N
   renamed_from m = record { source = option_map f m.source; source_types = m.source_types; start = m.start; edge = option_map f m.edge; target = option_map f m.target; target_types = m.target_types }
 
-  abbrev a_from : Option N → List ℕ × List ℕ → Option N → Option N → List ℕ → From N
-  a_from source start edge target types = record { source = source; source_types = start.0; start = start.1; edge = edge; target = target; target_types = types }
-
   abbrev pub SourceAlike : (M → N) → M → List (M × Thing) → List (N × Thing) → Type 0
   SourceAlike source n as' bs = source_of (new_world s) bs (source n) ≡ source_of (old_world s) as' n
 
   pub from_alike : (source : M → N) (q : Select M) (as' : List (M × Thing)) (bs : List (N × Thing)) → SourceAlike source q.source as' bs
       → from (new_world s) bs (renamed_select (naming_by s.fixed f source) q) ≡ renamed_from (from (old_world s) as' q)
-  from_alike source q as' bs h =
-      ap (λ st. a_from (option_map f q.alias) st (edge_alias (renamed_select (naming_by s.fixed f source) q).walk) (target_alias (renamed_select (naming_by s.fixed f source) q).walk) (end_types (setting (new_world s)) (renamed_select (naming_by s.fixed f source) q).walk)) h
-      ∙ ap (λ e. a_from (option_map f q.alias) (source_of (old_world s) as' q.source) e (target_alias (renamed_select (naming_by s.fixed f source) q).walk) (end_types (setting (new_world s)) (renamed_select (naming_by s.fixed f source) q).walk)) (edge_alias_alike s w f source q.walk)
-      ∙ ap (λ t. a_from (option_map f q.alias) (source_of (old_world s) as' q.source) (option_map f (edge_alias q.walk)) t (end_types (setting (new_world s)) (renamed_select (naming_by s.fixed f source) q).walk)) (target_alias_alike s w f source q.walk)
-      ∙ ap (a_from (option_map f q.alias) (source_of (old_world s) as' q.source) (option_map f (edge_alias q.walk)) (option_map f (target_alias q.walk))) (ends_alike s w f source q.walk)
+  from_alike source q as' bs h = simp (h, edge_alias_alike s w f source q.walk, target_alias_alike s w f source q.walk, ends_alike s w f source q.walk)
 
   named_looks : (as' : List (M × Thing)) (bs : List (N × Thing)) (x : Option M) (t : Option Thing) → ToldIf x → LooksAlike s w f as' bs → LooksAlike s w f (named_as x t as') (named_as (option_map f x) t bs)
   named_looks as' bs (Some x) (Some t) h k = looks_new s w f as' bs x (f x) t h k
@@ -112,9 +105,6 @@ module _ {M N : Type 0} (s : Sides M N) (w : WordsAlike s) (f : M → N) where
       abbrev r : Renaming M N
       r = named_by s.fixed f
 
-      branches_alike : (o p : Answer Wrong Bool) (x y x' y' : Answer Wrong (List Contribution)) → p ≡ o → x' ≡ x → y' ≡ y → (p >>= elim [ true ↦ x' | false ↦ y' ]) ≡ (o >>= elim [ true ↦ x | false ↦ y ])
-      branches_alike o p x y x' y' e g i = then_same p o _ _ e (elim [ true ↦ g | false ↦ i ])
-
       mutual
         pub contributions_alike : (acts : Acts M) → contributions (new_look slots slots) (new_slots s slots) (renamed_acts r acts) ≡ contributions (old_look slots slots) slots acts
         contributions_alike no_act = refl
@@ -128,7 +118,7 @@ module _ {M N : Type 0} (s : Sides M N) (w : WordsAlike s) (f : M → N) where
         choices_alike : (choices : Choices M) → of_choices (new_look slots slots) (new_slots s slots) (renamed_choices r choices) ≡ of_choices (old_look slots slots) slots choices
         choices_alike (otherwise acts) = contributions_alike acts
         choices_alike (when t acts rest) =
-            branches_alike _ _ _ _ _ _ (truth_alike r (old_look slots slots) (new_look slots slots) (seen_alike slots slots h h) t) (contributions_alike acts) (choices_alike rest)
+            then_same _ _ _ _ (truth_alike r (old_look slots slots) (new_look slots slots) (seen_alike slots slots h h) t) (elim [ true ↦ contributions_alike acts | false ↦ choices_alike rest ])
 
       pub match_alike : (source : M → N) (q : Select M) (c : Candidate) → match_of (renamed_select (naming_by s.fixed f source) q) (new_slots s slots) c (new_look slots slots) ≡ match_of q slots c (old_look slots slots)
       match_alike source q c =
@@ -162,10 +152,7 @@ module _ {M N : Type 0} (s : Sides M N) (w : WordsAlike s) (f : M → N) where
   unfit_alike n (t ∷ slots) = ap (λ o. if list_all (fits t.kind) t.contents then o else Some n) (unfit_alike (suc n) slots)
 
   pub fed_alike : (xs : List Contribution) (slots : List (Slot M)) → AllOf (AccumIs s) slots → AnswersAlike (SlotsAlike s) (fed_together xs slots) (fed_together xs (new_slots s slots))
-  fed_alike xs slots h =
-      subst (λ ts. AnswersAlike (SlotsAlike s) (fed_together xs slots) (unless_unfit (first_unfit 0 ts) ts)) (sym (slots_after_alike xs 0 slots))
-      (subst (λ o. AnswersAlike (SlotsAlike s) (fed_together xs slots) (unless_unfit o (new_slots s (slots_after xs 0 slots)))) (sym (unfit_alike 0 (slots_after xs 0 slots)))
-      (go (first_unfit 0 (slots_after xs 0 slots))))
+  fed_alike xs slots h = rw (slots_after_alike xs 0 slots, unfit_alike 0 (slots_after xs 0 slots)) (go (first_unfit 0 (slots_after xs 0 slots)))
     where
       go : (o : Option ℕ) → AnswersAlike (SlotsAlike s) (unless_unfit o (slots_after xs 0 slots)) (unless_unfit o (new_slots s (slots_after xs 0 slots)))
       go None = record { is = refl; accums = slots_after_are xs 0 slots h }
@@ -195,5 +182,4 @@ module _ {M N : Type 0} (s : Sides M N) (w : WordsAlike s) (f : M → N) where
       all_matches : matches (new_world s) (new_state bs old) p (from (new_world s) bs p) 0 (candidates_of (new_world s) (from (new_world s) bs p).start p.walk) ≡ matches (old_world s) old q m 0 (candidates_of (old_world s) m.start q.walk)
       all_matches =
           ap (λ (z : From N). matches (new_world s) (new_state bs old) p z 0 (candidates_of (new_world s) z.start p.walk)) (from_alike source q old.names bs e)
-          ∙ ap (matches (new_world s) (new_state bs old) p (renamed_from m) 0) (candidates_alike s w f source m.start q.walk)
-          ∙ matches_alike source q m old bs t k h 0 (candidates_of (old_world s) m.start q.walk)
+          ∙ rw (candidates_alike s w f source m.start q.walk) (matches_alike source q m old bs t k h 0 (candidates_of (old_world s) m.start q.walk))

@@ -82,10 +82,7 @@ module _ {M N : Type 0} (s : Sides M N) (w : WordsAlike s) where
 
   attached_out : (v : ℕ) (slots : List (Slot M)) → AllOf (AccumIs s) slots → out_attached new v (new_slots s slots) ≡ out_attached old v slots
   attached_out v [] h = refl
-  attached_out v (t ∷ slots) h =
-      ap (λ name. of_content new name t.kind t.attached (slice_get t.contents v) ++ out_attached new v (new_slots s slots)) h.0.said
-      ∙ ap (λ ms. ms ++ out_attached new v (new_slots s slots)) (of_out (s.fixed.names.said t.name) t.kind t.attached (slice_get t.contents v))
-      ∙ ap (λ ms. of_content old (s.fixed.names.said t.name) t.kind t.attached (slice_get t.contents v) ++ ms) (attached_out v slots h.1)
+  attached_out v (t ∷ slots) h = simp (h.0.said, of_out (s.fixed.names.said t.name) t.kind t.attached (slice_get t.contents v), attached_out v slots h.1)
 
   whole_out : (slots : List (Slot M)) → AllOf (AccumIs s) slots → (v : ℕ) → out_whole_vertex new (new_slots s slots) v ≡ out_whole_vertex old slots v
   whole_out slots h v = found_same s w (sort_of_vertex s.graph v) _ _ (λ sort e. found_same s w (slice_get s.graph.vertex_values v) _ _

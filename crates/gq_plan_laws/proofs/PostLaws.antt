@@ -37,11 +37,11 @@ module _ {M N : Type 0} (s : Sides M N) (w : WordsAlike s) (f : M → N) where
   module _ (source : M → N) (q : Select M) (m : From M) (t : AliasesTold s w f m) (ends : ToldIf s w f (target_alias q.walk)) where
     for_alike : (a : Act M) → for_target (new_world s) (renamed_select (naming_by s.fixed f source) q) (renamed_from s w f m) (renamed_act (named_by s.fixed f) a) ≡ for_target (old_world s) q m a
     for_alike a =
-        ap (λ b. if b then true else (if in_act (is_alias s.fixed.references.same (option_map f m.source)) (renamed_act (named_by s.fixed f) a) then false else selects_target (new_world s) (renamed_select (naming_by s.fixed f source) q)))
-        (act_names (named_by s.fixed f) (is_alias s.fixed.names.same m.target) (is_alias s.fixed.references.same (option_map f m.target)) (alias_alike m.target t.target) a)
-        ∙ ap (λ b. if in_act (is_alias s.fixed.names.same m.target) a then true else (if b then false else selects_target (new_world s) (renamed_select (naming_by s.fixed f source) q)))
-        (act_names (named_by s.fixed f) (is_alias s.fixed.names.same m.source) (is_alias s.fixed.references.same (option_map f m.source)) (alias_alike m.source t.source) a)
-        ∙ ap (λ b. if in_act (is_alias s.fixed.names.same m.target) a then true else (if in_act (is_alias s.fixed.names.same m.source) a then false else b)) (selects_alike source q ends)
+        simp (
+          act_names (named_by s.fixed f) (is_alias s.fixed.names.same m.target) (is_alias s.fixed.references.same (option_map f m.target)) (alias_alike m.target t.target) a,
+          act_names (named_by s.fixed f) (is_alias s.fixed.names.same m.source) (is_alias s.fixed.references.same (option_map f m.source)) (alias_alike m.source t.source) a,
+          selects_alike source q ends,
+        )
 
   -- a phase under other names
   abbrev pub new_phase : Bool × Acts M → Bool × Acts N
@@ -58,10 +58,7 @@ module _ {M N : Type 0} (s : Sides M N) (w : WordsAlike s) (f : M → N) where
 
   phases_alike : (old : Act M → Bool) (new : Act N → Bool) → ((a : Act M) → new (renamed_act (named_by s.fixed f) a) ≡ old a) → (acts : Acts M) → phases new (renamed_acts (named_by s.fixed f) acts) ≡ map new_phase (phases old acts)
   phases_alike old new h no_act = refl
-  phases_alike old new h (act_and a acts) =
-      ap (λ b. before_phases b (renamed_act (named_by s.fixed f) a) (phases new (renamed_acts (named_by s.fixed f) acts))) (h a)
-      ∙ ap (before_phases (old a) (renamed_act (named_by s.fixed f) a)) (phases_alike old new h acts)
-      ∙ before_alike (old a) a (phases old acts)
+  phases_alike old new h (act_and a acts) = rw (h a, phases_alike old new h acts) (before_alike (old a) a (phases old acts))
 
   -- ---- one vertex of a phase
 
@@ -137,21 +134,16 @@ module _ {M N : Type 0} (s : Sides M N) (w : WordsAlike s) (f : M → N) where
 
     phase_alike : (a : After M) (b : After N) (p : Bool × Acts M) → AfterAlike s w f a b → AnswersAlike (AfterAlike s w f) (phase (old_world s) old m a p) (phase (new_world s) (new_state s w f bs old) (renamed_from s w f m) b (new_phase p))
     phase_alike a b p e =
-        alike_then WrittenAlike (AfterAlike s w f) _ _ _ _
-        (subst (λ vs. AnswersAlike WrittenAlike (through (λ x v. post_acts (post_of (old_world s) old m p.0 v) p.1 x) (record { slots = a.slots; to_globals = [] }) (matched a p.0)) (through (λ y v. post_acts (post_of (new_world s) (new_state s w f bs old) (renamed_from s w f m) p.0 v) (renamed_acts (named_by s.fixed f) p.1) y) (record { slots = b.slots; to_globals = [] }) vs))
-        (sym (matched_alike p.0 a b e))
-        (through_each WrittenAlike _ _ (λ x y v g. vertex_alike p v x y g) (matched a p.0) _ _ (record { slots = e.slots; to_globals = refl })))
-        (λ x y g. alike_then (SlotsAlike s) (AfterAlike s w f) _ _ _ _
-        (subst (λ xs. AnswersAlike (SlotsAlike s) (fed_together x.to_globals x.slots) (fed_together xs y.slots)) (sym g.to_globals)
-        (subst (λ ts. AnswersAlike (SlotsAlike s) (fed_together x.to_globals x.slots) (fed_together x.to_globals ts)) (sym g.slots.is) (fed_alike s w f x.to_globals x.slots g.slots.accums)))
-        (λ ts us i. record { slots = i; sources = e.sources; targets = e.targets }))
+        rw (matched_alike p.0 a b e) (alike_then WrittenAlike (AfterAlike s w f) _ _ _ _
+        (through_each WrittenAlike _ _ (λ x y v g. vertex_alike p v x y g) (matched a p.0) _ _ (record { slots = e.slots; to_globals = refl }))
+        (λ x y g. rw (g.to_globals, g.slots.is) (alike_then (SlotsAlike s) (AfterAlike s w f) _ _ _ _ (fed_alike s w f x.to_globals x.slots g.slots.accums)
+        (λ ts us i. record { slots = i; sources = e.sources; targets = e.targets }))))
 
   pub posted_alike : (source : M → N) (q : Select M) (old : State M) (bs : List (N × Thing)) → AliasesTold s w f (from (old_world s) old.names q) → SourceAlike s w f source q.source old.names bs → LooksAlike s w f old.names bs → AllOf (AccumIs s) old.slots → ToldIf s w f (target_alias q.walk)
       → (a : After M) (b : After N) → AfterAlike s w f a b → AnswersAlike (AfterAlike s w f) (posted (old_world s) old q a) (posted (new_world s) (new_state s w f bs old) (renamed_select (naming_by s.fixed f source) q) b)
   posted_alike source q old bs t e k h ends a b g =
-      subst (λ z. AnswersAlike (AfterAlike s w f) (posted (old_world s) old q a) (through (phase (new_world s) (new_state s w f bs old) z) b (phases (for_target (new_world s) p z) p.post))) (sym (from_alike s w f source q old.names bs e))
-      (subst (λ ps. AnswersAlike (AfterAlike s w f) (posted (old_world s) old q a) (through (phase (new_world s) (new_state s w f bs old) (renamed_from s w f m)) b ps)) (sym (phases_alike (for_target (old_world s) q m) (for_target (new_world s) p (renamed_from s w f m)) (for_alike source q m t ends) q.post))
-      (through_alike (AfterAlike s w f) new_phase _ _ (λ x y z i. phase_alike m t old bs k h x y z i) (phases (for_target (old_world s) q m) q.post) a b g))
+      rw (from_alike s w f source q old.names bs e, phases_alike (for_target (old_world s) q m) (for_target (new_world s) p (renamed_from s w f m)) (for_alike source q m t ends) q.post)
+      (through_alike (AfterAlike s w f) new_phase _ _ (λ x y z i. phase_alike m t old bs k h x y z i) (phases (for_target (old_world s) q m) q.post) a b g)
     where
       p : Select N
       p = renamed_select (naming_by s.fixed f source) q

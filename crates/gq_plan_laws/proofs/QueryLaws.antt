@@ -170,9 +170,8 @@ module _ {M N : Type 0} (ground : Ground M N) where
     accums_alike Then k [] [] d i di st world other e g old new n h = record { declared = d; sound = i; distinct = di; old_is = e; new_is = g; names = n; slots = h; rest = st }
     accums_alike Then k (a ∷ accums) (b ∷ others) d i di st world other e g old new n h =
         alike_then (λ (x : State M) (y : State N). NamesAlike (sides ground d) view x.names y.names × SlotsStand (d.accums ++ (a.1, b.1) ∷ []) x.slots y.slots) (Behind Then world other) _ _ _ _
-        (subst (λ z. AnswersAlike (λ (x : State M) (y : State N). NamesAlike (sides ground d) view x.names y.names × SlotsStand (d.accums ++ (a.1, b.1) ∷ []) x.slots y.slots) (opened z k old a) (opened other k new b)) (sym e)
-        (subst (λ z. AnswersAlike (λ (x : State M) (y : State N). NamesAlike (sides ground d) view x.names y.names × SlotsStand (d.accums ++ (a.1, b.1) ∷ []) x.slots y.slots) (opened (old_world (sides ground d)) k old a) (opened z k new b)) (sym g)
-        (opened_alike d i di k a b st.0.0 st.0.1 old new n h)))
+        (rw (e, g)
+        (opened_alike d i di k a b st.0.0 st.0.1 old new n h))
         (λ x y p. accums_alike Then k accums others st.1.0 st.1.1.0.sound (distinct_in d st.1.0 view di) st.1.1.1 world other
         (e ∙ sym (ap (λ ts. old_with ts) st.1.1.0.named_tuples)) (g ∙ sym (ap (λ ts. new_with ts) st.1.1.0.tuples)) x y (names_in d st.1.0 view x.names y.names p.0) (subst (λ z. SlotsStand z x.slots y.slots) (sym st.1.1.0.accums) p.1))
       where
@@ -195,7 +194,7 @@ module _ {M N : Type 0} (ground : Ground M N) where
         → (a : Defining M) (b : Defining N) → IsSound ground d → AreDistinct (fixed_in ground d) view → with_tuples a.tuples (old_ground ground) ≡ old_world (sides ground d) → with_tuples b.tuples (new_ground ground) ≡ new_world (sides ground d) → NamesAlike (sides ground d) view a.state.names b.state.names → SlotsStand d.accums a.state.slots b.state.slots
         → AnswersAlike (DefinedAlike Then) (defined (old_ground ground) kinds a (Accums k accums)) (defined (new_ground ground) own_kinds b (Accums kind others))
     accum_defined Then k kind accums others d e st a b i di w z n h =
-        subst (λ o. AnswersAlike (DefinedAlike Then) (o >>= λ kind. through (opened (with_tuples a.tuples (old_ground ground)) kind) a.state accums >>= λ s. Gives (record a { state = s })) (defined (new_ground ground) own_kinds b (Accums kind others))) (sym (ap (λ w. kinds w k) w ∙ e))
+        rw (ap (λ w. kinds w k) w ∙ e)
         (alike_then (Behind Then (with_tuples a.tuples (old_ground ground)) (with_tuples b.tuples (new_ground ground))) (DefinedAlike Then) _ _ _ _
         (accums_alike Then kind accums others d i di st (with_tuples a.tuples (old_ground ground)) (with_tuples b.tuples (new_ground ground)) w z a.state b.state n h) (λ x y p. p))
 
@@ -203,8 +202,7 @@ module _ {M N : Type 0} (ground : Ground M N) where
         → (a : Defining M) (b : Defining N) → IsSound ground d → AreDistinct (fixed_in ground d) view → with_tuples a.tuples (old_ground ground) ≡ old_world (sides ground d) → with_tuples b.tuples (new_ground ground) ≡ new_world (sides ground d) → NamesAlike (sides ground d) view a.state.names b.state.names → SlotsStand d.accums a.state.slots b.state.slots
         → AnswersAlike (DefinedAlike Then) (defined (old_ground ground) kinds a (TupleType fs x)) (defined (new_ground ground) own_kinds b (TupleType gs y))
     tuple_defined Then fs x gs y d st a b i di w z n h =
-        subst (λ o. AnswersAlike (DefinedAlike Then) (o >>= λ fields. Gives (record a { tuples = a.tuples ++ (x, fields) ∷ [] })) (defined (new_ground ground) own_kinds b (TupleType gs y))) (sym old_fields)
-        (subst (λ o. AnswersAlike (DefinedAlike Then) (Gives (record a { tuples = a.tuples ++ (x, st.1.0) ∷ [] })) (o >>= λ fields. Gives (record b { tuples = b.tuples ++ (y, fields) ∷ [] }))) (sym new_fields)
+        rw (old_fields, new_fields)
         (record {
           declared = e;
           sound = t.0.sound;
@@ -214,7 +212,7 @@ module _ {M N : Type 0} (ground : Ground M N) where
           names = names_in d e view a.state.names b.state.names n;
           slots = subst (λ c. SlotsStand c a.state.slots b.state.slots) (sym t.0.accums) h;
           rest = t.1;
-        }))
+        })
       where
         e : Declared ground
         e = st.1.1.1.0
@@ -282,9 +280,8 @@ module _ {M N : Type 0} (ground : Ground M N) where
 
         names : AnswersAlike (NamesAlike (sides ground st.declared) view) (bound (old_ground ground) q.parameters arguments) (bound (new_ground ground) p.parameters arguments)
         names =
-            subst (λ w. AnswersAlike (NamesAlike (sides ground st.declared) view) (bound w q.parameters arguments) (bound (new_ground ground) p.parameters arguments)) old_world_is
-            (subst (λ w. AnswersAlike (NamesAlike (sides ground st.declared) view) (bound (old_world (sides ground st.declared)) q.parameters arguments) (bound w p.parameters arguments)) new_world_is
-            (bound_alike st.declared st.sound q.parameters p.parameters st.parameters arguments))
+            rw (sym old_world_is, sym new_world_is)
+            (bound_alike st.declared st.sound q.parameters p.parameters st.parameters arguments)
 
     abbrev PrintedSame : Answer Fault (List (List (Bytes × Out))) → Answer Fault (List (List (Bytes × Out))) → Type 0
     PrintedSame o r = AnswersAlike (λ (x y : List (List (Bytes × Out))). y ≡ x) o r
@@ -292,12 +289,11 @@ module _ {M N : Type 0} (ground : Ground M N) where
     ran : (turns : ℕ) (a : Defining M) (b : Defining N) → DefinedAlike kinds view Statements a b
         → PrintedSame (run_all (with_tuples a.tuples (old_ground ground)) q.statements (record { state = a.state; turns = turns; printed = [] }) >>= λ r. Gives r.printed) (run_all (with_tuples b.tuples (new_ground ground)) p.statements (record { state = b.state; turns = turns; printed = [] }) >>= λ r. Gives r.printed)
     ran turns a b h =
-        subst (λ w. PrintedSame (run_all w q.statements (record { state = a.state; turns = turns; printed = [] }) >>= λ r. Gives r.printed) (run_all (with_tuples b.tuples (new_ground ground)) p.statements (record { state = b.state; turns = turns; printed = [] }) >>= λ r. Gives r.printed)) (sym h.old_is)
-        (subst (λ w. PrintedSame (run_all (old_world (sides ground h.declared)) q.statements (record { state = a.state; turns = turns; printed = [] }) >>= λ r. Gives r.printed) (run_all w p.statements (record { state = b.state; turns = turns; printed = [] }) >>= λ r. Gives r.printed)) (sym h.new_is)
+        rw (h.old_is, h.new_is)
         (alike_then (RunsAlike (sides ground h.declared) (behind_all (fixed_in ground h.declared) view q.statements p.statements)) (λ (x y : List (List (Bytes × Out))). y ≡ x) _ _ _ _
         (runs_alike (sides ground h.declared) h.sound.words q.statements p.statements view h.distinct h.rest _ _
         (record { state = states_alike view h.declared h.sound a.state b.state h.names h.slots; turns = refl; printed = refl }))
-        (λ x y k. k.printed)))
+        (λ x y k. k.printed))
 
     pub query_alike : (arguments : List Val) (turns : ℕ) → run_plan (new_ground ground) p arguments turns ≡ run_over (old_ground ground) kinds q arguments turns
     query_alike arguments turns =

@@ -64,8 +64,7 @@ module _ {M N : Type 0} (s : Sides M N) (w : WordsAlike s) where
       → AnswersAlike (StatesAlike s (with_target s.fixed view x r)) (select_assigned (old_world s) old x types q) (select_assigned (new_world s) new r (option_map (renamed_set_types s.fixed.vertex_type) types) p)
   select_assigned_alike view d x r types q p old new h st g =
       on_state s w (λ new. Alike (select_assigned (old_world s) old x types q) (select_assigned (new_world s) new r others p)) old new h.slots
-      (subst (λ p. Alike (select_assigned (old_world s) old x types q) (select_assigned (new_world s) other r others p)) (sym st.is)
-      (subst (λ b. Alike (old_by (within_bound q.walk (candidates_of (old_world s) m.start q.walk))) (new_by b)) (sym bound) (go (within_bound q.walk (candidates_of (old_world s) m.start q.walk)))))
+      (rw st.is (subst (λ b. Alike (old_by (within_bound q.walk (candidates_of (old_world s) m.start q.walk))) (new_by b)) (sym bound) (go (within_bound q.walk (candidates_of (old_world s) m.start q.walk)))))
     where
       Alike : Answer Fault (State M) → Answer Fault (State N) → Type 0
       Alike o p = AnswersAlike (StatesAlike s (with_target s.fixed view x r)) o p
@@ -109,34 +108,25 @@ module _ {M N : Type 0} (s : Sides M N) (w : WordsAlike s) where
       bound : within_bound t.walk (candidates_of (new_world s) (from (new_world s) new.names t).start t.walk) ≡ within_bound q.walk (candidates_of (old_world s) m.start q.walk)
       bound = ap (λ (z : From N). within_bound t.walk (candidates_of (new_world s) z.start t.walk)) from_is ∙ ap (within_bound t.walk) (candidates_alike s w f source m.start q.walk) ∙ bound_alike s w f source q.walk (candidates_of (old_world s) m.start q.walk)
 
-      ends : (b : Bool) → types_at (renamed_from s w f m) b ≡ types_at m b
-      ends true = refl
-      ends false = refl
-
       types_are : types_at (from (new_world s) new.names t) (selects_target (new_world s) t) ≡ types_at m (selects_target (old_world s) q)
-      types_are = ap (λ (z : From N). types_at z (selects_target (new_world s) t)) from_is ∙ ap (types_at (renamed_from s w f m)) (selects_alike s w f source q u.target) ∙ ends (selects_target (old_world s) q)
+      types_are = ap (λ (z : From N). types_at z (selects_target (new_world s) t)) from_is ∙ ap (types_at (renamed_from s w f m)) (selects_alike s w f source q u.target) ∙ elim (selects_target (old_world s) q) as (λ b. types_at (renamed_from s w f m) b ≡ types_at m b) [ true ↦ refl | false ↦ refl ]
 
       go : (b : Bool) → Alike (old_by b) (new_by b)
       go false = refl
       go true =
           alike_then (SelectedAlike s w f source q old new.names u.aliases u.source u.looks h.slots.accums u.target) (StatesAlike s (with_target s.fixed view x r)) _ _ _ _
           (alike_blaming (SelectedAlike s w f source q old new.names u.aliases u.source u.looks h.slots.accums u.target) of_block _ _ (select_alike s w f source q old new.names u.aliases u.source u.looks h.slots.accums u.target))
-          (λ a b i. subst (λ ts. StatesAlike s (with_target s.fixed view x r) (set_assigned (old_world s) x types (types_at m (selects_target (old_world s) q), a.vertices) (record old { slots = a.slots })) (set_assigned (new_world s) r others (ts, b.vertices) (record other { slots = b.slots }))) (sym types_are)
-          (subst (λ vs. StatesAlike s (with_target s.fixed view x r) (set_assigned (old_world s) x types (types_at m (selects_target (old_world s) q), a.vertices) (record old { slots = a.slots })) (set_assigned (new_world s) r others (types_at m (selects_target (old_world s) q), vs) (record other { slots = b.slots }))) (sym i.vertices)
-          (set_assigned_alike s w view d x r (record old { slots = a.slots }) (record other { slots = b.slots }) types (types_at m (selects_target (old_world s) q), a.vertices) (record { names = h.names; slots = i.slots }) g)))
+          (λ a b i. rw (types_are, i.vertices) (set_assigned_alike s w view d x r (record old { slots = a.slots }) (record other { slots = b.slots }) types (types_at m (selects_target (old_world s) q), a.vertices) (record { names = h.names; slots = i.slots }) g))
 
   assign_alike : (view : View M N) → AreDistinct s.fixed view → (x : M) (r : N) (types : Option (SetTypes M)) (right : Right M) (other : Right N) (old : State M) (new : State N) → StatesAlike s view old new → RightStands s.fixed view right other → TargetStands s.fixed view x r (is_set_right s.fixed view right)
       → AnswersAlike (StatesAlike s (with_target s.fixed view x r)) (assigned (old_world s) old x types right) (assigned (new_world s) new r (option_map (renamed_set_types s.fixed.vertex_type) types) other)
   assign_alike view d x r types (Selects q) (Selects p) old new h st g = select_assigned_alike view d x r types q p old new h st g
   assign_alike view d x r types (Sets t rest) (Sets u more) old new h st g =
       on_state s w (λ new. AnswersAlike (StatesAlike s (with_target s.fixed view x r)) (assigned (old_world s) old x types (Sets t rest)) (assigned (new_world s) new r (option_map (renamed_set_types s.fixed.vertex_type) types) (Sets u more))) old new h.slots
-      (subst (λ u. AnswersAlike (StatesAlike s (with_target s.fixed view x r)) (assigned (old_world s) old x types (Sets t rest)) (assigned (new_world s) (new_state s w (reference_at s.fixed view) new.names old) r (option_map (renamed_set_types s.fixed.vertex_type) types) (Sets u more))) (sym st.0)
-      (subst (λ more. AnswersAlike (StatesAlike s (with_target s.fixed view x r)) (assigned (old_world s) old x types (Sets t rest)) (assigned (new_world s) (new_state s w (reference_at s.fixed view) new.names old) r (option_map (renamed_set_types s.fixed.vertex_type) types) (Sets (renamed_term (naming s.fixed view) t) more))) (sym st.1)
-      (sets_assigned_alike s w view d x r old new h types t rest g)))
+      (rw (st.0, st.1) (sets_assigned_alike s w view d x r old new h types t rest g))
   assign_alike view d x r types (Expression t) (Expression u) old new h st g =
       on_state s w (λ new. AnswersAlike (StatesAlike s (with_target s.fixed view x r)) (assigned (old_world s) old x types (Expression t)) (assigned (new_world s) new r (option_map (renamed_set_types s.fixed.vertex_type) types) (Expression u))) old new h.slots
-      (subst (λ u. AnswersAlike (StatesAlike s (with_target s.fixed view x r)) (assigned (old_world s) old x types (Expression t)) (assigned (new_world s) (new_state s w (reference_at s.fixed view) new.names old) r (option_map (renamed_set_types s.fixed.vertex_type) types) (Expression u))) (sym st)
-      (alike_blaming (StatesAlike s (with_target s.fixed view x r)) Evaluation _ _ (expression_alike s w view d x r old new h types t g)))
+      (rw st (alike_blaming (StatesAlike s (with_target s.fixed view x r)) Evaluation _ _ (expression_alike s w view d x r old new h types t g)))
   assign_alike view d x r types right other old new h st g = absurd st
 
   -- ---- locals
@@ -243,17 +233,9 @@ module _ {M N : Type 0} (s : Sides M N) (w : WordsAlike s) where
       })
 
   enter_alike : (view more : View M N) (body : Body M) (other : Body N) → Extends view more → Carries view more body other → Carries view view (enter body) (enter other)
-  enter_alike view more body other g f r q h = subst (λ n. AnswersAlike (RunsAlike s view) (old_turns r.turns) (new_turns n)) (sym h.turns) (go r.turns)
+  enter_alike view more body other g f r q h = subst (λ n. AnswersAlike (RunsAlike s view) (enter body r) (enter other (record q { turns = n }))) (sym h.turns) (go r.turns)
     where
-      old_turns : ℕ → Answer Fault (Running M)
-      old_turns zero = Faults LoopBound
-      old_turns (suc n) = inner body (record r { turns = n })
-
-      new_turns : ℕ → Answer Fault (Running N)
-      new_turns zero = Faults LoopBound
-      new_turns (suc n) = inner other (record q { turns = n })
-
-      go : (n : ℕ) → AnswersAlike (RunsAlike s view) (old_turns n) (new_turns n)
+      go : (n : ℕ) → AnswersAlike (RunsAlike s view) (enter body (record r { turns = n })) (enter other (record q { turns = n }))
       go zero = refl
       go (suc n) = inner_alike view more body other g f (record r { turns = n }) (record q { turns = n }) (record { state = h.state; turns = refl; printed = h.printed })
 
@@ -333,10 +315,9 @@ module _ {M N : Type 0} (s : Sides M N) (w : WordsAlike s) where
         (λ b. behind_alike view (with_locals s.fixed view xs ys) r q h _ _ (alike_blaming (StatesAlike s (with_locals s.fixed view xs ys)) Evaluation _ _ (locals_alike view d b xs ys r.state q.state h.state st.1)))
     run_alike (Assign x types right) (Assign y others other) view d st r q h =
         behind_alike view (with_target s.fixed view x y) r q h _ _
-        (subst (λ ts. AnswersAlike (StatesAlike s (with_target s.fixed view x y)) (assigned (old_world s) r.state x types right) (assigned (new_world s) q.state y ts other)) (sym st.0) (assign_alike view d x y types right other r.state q.state h.state st.1 st.2))
+        (rw st.0 (assign_alike view d x y types right other r.state q.state h.state st.1 st.2))
     run_alike (ChangeGlobal a change) (ChangeGlobal b other) view d st r q h =
-        subst (λ b. AnswersAlike (RunsAlike s view) (global_changed (old_world s) a change r) (global_changed (new_world s) b other q)) (sym st.0)
-        (subst (λ other. AnswersAlike (RunsAlike s view) (global_changed (old_world s) a change r) (global_changed (new_world s) (s.fixed.accum a) other q)) (sym st.1) (global_alike view d a change r q h))
+        rw (st.0, st.1) (global_alike view d a change r q h)
     run_alike (If branches) (If others) view d st r q h = branches_alike branches others view d st r q h
     run_alike (While t limit body) (While u bound other) view d st r q h =
         alike_same (RunsAlike s view) _ _ _ _ (ap (blaming Evaluation) (limit_alike view d limit bound st.1 r.state q.state h.state))

@@ -64,13 +64,9 @@ module _ {M N : Type 0} (s : Sides M N) (w : WordsAlike s) (f source : M → N) 
   -- the selected vertex is seen alike
   selected_alike : (slots : List (Slot M)) → AllOf (AccumIs s) slots → (v : ℕ) → SeesAlike r (selected_look (old_world s) old q slots v) (selected_look (new_world s) (new_state s w f bs old) p (new_slots s slots) v)
   selected_alike slots b v =
-      subst (λ z. SeesAlike r (selected_look (old_world s) old q slots v) (new_sight z (selects_target (new_world s) p))) (sym (from_alike s w f source q old.names bs e))
-      (subst (λ z. SeesAlike r (selected_look (old_world s) old q slots v) (new_sight (renamed_from s w f (from (old_world s) old.names q)) z)) (sym (selects_alike s w f source q ends))
+      rw (from_alike s w f source q old.names bs e, selects_alike s w f source q ends)
       (seen_alike s w f (with_vertex (from (old_world s) old.names q) (selects_target (old_world s) q) v old.names) (with_vertex (renamed_from s w f (from (old_world s) old.names q)) (selects_target (old_world s) q) v bs)
-      (vertex_looks s w f (from (old_world s) old.names q) (selects_target (old_world s) q) v old.names bs t k) slots slots b b))
-    where
-      new_sight : From N → Bool → Look N
-      new_sight z end = sight (new_world s) (with_vertex z end v bs) (new_slots s slots) (new_slots s slots)
+      (vertex_looks s w f (from (old_world s) old.names q) (selects_target (old_world s) q) v old.names bs t k) slots slots b b)
 
   cut_alike : (slots : List (Slot M)) → AllOf (AccumIs s) slots → (vs : List ℕ) → cut (new_world s) (new_look s w f old.names bs k slots slots) p.limit vs ≡ cut (old_world s) (old_look s w f old.names bs k slots slots) q.limit vs
   cut_alike slots b vs = go q.limit
@@ -89,11 +85,8 @@ module _ {M N : Type 0} (s : Sides M N) (w : WordsAlike s) (f source : M → N) 
   tails_alike slots b vs =
       then_same _ _ _ _ (passing_alike r (selected_look (old_world s) old q slots) (selected_look (new_world s) (new_state s w f bs old) p (new_slots s slots)) (selected_alike slots b) q.having vs)
       (λ us. then_same _ _ _ _ (each_same _ _ (λ v. ranked_alike r (selected_look (old_world s) old q slots) (selected_look (new_world s) (new_state s w f bs old) p (new_slots s slots)) (selected_alike slots b) q.order v) us)
-      (λ rs. ap (λ (c : Ranked → Ranked → Ordering). cut (new_world s) (new_look s w f old.names bs k slots slots) p.limit (map (λ (x : Ranked). x.vertex) (sorted c rs))) (same_order q.order)
+      (λ rs. ap (λ (c : Ranked → Ranked → Ordering). cut (new_world s) (new_look s w f old.names bs k slots slots) p.limit (map (λ (x : Ranked). x.vertex) (sorted c rs))) (fun_ext (λ a. fun_ext (λ b. order_alike r q.order a b)))
       ∙ cut_alike slots b (map (λ (x : Ranked). x.vertex) (sorted (in_order q.order) rs))))
-    where
-      same_order : (order : List (Tree M × Bool)) → in_order (map (new_key r) order) ≡ in_order order
-      same_order order = fun_ext (λ a. fun_ext (λ b. order_alike r order a b))
 
   -- the same vertices, and accumulators that hold the same
   pub record SelectedAlike (a : Selected M) (b : Selected N) : Type 0 where
@@ -101,11 +94,7 @@ module _ {M N : Type 0} (s : Sides M N) (w : WordsAlike s) (f source : M → N) 
     pub vertices : b.vertices ≡ a.vertices
 
   tail_alike : (a : After M) (b : After N) → AfterAlike s w f a b → tail (new_world s) (new_state s w f bs old) p b ≡ tail (old_world s) old q a
-  tail_alike a b g =
-      ap (λ end. tail_new b.slots (matched b end)) (selects_alike s w f source q ends)
-      ∙ ap (tail_new b.slots) (matched_alike s w f (selects_target (old_world s) q) a b g)
-      ∙ ap (λ ts. tail_new ts (matched a (selects_target (old_world s) q))) g.slots.is
-      ∙ tails_alike a.slots g.slots.accums (matched a (selects_target (old_world s) q))
+  tail_alike a b g = rw (selects_alike s w f source q ends, matched_alike s w f (selects_target (old_world s) q) a b g, g.slots.is) (tails_alike a.slots g.slots.accums (matched a (selects_target (old_world s) q)))
 
   pub select_alike : AnswersAlike SelectedAlike (select (old_world s) old q) (select (new_world s) (new_state s w f bs old) p)
   select_alike =

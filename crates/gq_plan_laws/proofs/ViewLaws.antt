@@ -57,11 +57,7 @@ module _ {M N : Type 0} (s : Sides M N) (w : WordsAlike s) where
       → AllOf (λ (v : Visible M N). like v.reference u.reference ≡ same v.name x) view → is_set (Some thing) ≡ u.is_set → NamesAlike s view as' bs → NamesAlike s view (changed same x thing as') (changed like u.reference thing bs)
   changed_alike [] [] [] x u thing e t i h = tt
   changed_alike (v ∷ view) (a ∷ as') (b ∷ bs) x u thing e t i h =
-      let g : same a.0 x ≡ same v.name x = ap (λ n. same n x) h.0.name in
-      let k : like b.0 u.reference ≡ same v.name x = ap (λ z. like z u.reference) h.0.reference ∙ t.0 in
-      subst (λ q. NamesAlike s (v ∷ view) (if q then (x, thing) ∷ as' else a ∷ changed same x thing as') (changed like u.reference thing (b ∷ bs))) (sym g)
-      (subst (λ q. NamesAlike s (v ∷ view) (if same v.name x then (x, thing) ∷ as' else a ∷ changed same x thing as') (if q then (u.reference, thing) ∷ bs else b ∷ changed like u.reference thing bs)) (sym k)
-      (go (same v.name x) refl e (λ e. changed_alike view as' bs x u thing e t.1 i h.1)))
+      rw (ap (λ n. same n x) h.0.name, ap (λ z. like z u.reference) h.0.reference ∙ t.0) (go (same v.name x) refl e (λ e. changed_alike view as' bs x u thing e t.1 i h.1))
     where
       go : (q : Bool) → same v.name x ≡ q → (if q then Some v else visible_at s.fixed view x) ≡ Some u → (visible_at s.fixed view x ≡ Some u → NamesAlike s view (changed same x thing as') (changed like u.reference thing bs))
           → NamesAlike s (v ∷ view) (if q then (x, thing) ∷ as' else a ∷ changed same x thing as') (if q then (u.reference, thing) ∷ bs else b ∷ changed like u.reference thing bs)
@@ -115,10 +111,7 @@ module _ {M N : Type 0} (s : Sides M N) (w : WordsAlike s) where
       go : (o : Option (Visible M N)) → visible_at s.fixed view x ≡ o → of_visible o → NamesAlike s (behind o) (old_named (is_some (under same x old.names))).names (new_named (is_some (under like r new.names))).names
       go (Some v) e t =
           let b : is_some (under same x old.names) ≡ true = is_there ∙ ap is_some e in
-          subst (λ c. NamesAlike s view (old_named c).names (new_named (is_some (under like r new.names))).names) (sym b)
-          (subst (λ c. NamesAlike s view (changed same x thing old.names) (new_named c).names) (sym (ap is_some there ∙ b))
-          (subst (λ z. NamesAlike s view (changed same x thing old.names) (changed like z thing new.names)) (sym t.0)
-          (changed_alike view old.names new.names x v thing e told (i ∙ sym t.1) h)))
+          rw (b, ap is_some there ∙ b, t.0) (changed_alike view old.names new.names x v thing e told (i ∙ sym t.1) h)
         where
           reference_of : Option (Visible M N) → N
           reference_of None = s.fixed.nothing
@@ -128,9 +121,7 @@ module _ {M N : Type 0} (s : Sides M N) (w : WordsAlike s) where
           told = all_with (λ (u : Visible M N). Told s w (reference_at s.fixed view) u.reference u.name) (λ (u : Visible M N). like u.reference v.reference ≡ same u.name x) view (λ u k. sym (ap (λ o. like u.reference (reference_of o)) e) ∙ k x) (all_told s w view d)
       go None e t =
           let b : is_some (under same x old.names) ≡ false = is_there ∙ ap is_some e in
-          subst (λ c. NamesAlike s (view_with s.fixed view x r true) (old_named c).names (new_named (is_some (under like r new.names))).names) (sym b)
-          (subst (λ c. NamesAlike s (view_with s.fixed view x r true) ((x, thing) ∷ old.names) (new_named c).names) (sym (ap is_some there ∙ b))
-          (new_alike view old.names new.names x r thing true (i ∙ t.0) h))
+          rw (b, ap is_some there ∙ b) (new_alike view old.names new.names x r thing true (i ∙ t.0) h)
 
   -- ---- names that end
 
@@ -157,4 +148,4 @@ module _ {M N : Type 0} (s : Sides M N) (w : WordsAlike s) where
       let l = length_both added view in
       let p : length as' - length before ≡ length added = omega (arith, m.0, n.0, l) in
       let q : length bs - length old ≡ length added = omega (arith, m.1, n.1, l) in
-      subst (λ i. NamesAlike s view (drop i as') (drop (length bs - length old) bs)) (sym p) (subst (λ i. NamesAlike s view (drop (length added) as') (drop i bs)) (sym q) (dropped_alike added view as' bs g))
+      rw (p, q) (dropped_alike added view as' bs g)
