@@ -34,7 +34,7 @@ use Rattle.gq_plan_expr.specs.Found.{plain_fields, plain_tuples, globals_of}
 use Rattle.gq_plan_laws.specs.Planned.{Heads, setting_of, with_accum, with_tuple, AccumsPlanned, DefinitionsPlanned}
 use Rattle.gq_plan_laws.specs.Shown.{IsShown}
 use Rattle.gq_plan_laws.specs.Declares.{tuple_names, is_taken, Declares}
-use Rattle.gq_plan_laws.proofs.HasLemmas.{Has, has_one, has_then, converting_has}
+use Rattle.gq_plan_laws.proofs.HasLemmas.{Has, has_one, has_two, converting_has}
 use Rattle.gq_plan_laws.proofs.ShownLemmas.{same_bytes, place_in, entry_none, written_has, new_seen, knows}
 use Rattle.gq_plan_laws.proofs.FoundLemmas.{words_in}
 use Rattle.gq_plan_laws.proofs.PlannedQueryLaws.{tuples_more}
@@ -144,8 +144,7 @@ module _ (sorts : Sorts) (n : Named) where
       let u = then_ok (base_written s f.0) _ fields e in
       let v = then_ok (own_name most names f.1) _ fields u.2 in
       let w = then_ok (fields_written s most v.0 fs) _ fields v.2 in
-      has_then (field_found g f) (λ b. plans.◌>>=◌ (each_resolved (field_found g) fs) (λ bs. Some (b ∷ bs))) (has_one (resolved_base g f.0) (λ b. (b, f.1)) (written_has g s (words_in sorts h.tuples h.slots s z) f.0 u.0 u.1))
-      (λ b i. has_one (each_resolved (field_found g) fs) (λ bs. b ∷ bs) (fields_have s h z most v.0 fs w.0 w.1))
+      has_two _ (has_one (resolved_base g f.0) (λ b. (b, f.1)) (written_has g s (words_in sorts h.tuples h.slots s z) f.0 u.0 u.1)) (fields_have s h z most v.0 fs w.0 w.1)
 
   tuple_declared : (s : Scope Bytes) (h : Heads) → Declares sorts n h s → (name : Bytes) (fields : Fields) (own : List (Bytes × BaseType)) → plain_fields own ≡ fields → (q : Bool) → new_name s name ≡ Ok q
       → Declares sorts n (with_tuple h name own) (typed.with_tuple name fields s)

@@ -28,8 +28,15 @@ Has {A = A} o = (a : A) × (o ≡ Some a)
 pub has_one : {A B : Type 0} (o : Option A) (f : A → B) → Has o → Has (plans.◌>>=◌ o (λ a. Some (f a)))
 has_one o f h = (f h.0, ap (λ o. plans.◌>>=◌ o (λ a. Some (f a))) h.1)
 
-pub has_then : {A B : Type 0} (o : Option A) (f : A → Option B) → Has o → ((a : A) → o ≡ Some a → Has (f a)) → Has (plans.◌>>=◌ o f)
-has_then o f h g = let k = g h.0 h.1 in (k.0, ap (λ o. plans.◌>>=◌ o f) h.1 ∙ k.1)
+pub has_two : {A B C : Type 0} (f : A → B → C) {o : Option A} {p : Option B} → Has o → Has p → Has (plans.◌>>=◌ o (λ a. plans.◌>>=◌ p (λ b. Some (f a b))))
+has_two f h g = (f h.0 g.0, simp (h.1, g.1))
+
+pub has_three : {A B C D : Type 0} (f : A → B → C → D) {o : Option A} {p : Option B} {q : Option C} → Has o → Has p → Has q → Has (plans.◌>>=◌ o (λ a. plans.◌>>=◌ p (λ b. plans.◌>>=◌ q (λ c. Some (f a b c)))))
+has_three f h g i = (f h.0 g.0 i.0, simp (h.1, g.1, i.1))
+
+pub has_four : {A B C D E : Type 0} (f : A → B → C → D → E) {o : Option A} {p : Option B} {q : Option C} {r : Option D} → Has o → Has p → Has q → Has r
+    → Has (plans.◌>>=◌ o (λ a. plans.◌>>=◌ p (λ b. plans.◌>>=◌ q (λ c. plans.◌>>=◌ r (λ d. Some (f a b c d))))))
+has_four f h g i j = (f h.0 g.0 i.0 j.0, simp (h.1, g.1, i.1, j.1))
 
 -- ---- what is planned, with the names in view then, of which something holds
 
@@ -84,13 +91,13 @@ each_has f r one [] cs h = ([], refl)
 each_has f r one (a ∷ xs) cs h =
     let u = then_ok (r a) _ cs h in
     let v = then_ok (each_judged r xs) _ cs u.2 in
-    has_then (f a) (λ b. plans.◌>>=◌ (each_resolved f xs) (λ bs. Some (b ∷ bs))) (one a u.0 u.1) (λ b e. has_one (each_resolved f xs) (λ bs. b ∷ bs) (each_has f r one xs v.0 v.1))
+    has_two _ (one a u.0 u.1) (each_has f r one xs v.0 v.1)
 
 pub through_has : {A B S : Type 0} (f : A → Option B) (r : S → A → Judged S) → ((s : S) (a : A) (t : S) → r s a ≡ Ok t → Has (f a)) → (xs : List A) (s t : S) → through_judged r s xs ≡ Ok t → Has (each_resolved f xs)
 through_has f r one [] s t h = ([], refl)
 through_has f r one (a ∷ xs) s t h =
     let u = then_ok (r s a) _ t h in
-    has_then (f a) (λ b. plans.◌>>=◌ (each_resolved f xs) (λ bs. Some (b ∷ bs))) (one s a u.0 u.1) (λ b e. has_one (each_resolved f xs) (λ bs. b ∷ bs) (through_has f r one xs u.0 t u.2))
+    has_two _ (one s a u.0 u.1) (through_has f r one xs u.0 t u.2)
 
 pub types_have : (f : Bytes → Option ℕ) (r : Bytes → Judged ℕ) → ((x : Bytes) (m : ℕ) → r x ≡ Ok m → Has (f x)) → (ts : Types Bytes) (ns : List ℕ) → all_known r ts ≡ Ok ns → Has (resolved_types f ts)
 types_have f r one Every ns h = (types.Every, refl)
@@ -119,7 +126,7 @@ module _ (names : Names Bytes) (k : Known) (knows : KnowsAll names k) where
   all_have (tree t ts) xs h =
       let u = then_ok (typing names t) _ xs h in
       let v = then_ok (typing_all names ts) _ xs u.2 in
-      has_then (resolved k t) (λ e. plans.◌>>=◌ (resolved_all k ts) (λ es. Some (e ∷ es))) (tree_has t u.0 u.1) (λ e i. has_one (resolved_all k ts) (λ es. e ∷ es) (all_have ts v.0 v.1))
+      has_two _ (tree_has t u.0 u.1) (all_have ts v.0 v.1)
 
   -- ---- inputs
 
@@ -130,17 +137,16 @@ module _ (names : Names Bytes) (k : Known) (knows : KnowsAll names k) where
         let u = then_ok (typing_all names ts) _ q h in
         let v = then_ok (typing_inputs names (kinds_of kind) xs >> each_judged as_base u.0) _ q u.2 in
         let w = after_ok (typing_inputs names (kinds_of kind) xs) (each_judged as_base u.0) v.0 v.1 in
-        has_then (resolved_all k ts) (λ es. plans.◌>>=◌ (resolved_inputs k xs) (λ fs. Some (feed.Keyed es fs))) (all_have ts u.0 u.1)
-        (λ es i. has_one (resolved_inputs k xs) (feed.Keyed es) (inputs_have (kinds_of kind) xs w.0.0 w.0.1))
+        has_two _ (all_have ts u.0 u.1) (inputs_have (kinds_of kind) xs w.0.0 w.0.1)
 
     inputs_have : (ks : List Accum) (xs : Inputs Bytes) (q : Bool) → typing_inputs names ks xs ≡ Ok q → Has (resolved_inputs k xs)
     inputs_have ks no_input q h = ([], refl)
     inputs_have [] (input_and x xs) q h =
         let u = after_ok (typing_input names None x) (typing_inputs names [] xs) q h in
-        has_then (resolved_input k x) (λ f. plans.◌>>=◌ (resolved_inputs k xs) (λ fs. Some (f ∷ fs))) (input_has None x u.0.0 u.0.1) (λ f i. has_one (resolved_inputs k xs) (λ fs. f ∷ fs) (inputs_have [] xs q u.1))
+        has_two _ (input_has None x u.0.0 u.0.1) (inputs_have [] xs q u.1)
     inputs_have (j ∷ ks) (input_and x xs) q h =
         let u = after_ok (typing_input names (Some j) x) (typing_inputs names ks xs) q h in
-        has_then (resolved_input k x) (λ f. plans.◌>>=◌ (resolved_inputs k xs) (λ fs. Some (f ∷ fs))) (input_has (Some j) x u.0.0 u.0.1) (λ f i. has_one (resolved_inputs k xs) (λ fs. f ∷ fs) (inputs_have ks xs q u.1))
+        has_two _ (input_has (Some j) x u.0.0 u.0.1) (inputs_have ks xs q u.1)
 
 -- optional parts
 pub optional_has : {A : Type 0} (k : Known) (rule : Tree Bytes → Judged A) → ((t : Tree Bytes) (a : A) → rule t ≡ Ok a → Has (resolved k t)) → (o : Option (Tree Bytes)) (q : Bool) → optional rule o ≡ Ok q → Has (if_there (resolved k) o)

@@ -33,7 +33,7 @@ use Rattle.gq_plan_expr.specs.Globals.{Globals, known_in, sees_in}
 use Rattle.gq_plan_stmt.specs.Steps.{Behind, ended, with_aliases, resolved_block}
 use Rattle.gq_plan_stmt.specs.Steps as steps
 use Rattle.gq_plan_laws.specs.Shown.{IsShown, Shows}
-use Rattle.gq_plan_laws.proofs.HasLemmas.{Has, has_one, has_then, Goes, Same, six_ok, each_has, types_have, tree_has, condition_has, number_has, converting_has, input_has, optional_has}
+use Rattle.gq_plan_laws.proofs.HasLemmas.{Has, has_one, has_two, has_three, has_four, Goes, Same, six_ok, each_has, types_have, tree_has, condition_has, number_has, converting_has, input_has, optional_has}
 use Rattle.gq_plan_laws.proofs.ShownLemmas.{same_bytes, same_itself, place_in, in_view, none_if, slot_has, knows, alias_has, vertex_type_has, edge_type_has, new_seen, new_is, shown_new, Marks}
 
 -- ---- acts
@@ -64,25 +64,19 @@ module _ (g : Globals) (s : Scope Bytes) (n : Named) (shows : Shows g s n) where
   fed_has kind (Adds x) q h = fed_at InPost kind x q h
   fed_has kind (Puts t) q h = cc
 
-  attached_act : (v a : Bytes) (c : Change Bytes) → Has (k.place v) → Has (k.slot a) → Has (resolved_change k c) → Has (resolved_act k (AtAlias v a c))
-  attached_act v a c p q r = has_then (k.place v) _ p (λ m e. has_then (k.slot a) _ q (λ l f. has_one (resolved_change k c) (act.Attached m l) r))
-
-  global_act : (a : Bytes) (c : Change Bytes) → Has (k.slot a) → Has (resolved_change k c) → Has (resolved_act k (AtGlobal a c))
-  global_act a c q r = has_then (k.slot a) _ q (λ l f. has_one (resolved_change k c) (act.Global l) r)
-
   at_has : (post : Bool) (v a : Bytes) (c : Change Bytes) (q : Bool) → typing_at s post v a c ≡ Ok q → Has (resolved_act k (AtAlias v a c))
   at_has true v a c q h =
       let u = then_ok (vertex_alias s v >> declared_kind s true a) _ q h in
       let w = after_ok (vertex_alias s v) (declared_kind s true a) u.0 u.1 in
-      attached_act v a c (alias_has g s n shows v w.0.0 w.0.1) (slot_has g s n shows true a u.0 w.1) (written_has u.0 c q u.2)
+      has_three _ (alias_has g s n shows v w.0.0 w.0.1) (slot_has g s n shows true a u.0 w.1) (written_has u.0 c q u.2)
   at_has false v a c q h =
       let u = then_ok (vertex_alias s v >> declared_kind s true a) _ q h in
       let w = after_ok (vertex_alias s v) (declared_kind s true a) u.0 u.1 in
-      attached_act v a c (alias_has g s n shows v w.0.0 w.0.1) (slot_has g s n shows true a u.0 w.1) (given_has a u.0 c q u.2)
+      has_three _ (alias_has g s n shows v w.0.0 w.0.1) (slot_has g s n shows true a u.0 w.1) (given_has a u.0 c q u.2)
 
   global_has : (post : Bool) (a : Bytes) (c : Change Bytes) (q : Bool) → typing_global s post a c ≡ Ok q → Has (resolved_act k (AtGlobal a c))
-  global_has true a c q h = let u = then_ok (declared_kind s false a) _ q h in global_act a c (slot_has g s n shows false a u.0 u.1) (fed_has u.0 c q u.2)
-  global_has false a c q h = let u = then_ok (declared_kind s false a) _ q h in global_act a c (slot_has g s n shows false a u.0 u.1) (given_has a u.0 c q u.2)
+  global_has true a c q h = let u = then_ok (declared_kind s false a) _ q h in has_two _ (slot_has g s n shows false a u.0 u.1) (fed_has u.0 c q u.2)
+  global_has false a c q h = let u = then_ok (declared_kind s false a) _ q h in has_two _ (slot_has g s n shows false a u.0 u.1) (given_has a u.0 c q u.2)
 
   mutual
     pub acts_have : (post : Bool) (acts : Acts Bytes) (i j : ℕ) → typing_acts s post i acts ≡ Ok j → Has (resolved_acts k acts)
@@ -90,7 +84,7 @@ module _ (g : Globals) (s : Scope Bytes) (n : Named) (shows : Shows g s n) where
     acts_have post (act_and a acts) i j h =
         let u = then_ok (one_more i) _ j h in
         let v = then_ok (typing_act s post u.0 a) _ j u.2 in
-        has_then (resolved_act k a) (λ b. plans.◌>>=◌ (resolved_acts k acts) (λ bs. Some (b ∷ bs))) (act_has post a u.0 v.0 v.1) (λ b e. has_one (resolved_acts k acts) (λ bs. b ∷ bs) (acts_have post acts v.0 j v.2))
+        has_two _ (act_has post a u.0 v.0 v.1) (acts_have post acts v.0 j v.2)
 
     act_has : (post : Bool) (a : Act Bytes) (i j : ℕ) → typing_act s post i a ≡ Ok j → Has (resolved_act k a)
     act_has post (AtAlias v a c) i j h = let u = after_ok (typing_at s post v a c) (Ok i) j h in at_has post v a c u.0.0 u.0.1
@@ -102,9 +96,7 @@ module _ (g : Globals) (s : Scope Bytes) (n : Named) (shows : Shows g s n) where
     choices_have post (when t acts rest) i j h =
         let u = then_ok (condition (names_at s (place_of post)) t >> typing_acts s post i acts) _ j h in
         let v = after_ok (condition (names_at s (place_of post)) t) (typing_acts s post i acts) u.0 u.1 in
-        has_then (resolved k t) (λ e. plans.◌>>=◌ (resolved_acts k acts) (λ bs. plans.◌>>=◌ (resolved_choices k rest) (λ b. Some (branch_and e bs b))))
-        (condition_has (names_at s (place_of post)) k (knows g s n shows (place_of post)) t v.0.0 v.0.1)
-        (λ e i'. has_then (resolved_acts k acts) (λ bs. plans.◌>>=◌ (resolved_choices k rest) (λ b. Some (branch_and e bs b))) (acts_have post acts i u.0 v.1) (λ bs j'. has_one (resolved_choices k rest) (branch_and e bs) (choices_have post rest u.0 j u.2)))
+        has_three _ (condition_has (names_at s (place_of post)) k (knows g s n shows (place_of post)) t v.0.0 v.0.1) (acts_have post acts i u.0 v.1) (choices_have post rest u.0 j u.2)
 
   pub posts_have : (a b : Option Bytes) (acts : Acts Bytes) (i j : ℕ) → typing_post s a b i acts ≡ Ok j → Has (resolved_acts k acts)
   posts_have a b no_act i j h = ([], refl)
@@ -112,7 +104,7 @@ module _ (g : Globals) (s : Scope Bytes) (n : Named) (shows : Shows g s n) where
       let u = then_ok (one_more i) _ j h in
       let v = then_ok (typing_act s true u.0 c) _ j u.2 in
       let w = after_ok (unless TwoAliases (names_one s a b c)) (typing_post s a b v.0 acts) j v.2 in
-      has_then (resolved_act k c) (λ b. plans.◌>>=◌ (resolved_acts k acts) (λ bs. Some (b ∷ bs))) (act_has true c u.0 v.0 v.1) (λ d e. has_one (resolved_acts k acts) (λ bs. d ∷ bs) (posts_have a b acts v.0 j w.1))
+      has_two _ (act_has true c u.0 v.0 v.1) (posts_have a b acts v.0 j w.1)
 
 -- ---- aliases that come into view
 
@@ -209,16 +201,6 @@ no_alias : (o : Option Bytes) (e : Entry) (s t : Scope Bytes) → o ≡ None →
 no_alias None e s t n h = ok_inj h
 no_alias (Some x) e s t n h = cc
 
-hop_has : (k : Known) (s : Sees) (h : Hop Bytes) → Has (resolved_types s.edge_type h.edges) → Has (if_there k.place h.edge_alias) → Has (resolved_types s.vertex_type h.targets) → Has (if_there k.place h.target_alias) → Has (resolved_hop k s h)
-hop_has k s h a b c d =
-    has_then (resolved_types s.edge_type h.edges) _ a (λ p e. has_then (if_there k.place h.edge_alias) _ b (λ q f. has_then (resolved_types s.vertex_type h.targets) _ c (λ r i.
-    has_one (if_there k.place h.target_alias) (λ u. record { edges = p; edge_alias = q; targets = r; target_alias = u }) d)))
-
-step_has : (k : Known) (s : Sees) (h : Step Bytes) → Has (each_resolved (resolved_way s) h.ways) → Has (if_there k.place h.edge_alias) → Has (resolved_types s.vertex_type h.targets) → Has (if_there k.place h.target_alias) → Has (resolved_step k s h)
-step_has k s h a b c d =
-    has_then (each_resolved (resolved_way s) h.ways) _ a (λ p e. has_then (if_there k.place h.edge_alias) _ b (λ q f. has_then (resolved_types s.vertex_type h.targets) _ c (λ r i.
-    has_one (if_there k.place h.target_alias) (λ u. record { ways = p; edge_alias = q; targets = r; target_alias = u }) d)))
-
 module _ (g : Globals) (ends : List ℕ) where
   way_has : (s : Scope Bytes) (n m : Named) → Shows g s n → (d : Way × Bytes) (t : ℕ) → way_known s d ≡ Ok t → Has (resolved_way (sees_in g m) d)
   way_has s n m shows d t h = let u = then_ok (edge_type s d.1) _ t h in has_one (g.edge_type d.1) (λ (t : ℕ). (d.0, t)) (edge_type_has g s n shows d.1 u.0 u.1)
@@ -239,7 +221,7 @@ module _ (g : Globals) (ends : List ℕ) where
         joined = joined_twice g a.0 t n i.behind j.behind i.joined j.joined;
         walked =
             has_one (resolved_hop (known_in g j.behind) (sees_in g j.behind) hop) walk.Hop
-            (hop_has (known_in g j.behind) (sees_in g j.behind) hop (types_have g.edge_type (edge_type s) (edge_type_has g s n shows) hop.edges b.0.0 c.1)
+            (has_four _ (types_have g.edge_type (edge_type s) (edge_type_has g s n shows) hop.edges b.0.0 c.1)
             (alias_there j.behind hop.edge_alias (λ x e. j.joined.kept x (i.alias x e))) (types_have g.vertex_type (vertex_type a.0) (vertex_type_has g a.0 i.behind i.joined.shows) hop.targets d.0.0 d.0.1)
             (alias_there j.behind hop.target_alias j.alias));
       }
@@ -262,10 +244,10 @@ module _ (g : Globals) (ends : List ℕ) where
         target_is = j.is;
         joined = joined_twice g b.0 c.0 n i.behind j.behind i.joined j.joined;
         walked =
-            has_then (resolved_step (known_in g j.behind) (sees_in g j.behind) p) (λ q. Some (q ∷ []))
-            (step_has (known_in g j.behind) (sees_in g j.behind) p (each_has (resolved_way (sees_in g j.behind)) (way_known s) (way_has s n j.behind shows) p.ways a.0 a.1)
+            has_one _ (λ q. q ∷ [])
+            (has_four _ (each_has (resolved_way (sees_in g j.behind)) (way_known s) (way_has s n j.behind shows) p.ways a.0 a.1)
             (alias_there j.behind p.edge_alias (λ x f. j.joined.kept x (i.alias x f))) (types_have g.vertex_type (vertex_type b.0) (vertex_type_has g b.0 i.behind i.joined.shows) p.targets e.0.0 e.0.1)
-            (alias_there j.behind p.target_alias j.alias)) (λ q f. (q ∷ [], refl));
+            (alias_there j.behind p.target_alias j.alias));
       })
   steps_join (p ∷ u ∷ rest) s t n shows h =
       let a = then_ok (each_judged (way_known s) p.ways) _ t h in
@@ -286,10 +268,10 @@ module _ (g : Globals) (ends : List ℕ) where
         target_is = r.target_is;
         joined = r.joined;
         walked =
-            has_then (resolved_step (known_in g r.target) (sees_in g r.target) p) (λ q. plans.◌>>=◌ (each_resolved (resolved_step (known_in g r.target) (sees_in g r.target)) (u ∷ rest)) (λ qs. Some (q ∷ qs)))
-            (step_has (known_in g r.target) (sees_in g r.target) p (each_has (resolved_way (sees_in g r.target)) (way_known s) (way_has s n r.target shows) p.ways a.0 a.1)
+            has_two _
+            (has_four _ (each_has (resolved_way (sees_in g r.target)) (way_known s) (way_has s n r.target shows) p.ways a.0 a.1)
             (alias_there r.target p.edge_alias (no_there r.target p.edge_alias no_edge)) (types_have g.vertex_type (vertex_type s) (vertex_type_has g s n shows) p.targets e.0.0 (subst (λ z. all_known (vertex_type z) p.targets ≡ Ok e.0.0) (sym first) e.0.1))
-            (alias_there r.target p.target_alias (no_there r.target p.target_alias no_target))) (λ q f. has_one (each_resolved (resolved_step (known_in g r.target) (sees_in g r.target)) (u ∷ rest)) (λ qs. q ∷ qs) r.walked);
+            (alias_there r.target p.target_alias (no_there r.target p.target_alias no_target))) r.walked;
       }
 
   walk_joins : (w : Walk Bytes) (s t : Scope Bytes) (n : Named) → Shows g s n → typing_walk s ends w ≡ Ok t → WalkJoins g t n w
@@ -340,22 +322,6 @@ source_has g n x h = go (is_marked n x) h
 key_has : (g : Globals) (s : Scope Bytes) (n : Named) → Shows g s n → (place : Place Bytes) (key : Tree Bytes × Bool) (q : Bool) → sort_key (names_at s place) key ≡ Ok q → Has (resolved_key (known_in g n) key)
 key_has g s n shows place key q h = let u = then_ok (typing (names_at s place) key.0) _ q h in has_one (resolved (known_in g n) key.0) (λ e. (e, key.1)) (tree_has (names_at s place) (known_in g n) (knows g s n shows place) key.0 u.0 u.1)
 
-clauses_have : (k : Known) (q : Select Bytes) → Has (if_there (resolved k) q.filter) → Has (resolved_acts k q.accum) → Has (resolved_acts k q.post) → Has (resolved_clauses k q)
-clauses_have k q a b c =
-    has_then (if_there (resolved k) q.filter) _ a (λ f e. has_then (resolved_acts k q.accum) _ b (λ x i. has_one (resolved_acts k q.post) (λ p. record { filter = f; accum = x; post = p }) c))
-
-tail_has : (k : Known) (q : Select Bytes) → Has (if_there (resolved k) q.having) → Has (each_resolved (resolved_key k) q.order) → Has (if_there (resolved k) q.limit) → Has (resolved_tail k q)
-tail_has k q a b c =
-    has_then (if_there (resolved k) q.having) _ a (λ f e. has_then (each_resolved (resolved_key k) q.order) _ b (λ x i. has_one (if_there (resolved k) q.limit) (λ l. record { having = f; order = x; limit = l }) c))
-
-from_has : (k : Known) (s : Sees) (q : Select Bytes) → Has (k.place q.selected) → Has (resolved_source k s q.source) → Has (if_there k.place q.alias) → Has (resolved_walk k s q.walk) → Has (resolved_from k s q)
-from_has k s q a b c d =
-    has_then (k.place q.selected) _ a (λ x e. has_then (resolved_source k s q.source) _ b (λ y f. has_then (if_there k.place q.alias) _ c (λ z i.
-    has_one (resolved_walk k s q.walk) (λ w. record { selected = x; source = y; alias = z; walk = w }) d)))
-
-whole_has : (k : Known) (s : Sees) (q : Select Bytes) → Has (resolved_from k s q) → Has (resolved_clauses k q) → Has (resolved_tail k q) → Has (resolved_select k s q)
-whole_has k s q a b c = has_then (resolved_from k s q) _ a (λ w e. has_then (resolved_clauses k q) _ b (λ x f. has_one (resolved_tail k q) (λ t. block_of w x t) c))
-
 -- after the block of a SELECT the same names are in view as before
 pub select_has : (g : Globals) (s : Scope Bytes) (n : Named) → Shows g s n → (q : Select Bytes) (types : List ℕ) → typing_select s q ≡ Ok types → Goes (Same n) (resolved_block g n q)
 select_has g s n shows q types h =
@@ -371,16 +337,16 @@ select_has g s n shows q types h =
     let k = known_in g w.target in
     let inside = j.shows in
     let from =
-    from_has k (sees_in g w.target) q (selected_has g c.0 w.target inside q.alias (target_alias q.walk) q.selected d.0 d.1) (source_has g w.target q.source (j.source q.source (source_is g s n shows q.source a.0 a.1)))
+    has_four _ (selected_has g c.0 w.target inside q.alias (target_alias q.walk) q.selected d.0 d.1) (source_has g w.target q.source (j.source q.source (source_is g s n shows q.source a.0 a.1)))
     (alias_there w.target q.alias (λ x e. w.joined.kept x (i.alias x e))) w.walked in
     let clauses =
-    clauses_have k q (optional_has k (condition (names_at c.0 InBlock)) (condition_has (names_at c.0 InBlock) k (knows g c.0 w.target inside InBlock)) q.filter o.0.0 o.0.1)
+    has_three _ (optional_has k (condition (names_at c.0 InBlock)) (condition_has (names_at c.0 InBlock) k (knows g c.0 w.target inside InBlock)) q.filter o.0.0 o.0.1)
     (acts_have g c.0 w.target inside false q.accum 0 o.1.0.0 o.1.0.1) (posts_have g c.0 w.target inside q.alias (target_alias q.walk) q.post 0 o.1.1.0.0 o.1.1.0.1) in
     let tail =
-    tail_has k q (optional_has k (condition (names_at c.0 (InTail q.selected))) (condition_has (names_at c.0 (InTail q.selected)) k (knows g c.0 w.target inside (InTail q.selected))) q.having o.1.1.1.0.0 o.1.1.1.0.1)
+    has_three _ (optional_has k (condition (names_at c.0 (InTail q.selected))) (condition_has (names_at c.0 (InTail q.selected)) k (knows g c.0 w.target inside (InTail q.selected))) q.having o.1.1.1.0.0 o.1.1.1.0.1)
     (each_has (resolved_key k) (sort_key (names_at c.0 (InTail q.selected))) (key_has g c.0 w.target inside (InTail q.selected)) q.order o.1.1.1.1.0.0 o.1.1.1.1.0.1)
     (optional_has k (number (names_at c.0 InLimit)) (number_has (names_at c.0 InLimit) k (knows g c.0 w.target inside InLimit)) q.limit o.1.1.1.1.1.0 o.1.1.1.1.1.1) in
-    let block = whole_has k (sees_in g w.target) q from clauses tail in
+    let block = has_three _ from clauses tail in
     let aliases : with_aliases n q ≡ Some w.target =
     ap (λ (x : Option Named). plans.◌>>=◌ x (λ a. plans.◌>>=◌ (steps.with_alias a (edge_alias q.walk)) (λ b. steps.with_alias b (target_alias q.walk)))) i.is
     ∙ (ap (λ (x : Option Named). plans.◌>>=◌ x (λ b. steps.with_alias b (target_alias q.walk))) w.edge_is ∙ w.target_is) in

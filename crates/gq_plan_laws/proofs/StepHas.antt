@@ -34,7 +34,7 @@ use Rattle.gq_plan_stmt.specs.Steps as steps
 use Rattle.gq_plan_stmt.specs.Steps.{Behind, ended, resolved_right, if_same, same_mark, target_seen, resolved_block, resolved_target, resolved_assign, resolved_locals, if_of, else_of, body_of, resolved_stmt, resolved_stmts, resolved_branches}
 use Rattle.gq_plan_laws.specs.Shown.{InView, IsShown, Shows}
 use Rattle.gq_plan_laws.specs.Laws.{StatementsLaw}
-use Rattle.gq_plan_laws.proofs.HasLemmas.{Has, has_one, has_then, Goes, goes_now, has_goes, goes_then, goes_as, Same, each_has, through_has, tree_has, condition_has, number_has, converting_has, input_has, optional_has}
+use Rattle.gq_plan_laws.proofs.HasLemmas.{Has, has_one, has_two, Goes, goes_now, has_goes, goes_then, goes_as, Same, each_has, through_has, tree_has, condition_has, number_has, converting_has, input_has, optional_has}
 use Rattle.gq_plan_laws.proofs.ShownLemmas.{in_view, set_is_marked, slot_has, place_has, knows, set_place, vertex_type_has, written_has, new_seen, shown_new, name_goes, shows_same}
 use Rattle.gq_plan_laws.proofs.SelectHas.{select_has}
 
@@ -67,8 +67,7 @@ module _ (g : Globals) (s : Scope Bytes) (n : Named) (shows : Shows g s n) where
   chain_has : (t : SetTerm Bytes) (rest : List (SetOp × SetTerm Bytes)) (types : List ℕ) → (term_types s t >>= λ a. through_judged (λ b next. term_types s next.1 >>= λ c. Ok (joined_types next.0 b c)) a rest) ≡ Ok types → Has (resolved_sets g n t rest)
   chain_has t rest types h =
       let u = then_ok (term_types s t) _ types h in
-      has_then (resolved_term g n t) _ (term_has t u.0 u.1) (λ x e. has_one (each_resolved (resolved_operand g n) rest) (λ others. record { first = x; others = others })
-      (through_has (resolved_operand g n) (λ b next. term_types s next.1 >>= λ c. Ok (joined_types next.0 b c)) operand_has rest u.0 types u.2))
+      has_two _ (term_has t u.0 u.1) (through_has (resolved_operand g n) (λ b next. term_types s next.1 >>= λ c. Ok (joined_types next.0 b c)) operand_has rest u.0 types u.2)
 
   sets_have : (t : SetTerm Bytes) (rest : List (SetOp × SetTerm Bytes)) (types : List ℕ) → sets_types s t rest ≡ Ok types → Has (resolved_sets g n t rest)
   sets_have (Seeds []) [] types h = (record { first = term.Seeds []; others = [] }, refl)
@@ -89,7 +88,7 @@ module _ (g : Globals) (s : Scope Bytes) (n : Named) (shows : Shows g s n) where
   over_has (Range a t) b h =
       let u = then_ok (number (here s) a) _ b h in
       let v = then_ok (number (here s) t) _ b u.2 in
-      has_then (resolved k a) _ (number_has (here s) k (knows g s n shows InStatement) a u.0 u.1) (λ x e. has_one (resolved k t) (over.Range x) (number_has (here s) k (knows g s n shows InStatement) t v.0 v.1))
+      has_two _ (number_has (here s) k (knows g s n shows InStatement) a u.0 u.1) (number_has (here s) k (knows g s n shows InStatement) t v.0 v.1)
 
   -- the name of a set, or an expression
   whole_name : (x : Bytes) (ty : Typed) → typing_whole s (Name x) ≡ Ok ty → Has (place_at n x)
@@ -117,8 +116,7 @@ module _ (g : Globals) (s : Scope Bytes) (n : Named) (shows : Shows g s n) where
   printed_has keys (Selection x items key) more h =
       let u = after_ok (set_types s x >> through_judged (typing_item (names_at s (InSelection x))) [] items) (new_key keys key) more h in
       let v = after_ok (set_types s x) (through_judged (typing_item (names_at s (InSelection x))) [] items) u.0.0 u.0.1 in
-      has_then (place_at n x) _ (set_place g s n shows x v.0.0 v.0.1) (λ p e. has_one (each_resolved (resolved_keyed k) items) (λ columns. item.Columns p columns key)
-      (through_has (resolved_keyed k) (typing_item (names_at s (InSelection x))) (keyed_has x) items [] u.0.0 v.1))
+      has_two _ (set_place g s n shows x v.0.0 v.0.1) (through_has (resolved_keyed k) (typing_item (names_at s (InSelection x))) (keyed_has x) items [] u.0.0 v.1)
 
   -- ---- the right side of an assignment
 
