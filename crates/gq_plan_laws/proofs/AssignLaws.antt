@@ -2,14 +2,14 @@
 use Rattle.std.proofs.Common.{◌≡◌, Bool, true, false, List, map, Option, Some, refl, sym, ap, ◌∙◌, subst}
 use Rattle.std.specs.Prelude.{if◌then◌else◌, is_some}
 use Rattle.std.specs.Option.{option_map}
-use Rattle.gq_tree.specs.Tree.{Tree, Number, Text, Truth, Global, Name, Call, Post, Neg, Mul, Sum, Cmp, Not, And, Or}
+use Rattle.gq_tree.specs.Tree.{Tree, Name}
 use Rattle.gq_tree.specs.declared.body.SetOp.{SetOp}
 use Rattle.gq_value.specs.declared.value.Wrong.{Wrong}
 use Rattle.gq_rules_typing.specs.Words.{under}
 use Rattle.gq_rules_typing.specs.Statements.{SetTerm, SetTypes, Sets, Expression}
 use Rattle.gq_rules_meaning.specs.Answers.{Answer, Gives, Stuck, ◌>>=◌, blaming, found}
 use Rattle.gq_rules_meaning.specs.Expressions.{World, value_as}
-use Rattle.gq_rules_meaning.specs.States.{Thing, Variable, SetOf, EdgeRow, Member, State, thing_named, changed, with_new, with_name, seen}
+use Rattle.gq_rules_meaning.specs.States.{Thing, Variable, SetOf, State, thing_named, changed, with_new, with_name, seen}
 use Rattle.gq_rules_meaning.specs.Sets.{TypedSet, types_fixed, types_kept, set_named, set_assigned}
 use Rattle.gq_rules_meaning.specs.Statements.{Evaluation, is_set, value_assigned, expression_assigned, assigned}
 use Rattle.gq_plan_ir.specs.Renamed.{renamed}

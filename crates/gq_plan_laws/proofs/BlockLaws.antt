@@ -1,17 +1,15 @@
 -- BlockLaws: by references a block has the same candidates and the same matches, and feeds accumulators the same.
-use Rattle.std.proofs.Common.{◌≡◌, ℕ, suc, Bool, true, false, List, [], ◌∷◌, ◌++◌, Option, Some, None, refl, sym, ap, ◌∙◌, subst}
+use Rattle.std.proofs.Common.{◌≡◌, ℕ, suc, Bool, true, false, List, [], ◌∷◌, ◌++◌, Option, Some, None, refl, ap, ◌∙◌}
 use Rattle.std.specs.Prelude.{if◌then◌else◌}
 use Rattle.std.specs.Option.{option_map}
 use Rattle.std.specs.List.{list_all}
-use Rattle.gq_value.specs.declared.value.Wrong.{Wrong}
 use Rattle.gq_graph.specs.declared.rows.Candidate.{Candidate}
 use Rattle.gq_value.specs.Accums.{Given}
 use Rattle.gq_accum_laws.specs.Fits.{fits}
 use Rattle.gq_rules_typing.specs.Selecting.{Change, Adds, Puts, Act, AtAlias, AtGlobal, Choose, Acts, no_act, act_and, Choices, otherwise, when, Select}
-use Rattle.gq_rules_typing.specs.Patterns.{edge_alias, target_alias, end_types}
 use Rattle.gq_rules_meaning.specs.Answers.{Answer, Gives, ◌>>=◌, blaming, found}
 use Rattle.gq_rules_meaning.specs.Meanings.{vertex_of_meant}
-use Rattle.gq_rules_meaning.specs.Expressions.{Look, setting}
+use Rattle.gq_rules_meaning.specs.Expressions.{Look}
 use Rattle.gq_rules_meaning.specs.States.{Thing, Slot, State, slot_named, sight, a_vertex}
 use Rattle.gq_rules_meaning.specs.Sources.{From, source_of, from, candidates_of, named_as, edge_thing, target_thing, with_candidate, with_vertex}
 use Rattle.gq_rules_meaning.specs.Blocks.{AtPlace, Contribution, vertex_named, contributed, contributions, of_act, of_choices, Match, match_of, matches, contents_after, slots_after, first_unfit, unless_unfit, fed_together, After, after_matches, accumulated}

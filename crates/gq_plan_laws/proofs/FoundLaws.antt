@@ -14,7 +14,7 @@ use Rattle.gq_rules_meaning.specs.Graphs.{Graph}
 use Rattle.gq_plan_ir.specs.declared.expr.Field.TheVariants as field
 use Rattle.gq_plan_ir.specs.declared.expr.Function.{Function}
 use Rattle.gq_plan_ir.specs.declared.expr.Function.TheVariants as function
-use Rattle.gq_plan_ir.specs.Reference.{Reference, Place, Slot, VertexType, EdgeType, TupleType, TypeName, FieldAt, Calls, Does}
+use Rattle.gq_plan_ir.specs.Reference.{Reference, Place, VertexType, EdgeType, TupleType, TypeName, Calls, Does}
 use Rattle.gq_plan_ir.specs.References as references
 use Rattle.gq_plan_ir.specs.References.{same, in_table, by_reference}
 use Rattle.gq_plan_ir.specs.ExprView.{field_of, function_of}

@@ -1,7 +1,7 @@
 -- MentionLaws: an act names under other names what it names.
 use Rattle.std.proofs.Common.{◌≡◌, Bool, refl, ap, ◌∙◌}
 use Rattle.std.specs.Prelude.{◌||◌}
-use Rattle.gq_tree.specs.Tree.{Tree, Behind, Trees, Parts, Factors, Terms, Number, Text, Truth, Global, Name, Call, Post, Neg, Mul, Sum, Cmp, Not, And, Or, Field, Method, Attached, Before, no_tree, tree, no_part, part, no_factor, factor, no_term, term}
+use Rattle.gq_tree.specs.Tree.{Tree, Behind, Trees, Parts, Factors, Terms, Name, Call, Post, Neg, Mul, Sum, Cmp, Not, And, Or, Method, no_tree, tree, no_part, part, no_factor, factor, no_term, term}
 use Rattle.gq_rules_typing.specs.Selecting.{Input, Plain, Keys, Inputs, no_input, input_and, Change, Adds, Puts, Act, AtAlias, AtGlobal, Choose, Acts, no_act, act_and, Choices, otherwise, when}
 use Rattle.gq_rules_typing.specs.Mentions.{in_tree, in_trees, in_parts, in_part, in_factors, in_terms, in_input, in_inputs, in_change, in_act, in_acts, in_choices}
 use Rattle.gq_plan_ir.specs.Renamed.{Renaming, renamed, renamed_part, renamed_trees, renamed_parts, renamed_factors, renamed_terms}

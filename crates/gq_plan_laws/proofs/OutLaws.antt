@@ -1,8 +1,8 @@
 -- OutLaws: values and contents are printed alike, whatever represents names.
-use Rattle.std.proofs.Common.{◌≡◌, ℕ, Bool, true, false, List, [], ◌∷◌, ◌++◌, map, Option, Some, None, refl, ap, ◌∙◌}
+use Rattle.std.proofs.Common.{◌≡◌, ℕ, Bool, true, List, [], ◌∷◌, ◌++◌, map, Option, Some, refl, ap, ◌∙◌}
 use Rattle.std.specs.Prelude.{slice_get}
-use Rattle.gq_value.specs.Val.{Val, Vals, Int, UInt, Truth, Text, Vertex, Tuple, Fraction, more, none}
-use Rattle.gq_value.specs.Accums.{Base, INT, TUPLE, Accum, SumAccum, MinAccum, MaxAccum, OrAccum, AndAccum, BitwiseOrAccum, BitwiseAndAccum, AvgAccum, SetAccum, BagAccum, ListAccum, MapAccum, GroupByAccum, HeapAccum, Parts, no_part, part_and}
+use Rattle.gq_value.specs.Val.{Val, Vals, Int, Tuple, more}
+use Rattle.gq_value.specs.Accums.{Base, INT, TUPLE, Accum, SumAccum, MinAccum, MaxAccum, SetAccum, BagAccum, ListAccum, MapAccum, GroupByAccum, HeapAccum, Parts, no_part, part_and}
 use Rattle.gq_value.specs.Typed.{number_type}
 use Rattle.gq_accum_laws.specs.Holds.{Holds, HoldsEach, entries}
 use Rattle.gq_accum_laws.specs.Reads.{value_in}
@@ -11,7 +11,7 @@ use Rattle.gq_rules_typing.specs.Sorts.{Fields}
 use Rattle.gq_rules_typing.specs.FieldTypes.{tuple_fields}
 use Rattle.gq_rules_meaning.specs.Answers.{Gives, ◌>>=◌}
 use Rattle.gq_rules_meaning.specs.Graphs.{sort_of_vertex}
-use Rattle.gq_rules_meaning.specs.Meanings.{Meant, Is, IsAverage, IsContent, IsRow, IsEdge, IsSet, IsMember}
+use Rattle.gq_rules_meaning.specs.Meanings.{Meant, Is, IsAverage, IsContent, IsSet}
 use Rattle.gq_rules_meaning.specs.Expressions.{World, setting}
 use Rattle.gq_rules_meaning.specs.States.{Slot}
 use Rattle.gq_rules_meaning.specs.Outs.{Out, OutList, OutObject, member_and, outs, members, out_value, out_fields, first_text, out_named, out_items, out_content, out_parts}

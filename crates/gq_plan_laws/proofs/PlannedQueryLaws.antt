@@ -9,7 +9,7 @@ use Rattle.gq_value.specs.declared.kind.BaseType.{BaseType}
 use Rattle.gq_value.specs.declared.value.Wrong.{Wrong}
 use Rattle.gq_scope.specs.declared.places.NameBinding.{NameBinding}
 use Rattle.gq_scope.specs.Named.{Named, seen_at, with_name}
-use Rattle.gq_rules_typing.specs.Statements.{Bytes, BaseTree, Ints, UInts, Bools, Strings, AnyVertex, VertexOf, KindTree, Definition, TupleType, Accums, Parameter}
+use Rattle.gq_rules_typing.specs.Statements.{Bytes, BaseTree, VertexOf, KindTree, Definition, TupleType, Accums, Parameter}
 use Rattle.gq_rules_typing.specs.Sorts.{Fields}
 use Rattle.gq_rules_meaning.specs.Calendars.{Calendar}
 use Rattle.gq_rules_meaning.specs.Graphs.{Graph}

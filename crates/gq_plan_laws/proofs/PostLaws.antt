@@ -4,12 +4,11 @@ use Rattle.std.specs.Prelude.{if◌then◌else◌}
 use Rattle.std.specs.Option.{option_map}
 use Rattle.gq_rules_typing.specs.Selecting.{Change, Act, AtAlias, AtGlobal, Choose, Acts, no_act, act_and, Choices, otherwise, when, Select}
 use Rattle.gq_rules_typing.specs.Patterns.{target_alias, is_alias}
-use Rattle.gq_rules_typing.specs.Mentions.{in_act}
-use Rattle.gq_rules_meaning.specs.Answers.{blaming, through}
+use Rattle.gq_rules_meaning.specs.Answers.{blaming}
 use Rattle.gq_rules_meaning.specs.Expressions.{truth_of}
 use Rattle.gq_rules_meaning.specs.States.{Thing, Slot, State}
 use Rattle.gq_rules_meaning.specs.Sources.{From, from, selects_target, with_vertex}
-use Rattle.gq_rules_meaning.specs.Blocks.{AtPlace, Contribution, After, fed_together}
+use Rattle.gq_rules_meaning.specs.Blocks.{AtPlace, Contribution, After}
 use Rattle.gq_rules_meaning.specs.Posts.{for_target, same_end, before_phases, phases, Written, Post, at_vertex, post_acts, post_act, post_choices, matched, post_of, phase, posted}
 use Rattle.gq_rules_meaning.specs.StateFits.{AllOf}
 use Rattle.gq_plan_ir.specs.Renamed.{renamed}

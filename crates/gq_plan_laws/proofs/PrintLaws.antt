@@ -4,8 +4,7 @@ use Rattle.gq_rules_typing.specs.Words.{under}
 use Rattle.gq_rules_typing.specs.Statements.{Bytes, Item, Printed, Whole, Selection}
 use Rattle.gq_rules_meaning.specs.Answers.{Gives, ◌>>=◌, found}
 use Rattle.gq_rules_meaning.specs.Expressions.{Look}
-use Rattle.gq_rules_meaning.specs.States.{Thing, SetOf, Member, Slot, State, thing_named, with_new, seen}
-use Rattle.gq_rules_meaning.specs.States as states
+use Rattle.gq_rules_meaning.specs.States.{Thing, SetOf, Member, Slot, State}
 use Rattle.gq_rules_meaning.specs.Outs.{Out, OutList, outs}
 use Rattle.gq_rules_meaning.specs.Printing.{out_vertex, out_item, out_member, selection, printed}
 use Rattle.gq_rules_meaning.specs.StateFits.{AllOf}

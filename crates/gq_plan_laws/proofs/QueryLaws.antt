@@ -7,7 +7,7 @@ use Rattle.gq_value.specs.Val.{Val}
 use Rattle.gq_value.specs.Accums.{Base, VERTEX_OF, Accum}
 use Rattle.gq_accum_laws.specs.Holds.{Holds}
 use Rattle.gq_accum_laws.specs.Reads.{set_to}
-use Rattle.gq_rules_typing.specs.Statements.{Bytes, BaseTree, Ints, UInts, Bools, Strings, AnyVertex, VertexOf, Definition, TupleType, Accums, Parameter, QueryOver}
+use Rattle.gq_rules_typing.specs.Statements.{Bytes, BaseTree, VertexOf, Definition, TupleType, Accums, Parameter, QueryOver}
 use Rattle.gq_rules_typing.specs.Sorts.{Fields}
 use Rattle.gq_rules_typing.specs.Judging.{Judged, UnknownName, or_fault}
 use Rattle.gq_rules_typing.specs.Judging as judging

@@ -15,12 +15,12 @@ use Rattle.gq_rules_meaning.specs.Writes.{slots_changed}
 use Rattle.gq_rules_meaning.specs.Printing.{printed}
 use Rattle.gq_rules_meaning.specs.Tails.{select}
 use Rattle.gq_rules_meaning.specs.Sets.{set_assigned}
-use Rattle.gq_rules_meaning.specs.Statements.{Fault, Evaluation, LoopBound, PathBound, of_block, of_write, base_of_tree, local_value, with_local, select_assigned, assigned, gone_over}
+use Rattle.gq_rules_meaning.specs.Statements.{Fault, Evaluation, PathBound, of_block, of_write, base_of_tree, local_value, with_local, select_assigned, assigned, gone_over}
 use Rattle.gq_rules_meaning.specs.Runs.{Running, with_state, Body, inner, enter, is_reached, one_less, rounds, count_of, limit_of, condition_of, for_each, global_changed, run, run_all, run_branches}
 use Rattle.gq_plan_ir.specs.Renamed.{renamed, SeesAlike}
-use Rattle.gq_plan_ir.specs.Naming.{Visible, View, visible_at, reference_at, IsNew, AreDistinct, with_name, naming_by, naming, inside, source_at}
+use Rattle.gq_plan_ir.specs.Naming.{Visible, View, visible_at, reference_at, IsNew, AreDistinct, with_name, naming_by, inside, source_at}
 use Rattle.gq_plan_ir.specs.RenamedBlocks.{renamed_change, renamed_select}
-use Rattle.gq_plan_ir.specs.RenamedStatements.{renamed_term, renamed_set_types, renamed_over, renamed_printed}
+use Rattle.gq_plan_ir.specs.RenamedStatements.{renamed_set_types, renamed_over, renamed_printed}
 use Rattle.gq_plan_ir.specs.StandsFor.{with_aliases, SelectStands, RightStands, is_set_right, TargetStands, with_target, LocalsStand, with_locals, behind, Stands, AllStand, BranchesStand, behind_all}
 use Rattle.gq_plan_ir.specs.Alike.{AnswersAlike, Sides, old_world, new_world, WordsAlike, NamesAlike, SlotsAlike, StatesAlike, RunsAlike}
 use Rattle.gq_plan_laws.specs.RefinementLaws.{StatementLaw}

@@ -12,7 +12,7 @@ use Rattle.gq_rules_typing.specs.Selecting.{Hop, Step, Walk, Nowhere, OneHop, Pa
 use Rattle.gq_rules_typing.specs.Judging.{NotAllowedHere, TwoAliases, OrderDependent, Judged, ◌>>=◌, ◌>>◌, unless, each_judged}
 use Rattle.gq_rules_typing.specs.Kinds.{is_list}
 use Rattle.gq_rules_typing.specs.ExpressionTypes.{typing, condition, number, converting}
-use Rattle.gq_rules_typing.specs.Scopes.{Entry, Variable, SetVariable, Alias, EdgeAlias, Accumulator, TupleName, Place, InBlock, InPost, InTail, InLimit, Scope, entry, said, unknown, with_entry, new_name, declared_kind, names_at, vertex_type, edge_type}
+use Rattle.gq_rules_typing.specs.Scopes.{Entry, SetVariable, Alias, EdgeAlias, Accumulator, TupleName, Place, InBlock, InPost, InTail, InLimit, Scope, entry, said, unknown, with_entry, new_name, declared_kind, names_at, vertex_type, edge_type}
 use Rattle.gq_rules_typing.specs.Patterns.{edge_types, end_types, edge_alias, target_alias, is_alias}
 use Rattle.gq_rules_typing.specs.ActTypes.{vertex_alias, settable, typing_input, typing_given, typing_written, typing_fed, typing_at, typing_global, place_of, one_more, typing_acts, typing_act, typing_choices, names_one, typing_post}
 use Rattle.gq_rules_typing.specs.SelectTypes.{source_types, all_known, typing_hop, way_known, nameless, typing_steps, typing_walk, optional, sort_key, selected_types, typing_select}
@@ -20,15 +20,13 @@ use Rattle.gq_rules_typing.specs.SelectTypes as typed
 use Rattle.gq_rules_meaning.proofs.AnswerLaws.{then_ok, after_ok, unless_ok, ok_inj}
 use Rattle.gq_plan_ir.specs.declared.block.Change.TheVariants as change
 use Rattle.gq_plan_ir.specs.declared.block.Act as code
-use Rattle.gq_plan_ir.specs.declared.block.Act.TheVariants as act
 use Rattle.gq_plan_ir.specs.declared.block.Walk.TheVariants as walk
 use Rattle.gq_plan_ir.specs.declared.block.SelectSource.TheVariants as source
 use Rattle.gq_plan_ir.specs.declared.block.Block.{Block}
 use Rattle.gq_plan_expr.specs.Known.{Known}
 use Rattle.gq_plan_expr.specs.Resolved as plans
 use Rattle.gq_plan_expr.specs.Resolved.{resolved}
-use Rattle.gq_plan_select.specs.Resolved.{if_there, each_resolved, resolved_types, resolved_input, resolved_change, else_of, if_of, branch_and, resolved_act, resolved_acts, resolved_choices, resolved_hop, resolved_way, resolved_step, resolved_walk, resolved_source, resolved_key, resolved_from, resolved_clauses, resolved_tail, resolved_select, block_of}
-use Rattle.gq_plan_expr.specs.Globals.{Sees}
+use Rattle.gq_plan_select.specs.Resolved.{if_there, each_resolved, resolved_input, resolved_change, else_of, if_of, resolved_act, resolved_acts, resolved_choices, resolved_hop, resolved_way, resolved_step, resolved_walk, resolved_source, resolved_key, resolved_select}
 use Rattle.gq_plan_expr.specs.Globals.{Globals, known_in, sees_in}
 use Rattle.gq_plan_stmt.specs.Steps.{Behind, ended, with_aliases, resolved_block}
 use Rattle.gq_plan_stmt.specs.Steps as steps

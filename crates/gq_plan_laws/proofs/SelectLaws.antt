@@ -6,7 +6,7 @@ use Rattle.gq_rules_typing.specs.Words.{under}
 use Rattle.gq_rules_typing.specs.Selecting.{Select}
 use Rattle.gq_rules_typing.specs.Patterns.{edge_alias, target_alias}
 use Rattle.gq_rules_meaning.specs.Graphs.{vertices_of}
-use Rattle.gq_rules_meaning.specs.States.{Thing, Variable, SetOf, EdgeRow, Member}
+use Rattle.gq_rules_meaning.specs.States.{Thing, SetOf}
 use Rattle.gq_rules_meaning.specs.Sources.{source_of, from}
 use Rattle.gq_rules_meaning.specs.Statements.{is_set}
 use Rattle.gq_rules_meaning.specs.StateFits.{AllOf}

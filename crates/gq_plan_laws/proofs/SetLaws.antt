@@ -2,13 +2,13 @@
 use Rattle.std.proofs.Common.{◌≡◌, ℕ, List, [], ◌∷◌, map, Option, Some, None, refl, ap}
 use Rattle.std.specs.Option.{option_map}
 use Rattle.gq_tree.specs.declared.body.SetOp.{SetOp}
-use Rattle.gq_value.specs.Val.{Int, UInt, Truth, Text, Vertex, Tuple, Fraction}
-use Rattle.gq_value.specs.Accums.{Base, INT, UINT, BOOL, STRING, DATETIME, VERTEX, VERTEX_OF, TUPLE, SumAccum, MinAccum, MaxAccum, OrAccum, AndAccum, BitwiseOrAccum, BitwiseAndAccum, AvgAccum, SetAccum, BagAccum, ListAccum, MapAccum, GroupByAccum, HeapAccum}
+use Rattle.gq_value.specs.Val.{Vertex}
+use Rattle.gq_value.specs.Accums.{Base, VERTEX_OF, SetAccum}
 use Rattle.gq_rules_typing.specs.Statements as statements
 use Rattle.gq_rules_typing.specs.Statements.{BaseTree, Ints, UInts, Bools, Strings, AnyVertex, VertexOf, Seed, AllVertices, OneVertex, ContentOf, SetTerm, SetNamed, Seeds, SetTypes, AnyType, TypeOf, Over, Elements, Range}
 use Rattle.gq_rules_meaning.specs.Answers.{Gives, ◌>>=◌, found, through}
 use Rattle.gq_rules_meaning.specs.Graphs.{vertices_of}
-use Rattle.gq_rules_meaning.specs.Meanings.{Meant, Is, IsAverage, IsContent, IsRow, IsEdge, IsSet, IsMember}
+use Rattle.gq_rules_meaning.specs.Meanings.{Meant, Is, IsContent}
 use Rattle.gq_rules_meaning.specs.States.{Thing, State, seen}
 use Rattle.gq_rules_meaning.specs.Sets.{types_of_base, vertices_in, of_variable, of_content, seed_of, all_of, set_in, set_named, term_of, joined, sets_of, types_fixed}
 use Rattle.gq_rules_meaning.specs.Statements.{base_of_tree, elements_of, between, gone_over}

@@ -1,16 +1,16 @@
 -- SightLaws: what an expression sees by references is what it sees by names.
-use Rattle.std.proofs.Common.{◌≡◌, ℕ, zero, suc, Bool, List, [], ◌∷◌, map, length, Option, Some, None, refl, ap, ◌∙◌}
+use Rattle.std.proofs.Common.{◌≡◌, ℕ, suc, Bool, List, [], ◌∷◌, map, length, Option, Some, None, refl, ap, ◌∙◌}
 use Rattle.std.specs.Prelude.{if◌then◌else◌, slice_get}
 use Rattle.std.specs.Option.{option_map}
 use Rattle.std.specs.List.{position_or_len}
-use Rattle.gq_value.specs.Val.{Val, Int, UInt, Truth, Text, Vertex, Tuple, Fraction, list_of}
-use Rattle.gq_value.specs.Accums.{INT, UINT, BOOL, STRING, DATETIME, VERTEX, VERTEX_OF, TUPLE, Parts}
+use Rattle.gq_value.specs.Val.{Val, Vertex, Tuple, list_of}
+use Rattle.gq_value.specs.Accums.{TUPLE, Parts}
 use Rattle.gq_accum_laws.specs.Holds.{HoldsEach}
 use Rattle.gq_rules_typing.specs.Sorts.{names_of, bases_of}
 use Rattle.gq_rules_typing.specs.Words.{OfTupleType, OfParts, names_of_parts}
 use Rattle.gq_rules_typing.specs.FieldTypes.{tuple_fields}
 use Rattle.gq_rules_meaning.specs.Answers.{Answer, Gives, ◌>>=◌, found}
-use Rattle.gq_rules_meaning.specs.Meanings.{Meant, Is, IsAverage, IsContent, IsRow, IsEdge, IsSet, IsMember, Outcome, read}
+use Rattle.gq_rules_meaning.specs.Meanings.{Meant, Is, IsRow, IsEdge, IsMember, Outcome, read}
 use Rattle.gq_rules_meaning.specs.Expressions.{setting}
 use Rattle.gq_rules_meaning.specs.States.{Thing, Slot, meant, slot_number, slot_named, read_slot, value_at, part_at, vertex_field, edge_field, field_of, sight}
 use Rattle.gq_rules_meaning.specs.StateFits.{AllOf}

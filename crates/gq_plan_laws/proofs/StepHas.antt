@@ -10,7 +10,7 @@ use Rattle.gq_rules_typing.specs.Selecting.{Change, Adds, Puts}
 use Rattle.gq_rules_typing.specs.Judging.{Typed, TypingFault, SetOf, Mismatch, NotAllowedHere, Judged, ◌>>=◌, ◌>>◌, unless, each_judged, through_judged}
 use Rattle.gq_rules_typing.specs.Types.{as_base, alone, printable}
 use Rattle.gq_rules_typing.specs.ExpressionTypes.{typing, base_type, condition, number, converting}
-use Rattle.gq_rules_typing.specs.Scopes.{Entry, Variable, SetVariable, Alias, EdgeAlias, Accumulator, TupleName, InStatement, InSelection, Scope, entry, with_entry, new_name, declared_kind, names_at, base_written, vertex_type}
+use Rattle.gq_rules_typing.specs.Scopes.{Entry, Variable, SetVariable, InStatement, InSelection, Scope, entry, with_entry, new_name, declared_kind, names_at, base_written, vertex_type}
 use Rattle.gq_rules_typing.specs.ActTypes.{settable}
 use Rattle.gq_rules_typing.specs.SelectTypes.{optional}
 use Rattle.gq_rules_typing.specs.SetTypes.{here, types_of, content_types, seed_types, set_types, term_types, joined_types, sets_types, is_set, right_types, right_value, kept_within, typing_assign, fixed_types, typing_fixed, typing_assignment}

@@ -1,5 +1,5 @@
 -- TailLaws: HAVING, ORDER BY and LIMIT by references, and a whole SELECT.
-use Rattle.std.proofs.Common.{◌≡◌, ℕ, Bool, List, [], ◌∷◌, map, Option, Some, None, refl, sym, ap, ◌∙◌, subst}
+use Rattle.std.proofs.Common.{◌≡◌, ℕ, Bool, List, [], ◌∷◌, map, Option, Some, None, refl, ap, ◌∙◌}
 use mathlib.Core.Path.{fun_ext}
 use Rattle.std.specs.Prelude.{if◌then◌else◌}
 use Rattle.std.specs.Option.{option_map}
@@ -15,7 +15,7 @@ use Rattle.gq_rules_meaning.specs.Answers.{Answer, Gives, ◌>>=◌, blaming, ea
 use Rattle.gq_rules_meaning.specs.Graphs.{vertex_count}
 use Rattle.gq_rules_meaning.specs.Expressions.{Look, value_of}
 use Rattle.gq_rules_meaning.specs.States.{Thing, Slot, State, sight}
-use Rattle.gq_rules_meaning.specs.Sources.{From, from, selects_target, with_vertex}
+use Rattle.gq_rules_meaning.specs.Sources.{from, selects_target, with_vertex}
 use Rattle.gq_rules_meaning.specs.Blocks.{BlockFault, AtPlace, After}
 use Rattle.gq_rules_meaning.specs.Posts.{matched}
 use Rattle.gq_rules_meaning.specs.Tails.{Ranked, selected_look, passing, ranked, by_keys, in_order, at_most, cut, tail, Selected, select}
