@@ -34,9 +34,7 @@ use Rattle.gq_plan_expr.specs.Found.{plain_fields, plain_tuples, globals_of}
 use Rattle.gq_plan_laws.specs.Planned.{Heads, setting_of, with_accum, with_tuple, AccumsPlanned, DefinitionsPlanned}
 use Rattle.gq_plan_laws.specs.Shown.{IsShown}
 use Rattle.gq_plan_laws.specs.Declares.{tuple_names, is_taken, Declares}
-use Rattle.gq_plan_laws.proofs.HasLemmas.{Has, has_one, has_two, converting_has}
-use Rattle.gq_plan_laws.proofs.ShownLemmas.{same_bytes, place_in, entry_none, written_has, new_seen, knows}
-use Rattle.gq_plan_laws.proofs.FoundLemmas.{words_in}
+use Rattle.gq_plan_laws.proofs.HasLemmas.{Has, has_one, has_two, converting_has, same_bytes, place_in, entry_none, written_has, new_seen, knows, words_in}
 use Rattle.gq_plan_laws.proofs.PlannedQueryLaws.{tuples_more}
 
 -- ---- one more name

@@ -16,8 +16,7 @@ use Rattle.gq_plan_expr.specs.Found.{globals_of}
 use Rattle.gq_plan_laws.specs.Planned.{setting_of}
 use Rattle.gq_plan_laws.specs.PlannedLaws.{no_names, ParametersPlanned}
 use Rattle.gq_plan_laws.specs.Shown.{InView, IsShown, Shows}
-use Rattle.gq_plan_laws.proofs.ShownLemmas.{same_bytes, same_itself, entry_none, written_has}
-use Rattle.gq_plan_laws.proofs.FoundLemmas.{words_in}
+use Rattle.gq_plan_laws.proofs.HasLemmas.{same_bytes, same_itself, entry_none, written_has, words_in}
 
 -- a name after parameters, by whether it is one of them
 abbrev Told : Option NameBinding → Option Entry → Option Entry → Bool → Type 0

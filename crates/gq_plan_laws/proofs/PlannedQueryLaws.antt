@@ -43,7 +43,7 @@ use Rattle.gq_plan_laws.specs.Sides.{numbered}
 use Rattle.gq_plan_laws.specs.Declared.{ground_of, declared_of, SlotsAre}
 use Rattle.gq_plan_laws.specs.Planned.{Heads, with_accum, with_tuple, AccumsPlanned, DefinitionsPlanned}
 use Rattle.gq_plan_laws.specs.PlannedLaws.{no_names, no_heads, ParametersPlanned, PlanLaw}
-use Rattle.gq_plan_laws.proofs.SoundLaws.{sound_is, slots_more, slice_at}
+use Rattle.gq_plan_laws.proofs.FoundLaws.{sound_is, slots_more, slice_at}
 
 append_assoc : {A : Type 0} (xs ys zs : List A) → xs ++ (ys ++ zs) ≡ (xs ++ ys) ++ zs
 append_assoc [] ys zs = refl

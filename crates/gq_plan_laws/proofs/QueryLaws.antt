@@ -32,10 +32,9 @@ use Rattle.gq_plan_ir.specs.Alike.{AnswersAlike, old_world, new_world, NamesAlik
 use Rattle.gq_plan_ir.specs.Plans.{Ground, old_ground, new_ground, Declared, fixed_in, sides, AccumTold, IsSound, WithTuple, ParametersStand, parameters_view, AccumsStand, TupleStands, DefinitionsStand, QueryStands}
 use Rattle.gq_plan_laws.specs.RefinementLaws.{QueryLaw}
 use Rattle.gq_plan_laws.proofs.AnswerLaws.{alike_then, alike_same, alike_blaming, alike_is, each_same}
-use Rattle.gq_plan_laws.proofs.InputLaws.{as_alike}
-use Rattle.gq_plan_laws.proofs.SetLaws.{base_alike}
-use Rattle.gq_plan_laws.proofs.ViewLaws.{new_alike}
-use Rattle.gq_plan_laws.proofs.RunLaws.{sees_alike, runs_alike}
+use Rattle.gq_plan_laws.proofs.SightLaws.{as_alike}
+use Rattle.gq_plan_laws.proofs.RunLaws.{base_alike, sees_alike, runs_alike}
+use Rattle.gq_plan_laws.proofs.NameLaws.{new_alike}
 
 module _ {M N : Type 0} (ground : Ground M N) where
   -- ---- accumulators, each with its reference

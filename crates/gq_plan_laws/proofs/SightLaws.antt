@@ -1,23 +1,32 @@
--- SightLaws: what an expression sees by references is what it sees by names.
+-- SightLaws: what an expression, an input or a change sees and means by references is what it is by names.
 use Rattle.std.proofs.Common.{◌≡◌, ℕ, suc, Bool, List, [], ◌∷◌, map, length, Option, Some, None, refl, ap, ◌∙◌}
 use Rattle.std.specs.Prelude.{if◌then◌else◌, slice_get}
 use Rattle.std.specs.Option.{option_map}
 use Rattle.std.specs.List.{position_or_len}
 use Rattle.gq_value.specs.Val.{Val, Vertex, Tuple, list_of}
-use Rattle.gq_value.specs.Accums.{TUPLE, Parts}
+use Rattle.gq_value.specs.Accums.{TUPLE, Parts, Base, Accum, One, Keyed, given_and}
 use Rattle.gq_accum_laws.specs.Holds.{HoldsEach}
 use Rattle.gq_rules_typing.specs.Sorts.{names_of, bases_of}
 use Rattle.gq_rules_typing.specs.Words.{OfTupleType, OfParts, names_of_parts}
 use Rattle.gq_rules_typing.specs.FieldTypes.{tuple_fields}
 use Rattle.gq_rules_meaning.specs.Answers.{Answer, Gives, ◌>>=◌, found}
-use Rattle.gq_rules_meaning.specs.Meanings.{Meant, Is, IsRow, IsEdge, IsMember, Outcome, read}
-use Rattle.gq_rules_meaning.specs.Expressions.{setting}
+use Rattle.gq_rules_meaning.specs.Meanings.{Meant, Is, IsRow, IsEdge, IsMember, Outcome, read, value_of_meant, as_number, as_truth, converted_to}
+use Rattle.gq_rules_meaning.specs.Expressions.{setting, Look, value_of, number_of, truth_of, value_as}
 use Rattle.gq_rules_meaning.specs.States.{Thing, Slot, meant, slot_number, slot_named, read_slot, value_at, part_at, vertex_field, edge_field, field_of, sight}
 use Rattle.gq_rules_meaning.specs.StateFits.{AllOf}
-use Rattle.gq_plan_ir.specs.Renamed.{SeesAlike}
+use Rattle.gq_plan_ir.specs.Renamed.{SeesAlike, Renaming, renamed}
 use Rattle.gq_plan_ir.specs.Naming.{named_by}
 use Rattle.gq_plan_ir.specs.Alike.{Sides, old_world, new_world, WordsAlike, new_slot, new_slots, AccumIs}
 use Rattle.gq_plan_laws.proofs.NameLaws.{LooksAlike}
+use Rattle.gq_tree.specs.Tree.{Tree}
+use Rattle.gq_rules_typing.specs.Selecting.{Input, Plain, Keys, Inputs, no_input, input_and, Change, Adds, Puts}
+use Rattle.gq_rules_typing.specs.Kinds.{input_type, set_type, key_types, part_kinds}
+use Rattle.gq_rules_meaning.specs.Blocks.{input_of, inputs_of, passes}
+use Rattle.gq_rules_meaning.specs.Writes.{with_input, with_value, made_by}
+use Rattle.gq_plan_ir.proofs.RenamedLaws.{then_same, meaning-renamed, arguments-renamed}
+use Rattle.gq_plan_ir.specs.RenamedBlocks.{renamed_input, renamed_inputs, renamed_change}
+
+-- ---- what an expression sees by references is what it sees by names
 
 pub map_length : {A B : Type 0} (f : A → B) (xs : List A) → length (map f xs) ≡ length xs
 map_length f [] = refl
@@ -35,11 +44,11 @@ module _ {M N : Type 0} (s : Sides M N) (w : WordsAlike s) where
   place_alike a [] h = refl
   place_alike a (t ∷ slots) h = let r = place_alike a slots h.1 in let q = h.0.same a in cc
 
-  pub number_alike : (a : M) (slots : List (Slot M)) → AllOf (AccumIs s) slots → slot_number (new_world s) (new_slots s slots) (s.fixed.accum a) ≡ slot_number (old_world s) slots a
-  number_alike a slots h = let n = map_length (new_slot s) slots in let m = place_alike a slots h in cc
+  pub slot_number_alike : (a : M) (slots : List (Slot M)) → AllOf (AccumIs s) slots → slot_number (new_world s) (new_slots s slots) (s.fixed.accum a) ≡ slot_number (old_world s) slots a
+  slot_number_alike a slots h = let n = map_length (new_slot s) slots in let m = place_alike a slots h in cc
 
   pub slot_alike : (a : M) (slots : List (Slot M)) → AllOf (AccumIs s) slots → slot_named (new_world s) (new_slots s slots) (s.fixed.accum a) ≡ option_map (new_slot s) (slot_named (old_world s) slots a)
-  slot_alike a slots h = go (slot_number (old_world s) slots a) (slot_number (new_world s) (new_slots s slots) (s.fixed.accum a)) (number_alike a slots h)
+  slot_alike a slots h = go (slot_number (old_world s) slots a) (slot_number (new_world s) (new_slots s slots) (s.fixed.accum a)) (slot_number_alike a slots h)
     where
       at_old : Option ℕ → Option (Slot M)
       at_old None = None
@@ -119,3 +128,36 @@ module _ {M N : Type 0} (s : Sides M N) (w : WordsAlike s) where
     graph = refl;
     calendar = refl;
   }
+
+-- ---- inputs, conditions and changes mean by references what they mean by names
+
+module _ {M N : Type 0} (r : Renaming M N) (old : Look M) (new : Look N) (h : SeesAlike r old new) where
+  pub value_alike : (t : Tree M) → value_of new (renamed r t) ≡ value_of old t
+  value_alike t = ap (λ o. o >>= value_of_meant) (meaning-renamed r old new h t)
+
+  pub number_alike : (t : Tree M) → number_of new (renamed r t) ≡ number_of old t
+  number_alike t = ap (λ o. o >>= as_number) (value_alike t)
+
+  pub truth_alike : (t : Tree M) → truth_of new (renamed r t) ≡ truth_of old t
+  truth_alike t = ap (λ o. o >>= as_truth) (value_alike t)
+
+  pub as_alike : (b : Base) (t : Tree M) → value_as new b (renamed r t) ≡ value_as old b t
+  as_alike b t = ap (λ o. o >>= converted_to b) (value_alike t)
+
+  pub passes_alike : (t : Option (Tree M)) → passes new (option_map (renamed r) t) ≡ passes old t
+  passes_alike None = refl
+  passes_alike (Some t) = truth_alike t
+
+  mutual
+    pub input_alike : (k : Accum) (x : Input M) → input_of new k (renamed_input r x) ≡ input_of old k x
+    input_alike k (Plain t) = then_same (found (input_type k)) _ _ _ refl (λ b. ap (λ o. o >>= λ v. Gives (One v)) (as_alike b t))
+    input_alike k (Keys ts xs) = then_same _ _ _ _ (arguments-renamed r old new h ts (map Some (key_types k))) (λ vs. ap (λ o. o >>= λ ys. Gives (Keyed vs ys)) (inputs_alike (part_kinds k) xs))
+
+    inputs_alike : (ks : List Accum) (xs : Inputs M) → inputs_of new ks (renamed_inputs r xs) ≡ inputs_of old ks xs
+    inputs_alike [] no_input = refl
+    inputs_alike (k ∷ ks) (input_and x xs) = then_same _ _ _ _ (input_alike k x) (λ y. ap (λ o. o >>= λ ys. Gives (given_and y ys)) (inputs_alike ks xs))
+    inputs_alike ks xs = refl
+
+  pub made_alike : (k : Accum) (change : Change M) → made_by new k (renamed_change r change) ≡ made_by old k change
+  made_alike k (Adds x) = ap (λ o. o >>= λ y. Gives (with_input y)) (input_alike k x)
+  made_alike k (Puts t) = then_same (found (set_type k)) _ _ _ refl (λ b. ap (λ o. o >>= λ v. Gives (with_value v)) (as_alike b t))
