@@ -1,5 +1,6 @@
 -- AnswerLaws: answers that continue alike.
 use Rattle.std.proofs.Common.{◌≡◌, List, [], ◌∷◌, map, refl, sym, ap, ◌∙◌, subst}
+use mathlib.Core.Path.{fun_ext}
 use Rattle.gq_rules_meaning.specs.Answers.{Answer, Gives, Faults, Stuck, ◌>>=◌, blaming, each, through}
 use Rattle.gq_plan_ir.specs.Alike.{AnswersAlike}
 
@@ -44,8 +45,7 @@ each_alike {C = C} h f g k (a ∷ as') = ap (λ o. o >>= λ b. each g (map h as'
     go o e = ap (λ q. o >>= λ b. q >>= λ bs. Gives (b ∷ bs)) e
 
 pub each_same : {F A C : Type 0} (f g : A → Answer F C) → ((a : A) → g a ≡ f a) → (as' : List A) → each g as' ≡ each f as'
-each_same f g k [] = refl
-each_same f g k (a ∷ as') = ap (λ o. o >>= λ b. each g as' >>= λ bs. Gives (b ∷ bs)) (k a) ∙ ap (λ q. f a >>= λ b. q >>= λ bs. Gives (b ∷ bs)) (each_same f g k as')
+each_same f g k as' = ap (λ h. each h as') (fun_ext k)
 
 -- through items, with related states
 pub through_alike : {F A B S T : Type 0} (R : S → T → Type 0) (h : A → B) (f : S → A → Answer F S) (g : T → B → Answer F T)

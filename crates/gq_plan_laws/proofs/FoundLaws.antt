@@ -22,6 +22,8 @@ use Rattle.gq_plan_ir.specs.Alike.{WordsAlike}
 use Rattle.gq_plan_expr.specs.Known.{or_nothing, method_at}
 use Rattle.gq_plan_expr.specs.Found.{TupleTypes, plain_fields, plain_tuples, in_vertex, in_edge, in_tuple, places_of, field_at, field_types, tuple_from, own_function, own_if, language, or_language, function_at, part_of_time}
 use Rattle.gq_plan_expr.proofs.PlanLaws.{some_inj}
+use Rattle.gq_rules_safety.proofs.NameLaws.{all_with}
+use Rattle.gq_plan_laws.proofs.NameLaws.{both_all}
 use Rattle.gq_plan_laws.specs.Sides.{numbered, sides_of}
 use Rattle.gq_plan_laws.specs.FoundLaws.{FoundLaw}
 use Rattle.std.specs.Option.{option_map}
@@ -155,14 +157,8 @@ module _ (g : Graph) (clock : Calendar) (ts : TupleTypes) (accums : List Bytes) 
 
   own_is : (h : words.Function) → is_own h ≡ true → (us : TupleTypes) → function_from plan_words (or_nothing function_of (own_function h)) 0 (numbered 0 us) ≡ Some h
   own_is (words.Makes n fields) e us = cc
-  own_is words.Abs e us = no_tuple (Calls words.Abs) (λ n. refl) 0 us
-  own_is words.ToString e us = no_tuple (Calls words.ToString) (λ n. refl) 0 us
-  own_is words.ToDatetime e us = no_tuple (Calls words.ToDatetime) (λ n. refl) 0 us
-  own_is words.EpochToDatetime e us = no_tuple (Calls words.EpochToDatetime) (λ n. refl) 0 us
-  own_is words.DatetimeToEpoch e us = no_tuple (Calls words.DatetimeToEpoch) (λ n. refl) 0 us
-  own_is words.DatetimeDiff e us = no_tuple (Calls words.DatetimeDiff) (λ n. refl) 0 us
-  own_is words.DatetimeAdd e us = no_tuple (Calls words.DatetimeAdd) (λ n. refl) 0 us
   own_is (words.PartOf p) e us = ap (λ r. function_from plan_words r 0 (numbered 0 us)) (part_is p) ∙ no_tuple (Calls (words.PartOf p)) (λ n. refl) 0 us
+  own_is h e us = no_tuple (Calls h) (λ n. refl) 0 us
 
   language_is : (f : Bytes) (us : TupleTypes) → function_from plan_words (or_nothing function_of (language f)) 0 (numbered 0 us) ≡ under bytes_eq f functions
   language_is f us = go (under bytes_eq f functions) refl
@@ -253,14 +249,6 @@ all_append : {A : Type 0} (P : A → Type 0) (xs ys : List A) → AllOf P xs →
 all_append P [] ys u v = v
 all_append P (x ∷ xs) ys u v = (u.0, all_append P xs ys u.1 v)
 
-all_both : {A : Type 0} (P Q R : A → Type 0) → ((a : A) → P a → Q a → R a) → (xs : List A) → AllOf P xs → AllOf Q xs → AllOf R xs
-all_both P Q R h [] u v = u
-all_both P Q R h (x ∷ xs) u v = (h x u.0 v.0, all_both P Q R h xs u.1 v.1)
-
-all_more : {A : Type 0} (P Q : A → Type 0) → ((a : A) → P a → Q a) → (xs : List A) → AllOf P xs → AllOf Q xs
-all_more P Q h [] u = u
-all_more P Q h (x ∷ xs) u = (h x u.0, all_more P Q h xs u.1)
-
 accums_all : (P : Bytes × Reference → Type 0) (es : List (Bytes × NameBinding)) → AllOf (λ (e : Bytes × NameBinding). P (slotted e)) es → AllOf P (accums_in es)
 accums_all P [] u = u
 accums_all P (e ∷ es) u = all_append P (accums_in es) (slotted e ∷ []) (accums_all P es u.1) (u.0, _)
@@ -300,7 +288,8 @@ module _ (accums : List Bytes) where
     sound_is slots h = record {
       words = found_law g clock ts accums slots;
       accums = accums_all (AccumTold (ground_of g clock accums) (declared_of g clock accums ts slots)) slots.visible
-          (all_both (λ (e : Bytes × NameBinding). seen_at slots e.0 ≡ Some e.1) Told (λ (e : Bytes × NameBinding). AccumTold (ground_of g clock accums) (declared_of g clock accums ts slots) (slotted e)) one slots.visible h.found h.told);
+          (all_with _ (λ (e : Bytes × NameBinding). AccumTold (ground_of g clock accums) (declared_of g clock accums ts slots) (slotted e)) slots.visible (λ e p. one e p.0 p.1)
+          (both_all (λ (e : Bytes × NameBinding). seen_at slots e.0 ≡ Some e.1) Told slots.visible h.found h.told));
     }
       where
         one : (e : Bytes × NameBinding) → seen_at slots e.0 ≡ Some e.1 → Told e → AccumTold (ground_of g clock accums) (declared_of g clock accums ts slots) (slotted e)
@@ -316,7 +305,7 @@ module _ (accums : List Bytes) where
 
   pub slots_more : (slots : Named) (x : Bytes) (marked : Bool) → SlotsAre accums slots → seen_at slots x ≡ None → slice_get accums slots.next ≡ Some x → SlotsAre accums (with_name slots x marked)
   slots_more slots x marked h none at = record {
-    found = (slot_first x new slots.visible, all_more (λ (e : Bytes × NameBinding). seen_at slots e.0 ≡ Some e.1) (λ (e : Bytes × NameBinding). seen_at (with_name slots x marked) e.0 ≡ Some e.1) stays slots.visible h.found);
+    found = (slot_first x new slots.visible, all_with (λ (e : Bytes × NameBinding). seen_at slots e.0 ≡ Some e.1) (λ (e : Bytes × NameBinding). seen_at (with_name slots x marked) e.0 ≡ Some e.1) slots.visible stays h.found);
     told = (at, h.told);
   }
     where

@@ -6,15 +6,12 @@ use Rattle.gq_rules_typing.specs.Words.{under}
 use Rattle.gq_rules_meaning.specs.States.{Thing, State, with_new, with_name, changed}
 use Rattle.gq_rules_meaning.specs.Statements.{is_set}
 use Rattle.gq_rules_meaning.specs.StateFits.{AllOf}
+use Rattle.gq_rules_safety.proofs.NameLaws.{all_with}
 use Rattle.gq_plan_ir.specs.Naming.{Visible, View, visible_at, set_flag, reference_or_nothing, is_set_at, reference_at, AreDistinct, IsNew, with_name as view_with}
 use Rattle.gq_plan_ir.specs.Alike.{Sides, WordsAlike, NamesAlike, old_world, new_world}
 use Rattle.gq_plan_ir.specs.StandsFor.{TargetStands, with_target}
 
 -- ---- a look-up by a reference finds what the look-up by its name finds
-
-pub all_with : {A : Type 0} (P Q : A → Type 0) (xs : List A) → ((x : A) → P x → Q x) → AllOf P xs → AllOf Q xs
-all_with P Q [] f h = tt
-all_with P Q (x ∷ xs) f h = (f x h.0, all_with P Q xs f h.1)
 
 pub both_all : {A : Type 0} (P Q : A → Type 0) (xs : List A) → AllOf P xs → AllOf Q xs → AllOf (λ x. P x × Q x) xs
 both_all P Q [] h g = tt

@@ -3,7 +3,7 @@ use Rattle.std.proofs.Common.{◌≡◌, ◌+◌, ℕ, suc, Bool, false, List, [
 use Rattle.std.specs.Prelude.{slice_get}
 use Rattle.std.specs.Option.{option_map}
 use Rattle.std.specs.List.{flat_map}
-use Rattle.std.proofs.lemmas.List.{length_push}
+use Rattle.std.proofs.lemmas.List.{append_assoc, length_push}
 use Rattle.gq_tree.specs.Tree.{Tree}
 use Rattle.gq_value.specs.declared.kind.BaseType.{BaseType}
 use Rattle.gq_value.specs.declared.value.Wrong.{Wrong}
@@ -44,10 +44,6 @@ use Rattle.gq_plan_laws.specs.Declared.{ground_of, declared_of, SlotsAre}
 use Rattle.gq_plan_laws.specs.Planned.{Heads, with_accum, with_tuple, AccumsPlanned, DefinitionsPlanned}
 use Rattle.gq_plan_laws.specs.PlannedLaws.{no_names, no_heads, ParametersPlanned, PlanLaw}
 use Rattle.gq_plan_laws.proofs.FoundLaws.{sound_is, slots_more, slice_at}
-
-append_assoc : {A : Type 0} (xs ys zs : List A) → xs ++ (ys ++ zs) ≡ (xs ++ ys) ++ zs
-append_assoc [] ys zs = refl
-append_assoc (x ∷ xs) ys zs = ap (λ l. x ∷ l) (append_assoc xs ys zs)
 
 new_is : (n : Named) (x : Bytes) (m : Named) (place : ℕ) → new_name n x ≡ Some (m, place) → (seen_at n x ≡ None) × (with_name n x false ≡ m) × (n.next ≡ place)
 new_is n x m place h = go (seen_at n x) refl h
@@ -99,7 +95,7 @@ module _ (g : Graph) (clock : Calendar) (accums : List Bytes) where
   accum_at h done x attached more none at = record {
     slots = slots_more accums h.slots x attached at.slots none (ap (slice_get accums) (sym at.count) ∙ (ap (λ l. slice_get l (length done)) at.are ∙ slice_at accums done x more));
     count = length_push done x ∙ (let same : length done + 1 ≡ suc h.slots.next = omega (arith, at.count) in same);
-    are = at.are ∙ append_assoc done (x ∷ []) more;
+    are = at.are ∙ sym (append_assoc done (x ∷ []) more);
   }
 
   module _ (n : Named) where

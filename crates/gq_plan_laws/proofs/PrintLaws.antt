@@ -1,5 +1,6 @@
 -- PrintLaws: what PRINT prints by references is what it prints by names.
 use Rattle.std.proofs.Common.{◌≡◌, ℕ, Bool, true, List, [], ◌∷◌, ◌++◌, map, Option, Some, refl, ap, ◌∙◌}
+use mathlib.Core.Path.{fun_ext}
 use Rattle.std.specs.Prelude.{slice_get}
 use Rattle.gq_value.specs.Val.{Val, Vals, Int, Tuple, more}
 use Rattle.gq_value.specs.Accums.{Base, INT, TUPLE, Accum, SumAccum, MinAccum, MaxAccum, SetAccum, BagAccum, ListAccum, MapAccum, GroupByAccum, HeapAccum, Parts, no_part, part_and}
@@ -31,8 +32,7 @@ use Rattle.gq_plan_laws.proofs.SelectLaws.{new_state, old_look, new_look, seen_a
 -- ---- values and contents are printed alike, whatever represents names
 
 pub map_same : {A B : Type 0} (f g : A → B) → ((a : A) → g a ≡ f a) → (as' : List A) → map g as' ≡ map f as'
-map_same f g h [] = refl
-map_same f g h (a ∷ as') = ap (λ b. b ∷ map g as') (h a) ∙ ap (λ bs. f a ∷ bs) (map_same f g h as')
+map_same f g h as' = ap (λ k. map k as') (fun_ext h)
 
 module _ {M N : Type 0} (s : Sides M N) (w : WordsAlike s) where
   abbrev old : World M

@@ -172,13 +172,7 @@ module _ {M N : Type 0} (ground : Ground M N) where
         (rw (e, g)
         (opened_alike d i di k a b st.0.0 st.0.1 old new n h))
         (λ x y p. accums_alike Then k accums others st.1.0 st.1.1.0.sound (distinct_in d st.1.0 view di) st.1.1.1 world other
-        (e ∙ sym (ap (λ ts. old_with ts) st.1.1.0.named_tuples)) (g ∙ sym (ap (λ ts. new_with ts) st.1.1.0.tuples)) x y (names_in d st.1.0 view x.names y.names p.0) (subst (λ z. SlotsStand z x.slots y.slots) (sym st.1.1.0.accums) p.1))
-      where
-        old_with : List (M × Fields) → World M
-        old_with ts = record { words = ground.names; tuples = ts; graph = ground.graph; calendar = ground.calendar }
-
-        new_with : List (N × Fields) → World N
-        new_with ts = record { words = ground.references; tuples = ts; graph = ground.graph; calendar = ground.calendar }
+        (e ∙ sym (ap (λ ts. with_tuples ts (old_ground ground)) st.1.1.0.named_tuples)) (g ∙ sym (ap (λ ts. with_tuples ts (new_ground ground)) st.1.1.0.tuples)) x y (names_in d st.1.0 view x.names y.names p.0) (subst (λ z. SlotsStand z x.slots y.slots) (sym st.1.1.0.accums) p.1))
     accums_alike Then k accums others d i di st world other e g old new n h = absurd st
 
     -- after some declarations, with the tuple types
@@ -206,8 +200,8 @@ module _ {M N : Type 0} (ground : Ground M N) where
           declared = e;
           sound = t.0.sound;
           distinct = distinct_in d e view di;
-          old_is = ap old_with (ap (λ ts. ts ++ (x, st.1.0) ∷ []) (ap (λ (v : World M). v.tuples) w) ∙ sym t.0.named_tuples);
-          new_is = ap new_with (ap (λ ts. ts ++ (y, st.1.0) ∷ []) (ap (λ (v : World N). v.tuples) z) ∙ sym t.0.tuples);
+          old_is = ap (λ ts. with_tuples ts (old_ground ground)) (ap (λ ts. ts ++ (x, st.1.0) ∷ []) (ap (λ (v : World M). v.tuples) w) ∙ sym t.0.named_tuples);
+          new_is = ap (λ ts. with_tuples ts (new_ground ground)) (ap (λ ts. ts ++ (y, st.1.0) ∷ []) (ap (λ (v : World N). v.tuples) z) ∙ sym t.0.tuples);
           names = names_in d e view a.state.names b.state.names n;
           slots = subst (λ c. SlotsStand c a.state.slots b.state.slots) (sym t.0.accums) h;
           rest = t.1;
@@ -218,12 +212,6 @@ module _ {M N : Type 0} (ground : Ground M N) where
 
         t : WithTuple ground d x y st.1.0 st.1.1.1.0 × Then st.1.1.1.0
         t = st.1.1.1.1
-
-        old_with : List (M × Fields) → World M
-        old_with ts = record { words = ground.names; tuples = ts; graph = ground.graph; calendar = ground.calendar }
-
-        new_with : List (N × Fields) → World N
-        new_with ts = record { words = ground.references; tuples = ts; graph = ground.graph; calendar = ground.calendar }
 
         old_fields : fields_of (with_tuples a.tuples (old_ground ground)) fs ≡ Gives st.1.0
         old_fields = ap (λ w. fields_of w fs) w ∙ ap judged st.1.1.0
@@ -266,16 +254,10 @@ module _ {M N : Type 0} (ground : Ground M N) where
         }))
       where
         old_world_is : old_world (sides ground st.declared) ≡ old_ground ground
-        old_world_is = ap old_with st.no_names
-          where
-            old_with : List (M × Fields) → World M
-            old_with ts = record { words = ground.names; tuples = ts; graph = ground.graph; calendar = ground.calendar }
+        old_world_is = ap (λ ts. with_tuples ts (old_ground ground)) st.no_names
 
         new_world_is : new_world (sides ground st.declared) ≡ new_ground ground
-        new_world_is = ap new_with st.no_tuples
-          where
-            new_with : List (N × Fields) → World N
-            new_with ts = record { words = ground.references; tuples = ts; graph = ground.graph; calendar = ground.calendar }
+        new_world_is = ap (λ ts. with_tuples ts (new_ground ground)) st.no_tuples
 
         names : AnswersAlike (NamesAlike (sides ground st.declared) view) (bound (old_ground ground) q.parameters arguments) (bound (new_ground ground) p.parameters arguments)
         names =

@@ -1,6 +1,7 @@
 -- RunLaws: sets, assignments and statements that represent others do the same.
 use Rattle.std.proofs.Common.{◌≡◌, ℕ, List, [], ◌∷◌, map, Option, Some, None, refl, ap, Bool, true, false, sym, ◌∙◌, subst, zero, suc, ◌++◌}
 use Rattle.std.specs.Option.{option_map}
+use Rattle.std.proofs.lemmas.List.{append_assoc}
 use Rattle.gq_tree.specs.declared.body.SetOp.{SetOp}
 use Rattle.gq_value.specs.Val.{Vertex, Val}
 use Rattle.gq_value.specs.Accums.{Base, VERTEX_OF, SetAccum}
@@ -92,11 +93,7 @@ module _ {M N : Type 0} (s : Sides M N) (w : WordsAlike s) where
 
     pub sets_alike : (x : SetTerm M) (rest : List (SetOp × SetTerm M)) → sets_of (new_world s) (new_state s w f bs old) (renamed_term (naming_by s.fixed f source) x) (map new_term rest) ≡ sets_of (old_world s) old x rest
     sets_alike (Seeds []) [] = refl
-    sets_alike (Seeds []) (r ∷ rest) = chain_alike (Seeds []) (r ∷ rest)
-    sets_alike (Seeds (x ∷ xs)) [] = chain_alike (Seeds (x ∷ xs)) []
-    sets_alike (Seeds (x ∷ xs)) (r ∷ rest) = chain_alike (Seeds (x ∷ xs)) (r ∷ rest)
-    sets_alike (SetNamed x) [] = chain_alike (SetNamed x) []
-    sets_alike (SetNamed x) (r ∷ rest) = chain_alike (SetNamed x) (r ∷ rest)
+    sets_alike x rest = chain_alike x rest
 
     pub over_alike : (over : Over M) → gone_over (seen (new_world s) (new_state s w f bs old)) (renamed_over (named_by s.fixed f) over) ≡ gone_over (seen (old_world s) old) over
     over_alike (Elements t) = ap (λ o. o >>= elements_of) (meaning-renamed (named_by s.fixed f) _ _ sees t)
@@ -313,12 +310,8 @@ module _ {M N : Type 0} (s : Sides M N) (w : WordsAlike s) where
   extends_same : (view : View M N) → Extends view view
   extends_same view = ([], refl)
 
-  append_assoc : {A : Type 0} (xs ys zs : List A) → xs ++ (ys ++ zs) ≡ (xs ++ ys) ++ zs
-  append_assoc [] ys zs = refl
-  append_assoc (x ∷ xs) ys zs = ap (λ l. x ∷ l) (append_assoc xs ys zs)
-
   extends_then : (a b c : View M N) → Extends a b → Extends b c → Extends a c
-  extends_then a b c h g = (g.0 ++ h.0, g.1 ∙ ap (λ l. g.0 ++ l) h.1 ∙ append_assoc g.0 h.0 a)
+  extends_then a b c h g = (g.0 ++ h.0, g.1 ∙ ap (λ l. g.0 ++ l) h.1 ∙ sym (append_assoc g.0 h.0 a))
 
   locals_extend : (view : View M N) (xs : List (M × Option (Tree M))) (ys : List (N × Option (Tree N))) → Extends view (with_locals s.fixed view xs ys)
   locals_extend view (x ∷ xs) (y ∷ ys) = extends_then view (view_with s.fixed view x.0 y.0 false) (with_locals s.fixed (view_with s.fixed view x.0 y.0 false) xs ys) ((record { name = x.0; reference = y.0; is_set = false }) ∷ [], refl) (locals_extend (view_with s.fixed view x.0 y.0 false) xs ys)

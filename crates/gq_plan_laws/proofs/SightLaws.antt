@@ -2,6 +2,8 @@
 use Rattle.std.proofs.Common.{◌≡◌, ℕ, suc, Bool, List, [], ◌∷◌, map, length, Option, Some, None, refl, ap, ◌∙◌}
 use Rattle.std.specs.Prelude.{if◌then◌else◌, slice_get}
 use Rattle.std.specs.Option.{option_map}
+use Rattle.std.proofs.lemmas.List.{length-map}
+use Rattle.std.proofs.lemmas.Option.{slice_get-map}
 use Rattle.std.specs.List.{position_or_len}
 use Rattle.gq_value.specs.Val.{Val, Vertex, Tuple, list_of}
 use Rattle.gq_value.specs.Accums.{TUPLE, Parts, Base, Accum, One, Keyed, given_and}
@@ -28,14 +30,6 @@ use Rattle.gq_plan_ir.specs.RenamedBlocks.{renamed_input, renamed_inputs, rename
 
 -- ---- what an expression sees by references is what it sees by names
 
-pub map_length : {A B : Type 0} (f : A → B) (xs : List A) → length (map f xs) ≡ length xs
-map_length f [] = refl
-map_length f (x ∷ xs) = ap suc (map_length f xs)
-
-pub map_at : {A B : Type 0} (f : A → B) (xs : List A) (n : ℕ) → slice_get (map f xs) n ≡ option_map f (slice_get xs n)
-map_at f (x ∷ xs) (suc n) = map_at f xs n
-map_at f xs n = refl
-
 module _ {M N : Type 0} (s : Sides M N) (w : WordsAlike s) where
   -- ---- accumulators
 
@@ -45,7 +39,7 @@ module _ {M N : Type 0} (s : Sides M N) (w : WordsAlike s) where
   place_alike a (t ∷ slots) h = let r = place_alike a slots h.1 in let q = h.0.same a in cc
 
   pub slot_number_alike : (a : M) (slots : List (Slot M)) → AllOf (AccumIs s) slots → slot_number (new_world s) (new_slots s slots) (s.fixed.accum a) ≡ slot_number (old_world s) slots a
-  slot_number_alike a slots h = let n = map_length (new_slot s) slots in let m = place_alike a slots h in cc
+  slot_number_alike a slots h = let n = length-map slots (new_slot s) in let m = place_alike a slots h in cc
 
   pub slot_alike : (a : M) (slots : List (Slot M)) → AllOf (AccumIs s) slots → slot_named (new_world s) (new_slots s slots) (s.fixed.accum a) ≡ option_map (new_slot s) (slot_named (old_world s) slots a)
   slot_alike a slots h = go (slot_number (old_world s) slots a) (slot_number (new_world s) (new_slots s slots) (s.fixed.accum a)) (slot_number_alike a slots h)
@@ -60,7 +54,7 @@ module _ {M N : Type 0} (s : Sides M N) (w : WordsAlike s) where
 
       same_place : (o : Option ℕ) → at_new o ≡ option_map (new_slot s) (at_old o)
       same_place None = refl
-      same_place (Some n) = map_at (new_slot s) slots n
+      same_place (Some n) = slice_get-map (new_slot s) slots n
 
       go : (o p : Option ℕ) → p ≡ o → at_new p ≡ option_map (new_slot s) (at_old o)
       go o p e = ap at_new e ∙ same_place o

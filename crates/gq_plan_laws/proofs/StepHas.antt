@@ -407,9 +407,7 @@ module _ (g : Globals) (s : Scope Bytes) (n : Named) (shows : Shows g s n) where
 
   sets_have : (t : SetTerm Bytes) (rest : List (SetOp × SetTerm Bytes)) (types : List ℕ) → sets_types s t rest ≡ Ok types → Has (resolved_sets g n t rest)
   sets_have (Seeds []) [] types h = (record { first = term.Seeds []; others = [] }, refl)
-  sets_have (Seeds []) (r ∷ rest) types h = chain_has (Seeds []) (r ∷ rest) types h
-  sets_have (Seeds (z ∷ seeds)) rest types h = chain_has (Seeds (z ∷ seeds)) rest types h
-  sets_have (SetNamed x) rest types h = chain_has (SetNamed x) rest types h
+  sets_have t rest types h = chain_has t rest types h
 
   -- ---- changes of global accumulators
 
