@@ -14,12 +14,7 @@ alike_then R S o p f g h k = absurd h
 -- the given values are the same on both sides
 pub alike_same : {F A C D : Type 0} (S : C → D → Type 0) (o p : Answer F A) (f : A → Answer F C) (g : A → Answer F D)
     → p ≡ o → ((a : A) → AnswersAlike S (f a) (g a)) → AnswersAlike S (o >>= f) (p >>= g)
-alike_same S o p f g e k = subst (λ p. AnswersAlike S (o >>= f) (p >>= g)) (sym e) (go o)
-  where
-    go : (o : Answer _ _) → AnswersAlike S (o >>= f) (o >>= g)
-    go (Gives a) = k a
-    go (Faults d) = refl
-    go Stuck = tt
+alike_same S o p f g e k = subst (λ p. AnswersAlike S (o >>= f) (p >>= g)) (sym e) ((elim o as (λ (o : Answer _ _). AnswersAlike S (o >>= f) (o >>= g)) [ Gives a ↦ k a | Faults d ↦ refl | Stuck ↦ tt ]))
 
 pub alike_blaming : {E F A B : Type 0} (R : A → B → Type 0) (f : E → F) (o : Answer E A) (p : Answer E B) → AnswersAlike R o p → AnswersAlike R (blaming f o) (blaming f p)
 alike_blaming R f (Gives a) (Gives b) h = h

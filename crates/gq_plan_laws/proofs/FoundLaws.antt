@@ -74,11 +74,7 @@ edge_type_is sorts o = go (if_own sorts.own_edges o) refl
 
 method_is : (m : Bytes) → references.method (or_nothing Does (method_at m)) ≡ under bytes_eq m methods
 unfolding method_at
-method_is m = go (under bytes_eq m methods)
-  where
-    go : (o : Option words.Method) → references.method (or_nothing Does o) ≡ o
-    go None = refl
-    go (Some w) = refl
+method_is m = elim (under bytes_eq m methods) as (λ (o : Option words.Method). references.method (or_nothing Does o) ≡ o) [ None ↦ refl | Some w ↦ refl ]
 
 -- ---- tables of fields
 
@@ -128,11 +124,7 @@ under_all {A = A} p f (x ∷ pairs) a h e = go (bytes_eq x.0 f) (p x.1) refl e h
 
 module _ (g : Graph) (clock : Calendar) (ts : TupleTypes) (accums : List Bytes) (slots : Named) where
   is_type_is : (f : Bytes) → references.is_type (field_of (field_at g.sorts ts f)) ≡ bytes_eq (codes "type") f
-  is_type_is f = go (bytes_eq (codes "type") f)
-    where
-      go : (q : Bool) → references.is_type (field_of (if q then field.Type else field.Named (places_of g.sorts ts f))) ≡ q
-      go true = refl
-      go false = refl
+  is_type_is f = elim (bytes_eq (codes "type") f) as (λ (q : Bool). references.is_type (field_of (if q then field.Type else field.Named (places_of g.sorts ts f))) ≡ q) [ true ↦ refl | false ↦ refl ]
 
   -- a field of an owner with these names, if the tables agree with the name
   field_is : (owner : words.Owner) (names : List Bytes) (f : Bytes) → references.place_in (places_of g.sorts ts f) owner names ≡ place_of names f → references.field owner names (field_of (field_at g.sorts ts f)) ≡ place_of names f

@@ -236,15 +236,11 @@ written_has g s words (VertexOf t) c h =
 
 module _ (g : Globals) (s : Scope Bytes) (n : Named) (shows : Shows g s n) where
   pub slot_has : (attached : Bool) (a : Bytes) (kind : Accum) → declared_kind s attached a ≡ Ok kind → Has (g.slot a)
-  slot_has attached a kind e = go (entry s a) (shows.names a) e
+  slot_has attached a kind e = go (entry s a) refl (shows.names a)
     where
-      of_entry : Option Entry → Judged Accum
-      of_entry (Some (Accumulator k flag)) = unless (unknown s a) (same_flag attached flag) >> Ok k
-      of_entry _ = Err (unknown s a)
-
-      go : (o : Option Entry) → IsShown (g.slot a) (seen_at n a) o → of_entry o ≡ Ok kind → Has (g.slot a)
-      go (Some (Accumulator j flag)) d h = d.1
-      go o d h = cc
+      go : (o : Option Entry) → entry s a ≡ o → IsShown (g.slot a) (seen_at n a) o → Has (g.slot a)
+      go (Some (Accumulator j flag)) i d = d.1
+      go o i d = let h = rw (i, declared_kind) at e in absurd (cc h)
 
   pub place_has : (place : Place Bytes) (x : Bytes) (ty : Typed) → name_at s place x (entry s x) ≡ Ok ty → Has (place_at n x)
   place_has place x ty e = go (entry s x) (shows.names x) e
@@ -270,34 +266,22 @@ module _ (g : Globals) (s : Scope Bytes) (n : Named) (shows : Shows g s n) where
 
   -- a visible set variable
   pub set_has : (x : Bytes) (types : List ℕ) → set_types s x ≡ Ok types → InView (seen_at n x) true
-  set_has x types e = go (entry s x) (shows.names x) e
+  set_has x types e = go (entry s x) refl (shows.names x)
     where
-      of_entry : Option Entry → Judged (List ℕ)
-      of_entry (Some (SetVariable types)) = Ok types
-      of_entry (Some TupleName) = Err (unknown s x)
-      of_entry None = Err (unknown s x)
-      of_entry (Some e) = Err Mismatch
-
-      go : (o : Option Entry) → IsShown (g.slot x) (seen_at n x) o → of_entry o ≡ Ok types → InView (seen_at n x) true
-      go (Some (SetVariable ts)) d h = d
-      go o d h = cc
+      go : (o : Option Entry) → entry s x ≡ o → IsShown (g.slot x) (seen_at n x) o → InView (seen_at n x) true
+      go (Some (SetVariable ts)) i d = d
+      go o i d = let h = rw (i, set_types) at e in absurd (cc h)
 
   pub set_place : (x : Bytes) (types : List ℕ) → set_types s x ≡ Ok types → Has (place_at n x)
   set_place x types e = in_view (seen_at n x) true (set_has x types e)
 
   -- an alias of a vertex
   pub alias_has : (v : Bytes) (q : Bool) → vertex_alias s v ≡ Ok q → Has (place_at n v)
-  alias_has v q e = go (entry s v) (shows.names v) e
+  alias_has v q e = go (entry s v) refl (shows.names v)
     where
-      of_entry : Option Entry → Judged Bool
-      of_entry None = Err (unknown s v)
-      of_entry (Some (Alias types)) = Ok true
-      of_entry (Some TupleName) = Err (unknown s v)
-      of_entry (Some e) = Err NotAllowedHere
-
-      go : (o : Option Entry) → IsShown (g.slot v) (seen_at n v) o → of_entry o ≡ Ok q → Has (place_at n v)
-      go (Some (Alias ts)) d h = in_view (seen_at n v) false d
-      go o d h = cc
+      go : (o : Option Entry) → entry s v ≡ o → IsShown (g.slot v) (seen_at n v) o → Has (place_at n v)
+      go (Some (Alias ts)) i d = in_view (seen_at n v) false d
+      go o i d = let h = rw (i, vertex_alias) at e in absurd (cc h)
 
   pub vertex_type_has : (t : Bytes) (m : ℕ) → vertex_type s t ≡ Ok m → Has (g.vertex_type t)
   vertex_type_has t m h = (m, shows.words.vertex_type t m (or_fault_ok (unknown s t) (s.setting.words.vertex_type t) m h))

@@ -151,11 +151,7 @@ module _ {M N : Type 0} (s : Sides M N) (w : WordsAlike s) (f source : M → N) 
 
 -- an option mapped to another form continues as it did
 pub found_map : {F A B C : Type 0} (h : A → B) (f : A → Answer F C) (g : B → Answer F C) (o : Option A) (p : Option B) → p ≡ option_map h o → ((a : A) → g (h a) ≡ f a) → (found p >>= g) ≡ (found o >>= f)
-found_map {F = F} {A = A} h f g o p e k = ap (λ p. found {F = F} p >>= g) e ∙ go o
-  where
-    go : (o : Option A) → (found {F = F} (option_map h o) >>= g) ≡ (found {F = F} o >>= f)
-    go None = refl
-    go (Some a) = k a
+found_map {F = F} {A = A} h f g o p e k = ap (λ p. found {F = F} p >>= g) e ∙ elim o as (λ (o : Option A). (found {F = F} (option_map h o) >>= g) ≡ (found {F = F} o >>= f)) [ None ↦ refl | Some a ↦ k a ]
 
 module _ {M N : Type 0} (s : Sides M N) (w : WordsAlike s) (f : M → N) where
   -- ---- the source of a SELECT, and its candidates

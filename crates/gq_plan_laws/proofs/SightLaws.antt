@@ -64,11 +64,7 @@ module _ {M N : Type 0} (s : Sides M N) (w : WordsAlike s) where
   read_in v o = found o >>= λ t. found (slice_get t.contents v) >>= λ c. Gives (read t.kind c)
 
   pub read_alike : (a : M) (v : ℕ) (slots : List (Slot M)) → AllOf (AccumIs s) slots → read_slot (new_world s) (new_slots s slots) (s.fixed.accum a) v ≡ read_slot (old_world s) slots a v
-  read_alike a v slots h = ap (read_in v) (slot_alike a slots h) ∙ go (slot_named (old_world s) slots a)
-    where
-      go : (o : Option (Slot M)) → read_in v (option_map (new_slot s) o) ≡ read_in v o
-      go None = refl
-      go (Some t) = refl
+  read_alike a v slots h = ap (read_in v) (slot_alike a slots h) ∙ elim (slot_named (old_world s) slots a) as (λ (o : Option (Slot M)). read_in v (option_map (new_slot s) o) ≡ read_in v o) [ None ↦ refl | Some t ↦ refl ]
 
   -- ---- fields
 
