@@ -298,32 +298,20 @@ module _ (g : Globals) (ends : List ℕ) where
 -- ---- SELECT
 
 source_is : (g : Globals) (s : Scope Bytes) (n : Named) → Shows g s n → (x : Bytes) (types : List ℕ) → source_types s x ≡ Ok types → IsSource (g.vertex_type x) (seen_at n x)
-source_is g s n shows x types e = go (entry s x) (shows.names x) e
+source_is g s n shows x types e = go (entry s x) refl (shows.names x)
   where
-    of_entry : Option Entry → Judged (List ℕ)
-    of_entry (Some (SetVariable types)) = Ok types
-    of_entry _ = vertex_type s x >>= λ t. Ok (t ∷ [])
-
-    a_type : (marked_in (seen_at n x) ≡ false) → (vertex_type s x >>= λ t. Ok (t ∷ [])) ≡ Ok types → IsSource (g.vertex_type x) (seen_at n x)
-    a_type q h = let u = then_ok (vertex_type s x) _ types h in subst (SourceAt (g.vertex_type x) (seen_at n x)) (sym q) (vertex_type_has g s n shows x u.0 u.1)
-
-    go : (o : Option Entry) → IsShown (g.slot x) (seen_at n x) o → of_entry o ≡ Ok types → IsSource (g.vertex_type x) (seen_at n x)
-    go (Some (SetVariable ts)) d h = subst (SourceAt (g.vertex_type x) (seen_at n x)) (sym (ap marked_in d.1)) (in_view (seen_at n x) true d)
-    go (Some (Accumulator k attached)) d h = a_type (ap marked_in d.0) h
-    go (Some TupleName) d h = a_type (ap marked_in d) h
-    go None d h = a_type (ap marked_in d) h
-    go o d h = a_type (ap marked_in d.1) h
+    go : (o : Option Entry) → entry s x ≡ o → IsShown (g.slot x) (seen_at n x) o → IsSource (g.vertex_type x) (seen_at n x)
+    go (Some (SetVariable ts)) i d = subst (SourceAt (g.vertex_type x) (seen_at n x)) (sym (ap marked_in d.1)) (in_view (seen_at n x) true d)
+    go o i d =
+        let u = then_ok (vertex_type s x) (λ t. Ok (t ∷ [])) types (rw (i, source_types) at e) in
+        subst (SourceAt (g.vertex_type x) (seen_at n x)) (sym (set_is_marked (g.slot x) (seen_at n x) o d)) (vertex_type_has g s n shows x u.0 u.1)
 
 selected_has : (g : Globals) (s : Scope Bytes) (n : Named) → Shows g s n → (a b : Option Bytes) (x : Bytes) (types : List ℕ) → selected_types s a b x ≡ Ok types → Has (place_at n x)
-selected_has g s n shows a b x types e = go (entry s x) (shows.names x) (after_ok (unless (unknown s x) (is_alias s.setting.words.same a x || is_alias s.setting.words.same b x)) (of_entry (entry s x)) types e).1
+selected_has g s n shows a b x types e = go (entry s x) refl (shows.names x)
   where
-    of_entry : Option Entry → Judged (List ℕ)
-    of_entry (Some (Alias types)) = Ok types
-    of_entry _ = Err (unknown s x)
-
-    go : (o : Option Entry) → IsShown (g.slot x) (seen_at n x) o → of_entry o ≡ Ok types → Has (place_at n x)
-    go (Some (Alias ts)) d h = in_view (seen_at n x) false d
-    go o d h = cc
+    go : (o : Option Entry) → entry s x ≡ o → IsShown (g.slot x) (seen_at n x) o → Has (place_at n x)
+    go (Some (Alias ts)) i d = in_view (seen_at n x) false d
+    go o i d = let h = (after_ok _ (Err (unknown s x)) types (rw (i, selected_types) at e)).1 in absurd (cc h)
 
 source_has : (g : Globals) (n : Named) (x : Bytes) → IsSource (g.vertex_type x) (seen_at n x) → Has (resolved_source (known_in g n) (sees_in g n) x)
 source_has g n x h = go (is_marked n x) h
