@@ -1,6 +1,7 @@
 -- NameLaws: a look-up by a reference finds what the look-up by its name finds, also as names come into view and end.
 use Rattle.gq_plan_expr.proofs.PlanLaws.{some_inj}
 use Rattle.std.proofs.Common.{◌≡◌, Bool, true, false, List, [], ◌∷◌, Option, Some, refl, sym, ap, ◌∙◌, suc, ◌+◌, ◌++◌, length, arith, None}
+use Rattle.std.proofs.lemmas.List.{length-append}
 use Rattle.std.specs.Prelude.{if◌then◌else◌, is_some, ◌-◌, drop}
 use Rattle.gq_rules_typing.specs.Words.{under}
 use Rattle.gq_rules_meaning.specs.States.{Thing, State, with_new, with_name, changed}
@@ -161,59 +162,37 @@ module _ {M N : Type 0} (s : Sides M N) (w : WordsAlike s) where
 
   -- a visible name and its reference have the same thing
   pub at_target : (view : View M N) (as' : Names) (bs : References) (x : M) (r : N) (q : Bool) → AreDistinct s.fixed view → NamesAlike s view as' bs → TargetStands s.fixed view x r q → under like r bs ≡ under same x as'
-  at_target view as' bs x r q d h t = go (visible_at s.fixed view x) refl t
+  at_target view as' bs x r q d h t = go (visible_at s.fixed view x) refl
     where
-      of_visible : Option (Visible M N) → Type 0
-      of_visible (Some v) = (r ≡ v.reference) × (v.is_set ≡ q)
-      of_visible None = (q ≡ true) × IsNew s.fixed view x r
-
-      reference_of : Option (Visible M N) → N
-      reference_of None = s.fixed.nothing
-      reference_of (Some v) = v.reference
-
-      go : (o : Option (Visible M N)) → visible_at s.fixed view x ≡ o → of_visible o → under like r bs ≡ under same x as'
-      go (Some v) e t = ap (λ z. under like z bs) (t.0 ∙ sym (ap reference_of e)) ∙ seen view as' bs d h x
-      go None e t = new_reference view as' bs r t.1.reference h ∙ sym (no_thing (under same x as') (sym (found_visible view as' bs h x) ∙ ap is_some e))
+      go : (o : Option (Visible M N)) → visible_at s.fixed view x ≡ o → under like r bs ≡ under same x as'
+      go (Some v) e = let u = rw (e, TargetStands) at t in ap (λ z. under like z bs) (u.0 ∙ sym (ap (reference_or_nothing s.fixed) e)) ∙ seen view as' bs d h x
+      go None e =
+          let u = rw (e, TargetStands) at t in
+          new_reference view as' bs r u.1.reference h ∙ sym (no_thing (under same x as') (sym (found_visible view as' bs h x) ∙ ap is_some e))
 
   -- a name that is assigned
   pub assigned_alike : (view : View M N) (old : State M) (new : State N) (x : M) (r : N) (q : Bool) (thing : Thing) → AreDistinct s.fixed view → NamesAlike s view old.names new.names → TargetStands s.fixed view x r q → is_set (Some thing) ≡ q
       → NamesAlike s (with_target s.fixed view x r) (with_name (old_world s) x thing old).names (with_name (new_world s) r thing new).names
-  assigned_alike view old new x r q thing d h t i = go (visible_at s.fixed view x) refl t
+  assigned_alike view old new x r q thing d h t i = go (visible_at s.fixed view x) refl
     where
-      of_visible : Option (Visible M N) → Type 0
-      of_visible (Some v) = (r ≡ v.reference) × (v.is_set ≡ q)
-      of_visible None = (q ≡ true) × IsNew s.fixed view x r
-
-      behind : Option (Visible M N) → View M N
-      behind (Some v) = view
-      behind None = view_with s.fixed view x r true
-
       there : under like r new.names ≡ under same x old.names
       there = at_target view old.names new.names x r q d h t
-
-      old_named : Bool → State M
-      old_named b = if b then (record old { names = changed same x thing old.names }) else with_new x thing old
-
-      new_named : Bool → State N
-      new_named b = if b then (record new { names = changed like r thing new.names }) else with_new r thing new
 
       is_there : is_some (under same x old.names) ≡ is_some (visible_at s.fixed view x)
       is_there = sym (found_visible view old.names new.names h x)
 
-      go : (o : Option (Visible M N)) → visible_at s.fixed view x ≡ o → of_visible o → NamesAlike s (behind o) (old_named (is_some (under same x old.names))).names (new_named (is_some (under like r new.names))).names
-      go (Some v) e t =
+      go : (o : Option (Visible M N)) → visible_at s.fixed view x ≡ o → NamesAlike s (with_target s.fixed view x r) (with_name (old_world s) x thing old).names (with_name (new_world s) r thing new).names
+      go (Some v) e =
           let b : is_some (under same x old.names) ≡ true = is_there ∙ ap is_some e in
-          rw (b, ap is_some there ∙ b, t.0) (changed_alike view old.names new.names x v thing e told (i ∙ sym t.1) h)
+          let u = rw (e, TargetStands) at t in
+          rw (e, with_target, b, ap is_some there ∙ b, u.0, with_name) (changed_alike view old.names new.names x v thing e told (i ∙ sym u.1) h)
         where
-          reference_of : Option (Visible M N) → N
-          reference_of None = s.fixed.nothing
-          reference_of (Some v) = v.reference
-
           told : AllOf (λ (u : Visible M N). like u.reference v.reference ≡ same u.name x) view
-          told = all_with (λ (u : Visible M N). Told (reference_at s.fixed view) u.reference u.name) (λ (u : Visible M N). like u.reference v.reference ≡ same u.name x) view (λ u k. sym (ap (λ o. like u.reference (reference_of o)) e) ∙ k x) (all_told view d)
-      go None e t =
+          told = all_with (λ (u : Visible M N). Told (reference_at s.fixed view) u.reference u.name) (λ (u : Visible M N). like u.reference v.reference ≡ same u.name x) view (λ u k. sym (ap (λ o. like u.reference (reference_or_nothing s.fixed o)) e) ∙ k x) (all_told view d)
+      go None e =
           let b : is_some (under same x old.names) ≡ false = is_there ∙ ap is_some e in
-          rw (b, ap is_some there ∙ b) (new_alike view old.names new.names x r thing true (i ∙ t.0) h)
+          let u = rw (e, TargetStands) at t in
+          rw (e, with_target, b, ap is_some there ∙ b, with_name) (new_alike view old.names new.names x r thing true (i ∙ u.0) h)
 
   -- ---- names that end
 
@@ -227,17 +206,13 @@ module _ {M N : Type 0} (s : Sides M N) (w : WordsAlike s) where
   dropped_alike (v ∷ added) view (a ∷ as') (b ∷ bs) h = dropped_alike added view as' bs h.1
   dropped_alike added view as' bs h = absurd h
 
-  length_both : (added view : View M N) → length (added ++ view) ≡ length added + length view
-  length_both [] view = omega arith
-  length_both (v ∷ added) view = let r = length_both added view in omega (arith, r)
-
   -- after a body only the names that were visible before it are visible
   pub ended_alike : (added view : View M N) (before as' : Names) (old bs : References) → NamesAlike s view before old → NamesAlike s (added ++ view) as' bs
       → NamesAlike s view (drop (length as' - length before) as') (drop (length bs - length old) bs)
   ended_alike added view before as' old bs h g =
       let m = names_length view before old h in
       let n = names_length (added ++ view) as' bs g in
-      let l = length_both added view in
+      let l = length-append added view in
       let p : length as' - length before ≡ length added = omega (arith, m.0, n.0, l) in
       let q : length bs - length old ≡ length added = omega (arith, m.1, n.1, l) in
       rw (p, q) (dropped_alike added view as' bs g)

@@ -16,7 +16,7 @@ use Rattle.gq_rules_meaning.specs.Statements.{base_of_tree, elements_of, between
 use Rattle.gq_rules_meaning.specs.StateFits.{AllOf}
 use Rattle.gq_plan_ir.specs.Renamed.{SeesAlike, renamed}
 use Rattle.gq_plan_ir.proofs.RenamedLaws.{then_same, meaning-renamed}
-use Rattle.gq_plan_ir.specs.Naming.{named_by, naming_by, View, is_set_at, reference_at, AreDistinct, inside, naming, source_at, Visible, visible_at, IsNew, with_name as view_with}
+use Rattle.gq_plan_ir.specs.Naming.{named_by, naming_by, View, is_set_at, reference_or_nothing, reference_at, AreDistinct, inside, naming, source_at, Visible, visible_at, IsNew, with_name as view_with}
 use Rattle.gq_plan_ir.specs.RenamedStatements.{renamed_base, renamed_seed, renamed_term, renamed_set_types, renamed_over, renamed_printed}
 use Rattle.gq_plan_ir.specs.Alike.{Sides, old_world, new_world, WordsAlike, AccumIs, AnswersAlike, SlotsAlike, StatesAlike, NamesAlike, RunsAlike}
 use Rattle.gq_plan_laws.proofs.AnswerLaws.{each_alike, through_same, alike_same, alike_then, alike_blaming, through_each}
@@ -202,13 +202,9 @@ module _ {M N : Type 0} (s : Sides M N) (w : WordsAlike s) where
   seen_told : (view : View M N) → AreDistinct s.fixed view → (as' : List (M × Thing)) (bs : List (N × Thing)) → NamesAlike s view as' bs → SeenTold s w (reference_at s.fixed view) as'
   seen_told view d as' bs h x thing e = go (visible_at s.fixed view x) refl (found_visible s w view as' bs h x ∙ ap is_some e)
     where
-      reference_of : Option (Visible M N) → N
-      reference_of None = s.fixed.nothing
-      reference_of (Some v) = v.reference
-
-      go : (o : Option (Visible M N)) → visible_at s.fixed view x ≡ o → is_some o ≡ true → Told s w (reference_at s.fixed view) (reference_of (visible_at s.fixed view x)) x
+      go : (o : Option (Visible M N)) → visible_at s.fixed view x ≡ o → is_some o ≡ true → Told s w (reference_at s.fixed view) (reference_at s.fixed view x) x
       go None g i = cc
-      go (Some v) g i = subst (λ z. Told s w (reference_at s.fixed view) z x) (sym (ap reference_of g)) (told_at s w (reference_at s.fixed view) view (all_told s w view d) x v g)
+      go (Some v) g i = subst (λ z. Told s w (reference_at s.fixed view) z x) (sym (ap (reference_or_nothing s.fixed) g)) (told_at s w (reference_at s.fixed view) view (all_told s w view d) x v g)
 
   -- ---- assignments
 
@@ -318,15 +314,11 @@ module _ {M N : Type 0} (s : Sides M N) (w : WordsAlike s) where
   locals_extend view xs ys = extends_same view
 
   target_extends : (view : View M N) (x : M) (r : N) → Extends view (with_target s.fixed view x r)
-  target_extends view x r = go (visible_at s.fixed view x)
+  target_extends view x r = go (visible_at s.fixed view x) refl
     where
-      of_visible : Option (Visible M N) → View M N
-      of_visible (Some v) = view
-      of_visible None = view_with s.fixed view x r true
-
-      go : (o : Option (Visible M N)) → Extends view (of_visible o)
-      go (Some v) = ([], refl)
-      go None = ((record { name = x; reference = r; is_set = true }) ∷ [], refl)
+      go : (o : Option (Visible M N)) → visible_at s.fixed view x ≡ o → Extends view (with_target s.fixed view x r)
+      go (Some v) e = rw (e, with_target) ([], refl)
+      go None e = rw (e, with_target) ((record { name = x; reference = r; is_set = true }) ∷ [], refl)
 
   behind_extends : (st : Stmt M) (su : Stmt N) (view : View M N) → Extends view (behind s.fixed view st su)
   behind_extends (Local b xs) (Local c ys) view = locals_extend view xs ys
@@ -343,19 +335,11 @@ module _ {M N : Type 0} (s : Sides M N) (w : WordsAlike s) where
   locals_distinct view xs ys d h = absurd h
 
   target_distinct : (view : View M N) (x : M) (r : N) (q : Bool) → AreDistinct s.fixed view → TargetStands s.fixed view x r q → AreDistinct s.fixed (with_target s.fixed view x r)
-  target_distinct view x r q d h = go (visible_at s.fixed view x) h
+  target_distinct view x r q d h = go (visible_at s.fixed view x) refl
     where
-      of_visible : Option (Visible M N) → Type 0
-      of_visible (Some v) = (r ≡ v.reference) × (v.is_set ≡ q)
-      of_visible None = (q ≡ true) × IsNew s.fixed view x r
-
-      behind_of : Option (Visible M N) → View M N
-      behind_of (Some v) = view
-      behind_of None = view_with s.fixed view x r true
-
-      go : (o : Option (Visible M N)) → of_visible o → AreDistinct s.fixed (behind_of o)
-      go (Some v) h = d
-      go None h = (h.1, d)
+      go : (o : Option (Visible M N)) → visible_at s.fixed view x ≡ o → AreDistinct s.fixed (with_target s.fixed view x r)
+      go (Some v) e = rw (e, with_target) d
+      go None e = let u = rw (e, TargetStands) at h in rw (e, with_target) (u.1, d)
 
   behind_distinct : (st : Stmt M) (su : Stmt N) (view : View M N) → AreDistinct s.fixed view → Stands s.fixed view st su → AreDistinct s.fixed (behind s.fixed view st su)
   behind_distinct (Local b xs) (Local c ys) view d h = locals_distinct view xs ys d h.1
