@@ -34,10 +34,7 @@ alike_is o p h = absurd h
 -- each item under its new name gives the same
 pub each_alike : {F A B C : Type 0} (h : A → B) (f : A → Answer F C) (g : B → Answer F C) → ((a : A) → g (h a) ≡ f a) → (as' : List A) → each g (map h as') ≡ each f as'
 each_alike h f g k [] = refl
-each_alike {C = C} h f g k (a ∷ as') = ap (λ o. o >>= λ b. each g (map h as') >>= λ bs. Gives (b ∷ bs)) (k a) ∙ go (f a) (each_alike h f g k as')
-  where
-    go : (o : Answer _ C) → each g (map h as') ≡ each f as' → (o >>= λ b. each g (map h as') >>= λ bs. Gives (b ∷ bs)) ≡ (o >>= λ b. each f as' >>= λ bs. Gives (b ∷ bs))
-    go o e = ap (λ q. o >>= λ b. q >>= λ bs. Gives (b ∷ bs)) e
+each_alike h f g k (a ∷ as') = rw (k a, each_alike h f g k as')
 
 pub each_same : {F A C : Type 0} (f g : A → Answer F C) → ((a : A) → g a ≡ f a) → (as' : List A) → each g as' ≡ each f as'
 each_same f g k as' = ap (λ h. each h as') (fun_ext k)
@@ -56,8 +53,4 @@ through_each R f g k (a ∷ as') s t r = alike_then R R (f s a) (g t a) _ _ (k s
 -- through renamed items, with the same state
 pub through_same : {F A B S : Type 0} (h : A → B) (f : S → A → Answer F S) (g : S → B → Answer F S) → ((s : S) (a : A) → g s (h a) ≡ f s a) → (as' : List A) (s : S) → through g s (map h as') ≡ through f s as'
 through_same h f g k [] s = refl
-through_same {S = S} h f g k (a ∷ as') s = ap (λ o. o >>= λ t. through g t (map h as')) (k s a) ∙ go (f s a) (through_same h f g k as')
-  where
-    go : (o : Answer _ S) → ((t : S) → through g t (map h as') ≡ through f t as') → (o >>= λ t. through g t (map h as')) ≡ (o >>= λ t. through f t as')
-    go (Gives t) e = e t
-    go o e = refl
+through_same h f g k (a ∷ as') s = simp (k, through_same h f g k as')

@@ -104,10 +104,7 @@ module _ {M N : Type 0} (ground : Ground M N) where
       let b = then_ok (base_written (scope_of (setting (old_world (sides ground d)))) f.0) _ fields e in
       let n = then_ok (own_name most names f.1) _ fields b.2 in
       let r = then_ok (fields_written (scope_of (setting (old_world (sides ground d)))) most n.0 fs) _ fields n.2 in
-      ap (λ o. judging.◌>>=◌ o (λ c. judging.◌>>=◌ (own_name most names f.1) (λ more. judging.◌>>=◌ (fields_written (scope_of (setting (new_world (sides ground d)))) most more (map (new_field d) fs)) (λ rest. Ok ((f.1, c) ∷ rest))))) (base_written_alike d i f.0 b.0 b.1)
-      ∙ ap (λ o. judging.◌>>=◌ o (λ more. judging.◌>>=◌ (fields_written (scope_of (setting (new_world (sides ground d)))) most more (map (new_field d) fs)) (λ rest. Ok ((f.1, b.0) ∷ rest)))) n.1
-      ∙ ap (λ o. judging.◌>>=◌ o (λ rest. Ok ((f.1, b.0) ∷ rest))) (fields_alike d i most n.0 fs r.0 r.1)
-      ∙ r.2
+      simp (base_written_alike d i f.0 b.0 b.1, n.1, fields_alike d i most n.0 fs r.0 r.1) r.2
 
   -- ---- declarations
 
@@ -146,20 +143,12 @@ module _ {M N : Type 0} (ground : Ground M N) where
         → (old : State M) (new : State N) → NamesAlike (sides ground d) view old.names new.names → SlotsStand d.accums old.slots new.slots
         → AnswersAlike (λ (x : State M) (y : State N). NamesAlike (sides ground d) view x.names y.names × SlotsStand (d.accums ++ (a.1, b.1) ∷ []) x.slots y.slots) (opened (old_world (sides ground d)) k old a) (opened (new_world (sides ground d)) k new b)
     opened_alike d i di k a b e g old new n h =
-        alike_same (λ (x : State M) (y : State N). NamesAlike (sides ground d) view x.names y.names × SlotsStand (d.accums ++ (a.1, b.1) ∷ []) x.slots y.slots) _ _ _ _
-        (ap (λ z. each (λ v. opening (seen (new_world (sides ground d)) new) k z) (places (new_world (sides ground d)) b.0)) g
-        ∙ ap (λ z. each (λ (v : ℕ). opening (seen (new_world (sides ground d)) new) k (option_map (renamed (inside (fixed_in ground d) view)) a.2)) (places (new_world (sides ground d)) z)) e
-        ∙ same_places a.0
-        ∙ each_same (λ v. opening (seen (old_world (sides ground d)) old) k a.2) (λ v. opening (seen (new_world (sides ground d)) new) k (option_map (renamed (inside (fixed_in ground d) view)) a.2)) (λ v. opening_alike view d i di old new (states_alike view d i old new n h) k a.2) (places (old_world (sides ground d)) a.0))
-        (λ cs. (n, subst (λ z. SlotsStand (d.accums ++ (a.1, b.1) ∷ []) (old.slots ++ old_slot cs ∷ []) (new.slots ++ new_slot_of z cs ∷ [])) (sym e) (one_more d.accums old.slots new.slots (old_slot cs) b.1 h)))
+        rw (e, g, same_places a.0)
+        (alike_same (λ (x : State M) (y : State N). NamesAlike (sides ground d) view x.names y.names × SlotsStand (d.accums ++ (a.1, b.1) ∷ []) x.slots y.slots) _ _ _ _
+        (each_same _ _ (λ v. opening_alike view d i di old new (states_alike view d i old new n h) k a.2) (places (old_world (sides ground d)) a.0))
+        (λ cs. (n, one_more d.accums old.slots new.slots (record { name = a.1; attached = a.0; kind = k; contents = cs }) b.1 h)))
       where
-        old_slot : List (Holds k) → Slot M
-        old_slot cs = record { name = a.1; attached = a.0; kind = k; contents = cs }
-
-        new_slot_of : Bool → List (Holds k) → Slot N
-        new_slot_of z cs = record { name = b.1; attached = z; kind = k; contents = cs }
-
-        same_places : (z : Bool) → each (λ (v : ℕ). opening (seen (new_world (sides ground d)) new) k (option_map (renamed (inside (fixed_in ground d) view)) a.2)) (places (new_world (sides ground d)) z) ≡ each (λ (v : ℕ). opening (seen (new_world (sides ground d)) new) k (option_map (renamed (inside (fixed_in ground d) view)) a.2)) (places (old_world (sides ground d)) z)
+        same_places : (z : Bool) → places (new_world (sides ground d)) z ≡ places (old_world (sides ground d)) z
         same_places true = refl
         same_places false = refl
 
