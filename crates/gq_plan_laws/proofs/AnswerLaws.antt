@@ -1,5 +1,5 @@
 -- AnswerLaws: answers that continue alike.
-use Rattle.std.proofs.Common.{◌≡◌, List, [], ◌∷◌, map, refl, sym, ap, ◌∙◌, subst}
+use Rattle.std.proofs.Common.{◌≡◌, List, [], ◌∷◌, map, refl, sym, ap, subst}
 use mathlib.Core.Path.{fun_ext}
 use Rattle.gq_rules_meaning.specs.Answers.{Answer, Gives, Faults, Stuck, ◌>>=◌, blaming, each, through}
 use Rattle.gq_plan_ir.specs.Alike.{AnswersAlike}

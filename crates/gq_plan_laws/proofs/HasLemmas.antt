@@ -1,11 +1,11 @@
 -- HasLemmas: what is well typed has a plan: options with a value, lists, expressions, and names that a scope shows.
-use Rattle.std.proofs.Common.{◌≡◌, ℕ, Bool, true, List, [], ◌∷◌, Option, Some, None, Ok, refl, ap, ◌∙◌, false, Err, sym, subst, suc}
+use Rattle.std.proofs.Common.{◌≡◌, ℕ, Bool, true, List, [], ◌∷◌, Option, Some, None, Ok, refl, ap, ◌∙◌, false, sym, subst, suc}
 use Rattle.gq_tree.specs.Tree.{Tree, Trees, no_tree, tree}
 use Rattle.gq_value.specs.Accums.{Base, Accum}
 use Rattle.gq_scope.specs.Named.{Named, found_in, seen_at, place_at, marked_in, with_name}
 use Rattle.gq_rules_typing.specs.Statements.{Bytes, BaseTree, Ints, UInts, Bools, Strings, AnyVertex, VertexOf}
 use Rattle.gq_rules_typing.specs.Selecting.{Types, Every, These, Input, Plain, Keys, Inputs, no_input, input_and}
-use Rattle.gq_rules_typing.specs.Judging.{Typed, Judged, ◌>>◌, each_judged, through_judged, Mismatch, NotAllowedHere, NameTwice, unless}
+use Rattle.gq_rules_typing.specs.Judging.{Typed, Judged, ◌>>◌, each_judged, through_judged, NameTwice}
 use Rattle.gq_rules_typing.specs.Types.{as_base}
 use Rattle.gq_rules_typing.specs.ExpressionTypes.{Names, typing, typing_all, base_type, condition, number, converting}
 use Rattle.gq_rules_typing.specs.ActTypes.{kinds_of, typing_input, typing_inputs, vertex_alias}
@@ -23,7 +23,7 @@ use Rattle.std.specs.Prelude.{not, is_some, if◌then◌else◌, bytes_eq}
 use Rattle.std.specs.Option.{option_map}
 use Rattle.std.proofs.lemmas.Slice.Eq.{bytes_eq-Decides}
 use Rattle.gq_scope.specs.declared.places.NameBinding.{NameBinding}
-use Rattle.gq_rules_typing.specs.Scopes.{Entry, Variable, SetVariable, Alias, EdgeAlias, Accumulator, TupleName, Place, Scope, entry, said, unknown, with_entry, new_name, name_at, same_flag, declared_kind, global_at, before_at, names_at, base_written, vertex_type, edge_type}
+use Rattle.gq_rules_typing.specs.Scopes.{Entry, Variable, SetVariable, Alias, EdgeAlias, Accumulator, TupleName, Place, Scope, entry, said, unknown, with_entry, new_name, name_at, declared_kind, global_at, before_at, names_at, base_written, vertex_type, edge_type}
 use Rattle.gq_rules_typing.specs.SetTypes.{is_set, set_types}
 use Rattle.gq_plan_ir.specs.declared.plan.Declared.TheVariants as declared
 use Rattle.gq_plan_expr.specs.Globals.{Globals, known_in}

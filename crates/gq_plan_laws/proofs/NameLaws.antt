@@ -1,14 +1,14 @@
 -- NameLaws: a look-up by a reference finds what the look-up by its name finds, also as names come into view and end.
 use Rattle.gq_plan_expr.proofs.PlanLaws.{some_inj}
-use Rattle.std.proofs.Common.{◌≡◌, Bool, true, false, List, [], ◌∷◌, Option, Some, refl, sym, ap, ◌∙◌, suc, ◌+◌, ◌++◌, length, arith, None}
+use Rattle.std.proofs.Common.{◌≡◌, Bool, true, false, List, [], ◌∷◌, Option, Some, refl, sym, ap, ◌∙◌, suc, ◌++◌, length, arith, None}
 use Rattle.std.proofs.lemmas.List.{length-append}
 use Rattle.std.specs.Prelude.{if◌then◌else◌, is_some, ◌-◌, drop}
 use Rattle.gq_rules_typing.specs.Words.{under}
-use Rattle.gq_rules_meaning.specs.States.{Thing, State, with_new, with_name, changed}
+use Rattle.gq_rules_meaning.specs.States.{Thing, State, with_name, changed}
 use Rattle.gq_rules_meaning.specs.Statements.{is_set}
 use Rattle.gq_rules_meaning.specs.StateFits.{AllOf}
 use Rattle.gq_rules_safety.proofs.NameLaws.{all_with}
-use Rattle.gq_plan_ir.specs.Naming.{Visible, View, visible_at, set_flag, reference_or_nothing, is_set_at, reference_at, AreDistinct, IsNew, with_name as view_with}
+use Rattle.gq_plan_ir.specs.Naming.{Visible, View, visible_at, set_flag, reference_or_nothing, is_set_at, reference_at, AreDistinct, with_name as view_with}
 use Rattle.gq_plan_ir.specs.Alike.{Sides, WordsAlike, NamesAlike, old_world, new_world}
 use Rattle.gq_plan_ir.specs.StandsFor.{TargetStands, with_target}
 

@@ -105,17 +105,11 @@ module _ (g : Graph) (clock : Calendar) (accums : List Bytes) where
     accums_stand h [] [] j done more Then p at then = subst (λ (i : Heads). Then (D i.tuples i.slots)) (sym p) (then done (subst (λ i. At i done more) p at))
     accums_stand h (a ∷ rest) (b ∷ bs) j done more Then p at then =
         let named = subst (λ x. At h done (x ∷ (accum_names_of bs ++ more))) p.0.name at in
-        let next = accum_at h done a.1 a.0 (accum_names_of bs ++ more) p.0.new named in (
-          (p.0.attached, if_planned (known_in (globals_of g.sorts h.tuples h.slots) n) a.2 b.opening p.0.opening ∙ ap (λ z. option_map (renamed z) a.2) (inside_is g.sorts accums (globals_of g.sorts h.tuples h.slots) n)),
-          (
-            D h.tuples (with_name h.slots a.1 a.0),
-            (
-              subst (λ k. WithAccum G (D h.tuples h.slots) a.1 (Slot k) (D h.tuples (with_name h.slots a.1 a.0))) (sym p.0.slot)
-                  (record { sound = sound_is accums g clock h.tuples (with_name h.slots a.1 a.0) next.slots; named_tuples = refl; tuples = refl; accums = refl }),
-              accums_stand (with_accum h a.1 a.0) rest bs j (done ++ a.1 ∷ []) more Then p.1 next then,
-            ),
-          ),
-        )
+        let next = accum_at h done a.1 a.0 (accum_names_of bs ++ more) p.0.new named in
+        let opens = if_planned (known_in (globals_of g.sorts h.tuples h.slots) n) a.2 b.opening p.0.opening ∙ ap (λ z. option_map (renamed z) a.2) (inside_is g.sorts accums (globals_of g.sorts h.tuples h.slots) n) in
+        let is_sound = sound_is accums g clock h.tuples (with_name h.slots a.1 a.0) next.slots in
+        let others = accums_stand (with_accum h a.1 a.0) rest bs j (done ++ a.1 ∷ []) more Then p.1 next then in
+        ((p.0.attached, opens), (D h.tuples (with_name h.slots a.1 a.0), (rw p.0.slot (record { sound = is_sound; named_tuples = refl; tuples = refl; accums = refl }), others)))
     accums_stand h as' bs j done more Then p at then = absurd p
 
     -- ---- definitions
@@ -129,23 +123,11 @@ module _ (g : Graph) (clock : Calendar) (accums : List Bytes) where
     definitions_stand h [] [] j done Then p at then = subst (λ (i : Heads). Then (D i.tuples i.slots)) (sym p) (then done (subst (λ i. At i done []) p at))
     definitions_stand h (TupleType fs x ∷ ds) (definition.Tuple gs m ∷ es) j done Then p at then =
         let t = p.1 in
-        let fields = p.0 in (
-          each_planned (λ (f : BaseTree Bytes × Bytes). resolved_base (globals_of g.sorts h.tuples h.slots) f.0 >>= λ b. Some (a_field b f.1)) (λ (f : declared.Declared × Bytes). a_view (view_declared f.0) f.1) (λ (f : BaseTree Bytes × Bytes). a_view (renamed_base (D h.tuples h.slots).vertex_type f.0) f.1) field_is fs gs t.fields,
-          (
-            plain_fields fields,
-            (
-              t.written,
-              (
-                D (h.tuples ++ (x, fields) ∷ []) h.slots,
-                (
-                  subst (λ k. WithTuple G (D h.tuples h.slots) x (reference.TupleType k) (plain_fields fields) (D (h.tuples ++ (x, fields) ∷ []) h.slots)) (sym t.number)
-                      (record { sound = sound_is accums g clock (h.tuples ++ (x, fields) ∷ []) h.slots at.slots; named_tuples = tuples_more h.tuples x fields; tuples = numbered_next h.tuples x fields; accums = refl }),
-                  definitions_stand (with_tuple h x fields) ds es j done Then p.2 (record { slots = at.slots; count = at.count; are = at.are }) then,
-                ),
-              ),
-            ),
-          ),
-        )
+        let fields = p.0 in
+        let found = each_planned (λ (f : BaseTree Bytes × Bytes). resolved_base (globals_of g.sorts h.tuples h.slots) f.0 >>= λ b. Some (a_field b f.1)) (λ (f : declared.Declared × Bytes). a_view (view_declared f.0) f.1) (λ (f : BaseTree Bytes × Bytes). a_view (renamed_base (D h.tuples h.slots).vertex_type f.0) f.1) field_is fs gs t.fields in
+        let is_sound = sound_is accums g clock (h.tuples ++ (x, fields) ∷ []) h.slots at.slots in
+        let others = definitions_stand (with_tuple h x fields) ds es j done Then p.2 (record { slots = at.slots; count = at.count; are = at.are }) then in
+        (found, (plain_fields fields, (t.written, (D (h.tuples ++ (x, fields) ∷ []) h.slots, (rw t.number (record { sound = is_sound; named_tuples = tuples_more h.tuples x fields; tuples = numbered_next h.tuples x fields; accums = refl }), others)))))
       where
         a_field : declared.Declared → Bytes → declared.Declared × Bytes
         a_field d name = (d, name)

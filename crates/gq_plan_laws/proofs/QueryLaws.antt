@@ -5,7 +5,6 @@ use Rattle.gq_tree.specs.Tree.{Tree}
 use Rattle.gq_value.specs.declared.value.Wrong.{Wrong}
 use Rattle.gq_value.specs.Val.{Val}
 use Rattle.gq_value.specs.Accums.{Base, VERTEX_OF, Accum}
-use Rattle.gq_accum_laws.specs.Holds.{Holds}
 use Rattle.gq_accum_laws.specs.Reads.{set_to}
 use Rattle.gq_rules_typing.specs.Statements.{Bytes, BaseTree, VertexOf, Definition, TupleType, Accums, Parameter, QueryOver}
 use Rattle.gq_rules_typing.specs.Sorts.{Fields}
@@ -14,7 +13,7 @@ use Rattle.gq_rules_typing.specs.Judging as judging
 use Rattle.gq_rules_typing.specs.Kinds.{set_type}
 use Rattle.gq_rules_typing.specs.Scopes.{base_written}
 use Rattle.gq_rules_typing.specs.KindTypes.{own_name, fields_written}
-use Rattle.gq_rules_meaning.specs.Answers.{Answer, Gives, ◌>>=◌, found, each, through}
+use Rattle.gq_rules_meaning.specs.Answers.{Answer, Gives, ◌>>=◌, found, through}
 use Rattle.gq_rules_meaning.specs.Expressions.{World, setting}
 use Rattle.gq_rules_meaning.specs.States.{Thing, Variable, Slot, State, seen}
 use Rattle.gq_rules_meaning.specs.Outs.{Out}

@@ -16,7 +16,7 @@ use Rattle.gq_rules_meaning.specs.Statements.{base_of_tree, elements_of, between
 use Rattle.gq_rules_meaning.specs.StateFits.{AllOf}
 use Rattle.gq_plan_ir.specs.Renamed.{SeesAlike, renamed}
 use Rattle.gq_plan_ir.proofs.RenamedLaws.{then_same, meaning-renamed}
-use Rattle.gq_plan_ir.specs.Naming.{named_by, naming_by, View, is_set_at, reference_or_nothing, reference_at, AreDistinct, inside, naming, source_at, Visible, visible_at, IsNew, with_name as view_with}
+use Rattle.gq_plan_ir.specs.Naming.{named_by, naming_by, View, is_set_at, reference_or_nothing, reference_at, AreDistinct, inside, naming, source_at, Visible, visible_at, with_name as view_with}
 use Rattle.gq_plan_ir.specs.RenamedStatements.{renamed_base, renamed_seed, renamed_term, renamed_set_types, renamed_over, renamed_printed}
 use Rattle.gq_plan_ir.specs.Alike.{Sides, old_world, new_world, WordsAlike, AccumIs, AnswersAlike, SlotsAlike, StatesAlike, NamesAlike, RunsAlike}
 use Rattle.gq_plan_laws.proofs.AnswerLaws.{each_alike, through_same, alike_same, alike_then, alike_blaming, through_each}

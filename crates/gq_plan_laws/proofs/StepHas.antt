@@ -1,6 +1,6 @@
 -- StepHas: acts, walks, SELECTs and statements that have a plan if they are well typed.
 use Rattle.std.proofs.Common.{◌≡◌, ℕ, Bool, true, false, List, [], ◌∷◌, Option, Some, None, Ok, Err, refl, sym, ap, subst, ◌∙◌}
-use Rattle.std.specs.Prelude.{not, is_some, ◌||◌, if◌then◌else◌, bytes_eq}
+use Rattle.std.specs.Prelude.{not, is_some, if◌then◌else◌, bytes_eq}
 use Rattle.gq_tree.specs.Tree.{Tree, Name}
 use Rattle.gq_tree.specs.declared.select.Way.{Way}
 use Rattle.gq_value.specs.Accums.{Base, Accum}
@@ -12,8 +12,8 @@ use Rattle.gq_rules_typing.specs.Selecting.{Hop, Walk, Nowhere, OneHop, Path, Ch
 use Rattle.gq_rules_typing.specs.Judging.{NotAllowedHere, TwoAliases, OrderDependent, Judged, ◌>>=◌, ◌>>◌, unless, each_judged, Typed, TypingFault, SetOf, Mismatch, through_judged}
 use Rattle.gq_rules_typing.specs.Kinds.{is_list}
 use Rattle.gq_rules_typing.specs.ExpressionTypes.{typing, condition, number, converting, base_type}
-use Rattle.gq_rules_typing.specs.Scopes.{Entry, SetVariable, Alias, EdgeAlias, Accumulator, TupleName, Place, InBlock, InPost, InTail, InLimit, Scope, entry, said, unknown, with_entry, new_name, declared_kind, names_at, vertex_type, edge_type, Variable, InStatement, InSelection, base_written}
-use Rattle.gq_rules_typing.specs.Patterns.{edge_types, end_types, edge_alias, target_alias, is_alias}
+use Rattle.gq_rules_typing.specs.Scopes.{Entry, SetVariable, Alias, EdgeAlias, Place, InBlock, InPost, InTail, InLimit, Scope, entry, said, unknown, with_entry, new_name, declared_kind, names_at, vertex_type, edge_type, Variable, InStatement, InSelection, base_written}
+use Rattle.gq_rules_typing.specs.Patterns.{edge_types, end_types, edge_alias, target_alias}
 use Rattle.gq_rules_typing.specs.ActTypes.{vertex_alias, settable, typing_input, typing_given, typing_written, typing_fed, typing_at, typing_global, place_of, one_more, typing_acts, typing_act, typing_choices, names_one, typing_post}
 use Rattle.gq_rules_typing.specs.SelectTypes.{source_types, all_known, typing_hop, way_known, nameless, typing_steps, typing_walk, optional, sort_key, selected_types, typing_select}
 use Rattle.gq_rules_typing.specs.SelectTypes as typed
