@@ -34,9 +34,7 @@ use Rattle.gq_plan_expr.specs.Found.{plain_fields, plain_tuples, globals_of}
 use Rattle.gq_plan_laws.specs.Planned.{Heads, setting_of, with_accum, with_tuple, AccumsPlanned, DefinitionsPlanned}
 use Rattle.gq_plan_laws.specs.Shown.{IsShown}
 use Rattle.gq_plan_laws.specs.Declares.{tuple_names, is_taken, Declares}
-use Rattle.gq_plan_laws.proofs.HasLemmas.{Has, has_one, has_then, converting_has}
-use Rattle.gq_plan_laws.proofs.ShownLemmas.{same_bytes, place_in, entry_none, written_has, new_seen, knows}
-use Rattle.gq_plan_laws.proofs.FoundLemmas.{words_in}
+use Rattle.gq_plan_laws.proofs.HasLemmas.{Has, has_one, has_two, converting_has, same_bytes, place_in, entry_none, written_has, new_seen, knows, words_in}
 use Rattle.gq_plan_laws.proofs.PlannedQueryLaws.{tuples_more}
 
 -- ---- one more name
@@ -45,14 +43,12 @@ slot_more : (q r : Bool) → q ≡ r → (seen : NameBinding) (o : Option NameBi
     → IsShown (place_in (if q then Some seen else slots)) o (if r then Some (Accumulator k attached) else e)
 slot_more true true i seen o slots k attached e new h = (new refl, (seen.place, refl))
 slot_more false false i seen o slots k attached e new h = h
-slot_more true false i seen o slots k attached e new h = absurd (cc i)
-slot_more false true i seen o slots k attached e new h = absurd (cc i)
+slot_more q r i seen o slots k attached e new h = absurd (cc i)
 
 free_more : (q r : Bool) → q ≡ r → (seen : NameBinding) (slots : Option NameBinding) (d : Entry) (e : Option Entry) → (e ≡ None → slots ≡ None) → (if r then Some d else e) ≡ None → (if q then Some seen else slots) ≡ None
 free_more true true i seen slots d e h k = cc
 free_more false false i seen slots d e h k = h k
-free_more true false i seen slots d e h k = absurd (cc i)
-free_more false true i seen slots d e h k = absurd (cc i)
+free_more q r i seen slots d e h k = absurd (cc i)
 
 name_more : (r : Bool) (slot : Option ℕ) (o : Option NameBinding) (e : Option Entry) → (r ≡ true → o ≡ None) → IsShown slot o e → IsShown slot o (if r then Some TupleName else e)
 name_more true slot o e new h = new refl
@@ -127,11 +123,10 @@ module _ (sorts : Sorts) (n : Named) where
   pub accums_behind : (kind : Accum) (accums : List (Bool × Bytes × Option (Tree Bytes))) (s t : Scope Bytes) (h i : Heads) (bs : List code.Accum) → Declares sorts n h s → through_judged (typing_accum kind) s accums ≡ Ok t → AccumsPlanned sorts n h accums bs i
       → Declares sorts n i t
   accums_behind kind [] s t h i [] d e p = both_end s t h i d e p
-  accums_behind kind [] s t h i (b ∷ bs) d e p = absurd p
-  accums_behind kind (a ∷ rest) s t h i [] d e p = absurd p
   accums_behind kind (a ∷ rest) s t h i (b ∷ bs) d e p =
       let u = then_ok (typing_accum kind s a) _ t e in
       accums_behind kind rest u.0 t (with_accum h a.1 a.0) i bs (accum_passes kind s u.0 h a d u.1).behind u.2 p.1
+  accums_behind kind accums s t h i bs d e p = absurd p
 
   -- ---- tuple types
 
@@ -147,8 +142,7 @@ module _ (sorts : Sorts) (n : Named) where
       let u = then_ok (base_written s f.0) _ fields e in
       let v = then_ok (own_name most names f.1) _ fields u.2 in
       let w = then_ok (fields_written s most v.0 fs) _ fields v.2 in
-      has_then (field_found g f) (λ b. plans.◌>>=◌ (each_resolved (field_found g) fs) (λ bs. Some (b ∷ bs))) (has_one (resolved_base g f.0) (λ b. (b, f.1)) (written_has g s (words_in sorts h.tuples h.slots s z) f.0 u.0 u.1))
-      (λ b i. has_one (each_resolved (field_found g) fs) (λ bs. b ∷ bs) (fields_have s h z most v.0 fs w.0 w.1))
+      has_two _ (has_one (resolved_base g f.0) (λ b. (b, f.1)) (written_has g s (words_in sorts h.tuples h.slots s z) f.0 u.0 u.1)) (fields_have s h z most v.0 fs w.0 w.1)
 
   tuple_declared : (s : Scope Bytes) (h : Heads) → Declares sorts n h s → (name : Bytes) (fields : Fields) (own : List (Bytes × BaseType)) → plain_fields own ≡ fields → (q : Bool) → new_name s name ≡ Ok q
       → Declares sorts n (with_tuple h name own) (typed.with_tuple name fields s)
@@ -208,11 +202,6 @@ module _ (sorts : Sorts) (n : Named) where
   pub definitions_behind : (ds : List (Definition Bytes (KindTree Bytes))) (s t : Scope Bytes) (h i : Heads) (es : List definition_code.Definition) → Declares sorts n h s → through_judged (typing_definition kind_written) s ds ≡ Ok t → DefinitionsPlanned sorts n h ds es i
       → Declares sorts n i t
   definitions_behind [] s t h i [] d e p = both_end s t h i d e p
-  definitions_behind [] s t h i (b ∷ es) d e p = absurd p
-  definitions_behind (TupleType fs x ∷ ds) s t h i [] d e p = absurd p
-  definitions_behind (Accums k accums ∷ ds) s t h i [] d e p = absurd p
-  definitions_behind (TupleType fs x ∷ ds) s t h i (definition.Accums kind bs ∷ es) d e p = absurd p
-  definitions_behind (Accums k accums ∷ ds) s t h i (definition.Tuple gs m ∷ es) d e p = absurd p
   definitions_behind (TupleType fs x ∷ ds) s t h i (definition.Tuple gs m ∷ es) d e p =
       let u = then_ok (typing_definition kind_written s (TupleType fs x)) _ t e in
       let v = tuple_passes s u.0 h fs x d u.1 in
@@ -223,3 +212,4 @@ module _ (sorts : Sorts) (n : Named) where
       let q = p.1 in
       let r = q.1 in
       definitions_behind ds u.0 t q.0 i es (accums_behind v.kind accums s u.0 h q.0 bs d v.accums_pass r.0) u.2 r.1
+  definitions_behind ds s t h i es d e p = absurd p

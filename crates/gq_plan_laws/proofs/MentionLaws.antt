@@ -1,7 +1,7 @@
 -- MentionLaws: an act names under other names what it names.
 use Rattle.std.proofs.Common.{◌≡◌, Bool, refl, ap, ◌∙◌}
 use Rattle.std.specs.Prelude.{◌||◌}
-use Rattle.gq_tree.specs.Tree.{Tree, Behind, Trees, Parts, Factors, Terms, Number, Text, Truth, Global, Name, Call, Post, Neg, Mul, Sum, Cmp, Not, And, Or, Field, Method, Attached, Before, no_tree, tree, no_part, part, no_factor, factor, no_term, term}
+use Rattle.gq_tree.specs.Tree.{Tree, Behind, Trees, Parts, Factors, Terms, Name, Call, Post, Neg, Mul, Sum, Cmp, Not, And, Or, Method, no_tree, tree, no_part, part, no_factor, factor, no_term, term}
 use Rattle.gq_rules_typing.specs.Selecting.{Input, Plain, Keys, Inputs, no_input, input_and, Change, Adds, Puts, Act, AtAlias, AtGlobal, Choose, Acts, no_act, act_and, Choices, otherwise, when}
 use Rattle.gq_rules_typing.specs.Mentions.{in_tree, in_trees, in_parts, in_part, in_factors, in_terms, in_input, in_inputs, in_change, in_act, in_acts, in_choices}
 use Rattle.gq_plan_ir.specs.Renamed.{Renaming, renamed, renamed_part, renamed_trees, renamed_parts, renamed_factors, renamed_terms}
@@ -23,10 +23,7 @@ module _ {M N : Type 0} (r : Renaming M N) (old : M → Bool) (new : N → Bool)
     tree_names (Not n t) = tree_names t
     tree_names (And t ts) = or_same _ _ _ _ (tree_names t) (trees_name ts)
     tree_names (Or t ts) = or_same _ _ _ _ (tree_names t) (trees_name ts)
-    tree_names (Number n) = refl
-    tree_names (Text t) = refl
-    tree_names (Truth b) = refl
-    tree_names (Global a) = refl
+    tree_names t = refl
 
     trees_name : (ts : Trees M) → in_trees new (renamed_trees r ts) ≡ in_trees old ts
     trees_name no_tree = refl
@@ -38,9 +35,7 @@ module _ {M N : Type 0} (r : Renaming M N) (old : M → Bool) (new : N → Bool)
 
     part_names : (p : Behind M) → in_part new (renamed_part r p) ≡ in_part old p
     part_names (Method m ts) = trees_name ts
-    part_names (Field f) = refl
-    part_names (Attached a) = refl
-    part_names (Before a) = refl
+    part_names p = refl
 
     factors_name : (fs : Factors M) → in_factors new (renamed_factors r fs) ≡ in_factors old fs
     factors_name no_factor = refl

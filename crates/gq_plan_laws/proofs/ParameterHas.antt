@@ -16,8 +16,7 @@ use Rattle.gq_plan_expr.specs.Found.{globals_of}
 use Rattle.gq_plan_laws.specs.Planned.{setting_of}
 use Rattle.gq_plan_laws.specs.PlannedLaws.{no_names, ParametersPlanned}
 use Rattle.gq_plan_laws.specs.Shown.{InView, IsShown, Shows}
-use Rattle.gq_plan_laws.proofs.ShownLemmas.{same_bytes, same_itself, entry_none, written_has}
-use Rattle.gq_plan_laws.proofs.FoundLemmas.{words_in}
+use Rattle.gq_plan_laws.proofs.HasLemmas.{same_bytes, same_itself, entry_none, written_has, words_in}
 
 -- a name after parameters, by whether it is one of them
 abbrev Told : Option NameBinding → Option Entry → Option Entry → Bool → Type 0
@@ -33,8 +32,7 @@ told_more : (q r : Bool) → q ≡ r → (p : ℕ) (o : Option NameBinding) (bef
 told_more true true e p o before behind b new (true, h) = let i = h.1.1 in absurd (cc i)
 told_more true true e p o before behind b new (false, h) = (true, ((p, refl), ((b, h.1), new refl)))
 told_more false false e p o before behind b new h = h
-told_more true false e p o before behind b new h = absurd (cc e)
-told_more false true e p o before behind b new h = absurd (cc e)
+told_more q r e p o before behind b new h = absurd (cc e)
 
 -- the name of a parameter isn't taken by a later one
 told_none : (o : Option NameBinding) (before behind : Option Entry) (b : Base) → before ≡ Some (Variable b) → IsTold o before behind → o ≡ None

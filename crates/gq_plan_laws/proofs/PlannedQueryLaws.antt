@@ -3,13 +3,13 @@ use Rattle.std.proofs.Common.{◌≡◌, ◌+◌, ℕ, suc, Bool, false, List, [
 use Rattle.std.specs.Prelude.{slice_get}
 use Rattle.std.specs.Option.{option_map}
 use Rattle.std.specs.List.{flat_map}
-use Rattle.std.proofs.lemmas.List.{length_push}
+use Rattle.std.proofs.lemmas.List.{append_assoc, length_push}
 use Rattle.gq_tree.specs.Tree.{Tree}
 use Rattle.gq_value.specs.declared.kind.BaseType.{BaseType}
 use Rattle.gq_value.specs.declared.value.Wrong.{Wrong}
 use Rattle.gq_scope.specs.declared.places.NameBinding.{NameBinding}
 use Rattle.gq_scope.specs.Named.{Named, seen_at, with_name}
-use Rattle.gq_rules_typing.specs.Statements.{Bytes, BaseTree, Ints, UInts, Bools, Strings, AnyVertex, VertexOf, KindTree, Definition, TupleType, Accums, Parameter}
+use Rattle.gq_rules_typing.specs.Statements.{Bytes, BaseTree, VertexOf, KindTree, Definition, TupleType, Accums, Parameter}
 use Rattle.gq_rules_typing.specs.Sorts.{Fields}
 use Rattle.gq_rules_meaning.specs.Calendars.{Calendar}
 use Rattle.gq_rules_meaning.specs.Graphs.{Graph}
@@ -43,11 +43,7 @@ use Rattle.gq_plan_laws.specs.Sides.{numbered}
 use Rattle.gq_plan_laws.specs.Declared.{ground_of, declared_of, SlotsAre}
 use Rattle.gq_plan_laws.specs.Planned.{Heads, with_accum, with_tuple, AccumsPlanned, DefinitionsPlanned}
 use Rattle.gq_plan_laws.specs.PlannedLaws.{no_names, no_heads, ParametersPlanned, PlanLaw}
-use Rattle.gq_plan_laws.proofs.SoundLaws.{sound_is, slots_more, slice_at}
-
-append_assoc : {A : Type 0} (xs ys zs : List A) → xs ++ (ys ++ zs) ≡ (xs ++ ys) ++ zs
-append_assoc [] ys zs = refl
-append_assoc (x ∷ xs) ys zs = ap (λ l. x ∷ l) (append_assoc xs ys zs)
+use Rattle.gq_plan_laws.proofs.FoundLaws.{sound_is, slots_more, slice_at}
 
 new_is : (n : Named) (x : Bytes) (m : Named) (place : ℕ) → new_name n x ≡ Some (m, place) → (seen_at n x ≡ None) × (with_name n x false ≡ m) × (n.next ≡ place)
 new_is n x m place h = go (seen_at n x) refl h
@@ -89,13 +85,9 @@ module _ (g : Graph) (clock : Calendar) (accums : List Bytes) where
     pub are : accums ≡ done ++ more
 
   base_is : (h : Heads) (b : BaseTree Bytes) (d : declared.Declared) → resolved_base (globals_of g.sorts h.tuples h.slots) b ≡ Some d → view_declared d ≡ renamed_base (D h.tuples h.slots).vertex_type b
-  base_is h Ints d e = ap view_declared (sym (some_inj e))
-  base_is h UInts d e = ap view_declared (sym (some_inj e))
-  base_is h Bools d e = ap view_declared (sym (some_inj e))
-  base_is h Strings d e = ap view_declared (sym (some_inj e))
-  base_is h AnyVertex d e = ap view_declared (sym (some_inj e))
   base_is h (VertexOf t) d e =
       let u = then_some ((globals_of g.sorts h.tuples h.slots).vertex_type t) _ d e in ap view_declared (sym (some_inj u.2)) ∙ ap VertexOf (found_is VertexType ((globals_of g.sorts h.tuples h.slots).vertex_type t) u.0 u.1)
+  base_is h b d e = ap view_declared (sym (some_inj e))
 
   -- ---- accumulators
 
@@ -103,7 +95,7 @@ module _ (g : Graph) (clock : Calendar) (accums : List Bytes) where
   accum_at h done x attached more none at = record {
     slots = slots_more accums h.slots x attached at.slots none (ap (slice_get accums) (sym at.count) ∙ (ap (λ l. slice_get l (length done)) at.are ∙ slice_at accums done x more));
     count = length_push done x ∙ (let same : length done + 1 ≡ suc h.slots.next = omega (arith, at.count) in same);
-    are = at.are ∙ append_assoc done (x ∷ []) more;
+    are = at.are ∙ sym (append_assoc done (x ∷ []) more);
   }
 
   module _ (n : Named) where
@@ -111,21 +103,14 @@ module _ (g : Graph) (clock : Calendar) (accums : List Bytes) where
         → AccumsPlanned g.sorts n h as' bs j → At h done (accum_names_of bs ++ more) → ((dones : List Bytes) → At j dones more → Then (D j.tuples j.slots))
         → AccumsStand G kind_of (view_of n) (D h.tuples h.slots) as' (map view_accum bs) Then
     accums_stand h [] [] j done more Then p at then = subst (λ (i : Heads). Then (D i.tuples i.slots)) (sym p) (then done (subst (λ i. At i done more) p at))
-    accums_stand h [] (b ∷ bs) j done more Then p at then = absurd p
-    accums_stand h (a ∷ rest) [] j done more Then p at then = absurd p
     accums_stand h (a ∷ rest) (b ∷ bs) j done more Then p at then =
         let named = subst (λ x. At h done (x ∷ (accum_names_of bs ++ more))) p.0.name at in
-        let next = accum_at h done a.1 a.0 (accum_names_of bs ++ more) p.0.new named in (
-          (p.0.attached, if_planned (known_in (globals_of g.sorts h.tuples h.slots) n) a.2 b.opening p.0.opening ∙ ap (λ z. option_map (renamed z) a.2) (inside_is g.sorts accums (globals_of g.sorts h.tuples h.slots) n)),
-          (
-            D h.tuples (with_name h.slots a.1 a.0),
-            (
-              subst (λ k. WithAccum G (D h.tuples h.slots) a.1 (Slot k) (D h.tuples (with_name h.slots a.1 a.0))) (sym p.0.slot)
-                  (record { sound = sound_is accums g clock h.tuples (with_name h.slots a.1 a.0) next.slots; named_tuples = refl; tuples = refl; accums = refl }),
-              accums_stand (with_accum h a.1 a.0) rest bs j (done ++ a.1 ∷ []) more Then p.1 next then,
-            ),
-          ),
-        )
+        let next = accum_at h done a.1 a.0 (accum_names_of bs ++ more) p.0.new named in
+        let opens = if_planned (known_in (globals_of g.sorts h.tuples h.slots) n) a.2 b.opening p.0.opening ∙ ap (λ z. option_map (renamed z) a.2) (inside_is g.sorts accums (globals_of g.sorts h.tuples h.slots) n) in
+        let is_sound = sound_is accums g clock h.tuples (with_name h.slots a.1 a.0) next.slots in
+        let others = accums_stand (with_accum h a.1 a.0) rest bs j (done ++ a.1 ∷ []) more Then p.1 next then in
+        ((p.0.attached, opens), (D h.tuples (with_name h.slots a.1 a.0), (rw p.0.slot (record { sound = is_sound; named_tuples = refl; tuples = refl; accums = refl }), others)))
+    accums_stand h as' bs j done more Then p at then = absurd p
 
     -- ---- definitions
 
@@ -136,30 +121,13 @@ module _ (g : Graph) (clock : Calendar) (accums : List Bytes) where
         → DefinitionsPlanned g.sorts n h ds es j → At h done (names_of_all es) → ((dones : List Bytes) → At j dones [] → Then (D j.tuples j.slots))
         → DefinitionsStand G kind_of (view_of n) (D h.tuples h.slots) ds (map view_definition es) Then
     definitions_stand h [] [] j done Then p at then = subst (λ (i : Heads). Then (D i.tuples i.slots)) (sym p) (then done (subst (λ i. At i done []) p at))
-    definitions_stand h [] (e ∷ es) j done Then p at then = absurd p
-    definitions_stand h (TupleType fs x ∷ ds) [] j done Then p at then = absurd p
-    definitions_stand h (Accums k as' ∷ ds) [] j done Then p at then = absurd p
-    definitions_stand h (TupleType fs x ∷ ds) (definition.Accums kind bs ∷ es) j done Then p at then = absurd p
-    definitions_stand h (Accums k as' ∷ ds) (definition.Tuple gs m ∷ es) j done Then p at then = absurd p
     definitions_stand h (TupleType fs x ∷ ds) (definition.Tuple gs m ∷ es) j done Then p at then =
         let t = p.1 in
-        let fields = p.0 in (
-          each_planned (λ (f : BaseTree Bytes × Bytes). resolved_base (globals_of g.sorts h.tuples h.slots) f.0 >>= λ b. Some (a_field b f.1)) (λ (f : declared.Declared × Bytes). a_view (view_declared f.0) f.1) (λ (f : BaseTree Bytes × Bytes). a_view (renamed_base (D h.tuples h.slots).vertex_type f.0) f.1) field_is fs gs t.fields,
-          (
-            plain_fields fields,
-            (
-              t.written,
-              (
-                D (h.tuples ++ (x, fields) ∷ []) h.slots,
-                (
-                  subst (λ k. WithTuple G (D h.tuples h.slots) x (reference.TupleType k) (plain_fields fields) (D (h.tuples ++ (x, fields) ∷ []) h.slots)) (sym t.number)
-                      (record { sound = sound_is accums g clock (h.tuples ++ (x, fields) ∷ []) h.slots at.slots; named_tuples = tuples_more h.tuples x fields; tuples = numbered_next h.tuples x fields; accums = refl }),
-                  definitions_stand (with_tuple h x fields) ds es j done Then p.2 (record { slots = at.slots; count = at.count; are = at.are }) then,
-                ),
-              ),
-            ),
-          ),
-        )
+        let fields = p.0 in
+        let found = each_planned (λ (f : BaseTree Bytes × Bytes). resolved_base (globals_of g.sorts h.tuples h.slots) f.0 >>= λ b. Some (a_field b f.1)) (λ (f : declared.Declared × Bytes). a_view (view_declared f.0) f.1) (λ (f : BaseTree Bytes × Bytes). a_view (renamed_base (D h.tuples h.slots).vertex_type f.0) f.1) field_is fs gs t.fields in
+        let is_sound = sound_is accums g clock (h.tuples ++ (x, fields) ∷ []) h.slots at.slots in
+        let others = definitions_stand (with_tuple h x fields) ds es j done Then p.2 (record { slots = at.slots; count = at.count; are = at.are }) then in
+        (found, (plain_fields fields, (t.written, (D (h.tuples ++ (x, fields) ∷ []) h.slots, (rw t.number (record { sound = is_sound; named_tuples = tuples_more h.tuples x fields; tuples = numbered_next h.tuples x fields; accums = refl }), others)))))
       where
         a_field : declared.Declared → Bytes → declared.Declared × Bytes
         a_field d name = (d, name)
@@ -176,6 +144,7 @@ module _ (g : Graph) (clock : Calendar) (accums : List Bytes) where
       accums_stand h as' bs p.1.0 done (names_of_all es) (λ e. DefinitionsStand G kind_of (view_of n) e ds (map view_definition es) Then) p.1.1.0 at
           (λ dones i. definitions_stand p.1.0 ds es j dones Then p.1.1.1 i then),
     )
+    definitions_stand h ds es j done Then p at then = absurd p
 
   -- ---- parameters
 
@@ -187,8 +156,6 @@ module _ (g : Graph) (clock : Calendar) (accums : List Bytes) where
 
   parameters_are : (ps : List (Parameter Bytes)) (qs : List parameter_code.Parameter) (n : Named) → ParametersPlanned g.sorts ps qs n → ParametersAre ps qs n
   parameters_are [] [] n p = subst (ParametersAre [] []) (sym p) (record { stand = _; view = refl; distinct = _; bounded = _ })
-  parameters_are [] (q ∷ qs) n p = absurd p
-  parameters_are (x ∷ ps) [] n p = absurd p
   parameters_are (x ∷ ps) (q ∷ qs) n p =
       let m = p.1.0 in
       let i = parameters_are ps qs m p.1.1.0 in
@@ -200,6 +167,7 @@ module _ (g : Graph) (clock : Calendar) (accums : List Bytes) where
         distinct = (is_new g.sorts accums (globals_of g.sorts [] no_names) m x.name i.bounded new.0, i.distinct);
         bounded = bounded_name m x.name false i.bounded;
       })
+  parameters_are ps qs n p = absurd p
 
 pub plan_law : PlanLaw
 plan_law g clock q p h =

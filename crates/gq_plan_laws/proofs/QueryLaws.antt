@@ -5,16 +5,15 @@ use Rattle.gq_tree.specs.Tree.{Tree}
 use Rattle.gq_value.specs.declared.value.Wrong.{Wrong}
 use Rattle.gq_value.specs.Val.{Val}
 use Rattle.gq_value.specs.Accums.{Base, VERTEX_OF, Accum}
-use Rattle.gq_accum_laws.specs.Holds.{Holds}
 use Rattle.gq_accum_laws.specs.Reads.{set_to}
-use Rattle.gq_rules_typing.specs.Statements.{Bytes, BaseTree, Ints, UInts, Bools, Strings, AnyVertex, VertexOf, Definition, TupleType, Accums, Parameter, QueryOver}
+use Rattle.gq_rules_typing.specs.Statements.{Bytes, BaseTree, VertexOf, Definition, TupleType, Accums, Parameter, QueryOver}
 use Rattle.gq_rules_typing.specs.Sorts.{Fields}
 use Rattle.gq_rules_typing.specs.Judging.{Judged, UnknownName, or_fault}
 use Rattle.gq_rules_typing.specs.Judging as judging
 use Rattle.gq_rules_typing.specs.Kinds.{set_type}
 use Rattle.gq_rules_typing.specs.Scopes.{base_written}
 use Rattle.gq_rules_typing.specs.KindTypes.{own_name, fields_written}
-use Rattle.gq_rules_meaning.specs.Answers.{Answer, Gives, ◌>>=◌, found, each, through}
+use Rattle.gq_rules_meaning.specs.Answers.{Answer, Gives, ◌>>=◌, found, through}
 use Rattle.gq_rules_meaning.specs.Expressions.{World, setting}
 use Rattle.gq_rules_meaning.specs.States.{Thing, Variable, Slot, State, seen}
 use Rattle.gq_rules_meaning.specs.Outs.{Out}
@@ -32,10 +31,9 @@ use Rattle.gq_plan_ir.specs.Alike.{AnswersAlike, old_world, new_world, NamesAlik
 use Rattle.gq_plan_ir.specs.Plans.{Ground, old_ground, new_ground, Declared, fixed_in, sides, AccumTold, IsSound, WithTuple, ParametersStand, parameters_view, AccumsStand, TupleStands, DefinitionsStand, QueryStands}
 use Rattle.gq_plan_laws.specs.RefinementLaws.{QueryLaw}
 use Rattle.gq_plan_laws.proofs.AnswerLaws.{alike_then, alike_same, alike_blaming, alike_is, each_same}
-use Rattle.gq_plan_laws.proofs.InputLaws.{as_alike}
-use Rattle.gq_plan_laws.proofs.SetLaws.{base_alike}
-use Rattle.gq_plan_laws.proofs.ViewLaws.{new_alike}
-use Rattle.gq_plan_laws.proofs.RunLaws.{sees_alike, runs_alike}
+use Rattle.gq_plan_laws.proofs.SightLaws.{as_alike}
+use Rattle.gq_plan_laws.proofs.RunLaws.{base_alike, sees_alike, runs_alike}
+use Rattle.gq_plan_laws.proofs.NameLaws.{new_alike}
 
 module _ {M N : Type 0} (ground : Ground M N) where
   -- ---- accumulators, each with its reference
@@ -51,10 +49,7 @@ module _ {M N : Type 0} (ground : Ground M N) where
   one_more : (accums : List (M × N)) (old : List (Slot M)) (new : List (Slot N)) (slot : Slot M) (r : N) → SlotsStand accums old new → SlotsStand (accums ++ (slot.name, r) ∷ []) (old ++ slot ∷ []) (new ++ named_slot r slot ∷ [])
   one_more [] [] [] slot r h = ((refl, refl), tt)
   one_more (a ∷ accums) (t ∷ old) (u ∷ new) slot r h = (h.0, one_more accums old new slot r h.1)
-  one_more [] [] (u ∷ new) slot r h = absurd h
-  one_more [] (t ∷ old) new slot r h = absurd h
-  one_more (a ∷ accums) [] new slot r h = absurd h
-  one_more (a ∷ accums) (t ∷ old) [] slot r h = absurd h
+  one_more accums old new slot r h = absurd h
 
   -- they hold the same if each accumulator's reference represents its name
   slots_alike : (d : Declared ground) (accums : List (M × N)) (old : List (Slot M)) (new : List (Slot N)) → AllOf (AccumTold ground d) accums → SlotsStand accums old new → SlotsAlike (sides ground d) old new
@@ -72,10 +67,7 @@ module _ {M N : Type 0} (ground : Ground M N) where
           r.accums,
         );
       }
-  slots_alike d [] [] (y ∷ new) t h = absurd h
-  slots_alike d [] (x ∷ old) new t h = absurd h
-  slots_alike d (a ∷ accums) [] new t h = absurd h
-  slots_alike d (a ∷ accums) (x ∷ old) [] t h = absurd h
+  slots_alike d accums old new t h = absurd h
 
   -- ---- parameters
 
@@ -88,23 +80,18 @@ module _ {M N : Type 0} (ground : Ground M N) where
       alike_same (NamesAlike (sides ground d) (parameters_view ground d (p ∷ ps) (q ∷ qs))) _ _ _ _ (ap (base_of_tree (new_world (sides ground d))) h.0 ∙ base_alike (sides ground d) i.words p.base)
       (λ b. alike_then (NamesAlike (sides ground d) (parameters_view ground d ps qs)) (NamesAlike (sides ground d) (parameters_view ground d (p ∷ ps) (q ∷ qs))) _ _ _ _ (bound_alike d i ps qs h.1 vs)
       (λ as' bs k. new_alike (sides ground d) i.words (parameters_view ground d ps qs) as' bs p.name q.name (Variable b v) false refl k))
-  bound_alike d i [] (q ∷ qs) h vs = absurd h
-  bound_alike d i (p ∷ ps) [] h vs = absurd h
+  bound_alike d i ps qs h vs = absurd h
 
   -- ---- tuple types
 
   base_written_alike : (d : Declared ground) → IsSound ground d → (b : BaseTree M) (c : Base) → base_written (scope_of (setting (old_world (sides ground d)))) b ≡ Ok c → base_written (scope_of (setting (new_world (sides ground d)))) (renamed_base d.vertex_type b) ≡ Ok c
-  base_written_alike d i Ints c e = e
-  base_written_alike d i UInts c e = e
-  base_written_alike d i Bools c e = e
-  base_written_alike d i Strings c e = e
-  base_written_alike d i AnyVertex c e = e
   base_written_alike d i (VertexOf t) c e = go (ground.names.vertex_type t) (ground.references.vertex_type (d.vertex_type t)) (i.words.vertex_type t) e
     where
       go : (o p : Option ℕ) → p ≡ o → judging.◌>>=◌ (or_fault (UnknownName (ground.names.said t)) o) (λ n. Ok (VERTEX_OF n)) ≡ Ok c
           → judging.◌>>=◌ (or_fault (UnknownName (ground.references.said (d.vertex_type t))) p) (λ n. Ok (VERTEX_OF n)) ≡ Ok c
       go (Some n) p e h = subst (λ p. judging.◌>>=◌ (or_fault (UnknownName (ground.references.said (d.vertex_type t))) p) (λ n. Ok (VERTEX_OF n)) ≡ Ok c) (sym e) h
       go None p e h = cc
+  base_written_alike d i b c e = e
 
   abbrev new_field : Declared ground → BaseTree M × Bytes → BaseTree N × Bytes
   new_field d f = (renamed_base d.vertex_type f.0, f.1)
@@ -116,10 +103,7 @@ module _ {M N : Type 0} (ground : Ground M N) where
       let b = then_ok (base_written (scope_of (setting (old_world (sides ground d)))) f.0) _ fields e in
       let n = then_ok (own_name most names f.1) _ fields b.2 in
       let r = then_ok (fields_written (scope_of (setting (old_world (sides ground d)))) most n.0 fs) _ fields n.2 in
-      ap (λ o. judging.◌>>=◌ o (λ c. judging.◌>>=◌ (own_name most names f.1) (λ more. judging.◌>>=◌ (fields_written (scope_of (setting (new_world (sides ground d)))) most more (map (new_field d) fs)) (λ rest. Ok ((f.1, c) ∷ rest))))) (base_written_alike d i f.0 b.0 b.1)
-      ∙ ap (λ o. judging.◌>>=◌ o (λ more. judging.◌>>=◌ (fields_written (scope_of (setting (new_world (sides ground d)))) most more (map (new_field d) fs)) (λ rest. Ok ((f.1, b.0) ∷ rest)))) n.1
-      ∙ ap (λ o. judging.◌>>=◌ o (λ rest. Ok ((f.1, b.0) ∷ rest))) (fields_alike d i most n.0 fs r.0 r.1)
-      ∙ r.2
+      simp (base_written_alike d i f.0 b.0 b.1, n.1, fields_alike d i most n.0 fs r.0 r.1) r.2
 
   -- ---- declarations
 
@@ -140,10 +124,7 @@ module _ {M N : Type 0} (ground : Ground M N) where
   names_in : (d e : Declared ground) (view : View M N) (as' : List (M × Thing)) (bs : List (N × Thing)) → NamesAlike (sides ground d) view as' bs → NamesAlike (sides ground e) view as' bs
   names_in d e [] [] [] h = tt
   names_in d e (v ∷ view) (a ∷ as') (b ∷ bs) h = (record { name = h.0.name; reference = h.0.reference; thing = h.0.thing; set = h.0.set }, names_in d e view as' bs h.1)
-  names_in d e [] [] (b ∷ bs) h = absurd h
-  names_in d e [] (a ∷ as') bs h = absurd h
-  names_in d e (v ∷ view) [] bs h = absurd h
-  names_in d e (v ∷ view) (a ∷ as') [] h = absurd h
+  names_in d e view as' bs h = absurd h
 
   module _ {K : Type 0} (kinds : World M → K → Answer Wrong Accum) (view : View M N) where
     -- after some declarations, if the rest holds
@@ -161,20 +142,12 @@ module _ {M N : Type 0} (ground : Ground M N) where
         → (old : State M) (new : State N) → NamesAlike (sides ground d) view old.names new.names → SlotsStand d.accums old.slots new.slots
         → AnswersAlike (λ (x : State M) (y : State N). NamesAlike (sides ground d) view x.names y.names × SlotsStand (d.accums ++ (a.1, b.1) ∷ []) x.slots y.slots) (opened (old_world (sides ground d)) k old a) (opened (new_world (sides ground d)) k new b)
     opened_alike d i di k a b e g old new n h =
-        alike_same (λ (x : State M) (y : State N). NamesAlike (sides ground d) view x.names y.names × SlotsStand (d.accums ++ (a.1, b.1) ∷ []) x.slots y.slots) _ _ _ _
-        (ap (λ z. each (λ v. opening (seen (new_world (sides ground d)) new) k z) (places (new_world (sides ground d)) b.0)) g
-        ∙ ap (λ z. each (λ (v : ℕ). opening (seen (new_world (sides ground d)) new) k (option_map (renamed (inside (fixed_in ground d) view)) a.2)) (places (new_world (sides ground d)) z)) e
-        ∙ same_places a.0
-        ∙ each_same (λ v. opening (seen (old_world (sides ground d)) old) k a.2) (λ v. opening (seen (new_world (sides ground d)) new) k (option_map (renamed (inside (fixed_in ground d) view)) a.2)) (λ v. opening_alike view d i di old new (states_alike view d i old new n h) k a.2) (places (old_world (sides ground d)) a.0))
-        (λ cs. (n, subst (λ z. SlotsStand (d.accums ++ (a.1, b.1) ∷ []) (old.slots ++ old_slot cs ∷ []) (new.slots ++ new_slot_of z cs ∷ [])) (sym e) (one_more d.accums old.slots new.slots (old_slot cs) b.1 h)))
+        rw (e, g, same_places a.0)
+        (alike_same (λ (x : State M) (y : State N). NamesAlike (sides ground d) view x.names y.names × SlotsStand (d.accums ++ (a.1, b.1) ∷ []) x.slots y.slots) _ _ _ _
+        (each_same _ _ (λ v. opening_alike view d i di old new (states_alike view d i old new n h) k a.2) (places (old_world (sides ground d)) a.0))
+        (λ cs. (n, one_more d.accums old.slots new.slots (record { name = a.1; attached = a.0; kind = k; contents = cs }) b.1 h)))
       where
-        old_slot : List (Holds k) → Slot M
-        old_slot cs = record { name = a.1; attached = a.0; kind = k; contents = cs }
-
-        new_slot_of : Bool → List (Holds k) → Slot N
-        new_slot_of z cs = record { name = b.1; attached = z; kind = k; contents = cs }
-
-        same_places : (z : Bool) → each (λ (v : ℕ). opening (seen (new_world (sides ground d)) new) k (option_map (renamed (inside (fixed_in ground d) view)) a.2)) (places (new_world (sides ground d)) z) ≡ each (λ (v : ℕ). opening (seen (new_world (sides ground d)) new) k (option_map (renamed (inside (fixed_in ground d) view)) a.2)) (places (old_world (sides ground d)) z)
+        same_places : (z : Bool) → places (new_world (sides ground d)) z ≡ places (old_world (sides ground d)) z
         same_places true = refl
         same_places false = refl
 
@@ -184,19 +157,11 @@ module _ {M N : Type 0} (ground : Ground M N) where
     accums_alike Then k [] [] d i di st world other e g old new n h = record { declared = d; sound = i; distinct = di; old_is = e; new_is = g; names = n; slots = h; rest = st }
     accums_alike Then k (a ∷ accums) (b ∷ others) d i di st world other e g old new n h =
         alike_then (λ (x : State M) (y : State N). NamesAlike (sides ground d) view x.names y.names × SlotsStand (d.accums ++ (a.1, b.1) ∷ []) x.slots y.slots) (Behind Then world other) _ _ _ _
-        (subst (λ z. AnswersAlike (λ (x : State M) (y : State N). NamesAlike (sides ground d) view x.names y.names × SlotsStand (d.accums ++ (a.1, b.1) ∷ []) x.slots y.slots) (opened z k old a) (opened other k new b)) (sym e)
-        (subst (λ z. AnswersAlike (λ (x : State M) (y : State N). NamesAlike (sides ground d) view x.names y.names × SlotsStand (d.accums ++ (a.1, b.1) ∷ []) x.slots y.slots) (opened (old_world (sides ground d)) k old a) (opened z k new b)) (sym g)
-        (opened_alike d i di k a b st.0.0 st.0.1 old new n h)))
+        (rw (e, g)
+        (opened_alike d i di k a b st.0.0 st.0.1 old new n h))
         (λ x y p. accums_alike Then k accums others st.1.0 st.1.1.0.sound (distinct_in d st.1.0 view di) st.1.1.1 world other
-        (e ∙ sym (ap (λ ts. old_with ts) st.1.1.0.named_tuples)) (g ∙ sym (ap (λ ts. new_with ts) st.1.1.0.tuples)) x y (names_in d st.1.0 view x.names y.names p.0) (subst (λ z. SlotsStand z x.slots y.slots) (sym st.1.1.0.accums) p.1))
-      where
-        old_with : List (M × Fields) → World M
-        old_with ts = record { words = ground.names; tuples = ts; graph = ground.graph; calendar = ground.calendar }
-
-        new_with : List (N × Fields) → World N
-        new_with ts = record { words = ground.references; tuples = ts; graph = ground.graph; calendar = ground.calendar }
-    accums_alike Then k [] (b ∷ others) d i di st world other e g old new n h = absurd st
-    accums_alike Then k (a ∷ accums) [] d i di st world other e g old new n h = absurd st
+        (e ∙ sym (ap (λ ts. with_tuples ts (old_ground ground)) st.1.1.0.named_tuples)) (g ∙ sym (ap (λ ts. with_tuples ts (new_ground ground)) st.1.1.0.tuples)) x y (names_in d st.1.0 view x.names y.names p.0) (subst (λ z. SlotsStand z x.slots y.slots) (sym st.1.1.0.accums) p.1))
+    accums_alike Then k accums others d i di st world other e g old new n h = absurd st
 
     -- after some declarations, with the tuple types
     abbrev DefinedAlike : (Declared ground → Type 0) → Defining M → Defining N → Type 0
@@ -210,7 +175,7 @@ module _ {M N : Type 0} (ground : Ground M N) where
         → (a : Defining M) (b : Defining N) → IsSound ground d → AreDistinct (fixed_in ground d) view → with_tuples a.tuples (old_ground ground) ≡ old_world (sides ground d) → with_tuples b.tuples (new_ground ground) ≡ new_world (sides ground d) → NamesAlike (sides ground d) view a.state.names b.state.names → SlotsStand d.accums a.state.slots b.state.slots
         → AnswersAlike (DefinedAlike Then) (defined (old_ground ground) kinds a (Accums k accums)) (defined (new_ground ground) own_kinds b (Accums kind others))
     accum_defined Then k kind accums others d e st a b i di w z n h =
-        subst (λ o. AnswersAlike (DefinedAlike Then) (o >>= λ kind. through (opened (with_tuples a.tuples (old_ground ground)) kind) a.state accums >>= λ s. Gives (record a { state = s })) (defined (new_ground ground) own_kinds b (Accums kind others))) (sym (ap (λ w. kinds w k) w ∙ e))
+        rw (ap (λ w. kinds w k) w ∙ e)
         (alike_then (Behind Then (with_tuples a.tuples (old_ground ground)) (with_tuples b.tuples (new_ground ground))) (DefinedAlike Then) _ _ _ _
         (accums_alike Then kind accums others d i di st (with_tuples a.tuples (old_ground ground)) (with_tuples b.tuples (new_ground ground)) w z a.state b.state n h) (λ x y p. p))
 
@@ -218,30 +183,23 @@ module _ {M N : Type 0} (ground : Ground M N) where
         → (a : Defining M) (b : Defining N) → IsSound ground d → AreDistinct (fixed_in ground d) view → with_tuples a.tuples (old_ground ground) ≡ old_world (sides ground d) → with_tuples b.tuples (new_ground ground) ≡ new_world (sides ground d) → NamesAlike (sides ground d) view a.state.names b.state.names → SlotsStand d.accums a.state.slots b.state.slots
         → AnswersAlike (DefinedAlike Then) (defined (old_ground ground) kinds a (TupleType fs x)) (defined (new_ground ground) own_kinds b (TupleType gs y))
     tuple_defined Then fs x gs y d st a b i di w z n h =
-        subst (λ o. AnswersAlike (DefinedAlike Then) (o >>= λ fields. Gives (record a { tuples = a.tuples ++ (x, fields) ∷ [] })) (defined (new_ground ground) own_kinds b (TupleType gs y))) (sym old_fields)
-        (subst (λ o. AnswersAlike (DefinedAlike Then) (Gives (record a { tuples = a.tuples ++ (x, st.1.0) ∷ [] })) (o >>= λ fields. Gives (record b { tuples = b.tuples ++ (y, fields) ∷ [] }))) (sym new_fields)
+        rw (old_fields, new_fields)
         (record {
           declared = e;
           sound = t.0.sound;
           distinct = distinct_in d e view di;
-          old_is = ap old_with (ap (λ ts. ts ++ (x, st.1.0) ∷ []) (ap (λ (v : World M). v.tuples) w) ∙ sym t.0.named_tuples);
-          new_is = ap new_with (ap (λ ts. ts ++ (y, st.1.0) ∷ []) (ap (λ (v : World N). v.tuples) z) ∙ sym t.0.tuples);
+          old_is = ap (λ ts. with_tuples ts (old_ground ground)) (ap (λ ts. ts ++ (x, st.1.0) ∷ []) (ap (λ (v : World M). v.tuples) w) ∙ sym t.0.named_tuples);
+          new_is = ap (λ ts. with_tuples ts (new_ground ground)) (ap (λ ts. ts ++ (y, st.1.0) ∷ []) (ap (λ (v : World N). v.tuples) z) ∙ sym t.0.tuples);
           names = names_in d e view a.state.names b.state.names n;
           slots = subst (λ c. SlotsStand c a.state.slots b.state.slots) (sym t.0.accums) h;
           rest = t.1;
-        }))
+        })
       where
         e : Declared ground
         e = st.1.1.1.0
 
         t : WithTuple ground d x y st.1.0 st.1.1.1.0 × Then st.1.1.1.0
         t = st.1.1.1.1
-
-        old_with : List (M × Fields) → World M
-        old_with ts = record { words = ground.names; tuples = ts; graph = ground.graph; calendar = ground.calendar }
-
-        new_with : List (N × Fields) → World N
-        new_with ts = record { words = ground.references; tuples = ts; graph = ground.graph; calendar = ground.calendar }
 
         old_fields : fields_of (with_tuples a.tuples (old_ground ground)) fs ≡ Gives st.1.0
         old_fields = ap (λ w. fields_of w fs) w ∙ ap judged st.1.1.0
@@ -258,11 +216,7 @@ module _ {M N : Type 0} (ground : Ground M N) where
     definitions_alike Then (Accums k accums ∷ ds) (Accums kind others ∷ es) a b p =
         alike_then (DefinedAlike (λ d. DefinitionsStand ground kinds view d ds es Then)) (DefinedAlike Then) _ _ _ _
         (accum_defined (λ d. DefinitionsStand ground kinds view d ds es Then) k kind accums others p.declared p.rest.0 p.rest.1 a b p.sound p.distinct p.old_is p.new_is p.names p.slots) (λ u v q. definitions_alike Then ds es u v q)
-    definitions_alike Then [] (e ∷ es) a b p = absurd p.rest
-    definitions_alike Then (TupleType fs x ∷ ds) [] a b p = absurd p.rest
-    definitions_alike Then (Accums k accums ∷ ds) [] a b p = absurd p.rest
-    definitions_alike Then (TupleType fs x ∷ ds) (Accums kind others ∷ es) a b p = absurd p.rest
-    definitions_alike Then (Accums k accums ∷ ds) (TupleType gs y ∷ es) a b p = absurd p.rest
+    definitions_alike Then ds es a b p = absurd p.rest
 
   -- ---- queries
 
@@ -288,22 +242,15 @@ module _ {M N : Type 0} (ground : Ground M N) where
         }))
       where
         old_world_is : old_world (sides ground st.declared) ≡ old_ground ground
-        old_world_is = ap old_with st.no_names
-          where
-            old_with : List (M × Fields) → World M
-            old_with ts = record { words = ground.names; tuples = ts; graph = ground.graph; calendar = ground.calendar }
+        old_world_is = ap (λ ts. with_tuples ts (old_ground ground)) st.no_names
 
         new_world_is : new_world (sides ground st.declared) ≡ new_ground ground
-        new_world_is = ap new_with st.no_tuples
-          where
-            new_with : List (N × Fields) → World N
-            new_with ts = record { words = ground.references; tuples = ts; graph = ground.graph; calendar = ground.calendar }
+        new_world_is = ap (λ ts. with_tuples ts (new_ground ground)) st.no_tuples
 
         names : AnswersAlike (NamesAlike (sides ground st.declared) view) (bound (old_ground ground) q.parameters arguments) (bound (new_ground ground) p.parameters arguments)
         names =
-            subst (λ w. AnswersAlike (NamesAlike (sides ground st.declared) view) (bound w q.parameters arguments) (bound (new_ground ground) p.parameters arguments)) old_world_is
-            (subst (λ w. AnswersAlike (NamesAlike (sides ground st.declared) view) (bound (old_world (sides ground st.declared)) q.parameters arguments) (bound w p.parameters arguments)) new_world_is
-            (bound_alike st.declared st.sound q.parameters p.parameters st.parameters arguments))
+            rw (sym old_world_is, sym new_world_is)
+            (bound_alike st.declared st.sound q.parameters p.parameters st.parameters arguments)
 
     abbrev PrintedSame : Answer Fault (List (List (Bytes × Out))) → Answer Fault (List (List (Bytes × Out))) → Type 0
     PrintedSame o r = AnswersAlike (λ (x y : List (List (Bytes × Out))). y ≡ x) o r
@@ -311,12 +258,11 @@ module _ {M N : Type 0} (ground : Ground M N) where
     ran : (turns : ℕ) (a : Defining M) (b : Defining N) → DefinedAlike kinds view Statements a b
         → PrintedSame (run_all (with_tuples a.tuples (old_ground ground)) q.statements (record { state = a.state; turns = turns; printed = [] }) >>= λ r. Gives r.printed) (run_all (with_tuples b.tuples (new_ground ground)) p.statements (record { state = b.state; turns = turns; printed = [] }) >>= λ r. Gives r.printed)
     ran turns a b h =
-        subst (λ w. PrintedSame (run_all w q.statements (record { state = a.state; turns = turns; printed = [] }) >>= λ r. Gives r.printed) (run_all (with_tuples b.tuples (new_ground ground)) p.statements (record { state = b.state; turns = turns; printed = [] }) >>= λ r. Gives r.printed)) (sym h.old_is)
-        (subst (λ w. PrintedSame (run_all (old_world (sides ground h.declared)) q.statements (record { state = a.state; turns = turns; printed = [] }) >>= λ r. Gives r.printed) (run_all w p.statements (record { state = b.state; turns = turns; printed = [] }) >>= λ r. Gives r.printed)) (sym h.new_is)
+        rw (h.old_is, h.new_is)
         (alike_then (RunsAlike (sides ground h.declared) (behind_all (fixed_in ground h.declared) view q.statements p.statements)) (λ (x y : List (List (Bytes × Out))). y ≡ x) _ _ _ _
         (runs_alike (sides ground h.declared) h.sound.words q.statements p.statements view h.distinct h.rest _ _
         (record { state = states_alike view h.declared h.sound a.state b.state h.names h.slots; turns = refl; printed = refl }))
-        (λ x y k. k.printed)))
+        (λ x y k. k.printed))
 
     pub query_alike : (arguments : List Val) (turns : ℕ) → run_plan (new_ground ground) p arguments turns ≡ run_over (old_ground ground) kinds q arguments turns
     query_alike arguments turns =

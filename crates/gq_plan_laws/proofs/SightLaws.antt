@@ -1,32 +1,34 @@
--- SightLaws: what an expression sees by references is what it sees by names.
-use Rattle.std.proofs.Common.{◌≡◌, ℕ, zero, suc, Bool, List, [], ◌∷◌, map, length, Option, Some, None, refl, ap, ◌∙◌}
+-- SightLaws: what an expression, an input or a change sees and means by references is what it is by names.
+use Rattle.std.proofs.Common.{◌≡◌, ℕ, Bool, List, [], ◌∷◌, map, Option, Some, None, refl, ap, ◌∙◌}
 use Rattle.std.specs.Prelude.{if◌then◌else◌, slice_get}
 use Rattle.std.specs.Option.{option_map}
+use Rattle.std.proofs.lemmas.List.{length-map}
+use Rattle.std.proofs.lemmas.Option.{slice_get-map}
 use Rattle.std.specs.List.{position_or_len}
-use Rattle.gq_value.specs.Val.{Val, Int, UInt, Truth, Text, Vertex, Tuple, Fraction, list_of}
-use Rattle.gq_value.specs.Accums.{INT, UINT, BOOL, STRING, DATETIME, VERTEX, VERTEX_OF, TUPLE, Parts}
+use Rattle.gq_value.specs.Val.{Val, Vertex, Tuple, list_of}
+use Rattle.gq_value.specs.Accums.{TUPLE, Parts, Base, Accum, One, Keyed, given_and}
 use Rattle.gq_accum_laws.specs.Holds.{HoldsEach}
 use Rattle.gq_rules_typing.specs.Sorts.{names_of, bases_of}
 use Rattle.gq_rules_typing.specs.Words.{OfTupleType, OfParts, names_of_parts}
 use Rattle.gq_rules_typing.specs.FieldTypes.{tuple_fields}
 use Rattle.gq_rules_meaning.specs.Answers.{Answer, Gives, ◌>>=◌, found}
-use Rattle.gq_rules_meaning.specs.Meanings.{Meant, Is, IsAverage, IsContent, IsRow, IsEdge, IsSet, IsMember, Outcome, read}
-use Rattle.gq_rules_meaning.specs.Expressions.{setting}
+use Rattle.gq_rules_meaning.specs.Meanings.{Meant, Is, IsRow, IsEdge, IsMember, Outcome, read, value_of_meant, as_number, as_truth, converted_to}
+use Rattle.gq_rules_meaning.specs.Expressions.{setting, Look, value_of, number_of, truth_of, value_as}
 use Rattle.gq_rules_meaning.specs.States.{Thing, Slot, meant, slot_number, slot_named, read_slot, value_at, part_at, vertex_field, edge_field, field_of, sight}
 use Rattle.gq_rules_meaning.specs.StateFits.{AllOf}
-use Rattle.gq_plan_ir.specs.Renamed.{SeesAlike}
+use Rattle.gq_plan_ir.specs.Renamed.{SeesAlike, Renaming, renamed}
 use Rattle.gq_plan_ir.specs.Naming.{named_by}
 use Rattle.gq_plan_ir.specs.Alike.{Sides, old_world, new_world, WordsAlike, new_slot, new_slots, AccumIs}
 use Rattle.gq_plan_laws.proofs.NameLaws.{LooksAlike}
+use Rattle.gq_tree.specs.Tree.{Tree}
+use Rattle.gq_rules_typing.specs.Selecting.{Input, Plain, Keys, Inputs, no_input, input_and, Change, Adds, Puts}
+use Rattle.gq_rules_typing.specs.Kinds.{input_type, set_type, key_types, part_kinds}
+use Rattle.gq_rules_meaning.specs.Blocks.{input_of, inputs_of, passes}
+use Rattle.gq_rules_meaning.specs.Writes.{with_input, with_value, made_by}
+use Rattle.gq_plan_ir.proofs.RenamedLaws.{then_same, meaning-renamed, arguments-renamed}
+use Rattle.gq_plan_ir.specs.RenamedBlocks.{renamed_input, renamed_inputs, renamed_change}
 
-pub map_length : {A B : Type 0} (f : A → B) (xs : List A) → length (map f xs) ≡ length xs
-map_length f [] = refl
-map_length f (x ∷ xs) = ap suc (map_length f xs)
-
-pub map_at : {A B : Type 0} (f : A → B) (xs : List A) (n : ℕ) → slice_get (map f xs) n ≡ option_map f (slice_get xs n)
-map_at f [] n = refl
-map_at f (x ∷ xs) zero = refl
-map_at f (x ∷ xs) (suc n) = map_at f xs n
+-- ---- what an expression sees by references is what it sees by names
 
 module _ {M N : Type 0} (s : Sides M N) (w : WordsAlike s) where
   -- ---- accumulators
@@ -36,11 +38,11 @@ module _ {M N : Type 0} (s : Sides M N) (w : WordsAlike s) where
   place_alike a [] h = refl
   place_alike a (t ∷ slots) h = let r = place_alike a slots h.1 in let q = h.0.same a in cc
 
-  pub number_alike : (a : M) (slots : List (Slot M)) → AllOf (AccumIs s) slots → slot_number (new_world s) (new_slots s slots) (s.fixed.accum a) ≡ slot_number (old_world s) slots a
-  number_alike a slots h = let n = map_length (new_slot s) slots in let m = place_alike a slots h in cc
+  pub slot_number_alike : (a : M) (slots : List (Slot M)) → AllOf (AccumIs s) slots → slot_number (new_world s) (new_slots s slots) (s.fixed.accum a) ≡ slot_number (old_world s) slots a
+  slot_number_alike a slots h = let n = length-map slots (new_slot s) in let m = place_alike a slots h in cc
 
   pub slot_alike : (a : M) (slots : List (Slot M)) → AllOf (AccumIs s) slots → slot_named (new_world s) (new_slots s slots) (s.fixed.accum a) ≡ option_map (new_slot s) (slot_named (old_world s) slots a)
-  slot_alike a slots h = go (slot_number (old_world s) slots a) (slot_number (new_world s) (new_slots s slots) (s.fixed.accum a)) (number_alike a slots h)
+  slot_alike a slots h = go (slot_number (old_world s) slots a) (slot_number (new_world s) (new_slots s slots) (s.fixed.accum a)) (slot_number_alike a slots h)
     where
       at_old : Option ℕ → Option (Slot M)
       at_old None = None
@@ -52,7 +54,7 @@ module _ {M N : Type 0} (s : Sides M N) (w : WordsAlike s) where
 
       same_place : (o : Option ℕ) → at_new o ≡ option_map (new_slot s) (at_old o)
       same_place None = refl
-      same_place (Some n) = map_at (new_slot s) slots n
+      same_place (Some n) = slice_get-map (new_slot s) slots n
 
       go : (o p : Option ℕ) → p ≡ o → at_new p ≡ option_map (new_slot s) (at_old o)
       go o p e = ap at_new e ∙ same_place o
@@ -62,11 +64,7 @@ module _ {M N : Type 0} (s : Sides M N) (w : WordsAlike s) where
   read_in v o = found o >>= λ t. found (slice_get t.contents v) >>= λ c. Gives (read t.kind c)
 
   pub read_alike : (a : M) (v : ℕ) (slots : List (Slot M)) → AllOf (AccumIs s) slots → read_slot (new_world s) (new_slots s slots) (s.fixed.accum a) v ≡ read_slot (old_world s) slots a v
-  read_alike a v slots h = ap (read_in v) (slot_alike a slots h) ∙ go (slot_named (old_world s) slots a)
-    where
-      go : (o : Option (Slot M)) → read_in v (option_map (new_slot s) o) ≡ read_in v o
-      go None = refl
-      go (Some t) = refl
+  read_alike a v slots h = ap (read_in v) (slot_alike a slots h) ∙ elim (slot_named (old_world s) slots a) as (λ (o : Option (Slot M)). read_in v (option_map (new_slot s) o) ≡ read_in v o) [ None ↦ refl | Some t ↦ refl ]
 
   -- ---- fields
 
@@ -103,21 +101,7 @@ module _ {M N : Type 0} (s : Sides M N) (w : WordsAlike s) where
   field_alike (IsMember set b v) f = vertex_alike f v
   field_alike (IsEdge r t) f = edge_alike f r t
   field_alike (IsRow ps cs) f = parts_alike f ps cs
-  field_alike (IsAverage v) f = refl
-  field_alike (IsContent k c) f = refl
-  field_alike (IsSet vs) f = refl
-  field_alike (Is b (Int x)) f = refl
-  field_alike (Is b (UInt x)) f = refl
-  field_alike (Is b (Truth x)) f = refl
-  field_alike (Is b (Text x)) f = refl
-  field_alike (Is b (Fraction x y)) f = refl
-  field_alike (Is INT (Tuple row)) f = refl
-  field_alike (Is UINT (Tuple row)) f = refl
-  field_alike (Is BOOL (Tuple row)) f = refl
-  field_alike (Is STRING (Tuple row)) f = refl
-  field_alike (Is DATETIME (Tuple row)) f = refl
-  field_alike (Is VERTEX (Tuple row)) f = refl
-  field_alike (Is (VERTEX_OF t) (Tuple row)) f = refl
+  field_alike m f = refl
 
   -- ---- all together
 
@@ -134,3 +118,36 @@ module _ {M N : Type 0} (s : Sides M N) (w : WordsAlike s) where
     graph = refl;
     calendar = refl;
   }
+
+-- ---- inputs, conditions and changes mean by references what they mean by names
+
+module _ {M N : Type 0} (r : Renaming M N) (old : Look M) (new : Look N) (h : SeesAlike r old new) where
+  pub value_alike : (t : Tree M) → value_of new (renamed r t) ≡ value_of old t
+  value_alike t = ap (λ o. o >>= value_of_meant) (meaning-renamed r old new h t)
+
+  pub number_alike : (t : Tree M) → number_of new (renamed r t) ≡ number_of old t
+  number_alike t = ap (λ o. o >>= as_number) (value_alike t)
+
+  pub truth_alike : (t : Tree M) → truth_of new (renamed r t) ≡ truth_of old t
+  truth_alike t = ap (λ o. o >>= as_truth) (value_alike t)
+
+  pub as_alike : (b : Base) (t : Tree M) → value_as new b (renamed r t) ≡ value_as old b t
+  as_alike b t = ap (λ o. o >>= converted_to b) (value_alike t)
+
+  pub passes_alike : (t : Option (Tree M)) → passes new (option_map (renamed r) t) ≡ passes old t
+  passes_alike None = refl
+  passes_alike (Some t) = truth_alike t
+
+  mutual
+    pub input_alike : (k : Accum) (x : Input M) → input_of new k (renamed_input r x) ≡ input_of old k x
+    input_alike k (Plain t) = then_same (found (input_type k)) _ _ _ refl (λ b. ap (λ o. o >>= λ v. Gives (One v)) (as_alike b t))
+    input_alike k (Keys ts xs) = then_same _ _ _ _ (arguments-renamed r old new h ts (map Some (key_types k))) (λ vs. ap (λ o. o >>= λ ys. Gives (Keyed vs ys)) (inputs_alike (part_kinds k) xs))
+
+    inputs_alike : (ks : List Accum) (xs : Inputs M) → inputs_of new ks (renamed_inputs r xs) ≡ inputs_of old ks xs
+    inputs_alike [] no_input = refl
+    inputs_alike (k ∷ ks) (input_and x xs) = then_same _ _ _ _ (input_alike k x) (λ y. ap (λ o. o >>= λ ys. Gives (given_and y ys)) (inputs_alike ks xs))
+    inputs_alike ks xs = refl
+
+  pub made_alike : (k : Accum) (change : Change M) → made_by new k (renamed_change r change) ≡ made_by old k change
+  made_alike k (Adds x) = ap (λ o. o >>= λ y. Gives (with_input y)) (input_alike k x)
+  made_alike k (Puts t) = then_same (found (set_type k)) _ _ _ refl (λ b. ap (λ o. o >>= λ v. Gives (with_value v)) (as_alike b t))
