@@ -159,61 +159,32 @@ module _ (g : Graph) (clock : Calendar) (ts : TupleTypes) (accums : List Bytes) 
       go None e = no_tuple TypeName (λ n. refl) 0 us
       go (Some h) e = own_is h (under_all is_own f functions h refl e) us
 
-  -- the number of a tuple type that is found isn't below that of the first, and its number finds it
-  record TupleIs (f : Bytes) (i : ℕ) (us : TupleTypes) (n : ℕ) : Type 0 where
-    pub above : i ≤ n
-    pub found : function_from plan_words (TupleType n) i (numbered i us) ≡ function_from old_words f i (plain_tuples us)
+  -- what is found for a name: no tuple type, or one whose number isn't below that of the first, and finds it
+  abbrev FindsAs : Bytes → ℕ → TupleTypes → Option Function → Type 0
+  FindsAs f i us None = function_from old_words f i (plain_tuples us) ≡ under bytes_eq f functions
+  FindsAs f i us (Some (function.Tuple n types)) = (i ≤ n) × (function_from plan_words (TupleType n) i (numbered i us) ≡ function_from old_words f i (plain_tuples us))
+  FindsAs f i us (Some h) = ⊥
 
-  tuple_there : (f : Bytes) (i : ℕ) (us : TupleTypes) (n : ℕ) (types : List BaseType) → tuple_from f i us ≡ Some (function.Tuple n types) → TupleIs f i us n
-  tuple_there f i [] n types e = cc
-  tuple_there f i (t ∷ us) n types e = let r = go (bytes_eq t.0 f) e (tuple_there f (suc i) us n types) in record { above = r.0; found = r.1 }
+  finds_more : (f : Bytes) (i : ℕ) (t : Bytes × List (Bytes × BaseType)) (us : TupleTypes) (o : Option Function) → bytes_eq t.0 f ≡ false → FindsAs f (suc i) us o → FindsAs f i (t ∷ us) o
+  finds_more f i t us None e h = rw e h
+  finds_more f i t us (Some (function.Tuple n types)) e h = let other : i ≢ n = omega (arith, h.0) in (omega (arith, h.0), rw (ne_eqb i n other, e) h.1)
+  finds_more f i t us (Some g) e h = absurd h
+
+  finds_as : (f : Bytes) (i : ℕ) (us : TupleTypes) → FindsAs f i us (tuple_from f i us)
+  finds_as f i [] = refl
+  finds_as f i (t ∷ us) = go (bytes_eq t.0 f) refl (finds_as f (suc i) us)
     where
-      number : Option Function → ℕ
-      number (Some (function.Tuple m ts)) = m
-      number o = 0
-
-      go : (q : Bool) → (if q then Some (function.Tuple i (field_types t.1)) else tuple_from f (suc i) us) ≡ Some (function.Tuple n types) → (tuple_from f (suc i) us ≡ Some (function.Tuple n types) → TupleIs f (suc i) us n)
-          → (i ≤ n) × (function_from plan_words (TupleType n) i (numbered i (t ∷ us)) ≡ (if q then Some (words.Makes i (bases_of (plain_fields t.1))) else function_from old_words f (suc i) (plain_tuples us)))
-      go true d r =
-          let m : i ≡ n = ap number d in
-          (omega (arith, m), ap (λ q. if q then Some (words.Makes i (bases_of (plain_fields t.1))) else function_from plan_words (TupleType n) (suc i) (numbered (suc i) us)) (eq-eqb i n m))
-      go false d r =
-          let u = r d in
-          let other : i ≢ n = omega (arith, u.above) in
-          (omega (arith, u.above), ap (λ q. if q then Some (words.Makes i (bases_of (plain_fields t.1))) else function_from plan_words (TupleType n) (suc i) (numbered (suc i) us)) (ne_eqb i n other) ∙ u.found)
-
-  -- if no tuple type has the name
-  tuple_none : (f : Bytes) (i : ℕ) (us : TupleTypes) → tuple_from f i us ≡ None → function_from old_words f i (plain_tuples us) ≡ under bytes_eq f functions
-  tuple_none f i [] e = refl
-  tuple_none f i (t ∷ us) e = go (bytes_eq t.0 f) e (tuple_none f (suc i) us)
-    where
-      go : (q : Bool) → (if q then Some (function.Tuple i (field_types t.1)) else tuple_from f (suc i) us) ≡ None → (tuple_from f (suc i) us ≡ None → function_from old_words f (suc i) (plain_tuples us) ≡ under bytes_eq f functions)
-          → (if q then Some (words.Makes i (bases_of (plain_fields t.1))) else function_from old_words f (suc i) (plain_tuples us)) ≡ under bytes_eq f functions
-      go true d r = cc
-      go false d r = r d
-
-  -- a name found among tuple types is one
-  record IsTuple (h : Function) : Type 0 where
-    pub number : ℕ
-    pub types : List BaseType
-    pub is : h ≡ function.Tuple number types
-
-  tuple_is : (f : Bytes) (i : ℕ) (us : TupleTypes) (h : Function) → tuple_from f i us ≡ Some h → IsTuple h
-  tuple_is f i [] h e = cc
-  tuple_is f i (t ∷ us) h e = go (bytes_eq t.0 f) e (tuple_is f (suc i) us h)
-    where
-      go : (q : Bool) → (if q then Some (function.Tuple i (field_types t.1)) else tuple_from f (suc i) us) ≡ Some h → (tuple_from f (suc i) us ≡ Some h → IsTuple h) → IsTuple h
-      go true d r = record { number = i; types = field_types t.1; is = sym (some_inj d) }
-      go false d r = r d
+      go : (q : Bool) → bytes_eq t.0 f ≡ q → FindsAs f (suc i) us (tuple_from f (suc i) us) → FindsAs f i (t ∷ us) (if q then Some (function.Tuple i (field_types t.1)) else tuple_from f (suc i) us)
+      go true e h = (omega arith, rw (eq-eqb i i refl, e))
+      go false e h = finds_more f i t us (tuple_from f (suc i) us) e h
 
   function_is : (f : Bytes) → function_from plan_words (or_nothing function_of (function_at ts f)) 0 (numbered 0 ts) ≡ function_from old_words f 0 (plain_tuples ts)
-  function_is f = go (tuple_from f 0 ts) refl
+  function_is f = go (tuple_from f 0 ts) (finds_as f 0 ts)
     where
-      go : (o : Option Function) → tuple_from f 0 ts ≡ o → function_from plan_words (or_nothing function_of (or_language o f)) 0 (numbered 0 ts) ≡ function_from old_words f 0 (plain_tuples ts)
-      go None e = language_is f ts ∙ sym (tuple_none f 0 ts e)
-      go (Some h) e =
-          let t = tuple_is f 0 ts h e in
-          ap (λ z. function_from plan_words (function_of z) 0 (numbered 0 ts)) t.is ∙ (tuple_there f 0 ts t.number t.types (e ∙ ap Some t.is)).found
+      go : (o : Option Function) → FindsAs f 0 ts o → function_from plan_words (or_nothing function_of (or_language o f)) 0 (numbered 0 ts) ≡ function_from old_words f 0 (plain_tuples ts)
+      go None h = language_is f ts ∙ sym h
+      go (Some (function.Tuple n types)) h = h.1
+      go (Some g) h = absurd h
 
   words_alike : WordsAlike (sides_of g clock ts accums slots)
   words_alike = record {

@@ -7,7 +7,7 @@ use Rattle.gq_value.specs.Val.{Vertex, Val}
 use Rattle.gq_value.specs.Accums.{Base, VERTEX_OF, SetAccum}
 use Rattle.gq_rules_typing.specs.Statements as statements
 use Rattle.gq_rules_typing.specs.Statements.{BaseTree, Ints, UInts, Bools, Strings, AnyVertex, VertexOf, Seed, AllVertices, OneVertex, ContentOf, SetTerm, SetNamed, Seeds, SetTypes, AnyType, TypeOf, Over, Elements, Range, Sets, Expression, Right, Selects, Printed, Stmt, Local, Assign, ChangeGlobal, If, While, Foreach, Print, Stmts, no_stmt, stmt_and, Branches, else_, if_}
-use Rattle.gq_rules_meaning.specs.Answers.{Gives, ◌>>=◌, found, through, Answer, Stuck, blaming, Faults, each}
+use Rattle.gq_rules_meaning.specs.Answers.{Gives, ◌>>=◌, found, through, Answer, blaming, Faults, each}
 use Rattle.gq_rules_meaning.specs.Graphs.{vertices_of}
 use Rattle.gq_rules_meaning.specs.Meanings.{Meant, Is, IsContent}
 use Rattle.gq_rules_meaning.specs.States.{Thing, State, seen, Variable, SetOf, thing_named, changed, with_new, with_name}
@@ -25,9 +25,8 @@ use Rattle.gq_plan_laws.proofs.SightLaws.{value_alike, as_alike, number_alike, t
 use Rattle.gq_plan_laws.proofs.SelectLaws.{new_state, seen_alike, renamed_from, from_alike, candidates_alike, bound_alike, slots_changed_alike, selects_alike, SelectedAlike, select_alike, SelectSeen, select_seen}
 use Rattle.std.specs.Prelude.{if◌then◌else◌, is_some}
 use Rattle.gq_tree.specs.Tree.{Tree, Name}
-use Rattle.gq_value.specs.declared.value.Wrong.{Wrong}
 use Rattle.gq_rules_typing.specs.Words.{under}
-use Rattle.gq_rules_meaning.specs.Expressions.{World, value_as, truth_of}
+use Rattle.gq_rules_meaning.specs.Expressions.{World, truth_of}
 use Rattle.gq_plan_ir.specs.StandsFor.{is_set_right, TargetStands, with_target, with_aliases, SelectStands, RightStands, LocalsStand, with_locals, behind, Stands, AllStand, BranchesStand, behind_all}
 use Rattle.gq_rules_typing.specs.Selecting.{Change, Select}
 use Rattle.gq_rules_meaning.specs.Sources.{From, from, candidates_of, within_bound, selects_target, types_at}
@@ -150,34 +149,16 @@ module _ {M N : Type 0} (s : Sides M N) (w : WordsAlike s) where
       Assigned o p = AnswersAlike (StatesAlike s (with_target s.fixed view x r)) o p
 
       value_assigned_alike : (t : Tree M) → TargetStands s.fixed view x r false → Assigned (value_assigned (old_world s) old x t) (value_assigned (new_world s) renewed r (renamed (inside s.fixed view) t))
-      value_assigned_alike t g = alike_same (StatesAlike s (with_target s.fixed view x r)) (found (under same x old.names)) (found (under like r new.names)) old_thing new_thing (ap found (at_target s w view old.names new.names x r false d h.names g)) go
-        where
-          old_thing : Thing → Answer Wrong (State M)
-          old_thing (Variable b v) = value_as (seen (old_world s) old) b t >>= λ v. Gives (with_name (old_world s) x (Variable b v) old)
-          old_thing thing = Stuck
-
-          new_thing : Thing → Answer Wrong (State N)
-          new_thing (Variable b v) = value_as (seen (new_world s) renewed) b (renamed (inside s.fixed view) t) >>= λ v. Gives (with_name (new_world s) r (Variable b v) renewed)
-          new_thing thing = Stuck
-
-          go : (thing : Thing) → Assigned (old_thing thing) (new_thing thing)
-          go (Variable b v) =
-              alike_same (StatesAlike s (with_target s.fixed view x r)) _ _ _ _ (as_alike (named_by s.fixed f) _ _ (sees f (source_at s.fixed view) old new.names k h.slots.accums) b t) (λ v. named_alike old renewed false (Variable b v) same_other g refl)
-          go thing = tt
+      value_assigned_alike t g =
+          alike_same (StatesAlike s (with_target s.fixed view x r)) _ _ _ _ (ap found (at_target s w view old.names new.names x r false d h.names g))
+          (elim [ Variable b v ↦ alike_same (StatesAlike s (with_target s.fixed view x r)) _ _ _ _ (as_alike (named_by s.fixed f) _ _ (sees f (source_at s.fixed view) old new.names k h.slots.accums) b t) (λ v. named_alike old renewed false (Variable b v) same_other g refl) | thing ↦ tt ])
 
       name_alike : (types : Option (SetTypes M)) (y : M) (q : Bool) → is_set (under same y old.names) ≡ q → TargetStands s.fixed view x r q
           → Assigned (expression_assigned (old_world s) old x types (Name y)) (expression_assigned (new_world s) renewed r (option_map (renamed_set_types s.fixed.vertex_type) types) (Name (f y)))
-      name_alike types y q e g = rw (e, ap is_set (k y) ∙ e, expression_assigned) (go q g)
-        where
-          old_by : Bool → Answer Wrong (State M)
-          old_by b = elim b [ true ↦ set_named (old_world s) old y >>= λ set. Gives (set_assigned (old_world s) x types set old) | false ↦ value_assigned (old_world s) old x (Name y) ]
-
-          new_by : Bool → Answer Wrong (State N)
-          new_by b = elim b [ true ↦ set_named (new_world s) renewed (f y) >>= λ set. Gives (set_assigned (new_world s) r (option_map (renamed_set_types s.fixed.vertex_type) types) set renewed) | false ↦ value_assigned (new_world s) renewed r (Name (f y)) ]
-
-          go : (q : Bool) → TargetStands s.fixed view x r q → Assigned (old_by q) (new_by q)
-          go true g = alike_same (StatesAlike s (with_target s.fixed view x r)) _ _ _ _ (set_alike f (source_at s.fixed view) old new.names k h.slots.accums y) (λ set. set_assigned_alike old renewed types set same_other g)
-          go false g = value_assigned_alike (Name y) g
+      name_alike types y true e g =
+          rw (e, ap is_set (k y) ∙ e, expression_assigned)
+          (alike_same (StatesAlike s (with_target s.fixed view x r)) _ _ _ _ (set_alike f (source_at s.fixed view) old new.names k h.slots.accums y) (λ set. set_assigned_alike old renewed types set same_other g))
+      name_alike types y false e g = rw (e, ap is_set (k y) ∙ e, expression_assigned) (value_assigned_alike (Name y) g)
 
       pub expression_alike : (types : Option (SetTypes M)) (t : Tree M) → TargetStands s.fixed view x r (is_set_right s.fixed view (Expression t))
           → Assigned (expression_assigned (old_world s) old x types t) (expression_assigned (new_world s) renewed r (option_map (renamed_set_types s.fixed.vertex_type) types) (renamed (inside s.fixed view) t))
@@ -377,19 +358,14 @@ module _ {M N : Type 0} (s : Sides M N) (w : WordsAlike s) where
   rounds_alike : (view more : View M N) (body : Body M) (other : Body N) (test : Running M → Answer Fault Bool) (test' : Running N → Answer Fault Bool) → Extends view more → Carries view more body other → SameTest view test test'
       → (n : ℕ) (limit : Option ℕ) → Carries view view (rounds n limit test body) (rounds n limit test' other)
   rounds_alike view more body other test test' g f c zero limit r q h = refl
-  rounds_alike view more body other test test' g f c (suc n) limit r q h = go (is_reached limit) (rounds_alike view more body other test test' g f c n (one_less limit))
+  rounds_alike view more body other test test' g f c (suc n) limit r q h = go (is_reached limit) refl (rounds_alike view more body other test test' g f c n (one_less limit))
     where
-      again : (b : Bool) → Carries view view (rounds n (one_less limit) test body) (rounds n (one_less limit) test' other)
-          → AnswersAlike (RunsAlike s view) (elim b [ true ↦ enter body r >>= rounds n (one_less limit) test body | false ↦ Gives r ]) (elim b [ true ↦ enter other q >>= rounds n (one_less limit) test' other | false ↦ Gives q ])
-      again true rest = alike_then (RunsAlike s view) (RunsAlike s view) _ _ _ _ (enter_alike view more body other g f r q h) rest
-      again false rest = h
-
-      go : (b : Bool) → Carries view view (rounds n (one_less limit) test body) (rounds n (one_less limit) test' other)
-          → AnswersAlike (RunsAlike s view)
-          (elim b [ true ↦ Gives r | false ↦ test r >>= λ b. elim b [ true ↦ enter body r >>= rounds n (one_less limit) test body | false ↦ Gives r ] ])
-          (elim b [ true ↦ Gives q | false ↦ test' q >>= λ b. elim b [ true ↦ enter other q >>= rounds n (one_less limit) test' other | false ↦ Gives q ] ])
-      go true rest = h
-      go false rest = alike_same (RunsAlike s view) _ _ _ _ (c r q h) (λ b. again b rest)
+      go : (b : Bool) → is_reached limit ≡ b → Carries view view (rounds n (one_less limit) test body) (rounds n (one_less limit) test' other)
+          → AnswersAlike (RunsAlike s view) (rounds (suc n) limit test body r) (rounds (suc n) limit test' other q)
+      go true e rest = rw (e, rounds) h
+      go false e rest =
+          rw (e, rounds)
+          (alike_same (RunsAlike s view) _ _ _ _ (c r q h) (elim [ true ↦ alike_then (RunsAlike s view) (RunsAlike s view) _ _ _ _ (enter_alike view more body other g f r q h) rest | false ↦ h ]))
 
   each_value_alike : (view more : View M N) (x : M) (y : N) (body : Body M) (other : Body N) → Extends (view_with s.fixed view x y false) more → Carries (view_with s.fixed view x y false) more body other
       → (vs : List (Base × Val)) → Carries view view (for_each x body vs) (for_each y other vs)

@@ -37,7 +37,7 @@ use Rattle.gq_tree.specs.Tree.{Tree}
 use Rattle.gq_value.specs.Val.{Val}
 use Rattle.gq_value.specs.Order.{compare}
 use Rattle.gq_accum_laws.specs.Gather.{sorted}
-use Rattle.gq_rules_meaning.specs.Graphs.{vertex_count, vertices_of}
+use Rattle.gq_rules_meaning.specs.Graphs.{vertex_count}
 use Rattle.gq_rules_meaning.specs.Tails.{Ranked, selected_look, passing, ranked, by_keys, in_order, at_most, cut, tail, Selected, select}
 use Rattle.gq_rules_typing.specs.Words.{under}
 use Rattle.gq_rules_meaning.specs.Statements.{is_set}
@@ -585,31 +585,13 @@ module _ {M N : Type 0} (s : Sides M N) (w : WordsAlike s) where
 
   source_alike : (f : M → N) (view : View M N) (as' : List (M × Thing)) (bs : List (N × Thing)) (n : M) → LooksAlike s w f as' bs → (q : Bool) → is_set (under same n as') ≡ q
       → source_of (new_world s) bs (if q then f n else s.fixed.vertex_type n) ≡ source_of (old_world s) as' n
-  source_alike f view as' bs n k q e = go q e
+  source_alike f view as' bs n k q e = go q (under same n as') refl e
     where
-      of_type : Option ℕ → List ℕ × List ℕ
-      of_type None = ([], [])
-      of_type (Some t) = (t ∷ [], vertices_of s.graph (t ∷ []))
-
-      new_thing : N → Option Thing → List ℕ × List ℕ
-      new_thing z (Some (SetOf types vs)) = (types, vs)
-      new_thing z o = of_type (s.fixed.references.vertex_type z)
-
-      old_thing : Option Thing → List ℕ × List ℕ
-      old_thing (Some (SetOf types vs)) = (types, vs)
-      old_thing o = of_type (s.fixed.names.vertex_type n)
-
-      is_a_set : (o : Option Thing) → is_set o ≡ true → new_thing (f n) o ≡ old_thing o
-      is_a_set (Some (SetOf types vs)) i = refl
-      is_a_set o i = cc
-
-      is_no_set : (o : Option Thing) → is_set o ≡ false → old_thing o ≡ of_type (s.fixed.names.vertex_type n)
-      is_no_set (Some (SetOf types vs)) i = cc
-      is_no_set o i = refl
-
-      go : (q : Bool) → is_set (under same n as') ≡ q → source_of (new_world s) bs (if q then f n else s.fixed.vertex_type n) ≡ source_of (old_world s) as' n
-      go true e = ap (new_thing (f n)) (k n) ∙ is_a_set (under same n as') e
-      go false e = ap (new_thing (s.fixed.vertex_type n)) (type_unseen n bs) ∙ ap of_type (w.vertex_type n) ∙ sym (is_no_set (under same n as') e)
+      go : (q : Bool) (o : Option Thing) → under same n as' ≡ o → is_set o ≡ q → source_of (new_world s) bs (if q then f n else s.fixed.vertex_type n) ≡ source_of (old_world s) as' n
+      go true (Some (SetOf types vs)) i e = rw (k n ∙ i, i, source_of)
+      go false (Some (SetOf types vs)) i e = cc
+      go true o i e = cc
+      go false o i e = rw (type_unseen n bs, i, w.vertex_type n, source_of)
 
   -- ---- the conditions of a SELECT
 
